@@ -83,6 +83,7 @@ def test_workers_of_dask_give_the_same_sums_though_one_is_killed(tmp_path):
             if processes and sums.shots >= 5 * 1024:
                 kill(processes.pop())
                 processes.clear()
+        client.wait_for_workers(2)
         after = set(client.run(os.getpid).values())
     assert not processes and len(after) == 2
     assert found == alone
@@ -92,7 +93,7 @@ def test_workers_of_dask_give_the_same_sums_though_one_is_killed(tmp_path):
 def kill(process):
     """Kills a worker once no result of it is on its way: dask takes a result for an error if it hears of the worker's end before it looks."""
     os.kill(process, signal.SIGSTOP)
-    time.sleep(0.3)
+    time.sleep(1)
     os.kill(process, signal.SIGKILL)
 
 

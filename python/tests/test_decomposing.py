@@ -1,5 +1,6 @@
 """Decomposed error models: against the definition, by all ways to cut each error apart, and decoded by an exact matching."""
 
+import dataclasses
 import functools
 import math
 
@@ -7,6 +8,7 @@ import numpy as np
 import pytest
 import stabsim
 from stabsim import codes
+from stabsim.decomposing import parts_of
 
 import matching
 
@@ -113,12 +115,11 @@ def test_a_model_is_the_same_decomposed_but_for_its_parts():
 
 
 def test_an_error_of_very_many_detectors_is_cut_apart():
-    # X on the first control spreads to all qubits, each of which errs alone too.
-    qubits = list(range(900))
-    each = " ".join(map(str, qubits))
-    text = "\n".join([f"R {each}", "X_ERROR(0.1) 0", "CX " + " ".join(f"0 {it}" for it in qubits[1:]), f"X_ERROR(0.1) {each}", f"M {each}",
-                      *(f"DETECTOR rec[-{it + 1}]" for it in qubits)])
-    assert max(map(len, stabsim.error_model(text, decompose=True).parts)) == 900
+    # One that flips all detectors and the observable, one of two detectors for each pair of neighbours, and one with the observable.
+    count = 2000
+    flips = [list(range(count + 1)), *([it, it + 1] for it in range(count - 1)), [0, 1, count]]
+    parts = parts_of([0.1] * len(flips), flips, count, False)
+    assert sorted(parts[0]) == [*range(3, count, 2), count] and parts[1:] == tuple((it,) for it in range(1, len(flips)))
 
 
 @pytest.mark.parametrize("text", [codes.repetition_code(3, 2, noise=NOISE), codes.surface_code(2, 1, noise=NOISE)], ids=["repetition", "surface"])
@@ -142,28 +143,21 @@ def test_the_matching_is_the_likeliest_set_of_errors(text):
             assert decoder.decode(np.flatnonzero(detectors).tolist()) == int(ways[1] < ways[0])
 
 
-@functools.cache
 def errors_of(distance, shots):
     """In which shots a surface code has a logical error: by matching over the parts of all errors, and by matching that leaves out
     errors of three detectors and more, each bool (shots,). Both see the same shots."""
-    text = codes.surface_code(distance, distance, noise=NOISE)
-    models = model_of(text, decompose=True), model_of(text)
-    detectors, observables = models[0].sample(shots, seed=distance)
-    return [(matching.decoder(model)(detectors) != observables).any(axis=1) for model in models]
+    model = stabsim.error_model(codes.surface_code(distance, distance, noise=NOISE), decompose=True)
+    detectors, observables = model.sample(shots, seed=distance)
+    return [(matching.decoder(it)(detectors) != observables).any(axis=1) for it in (model, dataclasses.replace(model, parts=None))]
 
 
-def test_matching_by_parts_makes_fewer_logical_errors_at_distance_3():
-    with_parts, without = errors_of(3, 20_000)
-    better, worse = (without & ~with_parts).sum(), (with_parts & ~without).sum()
-    # By more than three standard deviations of what a coin would do in the shots in which they differ.
-    assert better - worse > 3 * math.sqrt(better + worse)
-
-
-def test_matching_by_parts_makes_fewer_logical_errors_with_more_distance():
-    rates = [errors_of(distance, shots)[0].mean() for distance, shots in ((3, 20_000), (5, 4000), (7, 500))]
-    assert rates[0] > rates[1] > rates[2] > 0
-    for distance, shots in ((5, 4000), (7, 500)):
-        with_parts, without = errors_of(distance, shots)
-        differ = with_parts ^ without
-        # So few shots tell no difference here: docs/python.md has the rates of many.
-        assert abs(int(with_parts.sum()) - int(without.sum())) <= 3 * math.sqrt(differ.sum())
+def test_matching_by_parts_makes_fewer_logical_errors_and_fewer_with_more_distance():
+    counted = {distance: errors_of(distance, shots) for distance, shots in ((3, 20_000), (5, 3000), (7, 300))}
+    for distance, (with_parts, without) in counted.items():
+        better, worse = (without & ~with_parts).sum(), (with_parts & ~without).sum()
+        # What a coin would do in the shots in which the two differ has this standard deviation.
+        deviation = math.sqrt(better + worse)
+        # At distance 3 they differ by more; so few shots of more distance tell no difference, and docs/python.md has the rates of many.
+        assert better - worse > 3 * deviation if distance == 3 else abs(int(better) - int(worse)) <= 3 * deviation
+    rates = [with_parts.mean() for with_parts, _ in counted.values()]
+    assert rates[0] > rates[1] > rates[2]
