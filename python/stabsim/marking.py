@@ -6,7 +6,7 @@ import numpy as np
 from numpy.typing import NDArray
 
 from stabsim.channels import ONE, TWO, Errors, depolarising, independent
-from stabsim.errors import UnsupportedNoise
+from stabsim.errors import Refused, UnsupportedNoise
 from stabsim.quiet import CHANNELS, CORRELATED, FLIPS, MEASUREMENTS, OTHER_NOISE
 from stabsim.reading import Block, Instruction, Item, items_of
 
@@ -168,7 +168,10 @@ def joined(sources: list[Source]) -> list[Source]:
 
 def chances_of(item: Instruction, count: int) -> list[float]:
     """The arguments, which are so many chances and make no more than 1 together."""
-    chances = item.numbers()
+    try:
+        chances = item.numbers()
+    except Refused:
+        chances = []
     # A sum of chances such as fifteen fifteenths is 1 but for rounding.
     if len(chances) != count or not all(0 <= chance <= 1 for chance in chances) or sum(chances) > 1 + 1e-9:
         raise UnsupportedNoise(item.line, f"{item.name} wants {count} chance{'s' * (count > 1)} of at most 1 in all")

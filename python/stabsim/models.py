@@ -18,7 +18,7 @@ from stabsim.quiet import with_quiet_lines
 
 Bits = NDArray[np.bool_]
 
-MARKS_COUNT = "A step more is counted for each qubit that an error may meet, in front of a measurement and behind it, and these are too many."
+MARKS_COUNT = "A step more is counted for each qubit that an error may meet, in front of a measurement and behind it: these are too many."
 
 
 @dataclass(frozen=True, eq=False)
@@ -110,7 +110,7 @@ def error_model(text: str, *, decompose: bool = False, ignore_decomposition_fail
     the model names these lines. sure_only: leave out detectors and observables that coins decide, which else are refused.
     """
     circuit, table = faults_of(text, approximate_disjoint_errors, sure_only)
-    model = model_of(circuit, table, detector_coordinates(circuit.text))
+    model = model_of(circuit, table, detector_coordinates(text))
     if not decompose:
         return model
     flips = [model.flipped(mechanism).tolist() for mechanism in range(len(model))]

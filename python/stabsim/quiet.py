@@ -11,8 +11,8 @@ CORRELATED = ("E", "CORRELATED_ERROR")
 OTHER_NOISE = ("ELSE_CORRELATED_ERROR", "HERALDED_ERASE", "HERALDED_PAULI_CHANNEL_1", "I_ERROR", "II_ERROR")
 MEASUREMENTS = ("M", "MZ", "MX", "MY", "MR", "MRZ", "MRX", "MRY", "MPP")
 # A line of noise: a channel, or a measurement with arguments, which are the chance of a wrong record.
-NOISY = re.compile(rf"\s*(?:(?:{'|'.join(CHANNELS + CORRELATED + OTHER_NOISE)})\b|(?:{'|'.join(MEASUREMENTS)})(?:\[[^\]]*\])?\s*\(\s*[^)\s])",
-                   re.IGNORECASE)
+NOISY = re.compile(rf"\s*(?:(?:{'|'.join(CHANNELS + CORRELATED + OTHER_NOISE)})\b"
+                   rf"|(?:{'|'.join(MEASUREMENTS)})(?:\[[^\]]*\])?\s*\(\s*[^)\s])", re.IGNORECASE)
 # What stands in front of the targets of a line: blanks, the name, a tag, and arguments.
 HEAD = re.compile(r"(\s*)(\w+)(\[[^\]]*\])?(\s*\([^)]*\))?")
 # The letter of a Pauli, in front of its qubit.

@@ -25,7 +25,7 @@ class Instruction:
         try:
             return [float(argument) for argument in self.arguments]
         except ValueError:
-            raise Refused(2, "BadArguments", self.line) from None
+            raise Refused(2, "BadArguments", self.line, f"({', '.join(self.arguments)}) are not all numbers.") from None
 
 
 @dataclass

@@ -62,8 +62,8 @@ class Session:
     """A circuit that is run, kept, and changed by edits. Made by `Circuit.edit`.
 
     It is a context manager, and its process ends with it. One thread at a time uses it. An edit that is refused raises
-    stabsim.Refused, with words for a fault of the item's own, and changes nothing. Where the process has ended, or was interrupted in a reply, every call raises
-    stabsim.SessionEnded.
+    stabsim.Refused, with words for a fault of the item's own, and changes nothing. Where the process has ended, or was interrupted
+    in a reply, every call raises stabsim.SessionEnded.
     """
 
     def __init__(self, text: str, *, qubits: int | None = None, seed: int = 0, stride: int | None = None) -> None:

@@ -125,7 +125,7 @@ def test_disjoint_errors_are_approximated_only_where_that_is_asked_for():
 
 @pytest.mark.parametrize("line", [
     "ELSE_CORRELATED_ERROR(0.1) X0", "HERALDED_ERASE(0.1) 0", "I_ERROR(0.1) 0", "DEPOLARIZE1(0.8) 0", "DEPOLARIZE2(0.1) 0",
-    "X_ERROR 0", "X_ERROR(1.5) 0", "M(0.1, 0.2) 0", "PAULI_CHANNEL_1(0.5, 0.4, 0.2) 0", "E(0.1) 0",
+    "X_ERROR 0", "X_ERROR(1.5) 0", "X_ERROR(x) 0", "M(0.1, 0.2) 0", "PAULI_CHANNEL_1(0.5, 0.4, 0.2) 0", "E(0.1) 0",
 ])
 def test_other_noise_is_told_with_its_line(line):
     with pytest.raises(stabsim.UnsupportedNoise) as told:
@@ -140,6 +140,8 @@ def test_a_refusal_names_the_line_of_the_noisy_text():
         ("R 0\nE[tag](0.1) X0\tZ1024\r\n", 6, 2, "2: E[tag](0.1) X0 Z1024\n                   ^^^^\n"),
         ("R 0\n\tM[x](0.125) 0 rec[-1] # c\n", 3, 2, "2:  M[x](0.125) 0 rec[-1] # c\n                  ^^^^^^^\n"),
         ("REPEAT 2 {\nX_ERROR(0.1) 0\n", 5, 1, "1: REPEAT 2 {\n"),
+        # The program never computes with coordinates, and leaves it to others whether they are numbers.
+        ("X_ERROR(0.1) 0\nM(0.1) 0\nDETECTOR(0, 1e) rec[-1]\n", 2, 3, "(0, 1e) are not all numbers."),
     ]:
         with pytest.raises(stabsim.Refused) as told:
             stabsim.error_model(text)

@@ -1,7 +1,8 @@
 """Circuits of codes, in Stim's circuit text, without noise or with a standard one.
 
 Each of these gives the text (str) of a memory experiment: a logical qubit is prepared, each of the rounds measures all checks,
-and the data qubits are measured at the end. Detectors compare neighbouring rounds, and observable 0 is the logical letter.
+and the data qubits are measured at the end. Detectors compare neighbouring rounds, and observable 0 is the logical letter. The time of
+a detector is its third coordinate, or of the repetition code, which lies on a line, the second.
 
 - `surface_code(distance, rounds, basis="Z")`: the rotated surface code, of distance 2 to 21; basis is the logical letter that is
   kept, Z or X. Data qubits lie at odd coordinates and measured ones at even coordinates. With `bad_schedule` the checks visit
@@ -16,9 +17,9 @@ and the data qubits are measured at the end. Detectors compare neighbouring roun
 
 `noise` is a `Noise`, or None. `NOISE_MODELS` names what `Noise.uniform` is for each code: circuit-level, if a qubit for each check
 meets data qubits by gates, or phenomenological plus data, if checks are measured as products. The second leaves errors of such gates
-out, so rates of codes of the two can't be compared. `written_out` writes each round's lines, without a block. `deepest(NAME, distance)` is the most rounds
-that the limit of 1,048,576 steps allows. The first line of a text says how many steps and records the circuit has. ValueError tells
-of what is out of range.
+out, so rates of codes of the two can't be compared. `written_out` writes each round's lines, without a block. `deepest(NAME, distance)`
+is the most rounds that the limit of 1,048,576 steps allows. The first line of a text says how many steps and records the circuit has.
+ValueError tells of what is out of range.
 
 The first two codes follow the layout that `stim gen` has for `surface_code:rotated_memory_z` and `repetition_code:memory`, written
 from its description: Stim was not at hand to compare with. `python3 -m stabsim.codes --help` prints circuits. None of this needs
