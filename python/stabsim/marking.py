@@ -42,13 +42,11 @@ class Source:
 class Marked:
     """A circuit with marks.
 
-    text: without noise; sources: the errors; marks: int, how many there are; approximated: the lines whose disjoint errors were taken
-    for independent ones.
+    text: without noise; sources: the errors; approximated: the lines whose disjoint errors were taken for independent ones.
     """
 
     text: str
     sources: list[Source]
-    marks: int
     approximated: tuple[int, ...]
 
 
@@ -208,6 +206,6 @@ def written(item: Instruction, targets: list[str] | None = None) -> str:
 def marked(text: str, approximate: bool) -> Marked:
     """The circuit of a noisy text, with marks; approximate takes disjoint errors for independent ones where need be."""
     marker = Marker(approximate)
-    sources, marks = marker.items(items_of(text), 0)
+    sources, _ = marker.items(items_of(text), 0)
     lines = "".join(line + "\n" for line in marker.lines)
-    return Marked(lines, sources, marks, tuple(sorted(marker.approximated)))
+    return Marked(lines, sources, tuple(sorted(marker.approximated)))
