@@ -110,15 +110,19 @@ UNIFORM, PHENOMENOLOGICAL, DATA = codes.Noise.uniform(0.001), codes.Noise.phenom
 # Codes with the distances of their circuits under noise of one parameter, with wrong records, and by errors of data qubits alone.
 DISTANCES = {
     "repetition": (codes.repetition_code, {"distance": 3, "rounds": 3}, 3, 3, 3),
-    "repetition, distance 4": (codes.repetition_code, {"distance": 4, "rounds": 2}, 4, 4, 4),
+    "repetition, distance 5": (codes.repetition_code, {"distance": 5, "rounds": 2}, 5, 5, 5),
     "surface, distance 2": (codes.surface_code, {"distance": 2, "rounds": 2}, 2, 2, 2),
     "surface": (codes.surface_code, {"distance": 3, "rounds": 3}, 3, 3, 3),
     "surface, X": (codes.surface_code, {"distance": 3, "rounds": 3, "basis": "X"}, 3, 3, 3),
     "surface, distance 4": (codes.surface_code, {"distance": 4, "rounds": 2}, 4, 4, 4),
+    "surface, distance 5": (codes.surface_code, {"distance": 5, "rounds": 2}, 5, 5, 5),
     "surface, bad schedule": (codes.surface_code, {"distance": 3, "rounds": 3, "bad_schedule": True}, 2, 3, 3),
+    "surface, bad schedule, distance 5": (codes.surface_code, {"distance": 5, "rounds": 2, "bad_schedule": True}, 3, 5, 5),
     "colour": (codes.colour_code, {"distance": 3, "rounds": 3}, 3, 3, 3),
+    "colour, distance 5": (codes.colour_code, {"distance": 5, "rounds": 2}, 5, 5, 5),
     "Bacon-Shor": (codes.bacon_shor_code, {"distance": 3, "rounds": 3}, 3, 3, 3),
     "Bacon-Shor, distance 4": (codes.bacon_shor_code, {"distance": 4, "rounds": 2}, 4, 4, 4),
+    "Bacon-Shor, distance 5": (codes.bacon_shor_code, {"distance": 5, "rounds": 2}, 5, 5, 5),
     "Steane": (codes.steane_code, {"rounds": 3}, 2, 3, 3),
 }
 
