@@ -20,7 +20,8 @@ def graph_of(model):
             flipped = model.flipped(part).tolist()
             ends = [it for it in flipped if it < model.detectors]
             if 1 <= len(ends) <= 2:
-                edge = (ends[-1], ends[0] if len(ends) == 2 else BOUNDARY, sum(1 << (it - model.detectors) for it in flipped if it >= model.detectors))
+                observables = sum(1 << (it - model.detectors) for it in flipped if it >= model.detectors)
+                edge = (ends[-1], ends[0] if len(ends) == 2 else BOUNDARY, observables)
                 chances[edge] = chances.get(edge, 0.0) * (1 - chance) + chance * (1 - chances.get(edge, 0.0))
     graph = networkx.Graph()
     # Of two edges that differ in observables alone the likelier one stays.

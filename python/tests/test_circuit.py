@@ -189,8 +189,8 @@ def test_a_refusal_without_a_line_has_none():
 
 def test_every_call_explains_why_a_circuit_is_refused():
     circuit = stabsim.Circuit("REPEAT 3 {\n    M 0\n    DETECTOR rec[-2]\n}\n")
-    for call in (circuit.numbers, lambda: circuit.sample(1), lambda: circuit.detect(1), circuit.stabilisers, circuit.deterministic, circuit.faults,
-                 circuit.detector_coordinates, circuit.qubit_coordinates, circuit.edit):
+    for call in (circuit.numbers, lambda: circuit.sample(1), lambda: circuit.detect(1), circuit.stabilisers, circuit.deterministic,
+                 circuit.faults, circuit.detector_coordinates, circuit.qubit_coordinates, circuit.edit):
         with pytest.raises(stabsim.Refused, match="looks back past the first record") as told:
             call()
         assert told.value.number == 8 and told.value.explanation.startswith("3:     DETECTOR rec[-2]\n")

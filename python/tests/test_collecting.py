@@ -34,12 +34,14 @@ def errors_in(name, shots, decoder=deciding.nothing):
 
 
 def test_sums_are_those_of_one_array():
-    assert sums_of(MODELS, deciding.nothing, shots=3000, seed=4, part_shots=1024) == {name: (3000, errors_in(name, 3000)) for name in MODELS}
+    wanted = {name: (3000, errors_in(name, 3000)) for name in MODELS}
+    assert sums_of(MODELS, deciding.nothing, shots=3000, seed=4, part_shots=1024) == wanted
 
 
 def test_each_model_draws_shots_of_its_own():
     model = MODELS["d3"]
-    found = {it.name: it for it in stabsim.collect({name: model for name in ("one", "other", "third")}, deciding.nothing, shots=4096, seed=4)}
+    models = {name: model for name in ("one", "other", "third")}
+    found = {it.name: it for it in stabsim.collect(models, deciding.nothing, shots=4096, seed=4)}
     seeds = [it.seed for it in found.values()]
     shots = [np.concatenate(model.sample(4096, seed=seed), axis=1) for seed in seeds]
     assert not any(np.array_equal(*pair) for pair in itertools.combinations(shots, 2))
@@ -143,7 +145,8 @@ def test_a_decoder_has_the_name_that_it_is_given_or_that_of_its_function(tmp_pat
         return lambda detectors: deciding.nothing(model)(detectors[shift:])
 
     # Functions that share these names may differ in what they hold.
-    for nameless in (lambda model: deciding.nothing(model), inner, functools.partial(deciding.nothing), deciding.Nothing(MODELS["d3"]).decode):
+    bound = deciding.Nothing(MODELS["d3"]).decode
+    for nameless in (lambda model: deciding.nothing(model), inner, functools.partial(deciding.nothing), bound):
         with pytest.raises(ValueError, match="name it"):
             stabsim.collect(MODELS, nameless, shots=10, seed=4)
 

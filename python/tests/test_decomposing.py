@@ -78,7 +78,8 @@ def test_each_error_is_the_likeliest_errors_of_two_detectors_that_flip_the_same(
         # No detector comes twice, and detectors and observables add up.
         assert sorted(it for part in parts for it in seen_by(part)) == seen_by(targets)
         assert functools.reduce(frozenset.symmetric_difference, parts) == targets
-        likeliest = max(math.prod(some) for observables, some in ways_to_cut(seen_by(targets), edges) if observables == targets - set(seen_by(targets)))
+        ways = ways_to_cut(seen_by(targets), edges)
+        likeliest = max(math.prod(some) for observables, some in ways if observables == targets - set(seen_by(targets)))
         assert math.isclose(math.prod(chances[part] for part in parts), likeliest, rel_tol=1e-9)
     assert taken_apart > 0 or name == "repetition code"
 
@@ -95,8 +96,8 @@ def test_what_has_no_parts_is_told_or_stays_whole():
 
 def test_parts_have_the_observables_that_add_up():
     # The error on three qubits can be cut in two ways; one of them lacks the observable.
-    text = "R 0 1 2 3\nE(0.1) X0 X1 X2\nE(0.01) X0\nE(0.01) X1 X2\nE(0.2) X0 X3\nM 0 1 2 3\nDETECTOR rec[-4]\nDETECTOR rec[-3]\nDETECTOR rec[-2]\n" \
-           "OBSERVABLE_INCLUDE(0) rec[-1]\n"
+    text = "R 0 1 2 3\nE(0.1) X0 X1 X2\nE(0.01) X0\nE(0.01) X1 X2\nE(0.2) X0 X3\nM 0 1 2 3\n" \
+           "DETECTOR rec[-4]\nDETECTOR rec[-3]\nDETECTOR rec[-2]\nOBSERVABLE_INCLUDE(0) rec[-1]\n"
     assert stabsim.error_model(text, decompose=True).dem.splitlines()[:4] == [
         "error(0.01) D0", "error(0.1) D0 ^ D1 D2", "error(0.2) D0 L0", "error(0.01) D1 D2"]
     flipped = text.replace("E(0.1) X0 X1 X2", "E(0.1) X0 X1 X2 X3")
@@ -122,7 +123,8 @@ def test_an_error_of_very_many_detectors_is_cut_apart():
     assert sorted(parts[0]) == [*range(3, count, 2), count] and parts[1:] == tuple((it,) for it in range(1, len(flips)))
 
 
-@pytest.mark.parametrize("text", [codes.repetition_code(3, 2, noise=NOISE), codes.surface_code(2, 1, noise=NOISE)], ids=["repetition", "surface"])
+@pytest.mark.parametrize("text", [codes.repetition_code(3, 2, noise=NOISE), codes.surface_code(2, 1, noise=NOISE)],
+                         ids=["repetition", "surface"])
 def test_the_matching_is_the_likeliest_set_of_errors(text):
     """Of all sets of edges, which are up to 2**16, the likeliest with just these detectors flips what the matching says."""
     model = model_of(text, decompose=True)

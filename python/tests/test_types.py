@@ -17,9 +17,11 @@ stabsim.Circuit("M 0").text = "M 1"
 
 
 def said_of(*files):
-    """The lines of mypy on files. A cache would be left in the repository."""
+    """The lines of mypy on files, which asks for what the page imports. A cache would be left in the repository."""
     pytest.importorskip("mypy")
-    done = subprocess.run([sys.executable, "-m", "mypy", "--strict", "--cache-dir", "/dev/null", *files], capture_output=True, text=True, cwd=HERE.parent)
+    pytest.importorskip("aiohttp")
+    words = [sys.executable, "-m", "mypy", "--strict", "--cache-dir", "/dev/null", *files]
+    done = subprocess.run(words, capture_output=True, text=True, cwd=HERE.parent)
     return (done.stdout + done.stderr).splitlines()
 
 
