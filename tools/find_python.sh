@@ -2,6 +2,7 @@
 # Prints the Python that has what the package python/ and its examples and tests want: the first on the PATH, or Debian's own.
 # Where none has, it says so on standard error and ends with 1. On Debian:
 #     apt install python3-numpy python3-networkx python3-matplotlib python3-pytest python3-distributed
+# Tests run side by side with python3-pytest-xdist, and look at types with mypy.
 set -u
 for python in python3 /usr/bin/python3; do
     if "$python" -c 'import sys, numpy, networkx, matplotlib, pytest, distributed; sys.exit(sys.version_info < (3, 11))' 2>/dev/null; then

@@ -25,18 +25,17 @@ class Instruction:
         try:
             return [float(argument) for argument in self.arguments]
         except ValueError:
-            raise Refused(2, "BadArguments", self.line) from None
+            raise Refused(2, "BadArguments", self.line, f"({', '.join(self.arguments)}) are not all numbers.") from None
 
 
 @dataclass
 class Block:
-    """A block, with its count, its tag, its items, and the lines where it begins and ends."""
+    """A block, with the line where it begins, its count, its tag, and its items."""
 
     line: int
     count: int
     tag: str
     items: list["Instruction | Block"] = field(default_factory=list)
-    last_line: int = 0
 
 
 Item = Instruction | Block
@@ -50,7 +49,7 @@ def items_of(text: str) -> list[Item]:
         if item is None:
             if not opened:
                 raise Refused(5, "BadBlock", number)
-            opened.pop().last_line = number
+            opened.pop()
             continue
         (opened[-1].items if opened else outermost).append(item)
         if isinstance(item, Block):

@@ -54,7 +54,8 @@ class Server:
             token = request.query.get("token", "")
             if not secrets.compare_digest(token.encode(), self.token.encode()):
                 raise web.HTTPForbidden(text="the address lacks the token that the server printed\n")
-        return await handler(request)
+        response: web.StreamResponse = await handler(request)
+        return response
 
     async def page(self, request: web.Request) -> web.Response:
         return file_response("index.html")
