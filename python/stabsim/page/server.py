@@ -10,6 +10,7 @@ from collections.abc import AsyncIterator, Coroutine
 from typing import Any
 
 from aiohttp import WSMsgType, web
+from aiohttp.typedefs import Handler
 
 import stabsim
 from stabsim.page.board import Board, Message, sure_line
@@ -52,7 +53,7 @@ class Server:
         return app
 
     @web.middleware
-    async def refuse_strangers(self, request: web.Request, handler: Any) -> web.StreamResponse:
+    async def refuse_strangers(self, request: web.Request, handler: Handler) -> web.StreamResponse:
         """Only this address, from its own pages, and all but the pictures of the page with the token."""
         names = {f"{HOST}:{self.port}", f"localhost:{self.port}"}
         origin = request.headers.get("Origin")
