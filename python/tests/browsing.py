@@ -73,7 +73,8 @@ class Page:
     def letters(self):
         """The letters of the region on the qubits that have one, as X3."""
         return self.browser.execute_script(
-            "return Array.from(document.querySelectorAll('.qubit .letter'), (it) => it.textContent + it.parentElement.dataset.qubit)")
+            "return Array.from(document.querySelectorAll('.qubit .letter')).filter((it) => it.textContent)"
+            ".map((it) => it.textContent + it.parentElement.dataset.qubit)")
 
     # What a person does.
 

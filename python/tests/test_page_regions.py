@@ -43,6 +43,13 @@ def test_time_is_the_third_coordinate(page):
         page.wait(lambda: page.find("tip").text.startswith(f"D{number} at (0, 0, {number}, 7) is "))
 
 
+def test_detectors_of_one_spot_stand_beside_each_other(open_page):
+    page = open_page("R 0\nM 0\nDETECTOR(0, 0, 0, 0) rec[-1]\nDETECTOR(0, 0, 0, 1) rec[-1]\n")
+    for number, left in ((0, 14), (1, 20)):
+        page.point_at("#spacetime canvas", left, 40).perform()
+        page.wait(lambda: page.find("tip").text.startswith(f"D{number} at (0, 0, 0, {number}) is "))
+
+
 def test_the_region_of_a_detector_stands_on_the_qubits_tick_by_tick(page):
     # By hand: the record of the first product decides the sign of Z on qubit 0, with which X0*Z2 anticommutes, so between the
     # two products the region is X0 Z2, and the record has to be in the detector's set: the first product takes R away again.
@@ -93,9 +100,9 @@ def test_a_refusal_is_explained_at_its_item(page):
     page.press("i")
     page.press("DETECTOR rec[-2]", Keys.ENTER)
     page.wait(lambda: page.texts(".item-form .refusal") == ["refused 8 LookbackTooFar"])
-    lines = page.texts(".item-form .explanation")[0].split("\n")
-    assert lines[:2] == ["DETECTOR rec[-2]", "         ^^^^^^^"] and len(lines) == 4
-    assert page.find("message").text == " ".join(["refused 8 LookbackTooFar", *lines[2:]])
+    assert page.texts(".item-form .fault") == ["DETECTOR rec[-2]\n         ^^^^^^^"]
+    [why] = page.texts(".item-form .why")
+    assert "item 0" in why and page.find("message").text == f"refused 8 LookbackTooFar {why}"
 
 
 def test_a_refusal_is_explained_where_there_is_no_form(page):

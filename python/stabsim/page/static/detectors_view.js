@@ -95,13 +95,17 @@ export class DetectorsView {
     const { detectors, observables, coordinates } = this.#state;
     this.#laid = coordinates;
     const byTime = new Map();
+    const atSpot = new Map();
     let [width, height] = [1, 1];
     for (let number = 0; number < detectors.length; number += 1) {
       const { time, x, y: given } = spotOf(number, coordinates[number]);
       if (!byTime.has(time)) byTime.set(time, []);
       const spots = byTime.get(time);
       const y = given ?? spots.length;
-      spots.push({ number, x: x * DOT, top: TOP + y * DOT });
+      // Those of one spot, as the X and the Z check of a face, stand beside each other.
+      const before = atSpot.get(`${time} ${x} ${y}`) ?? 0;
+      atSpot.set(`${time} ${x} ${y}`, before + 1);
+      spots.push({ number, x: (x + before / 2) * DOT, top: TOP + y * DOT });
       width = Math.max(width, x + 1);
       height = Math.max(height, y + 1);
     }
@@ -201,8 +205,9 @@ export class DetectorsView {
     const left = event.clientX - box.left + this.#place.scrollLeft;
     const top = event.clientY - box.top + this.#place.scrollTop;
     const slice = this.#slices[Math.floor((left - GAP + DOT / 2) / this.#across)];
-    const spot = slice?.spots.find((it) => (slice.left + it.x - left) ** 2 + (it.top - top) ** 2 <= 36);
-    return spot ? spot.number : null;
+    const far = (it) => (slice.left + it.x - left) ** 2 + (it.top - top) ** 2;
+    const nearest = slice?.spots.reduce((best, it) => (far(it) < far(best) ? it : best));
+    return nearest && far(nearest) <= 36 ? nearest.number : null;
   }
 
   // The observable under the pointer, with its name, or null.

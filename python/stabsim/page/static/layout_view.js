@@ -101,13 +101,14 @@ export class LayoutView {
     const circle = element("circle", { cx: x, cy: y, r: 14 });
     const name = element("text", { x, y: y + 4, class: "name" }, "");
     const zero = element("text", { x: x + 15, y: y + 16, class: "pair-name" }, "");
+    const mark = element("text", { class: "letter" }, "");
     const title = element("title", {}, "");
-    group.append(circle, name, zero, title);
+    group.append(circle, name, zero, mark, title);
     group.addEventListener("pointerenter", () => this.#act.hover(qubit, this.#moment));
     group.addEventListener("focus", () => this.#act.hover(qubit, this.#moment));
     group.addEventListener("click", (event) => this.#act.offer(qubit, group, { left: event.clientX, top: event.clientY }));
     group.addEventListener("keydown", (event) => this.#key(event, qubit, group));
-    return { group, circle, name, zero, title, shown: null };
+    return { x, y, group, circle, name, zero, mark, title, shown: null };
   }
 
   #key(event, qubit, group) {
@@ -168,10 +169,19 @@ function drawDot(dot, qubit, label, letter) {
   dot.shown = shown;
   const kind = label ? (isCollapse(label) ? "collapse" : "gate") : "";
   dot.circle.setAttribute("class", [kind, letter.toLowerCase()].filter(Boolean).join(" "));
-  dot.name.setAttribute("class", letter ? "name letter" : "name");
-  dot.name.textContent = letter || (label ? short(label) : String(qubit));
+  dot.name.setAttribute("class", letter ? "name filled" : "name");
+  dot.name.textContent = label ? short(label) : letter ? "" : String(qubit);
+  drawLetter(dot, letter, Boolean(label));
   dot.zero.textContent = label && resets(label) ? "0" : "";
   dot.title.textContent = `qubit ${qubit}${label ? `, ${label}` : ""}`;
+}
+
+// A letter stands on its qubit, or beside it where a name stands there.
+function drawLetter({ x, y, mark }, letter, isBeside) {
+  mark.setAttribute("class", isBeside ? `letter beside ${letter.toLowerCase()}` : "letter");
+  mark.setAttribute("x", isBeside ? x - 17 : x);
+  mark.setAttribute("y", isBeside ? y - 9 : y + 4);
+  mark.textContent = letter;
 }
 
 function targetOf(name, place) {

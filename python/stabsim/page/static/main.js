@@ -8,6 +8,7 @@ import { commandOf, isField } from "./keys.js";
 import { Link } from "./link.js";
 import { Menu } from "./menu.js";
 import { momentOf, momentsOf } from "./moments.js";
+import { partsOf } from "./refusals.js";
 import { saidOfRegion } from "./regions.js";
 import { TextView } from "./text_view.js";
 
@@ -126,17 +127,11 @@ function say(words, bad = false) {
   by("message").classList.toggle("bad", bad);
 }
 
-// The words of a refusal in one line: behind the line at fault and its carets an explanation has what is wrong.
-function sayRefusal({ refused, explanation }) {
-  const why = (explanation ?? "").split("\n");
-  say([refused, ...(why.length > 2 ? why.slice(2) : why)].join(" ").trim(), true);
-}
-
 // Asks, and says a refusal; answers whether it was done.
 async function ask(question) {
   try {
     const answer = await link.ask(question);
-    if (answer.refused) sayRefusal(answer);
+    if (answer.refused) say(`${answer.refused} ${partsOf(answer.explanation).why}`.trim(), true);
     else say(answer.said ?? "");
     return answer;
   } catch (fault) {

@@ -15,9 +15,10 @@ export class Menu {
   open(opener, { left, top }, offers) {
     this.#opener = opener;
     this.#place.replaceChildren(...offers.map(([words, act]) => this.#offer(words, act)));
-    this.#place.style.left = `${Math.min(left, innerWidth - 460)}px`;
-    this.#place.style.top = `${top}px`;
     this.#place.hidden = false;
+    // It stays inside of the window.
+    this.#place.style.left = `${Math.min(left, innerWidth - this.#place.offsetWidth)}px`;
+    this.#place.style.top = `${Math.min(top, innerHeight - this.#place.offsetHeight)}px`;
     this.#place.firstChild.focus();
   }
 

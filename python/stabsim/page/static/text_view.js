@@ -3,6 +3,7 @@
 
 import { blocksAround, pathOf, textOf } from "./circuit.js";
 import { keyOf } from "./keys.js";
+import { partsOf } from "./refusals.js";
 import { countRows, numberOfRow, rowsBetween } from "./rows.js";
 
 const ROW = 22;
@@ -51,9 +52,10 @@ export class TextView {
   }
 
   // What an edit at a path was refused with, and the lines that explain it, if there are some.
-  refuse(place, { refused, explanation = "" }) {
-    this.#refusal = { place, words: refused, explanation };
+  refuse(place, { refused, explanation }) {
+    this.#refusal = { place, words: refused, ...partsOf(explanation) };
     this.#draw();
+    this.#form?.element.scrollIntoView({ block: "nearest" });
   }
 
   // Behind the last item something can be put in, too, so there is a row more.
@@ -153,7 +155,7 @@ export class TextView {
     form.append(field, button("Put in", "submit"), button("Leave", "button", () => this.#closeForm()));
     if (path.length > 1) form.append(this.#roundOffer(path));
     // The row's own words may be out of sight behind the form.
-    form.append(span("refusal", ""), span("explanation", ""));
+    form.append(span("refusal", ""), span("fault", ""), span("why", ""));
     this.#listen(field, form);
     form.addEventListener("submit", (event) => {
       event.preventDefault();
@@ -183,7 +185,8 @@ export class TextView {
     const number = numberOfRow(this.#items, this.#unfolded, path);
     element.style.top = `${(number + (kind === "insert" ? 0 : 1)) * ROW}px`;
     element.querySelector(".refusal").textContent = this.#refusal?.words ?? "";
-    element.querySelector(".explanation").textContent = this.#refusal?.explanation ?? "";
+    element.querySelector(".fault").textContent = this.#refusal?.shown ?? "";
+    element.querySelector(".why").textContent = this.#refusal?.why ?? "";
   }
 
   // An edit inside a block is one of each of its rounds; one round can be taken out first.
