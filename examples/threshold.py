@@ -3,7 +3,7 @@
     PYTHONPATH=python python3 examples/threshold.py threshold.png
     PYTHONPATH=python python3 examples/threshold.py --errors 1000 --save counts.csv threshold.png
 
-Each code runs for as many rounds as its distance, with circuit-level noise of one parameter. The decoder is minimum-weight perfect
+Each code runs for as many rounds as its distance, with noise of one parameter, which is circuit-level. The decoder is minimum-weight perfect
 matching, by networkx: it is slow, and exact for the checks of one letter. Counting goes on from the file of --save. It needs Debian's
 python3-numpy, python3-networkx and python3-matplotlib; matplotlib is asked for only where something is drawn.
 """
@@ -102,7 +102,8 @@ def draw(sums: dict[str, stabsim.Sums], path: str) -> None:
         bars = np.sqrt(rates * (1 - rates) / [it.shots for it in counted])
         axes.errorbar(CHANCES, rates, yerr=bars, marker=marker, capsize=3, label=f"distance {distance}, {distance} rounds")
     axes.set(yscale="log", xlabel="chance of an error of each gate, reset and measurement", ylabel="logical error rate")
-    axes.set_title("Rotated surface code, circuit-level noise, matching")
+    # Codes of another model of noise would need a picture of their own.
+    axes.set_title(f"Rotated surface code, {codes.NOISE_MODELS['surface_code']} noise, matching")
     axes.grid(True, which="both", alpha=0.3)
     axes.legend()
     figure.tight_layout()
@@ -120,7 +121,7 @@ def main() -> None:
     models = {name_of(distance, chance): stabsim.error_model(codes.surface_code(distance, distance, noise=codes.Noise.uniform(chance)))
               for distance in DISTANCES for chance in CHANCES}
     with ProcessPoolExecutor() as executor:
-        counted = stabsim.collect(models, decoder, shots=given.shots, errors=given.errors, seed=given.seed, executor=executor,
+        counted = stabsim.collect(models, ("matching", decoder), shots=given.shots, errors=given.errors, seed=given.seed, executor=executor,
                                   save=given.save, part_shots=1024)
         sums = {it.name: it for it in counted}
     for name in models:

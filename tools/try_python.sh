@@ -7,4 +7,8 @@ if ! python=$("$tools/find_python.sh"); then
     exit 0
 fi
 "$tools/../stabsim" --version >/dev/null
-exec "$python" -B -m pytest -q -p no:cacheprovider "$tools/../python/tests"
+# Tests run side by side where pytest-xdist is there (Debian: python3-pytest-xdist); those of one xdist_group in one process.
+if "$python" -c 'import xdist' 2>/dev/null; then
+    set -- -n "$(nproc)" --dist loadgroup
+fi
+exec "$python" -B -m pytest -q -p no:cacheprovider "$@" "$tools/../python/tests"

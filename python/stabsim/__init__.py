@@ -13,43 +13,52 @@ adds, error models and their samples, no proof covers. docs/python.md of the rep
 import importlib
 from typing import TYPE_CHECKING
 
+__all__ = [
+    "Changed", "Circuit", "Decoder", "ErrorModel", "FaultTable", "ItemSteps", "MissingProgram", "NotDecomposed", "Numbers",
+    "OtherExperiment", "Path", "Predict", "ProgramFailed", "Refused", "Session", "SessionEnded", "SessionNumbers", "StabsimError",
+    "Sums", "Sure", "UnsupportedNoise", "codes", "collect", "error_model", "find_program", "without_noise",
+]
+
+# A module is read when one of its names is asked for first, so that `stabsim.codes` needs no numpy.
 if TYPE_CHECKING:
+    from stabsim import codes
     from stabsim.circuit import Circuit, Numbers
     from stabsim.collecting import Sums, collect
+    from stabsim.counting import Decoder, Predict
     from stabsim.errors import (
-        MissingProgram, OtherExperiment, ProgramFailed, Refused, SessionEnded, StabsimError, UnsupportedNoise,
+        MissingProgram, NotDecomposed, OtherExperiment, ProgramFailed, Refused, SessionEnded, StabsimError, UnsupportedNoise,
     )
     from stabsim.faults import FaultTable
-    from stabsim.marking import without_noise
     from stabsim.models import ErrorModel, error_model
     from stabsim.program import find_program
+    from stabsim.quiet import without_noise
+    from stabsim.script import Path
     from stabsim.session import Changed, ItemSteps, Session, SessionNumbers
     from stabsim.sure import Sure
+else:
+    # Where each name stands.
+    HOMES = {
+        "circuit": ("Circuit", "Numbers"),
+        "collecting": ("Sums", "collect"),
+        "counting": ("Decoder", "Predict"),
+        "errors": ("MissingProgram", "NotDecomposed", "OtherExperiment", "ProgramFailed", "Refused", "SessionEnded", "StabsimError",
+                   "UnsupportedNoise"),
+        "faults": ("FaultTable",),
+        "models": ("ErrorModel", "error_model"),
+        "program": ("find_program",),
+        "quiet": ("without_noise",),
+        "script": ("Path",),
+        "session": ("Changed", "ItemSteps", "Session", "SessionNumbers"),
+        "sure": ("Sure",),
+    }
 
-# Where each name stands. A module is read when one of its names is asked for first, so that `stabsim.codes` needs no numpy.
-HOMES = {
-    "Circuit": "circuit", "Numbers": "circuit",
-    "Sums": "collecting", "collect": "collecting",
-    "ErrorModel": "models", "error_model": "models",
-    "MissingProgram": "errors", "OtherExperiment": "errors", "ProgramFailed": "errors", "Refused": "errors",
-    "SessionEnded": "errors", "StabsimError": "errors", "UnsupportedNoise": "errors",
-    "FaultTable": "faults",
-    "without_noise": "marking",
-    "find_program": "program",
-    "Changed": "session", "ItemSteps": "session", "Session": "session", "SessionNumbers": "session",
-    "Sure": "sure",
-}
-
-__all__ = sorted([*HOMES, "codes"])
-
-
-def __getattr__(name: str) -> object:
-    if name == "codes":
-        return importlib.import_module("stabsim.codes")
-    if name not in HOMES:
+    def __getattr__(name: str) -> object:
+        if name == "codes":
+            return importlib.import_module("stabsim.codes")
+        for home, names in HOMES.items():
+            if name in names:
+                return getattr(importlib.import_module(f"stabsim.{home}"), name)
         raise AttributeError(f"module {__name__!r} has no attribute {name!r}")
-    return getattr(importlib.import_module(f"stabsim.{HOMES[name]}"), name)
 
-
-def __dir__() -> list[str]:
-    return __all__
+    def __dir__() -> list[str]:
+        return __all__

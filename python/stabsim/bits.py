@@ -20,4 +20,4 @@ def of_b8(data: bytes, shots: int, bits: int) -> NDArray[np.bool_]:
 
 def of_text(line: bytes) -> NDArray[np.bool_]:
     """The characters 0 and 1 of a line, as a bool array (bits,)."""
-    return np.frombuffer(line, dtype=np.uint8) == ord("1")
+    return np.equal(np.frombuffer(line, dtype=np.uint8), ord("1"))

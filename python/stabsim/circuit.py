@@ -1,15 +1,18 @@
 """A circuit, and what the program says of it."""
 
+import functools
 import pathlib
+import warnings
 from concurrent.futures import Executor
-from dataclasses import dataclass
+from dataclasses import dataclass, field
 from os import PathLike
 from typing import Literal, overload
 
 import numpy as np
 from numpy.typing import NDArray
 
-from stabsim import bits, coordinates, program, shot_parts
+from stabsim import bits, coordinates, program, quiet, shot_parts
+from stabsim.errors import Refused
 from stabsim.faults import FaultTable, table_of
 from stabsim.session import Session
 from stabsim.sure import Sure, sure_of
@@ -30,42 +33,54 @@ class Numbers:
     coins: int
 
 
+@dataclass(frozen=True, repr=False)
 class Circuit:
     """A circuit in Stim's circuit text without noise, which the program reads whenever it is asked for something.
 
-    Each call raises stabsim.Refused where the program refuses the circuit, and stabsim.MissingProgram where there is none.
+    text: str; left_out: the lines of noise, counted from 1, that a file had and the text has not. Neither can be set.
+    Each call raises stabsim.Refused, with the words of `stabsim check`, where the program refuses the circuit, and
+    stabsim.MissingProgram where there is none.
     """
 
-    def __init__(self, text: str) -> None:
-        self.text = text
-        self.known_numbers: Numbers | None = None
+    text: str
+    left_out: tuple[int, ...] = field(default=(), compare=False)
 
     @classmethod
     def from_file(cls, path: str | PathLike[str]) -> "Circuit":
-        """The circuit whose text a file has now."""
-        return cls(program.text_of(pathlib.Path(path).read_bytes()))
+        """The circuit whose text a file has now. Where that has noise, this is `without_noise` of it, and a warning says so; lines
+        of a refusal are then those of `text`, and no longer the file's."""
+        text = program.text_of(pathlib.Path(path).read_bytes())
+        noisy = quiet.noisy_lines(text)
+        if not noisy:
+            return cls(text)
+        circuit = cls(quiet.without_noise(text), tuple(noisy))
+        warnings.warn(f"{path}: {circuit.about_noise()}, the first of them line {noisy[0]}; stabsim.error_model reads it", stacklevel=2)
+        return circuit
 
     def __repr__(self) -> str:
-        if self.known_numbers is None:
-            return f"<stabsim.Circuit: {self.text.count(chr(10))} lines>"
-        has = self.known_numbers
-        return f"<stabsim.Circuit: {has.qubits} qubits, {has.steps} steps, {has.detectors} detectors>"
+        about = f"{self.text.count(chr(10))} lines"
+        if "known_numbers" in vars(self):
+            has = self.known_numbers
+            about = f"{has.qubits} qubits, {has.steps} steps, {has.detectors} detectors"
+        return f"<stabsim.Circuit: {about}{', ' + self.about_noise() if self.left_out else ''}>"
 
     def __str__(self) -> str:
         return self.text
 
-    def __eq__(self, other: object) -> bool:
-        return isinstance(other, Circuit) and self.text == other.text
-
-    def __hash__(self) -> int:
-        return hash(self.text)
+    def about_noise(self) -> str:
+        """How much noise a file had that this circuit has not."""
+        count = len(self.left_out)
+        return f"the noise of {count} line{'s' * (count > 1)} is left out"
 
     def numbers(self) -> Numbers:
         """How many qubits, items, steps, records, detectors, observables and coins the circuit has."""
-        if self.known_numbers is None:
-            lines = program.run(["check"], self.text).decode().split("\n")
-            self.known_numbers = Numbers(**{name: int(number) for name, _, number in (line.partition(": ") for line in lines if line)})
         return self.known_numbers
+
+    @functools.cached_property
+    def known_numbers(self) -> Numbers:
+        """What `check` says, which is asked for once."""
+        lines = program.run(["check"], self.text).decode().split("\n")
+        return Numbers(**{name: int(number) for name, _, number in (line.partition(": ") for line in lines if line)})
 
     def sample(self, shots: int, *, seed: int = 0, first_shot: int = 0, executor: Executor | None = None, parts: int = 64) -> Bits:
         """The records of shots first_shot, first_shot + 1 .. of a seed, as a bool array (shots, records).
@@ -103,6 +118,7 @@ class Circuit:
 
     def stabilisers(self, *, seed: int = 0) -> list[str]:
         """The reduced rows of the group that stabilises the state after shot 0 of a seed: a signed string, as +XZ_, for each qubit."""
+        self.numbers()
         return program.run(["stabilisers", *program.seed_words(seed)], self.text).decode().split()
 
     def deterministic(self) -> Sure:
@@ -119,11 +135,13 @@ class Circuit:
         """
         has = self.numbers()
         words = ["--everywhere"] * everywhere + ["--sure_only"] * sure_only
-        return table_of(program.run(["faults", *words], self.text), has.detectors, has.observables)
+        return table_of(program.run(["faults", *words], self.text), has.detectors, has.observables, everywhere)
 
     def detector_coordinates(self) -> NDArray[np.float64]:
         """The coordinates of each detector, float64 (detectors, width): width is the most that one has, and nan stands where
         another has none. SHIFT_COORDS counts, also in blocks, as in Stim."""
+        # The program judges the circuit first, so what is made here is within its limits.
+        self.numbers()
         return coordinates.detector_coordinates(self.text)
 
     def qubit_coordinates(self) -> NDArray[np.float64]:
@@ -136,4 +154,9 @@ class Circuit:
         qubits: how many there are, of which the circuit and each edit may name some; without it, those that the circuit names.
         seed: the coins are those of its shot 0. stride: how far apart copies of the state are kept.
         """
-        return Session(self.text, qubits=qubits, seed=seed, stride=stride)
+        try:
+            return Session(self.text, qubits=qubits, seed=seed, stride=stride)
+        except Refused:
+            # Where the text itself is at fault, this raises the same in words.
+            self.numbers()
+            raise

@@ -16,6 +16,13 @@ def rows_of(rows: Numbers, indptr: Numbers, indices: Numbers) -> tuple[Numbers, 
     return of_row, indices[np.repeat(indptr[rows], lengths) + inside]
 
 
+def starts_of(lengths: Numbers) -> Numbers:
+    """The indptr of a CSR matrix whose rows have these lengths, int64 (rows + 1,)."""
+    starts = np.zeros(len(lengths) + 1, dtype=np.int64)
+    np.cumsum(lengths, out=starts[1:])
+    return starts
+
+
 def odd(sets: Numbers, columns: Numbers, width: int) -> tuple[Numbers, Numbers]:
     """Of pairs of a set and a column those that come an odd number of times, ascending."""
     keys, counts = np.unique(sets * width + columns, return_counts=True)
@@ -35,7 +42,7 @@ def combined(chances: Chances, sets: Numbers, columns: Numbers) -> tuple[Chances
             places.setdefault(columns[start:end].tobytes(), []).append(error)
     found = sorted((np.frombuffer(key, dtype=np.int64).tolist(), errors) for key, errors in places.items())
     joined = np.array([odd_chance(chances[errors]) for _, errors in found], dtype=np.float64)
-    indptr = np.concatenate(([0], np.cumsum([len(flipped) for flipped, _ in found]))).astype(np.int64)
+    indptr = starts_of(np.array([len(flipped) for flipped, _ in found], dtype=np.int64))
     indices = np.array([column for flipped, _ in found for column in flipped], dtype=np.int64)
     return joined, indptr, indices
 

@@ -1,4 +1,5 @@
-"""Coordinates of detectors and qubits, by Stim's rules.
+"""Coordinates of detectors and qubits, by Stim's rules, of a text that the program has judged: within its limits a block that has
+detectors has few enough rounds to be written out.
 
 SHIFT_COORDS adds its numbers to those that DETECTOR and QUBIT_COORDS name behind it, coordinate by coordinate, as far as they name
 any. A block does so in each of its rounds. Of a qubit that is placed several times the last place counts.
@@ -43,9 +44,9 @@ class Places:
     def add_block(self, body: "Places", count: int) -> None:
         """Places what a block's body does, in each round by one more of its shifts."""
         if body.detectors:
-            once = joined(body.detectors)
-            rounds = [shifted(once, sum_of(self.shift, round_ * body.shift)) for round_ in range(count)]
-            self.detectors.append(np.concatenate(rounds))
+            once = shifted(joined(body.detectors), self.shift)
+            shifts = np.arange(count)[:, None, None] * body.shift
+            self.detectors.append(shifted(np.tile(once, (count, 1, 1)), shifts).reshape(count * len(once), once.shape[1]))
         last = sum_of(self.shift, (count - 1) * body.shift)
         self.qubits.update((qubit, shifted(place[None], last)[0]) for qubit, place in body.qubits.items())
         self.shift = sum_of(self.shift, count * body.shift)
@@ -68,10 +69,10 @@ def sum_of(left: NDArray[np.float64], right: NDArray[np.float64]) -> NDArray[np.
 
 
 def shifted(places: NDArray[np.float64], shift: NDArray[np.float64]) -> NDArray[np.float64]:
-    """Places (n, k) with the shift added, as far as they have coordinates."""
+    """Places (.., k) with the shift (.., l) added, as far as they have coordinates."""
     moved = places.copy()
-    width = min(moved.shape[1], len(shift))
-    moved[:, :width] += shift[:width]
+    width = min(moved.shape[-1], shift.shape[-1])
+    moved[..., :width] += shift[..., :width]
     return moved
 
 

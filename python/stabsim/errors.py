@@ -13,20 +13,21 @@ class Refused(StabsimError):
     """The program refused a circuit, an edit or a question.
 
     number: int, and name: str, as docs/refusals.md lists them; line: int, counted from 1, or None where
-    the refusal belongs to no line; said: str, what the program said beside that, perhaps nothing.
+    the refusal belongs to no line; explanation: str, lines that say what is wrong and what to do, as `stabsim check` has them,
+    perhaps none.
     """
 
-    def __init__(self, number: int, name: str, line: int | None = None, said: str = "") -> None:
+    def __init__(self, number: int, name: str, line: int | None = None, explanation: str = "") -> None:
         # All of them are arguments of the exception, so that it can be sent from one process to another.
-        super().__init__(number, name, line, said)
+        super().__init__(number, name, line, explanation)
         self.number = number
         self.name = name
         self.line = line
-        self.said = said
+        self.explanation = explanation.rstrip("\n")
 
     def __str__(self) -> str:
         place = "" if self.line is None else f"line {self.line}: "
-        return f"{place}refused {self.number} {self.name}" + (f"; {self.said}" if self.said else "")
+        return f"{place}refused {self.number} {self.name}" + (f"\n{self.explanation}" if self.explanation else "")
 
 
 class ProgramFailed(StabsimError):
@@ -50,6 +51,10 @@ class UnsupportedNoise(StabsimError):
 
     def __str__(self) -> str:
         return f"line {self.line}: {self.why}"
+
+
+class NotDecomposed(StabsimError):
+    """An error mechanism flips more than two detectors, and no other mechanisms together flip the same."""
 
 
 class OtherExperiment(StabsimError):

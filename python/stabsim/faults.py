@@ -5,6 +5,8 @@ from dataclasses import dataclass
 import numpy as np
 from numpy.typing import NDArray
 
+from stabsim.combining import starts_of
+
 SPACE, LINE_END, DIGIT_ZERO = ord(" "), ord("\n"), ord("0")
 # The words of a line in front of what the fault flips: step, path, and Pauli with qubit.
 WORDS_BEFORE = 3
@@ -21,6 +23,7 @@ class FaultTable:
     indptr: int64 (faults + 1,), and indices: int64 (flips,): fault i flips indices[indptr[i]:indptr[i + 1]], ascending, where
     a detector is its number, and an observable is `detectors` and its number.
     detectors, observables: int, how many of each the circuit has.
+    everywhere: whether all faults were asked for, and not those at marks alone.
     """
 
     steps: NDArray[np.int64]
@@ -31,12 +34,14 @@ class FaultTable:
     indices: NDArray[np.int64]
     detectors: int
     observables: int
+    everywhere: bool = False
 
     def __len__(self) -> int:
         return len(self.steps)
 
     def __repr__(self) -> str:
-        return f"<stabsim.FaultTable: {len(self)} faults, {self.detectors} detectors, {self.observables} observables>"
+        marks = "" if len(self) or self.everywhere else "; no place is marked by I, and everywhere=True asks for all places"
+        return f"<stabsim.FaultTable: {len(self)} faults, {self.detectors} detectors, {self.observables} observables{marks}>"
 
     def flipped(self, fault: int) -> NDArray[np.int64]:
         """What a fault flips, int64 (flips,): detectors, and observables counted on behind them."""
@@ -49,14 +54,14 @@ class FaultTable:
         return table
 
 
-def table_of(lines: bytes, detectors: int, observables: int) -> FaultTable:
+def table_of(lines: bytes, detectors: int, observables: int, everywhere: bool) -> FaultTable:
     """The table of the lines that the program writes of faults, as `1207 3/0/2 X17 D24 D31 L0`."""
     data = np.frombuffer(lines, dtype=np.uint8)
     ends = np.flatnonzero((data == SPACE) | (data == LINE_END))
-    starts = np.concatenate(([0], ends[:-1] + 1)) if len(ends) else np.zeros(0, dtype=np.int64)
+    starts = begins_of(ends)
     # The last word of each line, and with it the first of each.
     last = np.flatnonzero(data[ends] == LINE_END)
-    first = np.concatenate(([0], last[:-1] + 1)) if len(last) else np.zeros(0, dtype=np.int64)
+    first = begins_of(last)
     flips = last - first + 1 - WORDS_BEFORE
     flip_words = np.delete(np.arange(len(starts)), (first[:, None] + np.arange(WORDS_BEFORE)).ravel())
     is_observable = data[starts[flip_words]] == ord("L")
@@ -65,11 +70,19 @@ def table_of(lines: bytes, detectors: int, observables: int) -> FaultTable:
         paths=words_in(data, starts[first + 1], ends[first + 1]),
         paulis=words_in(data, starts[first + 2], starts[first + 2] + 1),
         qubits=numbers_in(data, starts[first + 2] + 1, ends[first + 2]),
-        indptr=np.concatenate(([0], np.cumsum(flips))).astype(np.int64),
+        indptr=starts_of(flips),
         indices=numbers_in(data, starts[flip_words] + 1, ends[flip_words]) + detectors * is_observable,
         detectors=detectors,
         observables=observables,
+        everywhere=everywhere,
     )
+
+
+def begins_of(ends: NDArray[np.int64]) -> NDArray[np.int64]:
+    """Where each of several stretches begins that lie one behind the other and have these ends."""
+    begins = np.zeros(len(ends), dtype=np.int64)
+    begins[1:] = ends[:-1] + 1
+    return begins
 
 
 def numbers_in(data: NDArray[np.uint8], starts: NDArray[np.int64], ends: NDArray[np.int64]) -> NDArray[np.int64]:

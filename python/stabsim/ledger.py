@@ -4,17 +4,30 @@ import csv
 import fcntl
 import io
 import os
+from dataclasses import dataclass
 from os import PathLike
 from types import TracebackType
 
 from stabsim.counting import Counted
 from stabsim.errors import OtherExperiment
 
-FIELDS = ("name", "model", "seed", "first_shot", "shots", "errors", "seconds")
+FIELDS = ("name", "decoder", "model", "seed", "first_shot", "shots", "errors", "seconds")
+# What a file of counts began with before decoders had names.
+OLDER = "name,model,seed,first_shot,shots,errors,seconds\n"
+
+
+@dataclass(frozen=True)
+class Key:
+    """What parts are kept by: the name of the model and that of the decoder, the model's fingerprint, and the seed of its shots."""
+
+    name: str
+    decoder: str
+    model: str
+    seed: int
 
 
 class Ledger:
-    """A file of lines, one for each part that was counted; a part's model is told by its fingerprint.
+    """A file of lines, one for each part that was counted, with its key.
 
     A line that has no end was being written when its process was killed: it counts for nothing, and is cut off. One process at a time
     has the file.
@@ -32,10 +45,15 @@ class Ledger:
         kept = self.file.read()
         whole = kept[: kept.rfind(b"\n") + 1]
         self.file.truncate(len(whole))
-        self.rows = list(csv.DictReader(io.StringIO(whole.decode(), newline="")))
+        text = whole.decode()
+        self.rows = list(csv.DictReader(io.StringIO(text, newline="")))
         if not whole:
             self.write(FIELDS)
-        elif any(set(row) != set(FIELDS) for row in self.rows) or not whole.decode().startswith(",".join(FIELDS)):
+        elif text.startswith(OLDER):
+            self.file.close()
+            raise OtherExperiment(f"{os.fspath(path)} was written by an older version, without the name of the decoder and with the same "
+                                  "seed for all models: keep it as it is, and count anew into another file")
+        elif any(set(row) != set(FIELDS) for row in self.rows) or not text.startswith(",".join(FIELDS)):
             self.file.close()
             raise OtherExperiment(f"{os.fspath(path)} is no file of counts")
 
@@ -51,17 +69,18 @@ class Ledger:
         csv.writer(line, lineterminator="\n").writerow(row)
         self.file.write(line.getvalue().encode())
 
-    def add(self, counted: Counted, model: str, seed: int) -> None:
+    def add(self, key: Key, counted: Counted) -> None:
         """Keeps a part."""
-        self.write((counted.name, model, seed, counted.first_shot, counted.shots, counted.errors, f"{counted.seconds:.6f}"))
+        numbers = (counted.first_shot, counted.shots, counted.errors, f"{counted.seconds:.6f}")
+        self.write((key.name, key.decoder, key.model, key.seed, *numbers))
 
-    def parts_of(self, name: str, model: str, seed: int) -> list[Counted]:
-        """The parts of a model that the file has, in the order of their shots."""
+    def parts_of(self, key: Key) -> list[Counted]:
+        """The parts of a key that the file has, in the order of their shots. Other decoders' parts are no matter."""
         found = []
         for row in self.rows:
-            if row["name"] != name:
+            if (row["name"], row["decoder"]) != (key.name, key.decoder):
                 continue
-            if (row["model"], row["seed"]) != (model, str(seed)):
-                raise OtherExperiment(f"{os.fspath(self.path)} counts another error model or another seed by the name {name}")
-            found.append(Counted(name, int(row["first_shot"]), int(row["shots"]), int(row["errors"]), float(row["seconds"])))
+            if (row["model"], row["seed"]) != (key.model, str(key.seed)):
+                raise OtherExperiment(f"{os.fspath(self.path)} counts another error model or another seed by the name {key.name}")
+            found.append(Counted(key.name, int(row["first_shot"]), int(row["shots"]), int(row["errors"]), float(row["seconds"])))
         return sorted(found, key=lambda part: part.first_shot)

@@ -1,29 +1,19 @@
 """A circuit with noise as one without, in which `I` marks each qubit that an error may meet, and the channels on these marks."""
 
-import re
-from dataclasses import dataclass
+from dataclasses import dataclass, replace
 
 import numpy as np
 from numpy.typing import NDArray
 
 from stabsim.channels import ONE, TWO, Errors, depolarising, independent
 from stabsim.errors import UnsupportedNoise
+from stabsim.quiet import CHANNELS, CORRELATED, FLIPS, MEASUREMENTS, OTHER_NOISE
 from stabsim.reading import Block, Instruction, Item, items_of
 
 Marks = NDArray[np.int64]
 
-FLIPS = {"X_ERROR": "X", "Y_ERROR": "Y", "Z_ERROR": "Z"}
-CHANNELS = (*FLIPS, "DEPOLARIZE1", "DEPOLARIZE2", "PAULI_CHANNEL_1", "PAULI_CHANNEL_2")
-CORRELATED = ("E", "CORRELATED_ERROR")
-# Noise of which no model is made.
-OTHER_NOISE = ("ELSE_CORRELATED_ERROR", "HERALDED_ERASE", "HERALDED_PAULI_CHANNEL_1", "I_ERROR", "II_ERROR")
-MEASUREMENTS = ("M", "MZ", "MX", "MY", "MR", "MRZ", "MRX", "MRY", "MPP")
 # A letter that anticommutes with each: put in front of a measurement it turns the outcome over, behind it it makes good.
 OTHER = {"X": "Z", "Y": "X", "Z": "X"}
-
-NAME = re.compile(r"\s*(\w+)")
-# What stands in front of the arguments of a line, and these.
-ARGUMENTS = re.compile(r"^(\s*\w+(?:\[[^\]]*\])?)\s*\([^)]*\)")
 
 
 @dataclass(frozen=True)
@@ -31,24 +21,32 @@ class Source:
     """One independent error of one instruction, each time that it is met.
 
     letters: a Pauli for each of the marks of one time, as XI; chance: float; marks: int64 (times, len(letters)), the numbers of the
-    marks among all of the circuit, as they are met once blocks are written out.
+    marks among all of the circuit, as they are met in the first round of all blocks; blocks: of each block around it, the innermost
+    first, how many rounds it has, and how many marks later each of them is.
     """
 
     letters: str
     chance: float
     marks: Marks
+    blocks: tuple[tuple[int, int], ...] = ()
+
+    def all_marks(self) -> Marks:
+        """The marks of all rounds, int64 (times, len(letters)): as many as the circuit has steps, so it is judged before."""
+        marks = self.marks
+        for rounds, each in self.blocks:
+            marks = (each * np.arange(rounds, dtype=np.int64)[:, None, None] + marks).reshape(-1, len(self.letters))
+        return marks
 
 
 @dataclass(frozen=True)
 class Marked:
     """A circuit with marks.
 
-    text: without noise; origin: for each line of it the line of the noisy text; sources: the errors; marks: int, how many there are;
-    approximated: the lines whose disjoint errors were taken for independent ones.
+    text: without noise; sources: the errors; marks: int, how many there are; approximated: the lines whose disjoint errors were taken
+    for independent ones.
     """
 
     text: str
-    origin: list[int]
     sources: list[Source]
     marks: int
     approximated: tuple[int, ...]
@@ -61,11 +59,6 @@ class Marker:
         self.approximate = approximate
         self.approximated: set[int] = set()
         self.lines: list[str] = []
-        self.origin: list[int] = []
-
-    def write(self, line: int, text: str) -> None:
-        self.lines.append(text)
-        self.origin.append(line)
 
     def items(self, items: list[Item], first: int) -> tuple[list[Source], int]:
         """Writes items, whose first mark has this number, and answers their errors and the number of the next mark."""
@@ -77,15 +70,11 @@ class Marker:
 
     def block(self, block: Block, first: int) -> tuple[list[Source], int]:
         """Writes a block. Its errors come again in each round, as many marks later as a round has."""
-        self.write(block.line, f"REPEAT{block.tag} {block.count} {{")
+        self.lines.append(f"REPEAT{block.tag} {block.count} {{")
         sources, end = self.items(block.items, first)
-        self.write(block.last_line, "}")
+        self.lines.append("}")
         each = end - first
-        # A block of very many rounds has no marks, or is over the limit on steps, which the program says.
-        if not each or block.count > 2**20:
-            return [] if not each else sources, first + each * block.count
-        rounds = each * np.arange(block.count, dtype=np.int64)
-        again = [Source(it.letters, it.chance, (rounds[:, None, None] + it.marks).reshape(-1, len(it.letters))) for it in sources]
+        again = [replace(it, blocks=(*it.blocks, (block.count, each))) for it in sources]
         return again, first + each * block.count
 
     def instruction(self, item: Instruction, first: int) -> tuple[list[Source], int]:
@@ -100,9 +89,9 @@ class Marker:
             return self.measurement(item, first)
         if item.name == "I":
             # Its marks would be taken for those of noise. It does nothing, and so does TICK.
-            self.write(item.line, "TICK")
+            self.lines.append("TICK")
         else:
-            self.write(item.line, written(item))
+            self.lines.append(written(item))
         return [], first
 
     def channel(self, item: Instruction, first: int) -> tuple[list[Source], int]:
@@ -113,7 +102,7 @@ class Marker:
             raise UnsupportedNoise(item.line, f"{item.name} is on pairs of qubits")
         if not count:
             return [], first
-        self.write(item.line, " ".join(["I", *item.targets]))
+        self.lines.append(" ".join(["I", *item.targets]))
         marks = (first + np.arange(count, dtype=np.int64)).reshape(-1, each)
         errors = self.errors(item)
         return [Source(letters, chance, marks) for letters, chance in errors.items() if chance], first + count
@@ -146,7 +135,7 @@ class Marker:
         [chance] = chances_of(item, 1)
         if not letters:
             return [], first
-        self.write(item.line, " ".join(["I", *qubits]))
+        self.lines.append(" ".join(["I", *qubits]))
         marks = (first + np.arange(len(qubits), dtype=np.int64))[None]
         return [Source("".join(letters), chance, marks)] if chance else [], first + len(qubits)
 
@@ -159,11 +148,11 @@ class Marker:
         for targets in apart(item.targets):
             marks = [mark_of(item.name, target) for target in targets]
             line = " ".join(["I", *(qubit for _, qubit in marks)])
-            self.write(item.line, line)
-            self.write(item.line, written(item, targets))
+            self.lines.append(line)
+            self.lines.append(written(item, targets))
             count = len(marks)
             if not is_reset:
-                self.write(item.line, line)
+                self.lines.append(line)
             for i, (letter, _) in enumerate(marks):
                 around = [first + i] if is_reset else [first + i, first + count + i]
                 sources.append(Source(letter * len(around), chance, np.array([around], dtype=np.int64)))
@@ -218,28 +207,4 @@ def marked(text: str, approximate: bool) -> Marked:
     marker = Marker(approximate)
     sources, marks = marker.items(items_of(text), 0)
     lines = "".join(line + "\n" for line in marker.lines)
-    return Marked(lines, marker.origin, sources, marks, tuple(sorted(marker.approximated)))
-
-
-def without_noise(text: str) -> str:
-    """The circuit of a text without its noise: channels are left out, and measurements lose the chance of a wrong record.
-
-    Everything else stays as it is written, comments too. Raises stabsim.UnsupportedNoise at heralded errors, which make records.
-    """
-    kept = []
-    for number, line in enumerate(text.split("\n"), start=1):
-        found = NAME.match(line)
-        name = found[1].upper() if found else ""
-        if name.startswith("HERALDED"):
-            raise UnsupportedNoise(number, f"{name} makes records, so that what is without it is another circuit")
-        if name in MEASUREMENTS:
-            kept.append(without_chance(line))
-        elif name not in CHANNELS and name not in CORRELATED and name not in OTHER_NOISE:
-            kept.append(line)
-    return "\n".join(kept)
-
-
-def without_chance(line: str) -> str:
-    """The line of a measurement without its arguments."""
-    content, mark, comment = line.partition("#")
-    return ARGUMENTS.sub(r"\1", content, count=1) + mark + comment
+    return Marked(lines, sources, marks, tuple(sorted(marker.approximated)))

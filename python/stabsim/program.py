@@ -81,17 +81,20 @@ def run(words: list[str], text: str) -> bytes:
         file.flush()
         done = subprocess.run([program, *words, "--in", file.name], stdin=subprocess.DEVNULL, capture_output=True, check=False)
     if done.returncode:
-        raise failure(program, done.returncode, done.stderr.decode(errors="replace"))
+        # What `check` writes of a circuit that is refused is why.
+        why = done.stdout.decode(errors="replace") if words[0] == "check" else ""
+        raise failure(program, done.returncode, done.stderr.decode(errors="replace"), why)
     return done.stdout
 
 
-def failure(program: str, status: int, said: str) -> Exception:
-    """What to raise where a program ended with a status other than 0 and said this on standard error."""
+def failure(program: str, status: int, said: str, why: str = "") -> Exception:
+    """What to raise where a program ended with a status other than 0 and said this on standard error; why: what explains a refusal,
+    if it was not said there."""
     refused = REFUSAL.search(said)
     if refused:
         line = int(refused[1]) if refused[1] else None
         rest = said[refused.end():].replace("stabsim: ", "").strip()
-        return Refused(int(refused[2]), refused[3], line, "; ".join(rest.split("\n")) if rest else "")
+        return Refused(int(refused[2]), refused[3], line, why or rest)
     if status == 2 and "unexpected argument" in said:
         return MissingProgram(f"{program} is too old for this package: {said.strip()}. {WHAT_TO_DO}")
     return ProgramFailed(f"{program} ended with status {status}: {said.strip() or 'it said nothing'}")

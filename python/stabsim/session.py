@@ -9,6 +9,7 @@ from numpy.typing import NDArray
 
 from stabsim import bits, program
 from stabsim.errors import Refused
+from stabsim.explaining import explaining
 from stabsim.framed import FramedProcess
 from stabsim.history import Change, History, Request
 from stabsim.rounds import longest_part, parts_of_block, place_behind
@@ -61,7 +62,7 @@ class Session:
     """A circuit that is run, kept, and changed by edits. Made by `Circuit.edit`.
 
     It is a context manager, and its process ends with it. One thread at a time uses it. An edit that is refused raises
-    stabsim.Refused and changes nothing. Where the process has ended, or was interrupted in a reply, every call raises
+    stabsim.Refused, with words for a fault of the item's own, and changes nothing. Where the process has ended, or was interrupted in a reply, every call raises
     stabsim.SessionEnded.
     """
 
@@ -91,12 +92,14 @@ class Session:
     def insert(self, path: Path, text: str) -> None:
         """Puts an item, one instruction or one whole block, in front of the one at the path, or behind all of its list."""
         at = path_text(path)
-        self.change(Change.of_one(edit_lines(f"insert {at}", text), delete_line(at)))
+        with explaining(text):
+            self.change(Change.of_one(edit_lines(f"insert {at}", text), delete_line(at)))
 
     def replace(self, path: Path, text: str) -> None:
         """Puts an item in the stead of the one at the path."""
         at = path_text(path)
-        self.change(Change.of_one(edit_lines(f"replace {at}", text), edit_lines(f"replace {at}", self.old_item(at))))
+        with explaining(text):
+            self.change(Change.of_one(edit_lines(f"replace {at}", text), edit_lines(f"replace {at}", self.old_item(at))))
 
     def delete(self, path: Path) -> None:
         """Takes the item at the path out."""

@@ -10,6 +10,18 @@ def nothing(model):
     return lambda detectors: np.zeros((len(detectors), model.observables), dtype=bool)
 
 
+class Nothing:
+    """The same, as a class whose objects decode."""
+
+    def __init__(self, model):
+        self.observables = model.observables
+
+    def decode(self, detectors):
+        return np.zeros((len(detectors), self.observables), dtype=bool)
+
+    __call__ = decode
+
+
 def slowly_nothing(model):
     """The same, some time later."""
 

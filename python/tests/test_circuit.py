@@ -1,9 +1,11 @@
 """A circuit's arrays, against values worked by hand and against the program's five formats."""
 
+import dataclasses
 import pickle
 import re
 import stat
 import subprocess
+import warnings
 
 import numpy as np
 import pytest
@@ -105,6 +107,15 @@ def test_a_circuit_without_places_has_an_empty_table():
     assert len(table) == 0 and table.indptr.tolist() == [0] and table.dense().shape == (0, 1)
 
 
+def test_an_empty_table_says_that_no_place_is_marked():
+    circuit = stabsim.Circuit("M 0\nDETECTOR rec[-1]\n")
+    assert "no place is marked by I, and everywhere=True asks for all places" in repr(circuit.faults())
+    assert "4 faults" in repr(circuit.faults(everywhere=True)) and "marked" not in repr(circuit.faults(everywhere=True))
+    # There is no place at all, marked or not.
+    assert repr(stabsim.Circuit("TICK\n").faults(everywhere=True)) == "<stabsim.FaultTable: 0 faults, 0 detectors, 0 observables>"
+    assert "marked" not in repr(stabsim.Circuit(MARKED).faults())
+
+
 def test_coordinates_are_shifted_in_every_round():
     text = """QUBIT_COORDS(1, 2) 0 3
 SHIFT_COORDS(10)
@@ -142,13 +153,32 @@ def test_a_circuit_without_coordinates_has_arrays_of_no_width():
     assert circuit.detector_coordinates().shape == (1, 0) and circuit.qubit_coordinates().shape == (1, 0)
 
 
-def test_a_refusal_has_its_number_name_and_line():
+@pytest.mark.parametrize("text", [
+    "REPEAT 1000000000 {\nDETECTOR\n}\n",
+    "REPEAT 1000 {\nREPEAT 1000 {\nREPEAT 1000 {\nDETECTOR(1, 2)\nSHIFT_COORDS(1)\n}\n}\n}\n",
+])
+def test_coordinates_of_too_many_detectors_are_refused_before_any_are_made(text):
+    with pytest.raises(stabsim.Refused) as told:
+        stabsim.Circuit(text).detector_coordinates()
+    assert told.value.number == 9
+
+
+def test_rounds_without_detectors_shift_those_behind_them_at_once():
+    text = "REPEAT 1000000000000 {\nREPEAT 1000 {\nSHIFT_COORDS(0.5, 1)\nQUBIT_COORDS(0, 0) 1\n}\n}\nDETECTOR(1, 2)\nM 1\n"
+    circuit = stabsim.Circuit(text)
+    assert circuit.detector_coordinates().tolist() == [[5e14 + 1, 1e15 + 2]]
+    assert circuit.qubit_coordinates()[1].tolist() == [5e14, 1e15]
+
+
+def test_a_refusal_has_its_number_name_and_line_and_the_words_of_check():
     with pytest.raises(stabsim.Refused) as told:
         stabsim.Circuit("M 0\nFOO 0\n").sample(1)
     assert (told.value.number, told.value.name, told.value.line) == (1, "UnsupportedName", 2)
-    assert str(told.value) == "line 2: refused 1 UnsupportedName"
+    # Carets, what is wrong, and what to do.
+    assert told.value.explanation.startswith("2: FOO 0\n   ^^^\n") and len(told.value.explanation.splitlines()) == 4
+    assert str(told.value) == f"line 2: refused 1 UnsupportedName\n{told.value.explanation}"
     again = pickle.loads(pickle.dumps(told.value))
-    assert (again.number, again.name, again.line) == (1, "UnsupportedName", 2)
+    assert vars(again) == vars(told.value) and str(again) == str(told.value)
 
 
 def test_a_refusal_without_a_line_has_none():
@@ -157,11 +187,62 @@ def test_a_refusal_without_a_line_has_none():
     assert (told.value.number, told.value.line) == (8, None)
 
 
+def test_every_call_explains_why_a_circuit_is_refused():
+    circuit = stabsim.Circuit("REPEAT 3 {\n    M 0\n    DETECTOR rec[-2]\n}\n")
+    for call in (circuit.numbers, lambda: circuit.sample(1), lambda: circuit.detect(1), circuit.stabilisers, circuit.deterministic, circuit.faults,
+                 circuit.detector_coordinates, circuit.qubit_coordinates, circuit.edit):
+        with pytest.raises(stabsim.Refused, match="looks back past the first record") as told:
+            call()
+        assert told.value.number == 8 and told.value.explanation.startswith("3:     DETECTOR rec[-2]\n")
+
+
 def test_a_detector_that_coins_decide_is_named():
     with pytest.raises(stabsim.Refused) as told:
         stabsim.Circuit("MX 0\nDETECTOR rec[-1]\n").faults()
-    assert told.value.number == 18 and "detector 0, item 1" in told.value.said
+    assert told.value.number == 18 and "detector 0, item 1" in told.value.explanation
     assert stabsim.Circuit("MX 0\nI 0\nDETECTOR rec[-1]\n").faults(sure_only=True).dense().tolist() == [[False], [False]]
+
+
+NOISY = "# two\nR 0\nX_ERROR(0.1) 0\nREPEAT 2 {\n    m[a](0.2) 0\n    M 0\n}\nDETECTOR(1) rec[-1]\n"
+
+
+def test_a_noisy_file_is_opened_without_its_noise_and_says_so(tmp_path):
+    path = tmp_path / "noisy.stim"
+    path.write_text(NOISY)
+    with pytest.warns(UserWarning, match=re.escape(f"{path}: the noise of 2 lines is left out, the first of them line 3")) as warned:
+        circuit = stabsim.Circuit.from_file(path)
+    assert warned[0].filename == __file__
+    assert circuit.text == stabsim.without_noise(NOISY) and circuit.left_out == (3, 5) and circuit == stabsim.Circuit(circuit.text)
+    assert repr(circuit) == "<stabsim.Circuit: 7 lines, the noise of 2 lines is left out>"
+    assert circuit.numbers().records == 4
+    assert repr(circuit) == "<stabsim.Circuit: 1 qubits, 6 steps, 1 detectors, the noise of 2 lines is left out>"
+    with pytest.warns(UserWarning, match="1 line is left out"), stabsim.Circuit.from_file(one_line(tmp_path)).edit() as session:
+        assert session.circuit == "R 0\n"
+
+
+def one_line(folder):
+    path = folder / "one.stim"
+    path.write_text("R 0\nE(0.1) X0\n")
+    return path
+
+
+def test_a_file_without_noise_is_opened_as_it_is(tmp_path):
+    path = tmp_path / "quiet.stim"
+    text = "M 0 # M(0.1) 0\nM() 0\nDETECTOR(1) rec[-1]\nEXIT(1)\n"
+    path.write_text(text)
+    with warnings.catch_warnings():
+        warnings.simplefilter("error")
+        assert stabsim.Circuit.from_file(path).text == text and stabsim.Circuit.from_file(path).left_out == ()
+
+
+def test_a_circuit_stays_as_it_is():
+    circuit = stabsim.Circuit(BELL)
+    for name in ("text", "left_out", "known_numbers"):
+        with pytest.raises(dataclasses.FrozenInstanceError):
+            setattr(circuit, name, "M 0\n")
+    assert circuit.text == BELL and circuit.numbers().detectors == 1
+    again = pickle.loads(pickle.dumps(circuit))
+    assert again == circuit and hash(again) == hash(circuit)
 
 
 def test_a_missing_program_is_told_with_what_to_do(monkeypatch, tmp_path):

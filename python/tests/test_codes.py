@@ -1,5 +1,6 @@
 """Circuits of codes: their counts, that they are quiet, and their distances."""
 
+import functools
 import itertools
 import subprocess
 import sys
@@ -77,35 +78,97 @@ OBSERVABLE_INCLUDE(0) rec[-1]
 """
 
 
-def lightest(model, most):
-    """The least number of mechanisms, up to a most, that flip the observable and together no detector."""
-    flips = [frozenset(model.flipped(mechanism).tolist()) for mechanism in range(len(model))]
-    for weight in range(1, most + 1):
-        for some in itertools.combinations(flips, weight):
-            total = frozenset()
-            for flipped in some:
-                total ^= flipped
-            if total == {model.detectors}:
-                return weight
-    return None
+def test_the_time_of_a_detector_is_its_third_coordinate():
+    # But for the repetition code, which lies on a line.
+    for text in (text for name, text in TEXTS.items() if name != "repetition"):
+        rounds = int(text.split(" round")[0].rsplit(" ", 1)[1])
+        times = stabsim.Circuit(text).detector_coordinates()[:, 2].tolist()
+        # A round has as many detectors as another, but for the first and the end, which have the same.
+        ends = times.count(0.0)
+        inner = (len(times) - 2 * ends) // max(rounds - 1, 1)
+        assert times == [0.0] * ends + [float(now) for now in range(1, rounds) for _ in range(inner)] + [float(rounds)] * ends
 
 
-def test_errors_of_data_qubits_take_the_distance_to_go_unseen():
-    noise = codes.Noise(before_round=0.1)
-    for text, distance in [
-        (codes.repetition_code(3, 1, noise=noise), 3), (codes.surface_code(2, 1, noise=noise), 2),
-        (codes.surface_code(3, 1, noise=noise), 3), (codes.surface_code(3, 1, basis="X", noise=noise), 3),
-        (codes.colour_code(3, 1, noise=noise), 3), (codes.bacon_shor_code(3, 1, noise=noise), 3), (codes.steane_code(1, noise=noise), 3),
-    ]:
-        assert lightest(stabsim.error_model(text), distance) == distance
+def test_products_depolarise_on_their_qubits_and_have_wrong_records():
+    lines = codes.colour_code(3, 1, noise=codes.Noise.uniform(0.125)).splitlines()
+    for letter in "XZ":
+        [place] = [place for place, line in enumerate(lines) if line.startswith(f"MPP(0.125) {letter}")]
+        factors = [factor for product in lines[place].split()[1:] for factor in product.split("*")]
+        assert lines[place + 1] == " ".join(["DEPOLARIZE1(0.125)", *(factor[1:] for factor in factors)]) and len(factors) == 12
+    assert "DEPOLARIZE1" not in codes.colour_code(3, 1, noise=codes.Noise(before_measurement=0.1))
 
 
-def test_a_schedule_decides_whether_two_errors_go_unseen():
-    noise = codes.Noise.uniform(0.001)
-    good = stabsim.error_model(codes.surface_code(3, 2, noise=noise))
-    bad = stabsim.error_model(codes.surface_code(3, 2, noise=noise, bad_schedule=True))
-    assert lightest(good, 2) is None
-    assert lightest(bad, 2) == 2
+def test_the_noise_of_each_code_has_a_name():
+    # Circuit-level where there are gates to err, and phenomenological plus data where checks are products.
+    for name, model in codes.NOISE_MODELS.items():
+        text = codes.memory(name, 3).text(2)
+        assert model == ("phenomenological plus data" if "MPP" in text else "circuit-level") and ("CX" in text) == ("MPP" not in text)
+    assert set(codes.NOISE_MODELS) == {*codes.MOST_DISTANCES, "steane_code"}
+
+
+UNIFORM, PHENOMENOLOGICAL, DATA = codes.Noise.uniform(0.001), codes.Noise.phenomenological(0.001), codes.Noise(before_round=0.1)
+# Codes with the distances of their circuits under noise of one parameter, with wrong records, and by errors of data qubits alone.
+DISTANCES = {
+    "repetition": (codes.repetition_code, {"distance": 3, "rounds": 3}, 3, 3, 3),
+    "repetition, distance 4": (codes.repetition_code, {"distance": 4, "rounds": 2}, 4, 4, 4),
+    "surface, distance 2": (codes.surface_code, {"distance": 2, "rounds": 2}, 2, 2, 2),
+    "surface": (codes.surface_code, {"distance": 3, "rounds": 3}, 3, 3, 3),
+    "surface, X": (codes.surface_code, {"distance": 3, "rounds": 3, "basis": "X"}, 3, 3, 3),
+    "surface, distance 4": (codes.surface_code, {"distance": 4, "rounds": 2}, 4, 4, 4),
+    "surface, bad schedule": (codes.surface_code, {"distance": 3, "rounds": 3, "bad_schedule": True}, 2, 3, 3),
+    "colour": (codes.colour_code, {"distance": 3, "rounds": 3}, 3, 3, 3),
+    "Bacon-Shor": (codes.bacon_shor_code, {"distance": 3, "rounds": 3}, 3, 3, 3),
+    "Bacon-Shor, distance 4": (codes.bacon_shor_code, {"distance": 4, "rounds": 2}, 4, 4, 4),
+    "Steane": (codes.steane_code, {"rounds": 3}, 2, 3, 3),
+}
+
+
+class Search:
+    """Looks for the fewest mechanisms of a model that flip an observable and together no detector: the distance of its circuit."""
+
+    def __init__(self, model):
+        self.detectors = model.detectors
+        self.mechanisms = [frozenset(model.flipped(number).tolist()) for number in range(len(model))]
+        self.touching = {}
+        self.by_detectors = {}
+        for flips in self.mechanisms:
+            self.by_detectors.setdefault(self.seen(flips), []).append(flips)
+            for detector in self.seen(flips):
+                self.touching.setdefault(detector, []).append(flips)
+
+    def seen(self, flips):
+        return frozenset(it for it in flips if it < self.detectors)
+
+    def distance(self):
+        """One of them flips an observable: with each such it is tried whether no more, one more, two more .. make a set."""
+        first = [flips for flips in self.mechanisms if flips != self.seen(flips)]
+        return next(size for size in itertools.count(1) if any(self.is_hidden(flips, size - 1) for flips in first))
+
+    def is_hidden(self, flips, more):
+        """Whether so many more mechanisms flip all detectors back, and not the observables."""
+        seen = self.seen(flips)
+        if more == 0 or not seen:
+            return not seen and bool(flips)
+        if more == 1:
+            return any(flips != last for last in self.by_detectors.get(seen, []))
+        # Some mechanism has to flip back each detector: that is tried of one that few of them flip.
+        rare = min(seen, key=lambda detector: len(self.touching[detector]))
+        return any(self.is_hidden(flips ^ other, more - 1) for other in self.touching[rare])
+
+
+@pytest.mark.parametrize("name", DISTANCES)
+def test_a_circuit_has_the_distance_that_is_said(name):
+    make, given, *distances = DISTANCES[name]
+    assert [Search(stabsim.error_model(make(**given, noise=noise))).distance() for noise in (UNIFORM, PHENOMENOLOGICAL, DATA)] == distances
+
+
+def test_the_search_finds_what_all_sets_have():
+    for make, given in [(codes.repetition_code, (3, 1)), (codes.surface_code, (2, 1)), (codes.steane_code, (1,))]:
+        model = stabsim.error_model(make(*given, noise=UNIFORM))
+        flips = [frozenset(model.flipped(number).tolist()) for number in range(len(model))]
+        sets = ((size, some) for size in range(1, 4) for some in itertools.combinations(flips, size))
+        least = next(size for size, some in sets if functools.reduce(frozenset.symmetric_difference, some) == {model.detectors})
+        assert least == Search(model).distance()
 
 
 def test_noise_comes_off_again():

@@ -1,6 +1,8 @@
 """Counting logical errors: the same sums however the work is done, and nothing counted twice or lost."""
 
 import csv
+import functools
+import itertools
 import multiprocessing
 import os
 import signal
@@ -9,9 +11,11 @@ import sys
 import time
 from concurrent.futures import ProcessPoolExecutor, ThreadPoolExecutor
 
+import numpy as np
 import pytest
 import stabsim
 from stabsim import codes
+from stabsim.collecting import seed_of
 
 import deciding
 
@@ -23,27 +27,38 @@ def sums_of(*given, **words):
     return {it.name: (it.shots, it.errors) for it in stabsim.collect(*given, **words)}
 
 
-def errors_in(model, shots, decoder=deciding.nothing, seed=4):
-    """The same by one array."""
-    detectors, observables = model.sample(shots, seed=seed)
-    return int((decoder(model)(detectors) != observables).any(axis=1).sum())
+def errors_in(name, shots, decoder=deciding.nothing):
+    """The errors of a model by one array."""
+    detectors, observables = MODELS[name].sample(shots, seed=seed_of(name, 4))
+    return int((decoder(MODELS[name])(detectors) != observables).any(axis=1).sum())
 
 
 def test_sums_are_those_of_one_array():
-    assert sums_of(MODELS, deciding.nothing, shots=3000, seed=4, part_shots=1024) == {
-        name: (3000, errors_in(model, 3000)) for name, model in MODELS.items()}
+    assert sums_of(MODELS, deciding.nothing, shots=3000, seed=4, part_shots=1024) == {name: (3000, errors_in(name, 3000)) for name in MODELS}
+
+
+def test_each_model_draws_shots_of_its_own():
+    model = MODELS["d3"]
+    found = {it.name: it for it in stabsim.collect({name: model for name in ("one", "other", "third")}, deciding.nothing, shots=4096, seed=4)}
+    seeds = [it.seed for it in found.values()]
+    shots = [np.concatenate(model.sample(4096, seed=seed), axis=1) for seed in seeds]
+    assert not any(np.array_equal(*pair) for pair in itertools.combinations(shots, 2))
+    # The seed that the sums have draws these shots again.
+    assert [it.errors for it in found.values()] == [int(it[:, model.detectors :].any(axis=1).sum()) for it in shots]
+    again = [it.seed for it in stabsim.collect({"other": model}, deciding.nothing, shots=10, seed=4)]
+    assert again == [found["other"].seed] and seed_of("one", 4) != seed_of("one", 5)
 
 
 def test_a_decoder_makes_fewer_errors():
     found = sums_of(MODELS, deciding.lookup, shots=2048, seed=4)
-    for name, model in MODELS.items():
-        assert found[name] == (2048, errors_in(model, 2048, deciding.lookup))
-        assert found[name][1] < errors_in(model, 2048)
+    for name in MODELS:
+        assert found[name] == (2048, errors_in(name, 2048, deciding.lookup))
+        assert found[name][1] < errors_in(name, 2048)
 
 
 def test_enough_errors_end_the_counting_at_a_part():
     [last] = sums_of({"d3": MODELS["d3"]}, deciding.nothing, errors=200, seed=4, part_shots=1024).values()
-    assert last[0] % 1024 == 0 and last[1] == errors_in(MODELS["d3"], last[0]) >= 200 > errors_in(MODELS["d3"], last[0] - 1024)
+    assert last[0] % 1024 == 0 and last[1] == errors_in("d3", last[0]) >= 200 > errors_in("d3", last[0] - 1024)
 
 
 @pytest.mark.parametrize("kind", [ThreadPoolExecutor, ProcessPoolExecutor])
@@ -68,6 +83,7 @@ def test_workers_of_dask_give_the_same_sums_though_one_is_killed(tmp_path):
             if processes and sums.shots >= 5 * 1024:
                 kill(processes.pop())
                 processes.clear()
+        client.wait_for_workers(2)
         after = set(client.run(os.getpid).values())
     assert not processes and len(after) == 2
     assert found == alone
@@ -77,7 +93,7 @@ def test_workers_of_dask_give_the_same_sums_though_one_is_killed(tmp_path):
 def kill(process):
     """Kills a worker once no result of it is on its way: dask takes a result for an error if it hears of the worker's end before it looks."""
     os.kill(process, signal.SIGSTOP)
-    time.sleep(0.3)
+    time.sleep(1)
     os.kill(process, signal.SIGKILL)
 
 
@@ -100,7 +116,45 @@ def test_a_later_call_goes_on_from_the_file(tmp_path):
     assert path.read_text() == before
     more = sums_of(MODELS, deciding.nothing, shots=6000, seed=4, save=path, part_shots=2048)
     assert path.read_text().startswith(before)
-    assert more == each_shot_once(path) == {name: (6000, errors_in(model, 6000)) for name, model in MODELS.items()}
+    assert more == each_shot_once(path) == {name: (6000, errors_in(name, 6000)) for name in MODELS}
+
+
+def test_another_decoder_is_counted_by_itself_in_the_same_file(tmp_path):
+    path = tmp_path / "counts.csv"
+    first = sums_of(MODELS, deciding.nothing, shots=2048, seed=4, save=path)
+    other = sums_of(MODELS, deciding.lookup, shots=2048, seed=4, save=path)
+    assert other == {name: (2048, errors_in(name, 2048, deciding.lookup)) for name in MODELS} != first
+    with open(path, newline="") as file:
+        assert {row["decoder"] for row in csv.DictReader(file)} == {"deciding.nothing", "deciding.lookup"}
+    before = path.read_text()
+    assert sums_of(MODELS, deciding.nothing, shots=2048, seed=4, save=path) == first and path.read_text() == before
+
+
+def test_a_decoder_has_the_name_that_it_is_given_or_that_of_its_function(tmp_path):
+    path = tmp_path / "counts.csv"
+    shift = 1
+    for decoder, name in [(deciding.nothing, "deciding.nothing"), (deciding.Nothing, "deciding.Nothing"),
+                          (("none, or so", lambda model: deciding.nothing(model)), "none, or so")]:
+        assert {it.decoder for it in stabsim.collect(MODELS, decoder, shots=10, seed=4, save=path)} == {name}
+        with open(path, newline="") as file:
+            assert [row["decoder"] for row in csv.DictReader(file)][-1] == name
+
+    def inner(model):
+        return lambda detectors: deciding.nothing(model)(detectors[shift:])
+
+    # Functions that share these names may differ in what they hold.
+    for nameless in (lambda model: deciding.nothing(model), inner, functools.partial(deciding.nothing), deciding.Nothing(MODELS["d3"]).decode):
+        with pytest.raises(ValueError, match="name it"):
+            stabsim.collect(MODELS, nameless, shots=10, seed=4)
+
+
+def test_a_file_that_names_no_decoder_is_refused_with_what_to_do(tmp_path):
+    path = tmp_path / "counts.csv"
+    older = f"name,model,seed,first_shot,shots,errors,seconds\nd3,{MODELS['d3'].fingerprint},4,0,1024,7,0.5\n"
+    path.write_text(older)
+    with pytest.raises(stabsim.OtherExperiment, match="count anew into another file"):
+        sums_of(MODELS, deciding.nothing, shots=2048, seed=4, save=path)
+    assert path.read_text() == older
 
 
 def test_a_line_that_was_cut_off_counts_for_nothing(tmp_path):
@@ -139,7 +193,7 @@ import stabsim
 from stabsim import codes
 import deciding
 models = {"d3": stabsim.error_model(codes.repetition_code(3, 2, noise=codes.Noise.uniform(0.03)))}
-for sums in stabsim.collect(models, deciding.slowly_nothing, shots=60 * 1024, seed=4, save=sys.argv[1], part_shots=1024):
+for sums in stabsim.collect(models, ("nothing", deciding.slowly_nothing), shots=60 * 1024, seed=4, save=sys.argv[1], part_shots=1024):
     print(sums.shots, flush=True)
 """
 
@@ -152,8 +206,8 @@ def test_a_driver_that_is_killed_is_gone_on_from(tmp_path):
         driver.kill()
     kept = each_shot_once(path)["d3"][0]
     assert 5 * 1024 <= kept < 60 * 1024
-    model = MODELS["d3"]
-    assert sums_of({"d3": model}, deciding.nothing, shots=60 * 1024, seed=4, save=path) == {"d3": (60 * 1024, errors_in(model, 60 * 1024))}
+    whole = {"d3": (60 * 1024, errors_in("d3", 60 * 1024))}
+    assert sums_of({"d3": MODELS["d3"]}, ("nothing", deciding.nothing), shots=60 * 1024, seed=4, save=path) == whole
     assert each_shot_once(path)["d3"][0] == 60 * 1024
 
 

@@ -2,6 +2,7 @@
 
 import itertools
 import math
+from fractions import Fraction
 
 import numpy as np
 import pytest
@@ -133,15 +134,40 @@ def test_other_noise_is_told_with_its_line(line):
 
 
 def test_a_refusal_names_the_line_of_the_noisy_text():
+    for text, number, line, said in [
+        ("R 0\nREPEAT 2 {\n\nM(0.1) 0 0\nX_ERROR(0.1) 0 # a comment\n}\nT 0\n", 1, 7, "7: T 0\n   ^\n"),
+        ("X_ERROR(0.1) a\n", 3, 1, "1: X_ERROR(0.1) a\n                ^\n"),
+        ("R 0\nE[tag](0.1) X0\tZ1024\r\n", 6, 2, "2: E[tag](0.1) X0 Z1024\n                   ^^^^\n"),
+        ("R 0\n\tM[x](0.125) 0 rec[-1] # c\n", 3, 2, "2:  M[x](0.125) 0 rec[-1] # c\n                  ^^^^^^^\n"),
+        ("REPEAT 2 {\nX_ERROR(0.1) 0\n", 5, 1, "1: REPEAT 2 {\n"),
+    ]:
+        with pytest.raises(stabsim.Refused) as told:
+            stabsim.error_model(text)
+        assert (told.value.number, told.value.line) == (number, line) and told.value.explanation.startswith(said)
+
+
+def test_a_refusal_names_the_item_of_the_noisy_text():
+    # With its marks the circuit has other items: those of a noisy measurement are three.
+    text = "R 0\nX_ERROR(0.1) 0\nREPEAT 2 {\n    M(0.1) 0 0\n    X_ERROR(0.1) 0\n    M 0\n    DETECTOR rec[-4]\n}\n"
+    with pytest.raises(stabsim.Refused, match="3 records stand before item 2/3") as told:
+        stabsim.error_model(text)
+    assert told.value.number == 8 and told.value.explanation.startswith("7:     DETECTOR rec[-4]\n")
     with pytest.raises(stabsim.Refused) as told:
-        stabsim.error_model("R 0\nREPEAT 2 {\n\nM(0.1) 0 0\nX_ERROR(0.1) 0 # a comment\n}\nT 0\n")
-    assert (told.value.number, told.value.line) == (1, 7)
-    with pytest.raises(stabsim.Refused) as told:
-        stabsim.error_model("X_ERROR(0.1) a\n")
-    assert (told.value.number, told.value.line) == (3, 1)
-    with pytest.raises(stabsim.Refused) as told:
-        stabsim.error_model("REPEAT 2 {\nX_ERROR(0.1) 0\n")
-    assert (told.value.number, told.value.line) == (5, 1)
+        stabsim.error_model("R 0\nM(0.1) 0 0\nI 0\nMX(0.1) 0\nDETECTOR rec[-2]\nDETECTOR rec[-1]\n")
+    assert told.value.number == 18 and told.value.explanation == "detector 1, item 5, is not the same for all coins"
+
+
+def test_a_circuit_of_too_many_errors_is_refused_before_they_are_counted():
+    # A thousand million errors would take gibibytes; and errors alone may be too many beside the steps of the circuit.
+    for text in ("REPEAT 1000 {\nREPEAT 1000 {\nREPEAT 1000 {\nX_ERROR(0.1) 0\n}\n}\n}\n", "REPEAT 400000 {\nM(0.1) 0\n}\n"):
+        with pytest.raises(stabsim.Refused) as told:
+            stabsim.error_model(text)
+        assert told.value.number == 9 and told.value.line is None and told.value.explanation
+
+
+def test_blocks_without_errors_may_have_any_number_of_rounds():
+    found = stabsim.error_model("R 0\nREPEAT 1000000000000000 {\nREPEAT 100000000 {\nTICK\n}\n}\nX_ERROR(0.1) 0\nM 0\nDETECTOR rec[-1]\n")
+    assert close(mechanisms(found), {"D0": 0.1})
 
 
 def test_what_coins_decide_is_refused_or_left_out():
@@ -204,6 +230,26 @@ def test_an_error_is_drawn_always_or_never_at_the_ends_of_chance():
     model = stabsim.error_model("R 0 1 2\nX_ERROR(1) 0\nX_ERROR(1e-300) 1\nX_ERROR(1e-17) 2\nM 0 1 2\nDETECTOR rec[-3]\nDETECTOR rec[-2]\nDETECTOR rec[-1]\n")
     detectors, observables = model.sample(3000, seed=3)
     assert detectors[:, 0].all() and not detectors[:, 1:].any() and observables.shape == (3000, 0)
+
+
+def test_a_shot_is_drawn_from_raw_words():
+    """Numpy keeps the words of Philox, and not what it makes of them. Word by word: the next shot in which a mechanism happens is the first
+    up to which it happens with a chance above the word's part of its range, in whole numbers here."""
+    model = stabsim.error_model("R 0 1\nX_ERROR(0.25) 0\nX_ERROR(0.015625) 1\nM 0 1\nDETECTOR rec[-2]\nDETECTOR rec[-1]\n")
+    words = np.random.Philox(key=9, counter=[0, 0, 3, 0])
+    happened = [[], []]
+    places, running = [-1, -1], [0, 1]
+    while running:
+        for mechanism, word in zip(running, words.random_raw(len(running)).tolist(), strict=True):
+            passed, left = 0, Fraction(1)
+            while 1 - left <= Fraction(word, 2**64):
+                passed, left = passed + 1, left * (1 - Fraction(model.chances[mechanism]))
+            places[mechanism] += passed
+            if places[mechanism] < 1024:
+                happened[mechanism].append(places[mechanism])
+        running = [mechanism for mechanism in running if places[mechanism] < 1024]
+    detectors, _ = model.sample(1024, seed=9, first_shot=3 * 1024)
+    assert [np.flatnonzero(column).tolist() for column in detectors.T] == happened
 
 
 def test_models_of_other_chances_have_other_fingerprints():

@@ -103,6 +103,24 @@ def test_a_refused_edit_changes_nothing_and_is_not_taken_back():
         assert session.records.tolist() == [False]
 
 
+def test_a_refused_edit_is_explained_by_the_item_that_it_puts_in():
+    with stabsim.Circuit("M 0\n").edit() as session:
+        for edit, number, said in [
+            (lambda: session.insert(0, "CX 0 rec[-1]"), 3, "1: CX 0 rec[-1]\n        ^^^^^^^\n"),
+            (lambda: session.replace(0, "REPEAT 2 {\n    X 0\n    FOO 1\n}"), 1, "3:     FOO 1\n       ^^^\n"),
+            (lambda: session.insert(0, "X 1024"), 6, "1: X 1024\n     ^^^^\n"),
+        ]:
+            with pytest.raises(stabsim.Refused) as told:
+                edit()
+            assert told.value.number == number and told.value.explanation.startswith(said)
+        # By themselves these items have no fault, or another: 5 is past the session's qubits, and the circuit has one record.
+        for edit, number in [(lambda: session.insert(0, "X 5"), 6), (lambda: session.insert(1, "DETECTOR rec[-2]"), 8),
+                             (lambda: session.insert(7, "X 0"), 12), (lambda: session.insert(0, ""), 13)]:
+            with pytest.raises(stabsim.Refused) as told:
+                edit()
+            assert told.value.number == number and told.value.explanation == ""
+
+
 ROUNDS = "X 0\nREPEAT[a] 3 {\n    M 0\n    X 0\n}\nDETECTOR rec[-1] rec[-3]\n"
 
 
@@ -213,7 +231,7 @@ def test_a_long_block_is_put_in_whole():
 def test_a_circuit_that_is_refused_opens_no_session():
     with pytest.raises(stabsim.Refused) as told:
         stabsim.Circuit("M 0\nFOO\n").edit()
-    assert (told.value.number, told.value.line) == (1, 2)
+    assert (told.value.number, told.value.line) == (1, 2) and told.value.explanation.startswith("2: FOO\n   ^^^\n")
     with pytest.raises(stabsim.Refused) as told:
         stabsim.Circuit("M 3\n").edit(qubits=2)
     assert told.value.number == 6

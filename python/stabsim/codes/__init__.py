@@ -10,10 +10,13 @@ and the data qubits are measured at the end. Detectors compare neighbouring roun
 - `colour_code(distance, rounds)`: the triangular colour code of hexagons, of odd distance 3 to 35, measured by MPP.
 - `bacon_shor_code(distance, rounds)`: the Bacon-Shor code on a square, of distance 2 to 32, by MPP on pairs of neighbours: of X
   along columns, of Z along rows. The product of a whole row of such pairs is a check.
-- `steane_code(rounds)`: the Steane code, of distance 3, with a qubit for each check.
+- `steane_code(rounds)`: the Steane code, of distance 3, with a qubit for each check. Under circuit-level noise two errors can flip
+  the observable unseen, since one of a check's qubit spreads to two data qubits.
 - `dense_circuit(qubits, steps, seed)`: no code, but layers of random Clifford gates, measurements and detectors.
 
-`noise` is a `Noise`, or None; `written_out` writes each round's lines, without a block. `deepest(NAME, distance)` is the most rounds
+`noise` is a `Noise`, or None. `NOISE_MODELS` names what `Noise.uniform` is for each code: circuit-level, if a qubit for each check
+meets data qubits by gates, or phenomenological plus data, if checks are measured as products. The second leaves errors of such gates
+out, so rates of codes of the two can't be compared. `written_out` writes each round's lines, without a block. `deepest(NAME, distance)` is the most rounds
 that the limit of 1,048,576 steps allows. The first line of a text says how many steps and records the circuit has. ValueError tells
 of what is out of range.
 
@@ -34,7 +37,7 @@ from stabsim.codes.surface import surface_memory
 from stabsim.codes.text import Memory
 
 __all__ = [
-    "MOST_DISTANCES", "MOST_QUBITS", "MOST_STEPS", "Noise", "bacon_shor_code", "colour_code", "deepest", "dense_circuit",
+    "MOST_DISTANCES", "MOST_QUBITS", "MOST_STEPS", "NOISE_MODELS", "Noise", "bacon_shor_code", "colour_code", "deepest", "dense_circuit",
     "memory", "repetition_code", "steane_code", "surface_code",
 ]
 
@@ -44,6 +47,15 @@ MOST_DISTANCES = {
     "repetition_code": repetition.MOST_DISTANCE,
     "colour_code": colour.MOST_DISTANCE,
     "bacon_shor_code": bacon_shor.MOST_DISTANCE,
+}
+# What noise `Noise.uniform` is for each code. Circuit-level: gates, resets, measurements and waiting data qubits err. Phenomenological
+# plus data: a product is measured at once, its record is wrong by the chance, and each of its qubits depolarises by it.
+NOISE_MODELS = {
+    "surface_code": "circuit-level",
+    "repetition_code": "circuit-level",
+    "steane_code": "circuit-level",
+    "colour_code": "phenomenological plus data",
+    "bacon_shor_code": "phenomenological plus data",
 }
 MEMORIES = {
     "repetition_code": repetition_memory,

@@ -12,16 +12,18 @@
 The first line of what is printed says how many steps and records the circuit has when its blocks are unrolled. A step is a gate
 on one qubit or one pair, a qubit that is measured or reset, a product that is measured, a detector, or an addition to an
 observable. A circuit has at most 1,048,576 steps; --deepest takes as many rounds as fit. --written-out writes each round's lines,
-without a block. --noise writes circuit-level noise of this chance.
+without a block. --noise writes noise of this chance: circuit-level, or of the codes that measure products, the colour code and the
+Bacon-Shor code, phenomenological plus data.
 """
 
 import argparse
 import sys
+from collections.abc import Callable
 
 from stabsim import codes
 
 
-def number_in(least: int, most: int):
+def number_in(least: int, most: int) -> Callable[[str], int]:
     """A reader of numbers within bounds, for the command line."""
 
     def read(text: str) -> int:

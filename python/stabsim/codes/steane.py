@@ -28,19 +28,19 @@ def measure_checks(text: Text) -> None:
 
 
 def steane_memory(noise: Noise | None = None) -> Memory:
-    """The Steane code as a memory of a logical 0; its distance is 3."""
+    """The Steane code as a memory of a logical 0. Its distance is 3, and that of the circuit 2 under circuit-level noise."""
     head = Text(noise)
     head.reset("R", range(13))
     measure_checks(head)
-    # Coordinates are the check's qubit, the time, and the letter: 0 for X, 1 for Z.
+    # Coordinates are the check's qubit, the letter, 0 for X and 1 for Z, and the time.
     for i, check in enumerate(Z_CHECKS):
-        head.detector((check, 0, 1), [3 - i])
+        head.detector((check, 1, 0), [3 - i])
 
     body = Text(noise)
     measure_checks(body)
-    body.add("SHIFT_COORDS(0, 1, 0)")
+    body.add("SHIFT_COORDS(0, 0, 1)")
     for i, check in enumerate(X_CHECKS + Z_CHECKS):
-        body.detector((check, 0, int(check in Z_CHECKS)), [6 - i, 12 - i])
+        body.detector((check, int(check in Z_CHECKS), 0), [6 - i, 12 - i])
 
     tail = Text(noise)
     tail.measure("M", DATA)

@@ -53,10 +53,12 @@ class Text:
             self.err(flip, self.noise.after_reset, qubits)
 
     def products(self, letter: str, groups: Sequence[Sequence[int]]) -> None:
-        """One step and one record for each group of qubits, on which the product of this letter is measured."""
+        """One step and one record for each group of qubits, on which the product of this letter is measured. Each qubit errs behind
+        it as behind a gate, as often as it is in a group."""
         targets = ["*".join(f"{letter}{qubit}" for qubit in group) for group in groups]
         chance = self.noise.before_measurement
         self.add(words(f"MPP({chance!r})" if chance else "MPP", targets), steps=len(groups), records=len(groups))
+        self.err("DEPOLARIZE1", self.noise.after_gate, [qubit for group in groups for qubit in group])
 
     def round_begins(self, data: Sequence[int]) -> None:
         """The errors of data qubits in front of a round."""

@@ -1,0 +1,31 @@
+"""The package, and a user's program over it, are typed: mypy --strict finds nothing."""
+
+import pathlib
+import subprocess
+import sys
+
+import pytest
+
+HERE = pathlib.Path(__file__).resolve().parent
+WRONG = """
+import stabsim
+
+stabsim.Circuit("M 0").sample("many")
+stabsim.nothing_of_this_name
+stabsim.Circuit("M 0").text = "M 1"
+"""
+
+
+def said_of(*files):
+    """The lines of mypy on files. A cache would be left in the repository."""
+    pytest.importorskip("mypy")
+    done = subprocess.run([sys.executable, "-m", "mypy", "--strict", "--cache-dir", "/dev/null", *files], capture_output=True, text=True, cwd=HERE.parent)
+    return (done.stdout + done.stderr).splitlines()
+
+
+def test_the_package_and_its_user_are_typed(tmp_path):
+    wrong = tmp_path / "wrong.py"
+    wrong.write_text(WRONG)
+    lines = said_of("stabsim", HERE / "typed_user.py", wrong)
+    # What is wrong in a program is found, and nothing else.
+    assert [line.split("wrong.py:")[-1].split(":")[0] for line in lines[:-1]] == ["4", "5", "6"], lines
