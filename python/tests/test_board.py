@@ -153,13 +153,14 @@ def test_a_refused_edit_is_explained_as_check_explains_the_circuit(board, edit, 
     with pytest.raises(stabsim.Refused) as refused:
         board.edit(edit)
     assert f"refused {refused.value.number} {refused.value.name}" in checked.stderr
-    assert refused.value.said.split("\n") == shown + checked.stdout.splitlines()[2:]
+    assert refused.value.explanation.split("\n") == shown + checked.stdout.splitlines()[2:]
 
 
-def test_a_qubit_that_the_session_has_not_is_explained(board):
+@pytest.mark.parametrize("item", ["X 1000", "CX rec[-9] 1000"])
+def test_a_qubit_that_the_session_has_not_is_explained(board, item):
     with pytest.raises(stabsim.Refused) as refused:
-        board.edit(Edit("insert", "0", "X 1000"))
-    assert "0 to 25" in refused.value.said
+        board.edit(Edit("insert", "0", item))
+    assert refused.value.number == 6 and "0 to 25" in refused.value.explanation
 
 
 def test_a_noisy_file_is_opened_without_its_noise_and_says_so(tmp_path):

@@ -1,10 +1,8 @@
 """What `check` says of an edit that the session refused."""
 
 import re
-import subprocess
 
 import stabsim
-from stabsim import program
 from stabsim.page.edits import Edit
 
 # The refusals of an edit that `check` explains: those of a circuit's text.
@@ -19,16 +17,22 @@ def explained(refused: stabsim.Refused, edit: Edit, circuit: str, qubits: int) -
     under the word, what is wrong with it, and what to do."""
     if edit.kind == "split" or refused.number not in EXPLAINED:
         return refused
-    said = without_line_number(said_of(edited(circuit, edit)))
-    if not said and refused.number == QUBIT_OUT_OF_RANGE:
+    said = refused.explanation
+    checked = refusal_of(edited(circuit, edit))
+    if checked and checked.number == refused.number:
+        said = checked.explanation
+    elif refused.number == QUBIT_OUT_OF_RANGE:
         said = f"The qubits are those that the circuit named when it was opened: 0 to {qubits - 1}."
-    return stabsim.Refused(refused.number, refused.name, refused.line, said)
+    return stabsim.Refused(refused.number, refused.name, refused.line, without_line_number(said))
 
 
-def said_of(text: str) -> str:
-    """What `check` says of a circuit that it refuses, and nothing of any other."""
-    asked = subprocess.run([program.find_program(), "check"], input=program.bytes_of(text), capture_output=True, check=False)
-    return asked.stdout.decode(errors="replace").rstrip("\n") if asked.returncode else ""
+def refusal_of(text: str) -> stabsim.Refused | None:
+    """What `check` refuses a circuit by, with its words, or None."""
+    try:
+        stabsim.Circuit(text).numbers()
+    except stabsim.Refused as refused:
+        return refused
+    return None
 
 
 def without_line_number(said: str) -> str:

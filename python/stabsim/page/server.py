@@ -122,7 +122,7 @@ class Server:
             question = json.loads(data)
             answer = await self.answer_to(tab, question)
         except stabsim.Refused as refused:
-            answer = {"refused": f"refused {refused.number} {refused.name}", "explanation": refused.said}
+            answer = {"refused": f"refused {refused.number} {refused.name}", "explanation": refused.explanation}
         except (ValueError, KeyError, TypeError, stabsim.StabsimError, OSError) as fault:
             answer = {"refused": str(fault)}
         if isinstance(question, dict) and "id" in question:
