@@ -142,6 +142,28 @@ def test_a_tab_that_missed_an_edit_catches_up(page):
     page.browser.switch_to.window(page.browser.window_handles[0])
 
 
+# Keeps the connection at hand.
+KEPT = """
+const Real = window.WebSocket;
+window.WebSocket = class extends Real {
+  constructor(...words) {
+    super(...words);
+    window.socket = this;
+  }
+};
+"""
+
+
+def test_a_tab_that_the_server_closed_says_why(page):
+    page.browser.switch_to.new_window("tab")
+    page.browser.execute_cdp_cmd("Page.addScriptToEvaluateOnNewDocument", {"source": KEPT})
+    page.open()
+    page.browser.execute_script("socket.dispatchEvent(new CloseEvent('close', {code: 4000, reason: 'Too slow: load the page anew.'}))")
+    page.wait(lambda: page.find("message").text == "Too slow: load the page anew.")
+    page.browser.close()
+    page.browser.switch_to.window(page.browser.window_handles[0])
+
+
 def test_a_lost_server_is_said(page):
     page.server.send_signal(signal.SIGINT)
     page.wait(lambda: "The server is gone" in page.find("message").text)
