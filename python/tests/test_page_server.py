@@ -108,17 +108,18 @@ def test_an_event_comes_before_the_answer_to_what_caused_it(tmp_path):
 
 
 def test_a_tab_that_opens_while_sure_bits_are_told_is_told_them_too(tmp_path, monkeypatch):
-    found, opening, go_on = threading.Event(), threading.Event(), threading.Event()
+    finding, found, opening, go_on = (threading.Event() for _ in range(4))
 
     def sure_line(text):
+        finding.set()
         assert found.wait(SECONDS)
         return "1"
 
     monkeypatch.setattr(serving, "sure_line", sure_line)
 
     async def work(server, connect):
-        first = await connect()
-        await first.hear(lambda message: message.get("event") == "opened")
+        await connect()
+        assert await asyncio.to_thread(finding.wait, SECONDS)
         opened = server.board.opened
 
         def opened_slowly():
@@ -129,7 +130,7 @@ def test_a_tab_that_opens_while_sure_bits_are_told_is_told_them_too(tmp_path, mo
 
         server.board.opened = opened_slowly
         second = await connect()
-        await asyncio.to_thread(opening.wait, SECONDS)
+        assert await asyncio.to_thread(opening.wait, SECONDS)
         # The sure bits are there once the second tab has been looked up, and before it hears of events.
         found.set()
         await asyncio.sleep(0.5)
