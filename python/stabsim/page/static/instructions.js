@@ -1,5 +1,7 @@
 // Instructions, as far as the picture of a moment tells them apart, and the qubits on which they act.
 
+export const PAULIS = ["X", "Y", "Z"];
+
 const GATES = new Set(["I", "X", "Y", "Z", "H", "S", "S_DAG", "SQRT_X", "SQRT_X_DAG", "SQRT_Y", "SQRT_Y_DAG", "C_XYZ", "C_ZYX"]);
 const PAIRS = new Set(["CX", "CY", "CZ", "SWAP"]);
 const RESETS = new Set(["MR", "MRX", "MRY", "R", "RX", "RY"]);

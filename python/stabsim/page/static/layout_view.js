@@ -1,7 +1,7 @@
 // The qubits at one moment: the gates of that moment, Paulis that can be put on a qubit at its end, and the letters that the
 // region of a detector or observable has there.
 
-import { groupsOf, isCollapse, isPair, resets } from "./instructions.js";
+import { PAULIS, groupsOf, isCollapse, isPair, resets } from "./instructions.js";
 import { keyOf } from "./keys.js";
 import { momentAt, momentsOf } from "./moments.js";
 
@@ -9,7 +9,6 @@ const SVG = "http://www.w3.org/2000/svg";
 const STEP = 46;
 // Names are left out where they would be too small to be read: below this part of their size.
 const LEAST_SCALE = 0.5;
-const PAULIS = ["X", "Y", "Z"];
 
 export class LayoutView {
   #place;

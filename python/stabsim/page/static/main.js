@@ -3,8 +3,9 @@
 import { applyEdit, parse, pathOf } from "./circuit.js";
 import { DetectorsView } from "./detectors_view.js";
 import { HistoryView } from "./history_view.js";
-import { LayoutView } from "./layout_view.js";
+import { PAULIS } from "./instructions.js";
 import { commandOf, isField } from "./keys.js";
+import { LayoutView } from "./layout_view.js";
 import { Link } from "./link.js";
 import { Menu } from "./menu.js";
 import { momentOf, momentsOf } from "./moments.js";
@@ -191,15 +192,15 @@ async function put(letter, qubit, moment, instructions, everyRound = false) {
 function offer(qubit, element, place) {
   const { moment, instructions } = layout;
   const inBlock = placeAtEnd(instructions).rounds.length > 0;
-  const offers = ["X", "Y", "Z"].map((letter) => [`${letter} here`, () => put(letter, qubit, moment, instructions)]);
-  if (inBlock) offers.push(...["X", "Y", "Z"].map((letter) => [`${letter} in each round`, () => put(letter, qubit, moment, instructions, true)]));
+  const offers = PAULIS.map((letter) => [`${letter} here`, () => put(letter, qubit, moment, instructions)]);
+  if (inBlock) offers.push(...PAULIS.map((letter) => [`${letter} in each round`, () => put(letter, qubit, moment, instructions, true)]));
   offers.push(["Stabilised by Z?", () => askSign(`Z${qubit}`)], ["by X?", () => askSign(`X${qubit}`)]);
   menu.open(element, place, offers);
 }
 
 // Shows the region of a bit, or with null that of none.
 async function choose(bit) {
-  chosen = { bit, region: {}, why: "" };
+  chosen = { bit, region: {}, why: "its region is asked for" };
   detectors.choose(bit);
   const answer = bit === null ? {} : await link.ask({ ask: "region", bit }).catch(() => ({}));
   if (chosen.bit !== bit) return;
