@@ -24,6 +24,9 @@ if not MISSING:
     from selenium.webdriver.common.keys import Keys
     from selenium.webdriver.support.ui import WebDriverWait
 
+# The longest, in seconds, that anything is waited for.
+LONGEST = 60
+
 # Keys as the browser is told of them while they are held down.
 HELD = {
     "x": {"key": "x", "code": "KeyX", "text": "x", "windowsVirtualKeyCode": 88},
@@ -49,10 +52,10 @@ class Page:
 
     def close(self):
         self.server.send_signal(signal.SIGINT)
-        self.server.wait(timeout=20)
+        self.server.wait(timeout=LONGEST)
 
     def wait(self, test):
-        return WebDriverWait(self.browser, 20).until(lambda _: test())
+        return WebDriverWait(self.browser, LONGEST).until(lambda _: test())
 
     # What is shown.
 

@@ -48,7 +48,7 @@ def without_line_number(said: str) -> str:
 
 
 def edited(circuit: str, edit: Edit) -> str:
-    """The text of a circuit, as a session writes it, behind an edit at a place that is there."""
+    """The text of a circuit, as a session writes it, after an edit at a place that is there."""
     lines = circuit.splitlines()
     first, end = lines_at(lines, [int(number) for number in edit.place.split("/")])
     put_in = [] if edit.kind == "delete" else edit.item.split("\n")
@@ -59,7 +59,7 @@ def lines_at(lines: list[str], path: list[int]) -> tuple[int, int]:
     """Where the item at a path begins, and where the next one would."""
     at = 0
     for depth, number in enumerate(path):
-        # An item of a block stands behind the line that opens it.
+        # An item of a block stands after the line that opens it.
         at += depth > 0
         for _ in range(number):
             at = end_of_item(lines, at)

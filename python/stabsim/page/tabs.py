@@ -39,7 +39,7 @@ class Tab:
         self.tell_text(json.dumps(message))
 
     def tell_text(self, text: str) -> None:
-        """Puts a text behind those that wait."""
+        """Puts a text after those that wait."""
         if self.is_behind:
             return
         if self.waiting > MOST_WAITING:
