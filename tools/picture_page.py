@@ -4,7 +4,8 @@
     tools/picture_page.py [--folder docs]
 
 Both show the page on a surface code of distance 5 with 5 rounds. In the first an X was put on a qubit in one round of the block,
-and the moment shown is six ticks later; in the second, in dark colours, an item of the block was to become one that is refused.
+and the region of a detector that it flipped is drawn; in the second, in dark colours, an item of the block was to become one that
+is refused.
 It needs the built program, Chromium, its driver, selenium and aiohttp.
 """
 
@@ -86,11 +87,10 @@ def unfold(driver: webdriver.Chrome) -> None:
 
 
 def put_in_a_pauli(driver: webdriver.Chrome) -> None:
-    """An X in one round, and what any Pauli would flip on the same qubit six ticks later."""
+    """An X in one round, the region of the first detector that it flips, and what any Pauli would flip there."""
     go_to(driver, TICK)
     on_qubit(driver, "new KeyboardEvent('keydown', {key: 'x'})")
     wait(driver, lambda: driver.find_elements(By.CSS_SELECTOR, "#edits li + li"))
-    go_to(driver, TICK + 6)
     unfold(driver)
     scroll_to(driver, BLOCK - 2)
 

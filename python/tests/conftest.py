@@ -4,9 +4,36 @@ import os
 import pathlib
 import sys
 
+import pytest
+
 HERE = pathlib.Path(__file__).resolve().parent
 PLACES = [str(HERE.parent), str(HERE)]
 
 sys.path[:0] = PLACES
 os.environ["PYTHONPATH"] = os.pathsep.join(PLACES + [it for it in [os.environ.get("PYTHONPATH")] if it])
 os.environ["PYTHONDONTWRITEBYTECODE"] = "1"
+
+from browsing import Page, open_browser  # noqa: E402: it stands in a place that was named above
+
+
+@pytest.fixture(scope="session")
+def browser():
+    driver = open_browser()
+    yield driver
+    driver.quit()
+
+
+@pytest.fixture
+def open_page(browser, tmp_path):
+    """Opens the page on a circuit, perhaps with more words for its server."""
+    pages = []
+
+    def opened(text, *words):
+        page = Page(browser, tmp_path, text, *words)
+        pages.append(page)
+        page.open()
+        return page
+
+    yield opened
+    for page in pages:
+        page.close()

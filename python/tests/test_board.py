@@ -1,6 +1,7 @@
 """What the page's server tells its tabs of an edit: no more than what changed."""
 
 import json
+import subprocess
 
 import pytest
 import stabsim
@@ -94,3 +95,95 @@ def test_a_refused_edit_in_a_round_leaves_the_block_whole(board):
         board.edit_in_round(Edit("insert", f"{BLOCK + 1}/0", "X 1000"), str(BLOCK), 2)
     assert board.text() == text_at_first()
     assert board.position == 0
+
+
+@pytest.mark.parametrize("item", ["X 1\nX 2", "REPEAT 2 {"])
+def test_an_edit_in_a_round_that_fails_otherwise_leaves_the_block_whole(board, item):
+    before = board.opened()
+    with pytest.raises(ValueError):
+        board.edit_in_round(Edit("insert", f"{BLOCK + 1}/0", item), str(BLOCK), 2)
+    assert board.opened() == before
+
+
+def test_going_back_is_all_or_nothing(board, monkeypatch):
+    for qubit in (1, 3):
+        board.edit(Edit("insert", str(BLOCK), f"X {qubit}"))
+    before = board.opened()
+    delete, left = board.session.delete, [1]
+
+    def delete_once(place):
+        if not left:
+            raise OSError("no more")
+        left.pop()
+        delete(place)
+
+    with monkeypatch.context() as context:
+        context.setattr(board.session, "delete", delete_once)
+        with pytest.raises(OSError):
+            board.go(0)
+    assert board.opened() == before
+    told = board.go(0)
+    assert (told["position"], board.text()) == (0, text_at_first())
+    board.go(2)
+    assert board.opened()["circuit"] == before["circuit"]
+
+
+FIRST_MEASUREMENT = "MR 2 9 11 13 14 16 18 25\n"
+# Edits that are refused: each with the circuit that it would make, by hand, and the line at fault with its carets.
+REFUSED = {
+    "a name": (Edit("insert", "0", "MXX 1 3"), lambda text: "MXX 1 3\n" + text, ["MXX 1 3", "^^^"]),
+    "a line of a block": (
+        Edit("insert", "0", "REPEAT 2 {\n    X 1\n    H 1000000\n}"),
+        lambda text: "REPEAT 2 {\n    X 1\n    H 1000000\n}\n" + text, ["H 1000000", "  ^^^^^^^"],
+    ),
+    "a lookback in a block": (
+        Edit("insert", f"{BLOCK}/0", "DETECTOR rec[-9]"),
+        lambda text: text.replace("{\n", "{\n    DETECTOR rec[-9]\n"), ["DETECTOR rec[-9]", "         ^^^^^^^"],
+    ),
+    "a lookback of another item": (
+        Edit("delete", str(LINES.index(FIRST_MEASUREMENT.strip()))),
+        lambda text: text.replace(FIRST_MEASUREMENT, "", 1), ["DETECTOR(0, 4, 0) rec[-4]", "                  ^^^^^^^"],
+    ),
+}
+
+
+@pytest.mark.parametrize("edit, by_hand, shown", REFUSED.values(), ids=REFUSED.keys())
+def test_a_refused_edit_is_explained_as_check_explains_the_circuit(board, edit, by_hand, shown):
+    checked = subprocess.run([stabsim.find_program(), "check"], input=by_hand(board.text()), capture_output=True, text=True, check=False)
+    with pytest.raises(stabsim.Refused) as refused:
+        board.edit(edit)
+    assert f"refused {refused.value.number} {refused.value.name}" in checked.stderr
+    assert refused.value.explanation.split("\n") == shown + checked.stdout.splitlines()[2:]
+
+
+@pytest.mark.parametrize("item", ["X 1000", "CX rec[-9] 1000"])
+def test_a_qubit_that_the_session_has_not_is_explained(board, item):
+    with pytest.raises(stabsim.Refused) as refused:
+        board.edit(Edit("insert", "0", item))
+    assert refused.value.number == 6 and "0 to 25" in refused.value.explanation
+
+
+def test_a_noisy_file_is_opened_without_its_noise_and_says_so(tmp_path):
+    file = tmp_path / "noisy.stim"
+    file.write_text("R 0 1\nDEPOLARIZE2(0.01) 0 1\nM(0.02) 0 1\nDETECTOR rec[-1]\n")
+    board = Board(file)
+    opened = board.opened()
+    board.close()
+    assert opened["left_out"].startswith("The noise of 2 lines is left out")
+    assert opened["circuit"] == "R 0 1\nM 0 1\nDETECTOR rec[-1]\n"
+
+
+def test_of_a_file_without_noise_nothing_is_said(board):
+    assert board.opened()["left_out"] == ""
+
+
+def test_a_refusal_of_a_noisy_file_names_its_line(tmp_path):
+    file = tmp_path / "noisy.stim"
+    file.write_text("R 0\nX_ERROR(0.1) 0\nX_ERROR(0.1) 0\nT 0\n")
+    with pytest.raises(stabsim.Refused) as refused:
+        Board(file)
+    assert refused.value.line == 4
+    file.write_text("R 0\nX_ERROR(0.1) 0\nHERALDED_ERASE(0.1) 0\n")
+    with pytest.raises(stabsim.UnsupportedNoise) as unsupported:
+        Board(file)
+    assert unsupported.value.line == 3

@@ -2,118 +2,26 @@
 
 import contextlib
 import http.client
-import importlib.util
 import pathlib
-import shutil
 import signal
 import subprocess
-import sys
 import time
 import urllib.parse
 
 import pytest
 import stabsim
+from browsing import needs_browser
 from stabsim import codes
 
-CHROMIUM = shutil.which("chromium")
-DRIVER = shutil.which("chromedriver")
-MISSING = [name for name in ("selenium", "aiohttp") if importlib.util.find_spec(name) is None]
-pytestmark = pytest.mark.skipif(not CHROMIUM or not DRIVER or bool(MISSING), reason="chromium, chromium-driver, selenium or aiohttp is missing")
-
-# A shell that starts tests in the background has them ignore Ctrl-C, and the server that they start would do so too.
-signal.signal(signal.SIGINT, signal.default_int_handler)
-
-if not MISSING:
-    from selenium import webdriver
-    from selenium.webdriver.chrome.service import Service
-    from selenium.webdriver.common.by import By
-    from selenium.webdriver.common.keys import Keys
-    from selenium.webdriver.support.ui import WebDriverWait
+pytestmark = needs_browser
 
 CODE = codes.surface_code(3, 3)
 BLOCK = [line.split(" ")[0] for line in CODE.splitlines() if not line.startswith(("#", " ", "}"))].index("REPEAT")
 
 
-class Page:
-    """A server of the page on a circuit, and a browser that looks at it."""
-
-    def __init__(self, browser, folder, text, *words):
-        self.browser = browser
-        file = folder / "circuit.stim"
-        file.write_text(text)
-        self.server = subprocess.Popen([sys.executable, "-B", "-m", "stabsim.page", str(file), *words], stdout=subprocess.PIPE, text=True)
-        self.address = self.server.stdout.readline().strip()
-
-    def open(self):
-        self.browser.get(self.address)
-        self.wait(lambda: self.find("numbers").text)
-
-    def find(self, name):
-        return self.browser.find_element(By.ID, name)
-
-    def texts(self, selector):
-        """The texts of elements, read at one moment, since the page may draw them anew at any time."""
-        return self.browser.execute_script("return Array.from(document.querySelectorAll(arguments[0]), (it) => it.textContent)", selector)
-
-    def row(self, path):
-        """The text of the row of an item, once the row is in sight."""
-        return self.wait(lambda: self.texts(f"#text .row[data-path='{path}']"))[0]
-
-    def click(self, selector):
-        self.wait(lambda: self.browser.execute_script(
-            "const it = document.querySelector(arguments[0]); it?.click(); return Boolean(it);", selector))
-
-    def choose(self, path):
-        self.click(f"#text .row[data-path='{path}']")
-
-    def unfold(self, place):
-        self.browser.execute_script("document.getElementById('text').scrollTop = arguments[0]", place * 22 - 100)
-        self.click(f"#text .row[data-path='{place}'] .fold")
-
-    def history(self):
-        return self.texts("#edits li button")
-
-    def wait(self, test):
-        return WebDriverWait(self.browser, 20).until(lambda _: test())
-
-    def go_to(self, moment):
-        self.browser.execute_script(
-            "const slider = document.getElementById('moment'); slider.value = arguments[0]; slider.dispatchEvent(new Event('input'));", moment)
-
-    def on_qubit(self, number, event):
-        """Has an event happen on a qubit."""
-        self.browser.execute_script(f"document.querySelector(arguments[0]).dispatchEvent({event})", f"[data-qubit='{number}']")
-
-    def type_on(self, number, key):
-        self.on_qubit(number, f"new KeyboardEvent('keydown', {{key: '{key}'}})")
-
-    def put_in(self, words):
-        field = self.browser.find_element(By.CSS_SELECTOR, ".item-form textarea")
-        field.clear()
-        field.send_keys(words, Keys.ENTER)
-
-    def close(self):
-        self.server.send_signal(signal.SIGINT)
-        self.server.wait(timeout=20)
-
-
-@pytest.fixture(scope="module")
-def browser():
-    options = webdriver.ChromeOptions()
-    options.binary_location = CHROMIUM
-    for word in ("--headless=new", "--no-sandbox", "--disable-gpu", "--window-size=1280,900"):
-        options.add_argument(word)
-    driver = webdriver.Chrome(options=options, service=Service(DRIVER))
-    yield driver
-    driver.quit()
-
-
 @pytest.fixture
-def page(browser, tmp_path):
-    opened = Page(browser, tmp_path, CODE)
-    opened.open()
-    yield opened
-    opened.close()
+def page(open_page):
+    return open_page(CODE)
 
 
 def status_of(address, host=None, origin=None, token=True):
@@ -187,7 +95,8 @@ def test_a_place_tells_what_a_fault_would_flip(page):
 
 
 def hint_of(page, qubit):
-    page.on_qubit(qubit, "new PointerEvent('pointerenter')")
+    page.point_at("#moment").perform()
+    page.point_at(f"[data-qubit='{qubit}'] circle").perform()
     time.sleep(0.3)
     return page.find("hint").text
 
@@ -233,6 +142,28 @@ def test_a_tab_that_missed_an_edit_catches_up(page):
     page.browser.switch_to.window(page.browser.window_handles[0])
 
 
+# Keeps the connection at hand.
+KEPT = """
+const Real = window.WebSocket;
+window.WebSocket = class extends Real {
+  constructor(...words) {
+    super(...words);
+    window.socket = this;
+  }
+};
+"""
+
+
+def test_a_tab_that_the_server_closed_says_why(page):
+    page.browser.switch_to.new_window("tab")
+    page.browser.execute_cdp_cmd("Page.addScriptToEvaluateOnNewDocument", {"source": KEPT})
+    page.open()
+    page.browser.execute_script("socket.dispatchEvent(new CloseEvent('close', {code: 4000, reason: 'Too slow: load the page anew.'}))")
+    page.wait(lambda: page.find("message").text == "Too slow: load the page anew.")
+    page.browser.close()
+    page.browser.switch_to.window(page.browser.window_handles[0])
+
+
 def test_a_lost_server_is_said(page):
     page.server.send_signal(signal.SIGINT)
     page.wait(lambda: "The server is gone" in page.find("message").text)
@@ -258,10 +189,9 @@ def test_a_pauli_in_a_block_is_put_in_one_round_by_one_edit(page):
     assert page.row(str(BLOCK)).startswith(f"{BLOCK}▸REPEAT 2")
 
 
-def test_what_is_exported_makes_the_same_circuit(browser, tmp_path):
+def test_what_is_exported_makes_the_same_circuit(open_page, tmp_path):
     saved = tmp_path / "saved.stim"
-    page = Page(browser, tmp_path, CODE, "--save", str(saved))
-    page.open()
+    page = open_page(CODE, "--save", str(saved))
     page.go_to(6)
     page.type_on(10, "y")
     page.wait(lambda: len(page.history()) == 2)
@@ -271,7 +201,6 @@ def test_what_is_exported_makes_the_same_circuit(browser, tmp_path):
         "const done = arguments[0]; const make = URL.createObjectURL;"
         "URL.createObjectURL = (blob) => { blob.text().then(done); return make(blob); };"
         "document.getElementById('export-script').click();")
-    page.close()
     program = stabsim.find_program()
     replayed = subprocess.run([program, "edit", "--in", str(tmp_path / "circuit.stim")], input=script + "show circuit\n",
                               capture_output=True, text=True, check=True).stdout

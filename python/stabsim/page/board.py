@@ -11,6 +11,8 @@ from numpy.typing import NDArray
 import stabsim
 from stabsim.coordinates import coordinates_of, detector_rows, qubit_rows
 from stabsim.page.edits import Edit, undoing
+from stabsim.page.explaining import explained
+from stabsim.page.opening import quiet_circuit
 
 Message = dict[str, Any]
 
@@ -37,7 +39,8 @@ class Board:
     def __init__(self, file: pathlib.Path, seed: int = 0, save: pathlib.Path | None = None) -> None:
         self.name = file.name
         self.save_to = save
-        self.session = stabsim.Circuit.from_file(file).edit(seed=seed)
+        circuit, self.left_out = quiet_circuit(file)
+        self.session = stabsim.Circuit(circuit).edit(seed=seed)
         self.entries: list[Entry] = []
         self.position = 0
         # How often the circuit was changed: a tab tells by it whether it has heard of all changes.
@@ -54,7 +57,7 @@ class Board:
         """All that a tab has to know when it opens."""
         circuit = self.session.circuit
         return {
-            "event": "opened", "name": self.name, "circuit": circuit, "sure": self.sure,
+            "event": "opened", "name": self.name, "left_out": self.left_out, "circuit": circuit, "sure": self.sure,
             "entries": [entry.message() for entry in self.entries], "marked_at": self.marked_at,
             "marked": sorted(self.marked, key=place_of), "saves": self.save_to is not None, **self._now(), **self._bits(circuit),
         }
@@ -72,21 +75,14 @@ class Board:
         return self._enter(f"round {number} of {place} by itself", [self._splitting(place, number)])
 
     def go(self, position: int) -> Message:
-        """Undoes or redoes edits until so many are made."""
+        """Undoes or redoes edits until so many are made: all of them, or none where one is refused."""
         if not 0 <= position <= len(self.entries):
             raise ValueError("no such place in the history")
-        made: list[Edit] = []
-        flipped: set[str] = set()
-        moves_bits = False
-        while self.position != position:
-            forward = position > self.position
-            entry = self.entries[self.position - (not forward)]
-            edits = entry.forth if forward else entry.back
-            flipped ^= set(self._carry_out("", edits).changed)
-            self.position += 1 if forward else -1
-            made += edits
-            moves_bits |= entry.moves_bits
-        return self._edited(made, [], sorted(flipped, key=place_of), moves_bits)
+        forward = position > self.position
+        passed = self.entries[self.position:position] if forward else self.entries[position:self.position][::-1]
+        made = self._carry_out("", [edit for entry in passed for edit in (entry.forth if forward else entry.back)])
+        self.position = position
+        return self._edited(made.forth, [], made.changed, any(entry.moves_bits for entry in passed))
 
     def mark(self) -> Message:
         """From here on counts what is shown as changed since the mark."""
@@ -121,25 +117,32 @@ class Board:
         return self._edited(edits, [entry], entry.changed, entry.moves_bits)
 
     def _carry_out(self, name: str, edits: list[Edit]) -> Entry:
-        """Makes edits in their order. Where one is refused, those before it are taken back, and nothing has changed."""
+        """Makes edits in their order. Where one fails, in whatever way, those before it are taken back, and nothing has changed."""
         back: list[Edit] = []
         moves_bits = False
         self.session.mark()
         begun = time.perf_counter()
         try:
             for edit in edits:
-                old = "" if edit.kind == "insert" else self.session.item(edit.place)
-                self._apply(edit)
-                undone = undoing(edit, old)
+                undone = self._make(edit)
                 back[:0] = undone
                 # A split moves no bits, nor does what takes it back.
                 moves_bits |= edit.kind != "split" and any(it.may_move_bits() for it in [edit, *undone])
-        except stabsim.Refused:
+        except Exception:
             for edit in back:
                 self._apply(edit)
             raise
         seconds = time.perf_counter() - begun
         return Entry(name, edits, back, names_of(self.session.changed()), seconds, moves_bits)
+
+    def _make(self, edit: Edit) -> list[Edit]:
+        """Makes one edit, and answers with those that take it back."""
+        old = "" if edit.kind == "insert" else self.session.item(edit.place)
+        try:
+            self._apply(edit)
+        except stabsim.Refused as refused:
+            raise explained(refused, edit, self.session.circuit, self.session.numbers().qubits) from None
+        return undoing(edit, old)
 
     def _apply(self, edit: Edit) -> None:
         if edit.kind == "insert":

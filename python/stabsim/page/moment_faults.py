@@ -23,18 +23,15 @@ class MomentFaults:
     indices: NDArray[np.int64]
 
     @classmethod
-    def of_circuit(cls, text: str) -> "MomentFaults | None":
-        """The table of a circuit, or None where its marks would be too many, or the program refuses it."""
+    def of_circuit(cls, text: str) -> "MomentFaults":
+        """The table of a circuit; raises stabsim.Refused where its marks would be too many steps."""
         numbers = stabsim.Circuit(text).numbers()
         if not numbers.qubits:
-            return None
+            return cls(0, numbers.detectors, np.zeros(1, dtype=np.int64), np.zeros(0, dtype=np.int64))
         mark = "I " + " ".join(map(str, range(numbers.qubits)))
         # Other marks are taken away: an I does nothing, and would have rows of its own.
         marked = TICK.sub(lambda tick: f"{mark}\n{tick[0].strip()}", IDLE.sub("", text)) + f"\n{mark}\n"
-        try:
-            table = stabsim.Circuit(marked).faults(sure_only=True)
-        except stabsim.Refused:
-            return None
+        table = stabsim.Circuit(marked).faults(sure_only=True)
         return cls(numbers.qubits, numbers.detectors, table.indptr, table.indices)
 
     def flips(self, moment: int, qubit: int) -> dict[str, list[str]]:
@@ -45,5 +42,23 @@ class MomentFaults:
         x, z = (set(self.indices[self.indptr[row]:self.indptr[row + 1]].tolist()) for row in (first, first + 1))
         return {letter: [self.name(place) for place in sorted(places)] for letter, places in (("X", x), ("Y", x ^ z), ("Z", z))}
 
+    def region(self, bit: str) -> dict[int, dict[int, str]]:
+        """The detecting region of a detector or observable, as `D3` or `L0`: at the end of each moment where it has letters, the
+        letter on each qubit. Just the Paulis that anticommute with the letters there flip the bit."""
+        letters: dict[int, dict[int, str]] = {}
+        hits = np.flatnonzero(self.indices == self.place(bit))
+        for row in (np.searchsorted(self.indptr, hits, side="right") - 1).tolist():
+            moment, fault = divmod(row, 2 * self.qubits)
+            at_moment = letters.setdefault(moment, {})
+            # Fault X, which comes first, shows a letter Z or Y, and fault Z a letter X or Y.
+            at_moment[fault // 2] = "Y" if fault // 2 in at_moment else "ZX"[fault % 2]
+        return letters
+
     def name(self, place: int) -> str:
         return f"D{place}" if place < self.detectors else f"L{place - self.detectors}"
+
+    def place(self, name: str) -> int:
+        """The place of a bit among all; ValueError where the name is none."""
+        if not re.fullmatch(r"[DL]\d+", name):
+            raise ValueError(f"{name} is no detector and no observable")
+        return int(name[1:]) + (self.detectors if name[0] == "L" else 0)

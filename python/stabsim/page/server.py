@@ -2,21 +2,29 @@
 
 import asyncio
 import concurrent.futures
+import contextlib
 import importlib.resources
 import json
 import secrets
+from collections.abc import AsyncIterator, Coroutine
 from typing import Any
 
 from aiohttp import WSMsgType, web
+from aiohttp.typedefs import Handler
 
 import stabsim
 from stabsim.page.board import Board, Message, sure_line
 from stabsim.page.edits import Edit
 from stabsim.page.moment_faults import MomentFaults
+from stabsim.page.tabs import Tab
 
 HOST = "127.0.0.1"
 # The greatest message that a tab may send: an item's text, or a question.
 MOST_BYTES = 1 << 20
+# How long tabs may take to end when the server does.
+LAST_SECONDS = 1.0
+# Why there is no table of faults, once an edit was made.
+NOT_YET = "the table of faults is being made"
 
 
 class Server:
@@ -25,11 +33,14 @@ class Server:
     def __init__(self, board: Board, token: str) -> None:
         self.board = board
         self.token = token
-        self.tabs: set[web.WebSocketResponse] = set()
+        self.tabs: set[Tab] = set()
+        # Tasks, each kept until it ends: the loop itself would lose them.
+        self.tasks: set[asyncio.Task[None]] = set()
         self.one_thread = concurrent.futures.ThreadPoolExecutor(1)
         self.background = concurrent.futures.ThreadPoolExecutor(1)
-        self.faults: MomentFaults | None = None
-        # All tabs are told of what happens in the order in which it happens.
+        # The table of faults, or why there is none.
+        self.faults: MomentFaults | str = NOT_YET
+        # All tabs are told of what happens in the order in which it happens, and one that opens misses nothing.
         self.telling = asyncio.Lock()
         self.port = 0
 
@@ -42,7 +53,7 @@ class Server:
         return app
 
     @web.middleware
-    async def refuse_strangers(self, request: web.Request, handler: Any) -> web.StreamResponse:
+    async def refuse_strangers(self, request: web.Request, handler: Handler) -> web.StreamResponse:
         """Only this address, from its own pages, and all but the pictures of the page with the token."""
         names = {f"{HOST}:{self.port}", f"localhost:{self.port}"}
         origin = request.headers.get("Origin")
@@ -54,8 +65,7 @@ class Server:
             token = request.query.get("token", "")
             if not secrets.compare_digest(token.encode(), self.token.encode()):
                 raise web.HTTPForbidden(text="the address lacks the token that the server printed\n")
-        response: web.StreamResponse = await handler(request)
-        return response
+        return await handler(request)
 
     async def page(self, request: web.Request) -> web.Response:
         return file_response("index.html")
@@ -68,43 +78,57 @@ class Server:
         # Nothing leaves the machine, so packing would only take time.
         socket = web.WebSocketResponse(max_msg_size=MOST_BYTES, compress=False)
         await socket.prepare(request)
-        await self.tell_all_to(socket)
+        tab = Tab(socket, request.transport, self.start)
         try:
+            await self.tell_all_to(tab)
             async for message in socket:
                 if message.type == WSMsgType.TEXT:
-                    await self.answer(socket, message.data)
+                    await self.answer(tab, message.data)
         finally:
-            self.tabs.discard(socket)
+            await tab.end()
+            self.tabs.discard(tab)
         return socket
 
-    async def tell_all_to(self, socket: web.WebSocketResponse) -> None:
+    async def tell_all_to(self, tab: Tab) -> None:
         """Tells one tab all there is, when it opens, or has missed an event; each later event it is told of."""
         async with self.telling:
-            await socket.send_json(await self.call(self.board.opened))
-            self.tabs.add(socket)
+            tab.tell(await self.call(self.board.opened))
+            self.tabs.add(tab)
         self.later()
 
     async def close_tabs(self, app: web.Application) -> None:
-        """Where a tab is open the server would wait for it."""
-        for socket in list(self.tabs):
-            await socket.close()
+        """Where a tab is open the server would wait for it; one that does not read is left."""
+        for task in list(self.tasks):
+            task.cancel()
+        if self.tabs:
+            await asyncio.wait([tab.end() for tab in self.tabs], timeout=LAST_SECONDS)
+        for tab in self.tabs:
+            tab.abandon()
+
+    def start(self, work: Coroutine[Any, Any, None]) -> asyncio.Task[None]:
+        """Starts a task, which is kept until it ends."""
+        task = asyncio.get_running_loop().create_task(work)
+        self.tasks.add(task)
+        task.add_done_callback(self.tasks.discard)
+        return task
 
     async def call(self, function: Any, *values: Any) -> Any:
         return await asyncio.get_running_loop().run_in_executor(self.one_thread, function, *values)
 
-    async def answer(self, socket: web.WebSocketResponse, data: str) -> None:
+    async def answer(self, tab: Tab, data: str) -> None:
         """Answers a question, and tells all tabs what it changed."""
+        question: Any = None
         try:
             question = json.loads(data)
-            answer = await self.answer_to(socket, question)
+            answer = await self.answer_to(tab, question)
         except stabsim.Refused as refused:
-            answer = {"refused": f"refused {refused.number} {refused.name}"}
+            answer = {"refused": f"refused {refused.number} {refused.name}", "explanation": refused.explanation}
         except (ValueError, KeyError, TypeError, stabsim.StabsimError, OSError) as fault:
             answer = {"refused": str(fault)}
         if isinstance(question, dict) and "id" in question:
-            await socket.send_json({**answer, "id": question["id"]})
+            tab.tell({**answer, "id": question["id"]})
 
-    async def answer_to(self, socket: web.WebSocketResponse, question: Message) -> Message:
+    async def answer_to(self, tab: Tab, question: Message) -> Message:
         asked = question["ask"]
         if asked == "edit":
             edit, inside = Edit.of_message(question["edit"]), question.get("round")
@@ -117,15 +141,17 @@ class Server:
             return await self.change(self.board.go, int(question["position"]))
         if asked == "mark":
             async with self.telling:
-                await self.tell(await self.call(self.board.mark))
+                self.tell(await self.call(self.board.mark))
             return {}
         if asked == "all":
-            await self.tell_all_to(socket)
+            await self.tell_all_to(tab)
             return {}
         if asked == "sign":
             return {"sign": "0+-"[await self.call(self.board.session.sign, str(question["pauli"]))]}
         if asked == "faults":
-            return self.flips_at(question)
+            return self.flips_at(int(question["moment"]), int(question["qubit"]))
+        if asked == "region":
+            return await self.region_of(str(question["bit"]))
         if asked == "export":
             return {"text": await self.call(self.board.script if question["what"] == "script" else self.board.text)}
         if asked == "save":
@@ -135,23 +161,20 @@ class Server:
     async def change(self, function: Any, *values: Any) -> Message:
         async with self.telling:
             event = await self.call(function, *values)
-            self.faults = None
-            await self.tell(event)
+            self.faults = NOT_YET
+            self.tell(event)
         self.later()
         return {}
 
-    async def tell(self, event: Message) -> None:
-        """Tells all tabs; one that is gone is left out."""
+    def tell(self, event: Message) -> None:
+        """Tells all tabs."""
         text = json.dumps(event)
-        for socket in list(self.tabs):
-            try:
-                await socket.send_str(text)
-            except ConnectionError:
-                self.tabs.discard(socket)
+        for tab in self.tabs:
+            tab.tell_text(text)
 
     def later(self) -> None:
         """What is found out once the edit is answered: sure bits, and the table of faults."""
-        asyncio.get_running_loop().create_task(self.find_out(self.board.age))
+        self.start(self.find_out(self.board.age))
 
     async def find_out(self, age: int) -> None:
         """Both are of the circuit as text, so that the session's thread is free for edits meanwhile."""
@@ -162,25 +185,44 @@ class Server:
         try:
             text = await self.call(self.board.text)
             if self.board.sure is None:
-                sure = await self.in_background(sure_line, text)
-                if age == self.board.age:
-                    self.board.sure = sure
-                    await self.tell({"event": "sure", "age": age, "sure": sure})
-            if self.faults is None and age == self.board.age:
-                table = await self.in_background(MomentFaults.of_circuit, text)
-                if age == self.board.age:
-                    self.faults = table
+                await self.found_sure(age, await self.in_background(sure_line, text))
+            if self.faults == NOT_YET and age == self.board.age:
+                await self.found_faults(age, await self.in_background(faults_or_why, text))
         except stabsim.StabsimError:
             # Nothing is told of it; where the session has ended, the next question says so.
             return
 
+    async def found_sure(self, age: int, sure: str) -> None:
+        async with self.telling:
+            if age == self.board.age:
+                self.board.sure = sure
+                self.tell({"event": "sure", "age": age, "sure": sure})
+
+    async def found_faults(self, age: int, faults: MomentFaults | str) -> None:
+        async with self.telling:
+            if age == self.board.age:
+                self.faults = faults
+                self.tell({"event": "faults", "age": age})
+
     async def in_background(self, function: Any, value: Any) -> Any:
         return await asyncio.get_running_loop().run_in_executor(self.background, function, value)
 
-    def flips_at(self, question: Message) -> Message:
-        if self.faults is None:
-            return {}
-        return {"flips": self.faults.flips(int(question["moment"]), int(question["qubit"]))}
+    def flips_at(self, moment: int, qubit: int) -> Message:
+        return {} if isinstance(self.faults, str) else {"flips": self.faults.flips(moment, qubit)}
+
+    async def region_of(self, bit: str) -> Message:
+        """The region of a bit, or why there is none to be told."""
+        if isinstance(self.faults, str):
+            return {"why": self.faults}
+        return {"region": await asyncio.to_thread(self.faults.region, bit)}
+
+
+def faults_or_why(text: str) -> MomentFaults | str:
+    """The table of faults of a circuit, or why there is none."""
+    try:
+        return MomentFaults.of_circuit(text)
+    except stabsim.Refused as refused:
+        return f"there is no table of faults: it was refused as {refused.number} {refused.name}"
 
 
 TYPES = {"html": "text/html", "css": "text/css", "js": "text/javascript"}
@@ -195,16 +237,21 @@ def file_response(name: str) -> web.Response:
     return web.Response(body=(folder / name).read_bytes(), content_type=kind, charset="utf-8", headers={"Cache-Control": "no-store"})
 
 
-async def serve(board: Board, port: int) -> None:
-    """Serves until it is stopped, and prints the address to open."""
-    server = Server(board, secrets.token_urlsafe(18))
+@contextlib.asynccontextmanager
+async def listening(server: Server, port: int) -> AsyncIterator[str]:
+    """Has a server listen, and gives the address to open."""
     runner = web.AppRunner(server.application())
     await runner.setup()
-    site = web.TCPSite(runner, HOST, port)
-    await site.start()
-    server.port = runner.addresses[0][1]
-    print(f"http://{HOST}:{server.port}/?token={server.token}", flush=True)
     try:
-        await asyncio.Event().wait()
+        await web.TCPSite(runner, HOST, port).start()
+        server.port = runner.addresses[0][1]
+        yield f"http://{HOST}:{server.port}/?token={server.token}"
     finally:
         await runner.cleanup()
+
+
+async def serve(board: Board, port: int) -> None:
+    """Serves until it is stopped, and prints the address to open."""
+    async with listening(Server(board, secrets.token_urlsafe(18)), port) as address:
+        print(address, flush=True)
+        await asyncio.Event().wait()

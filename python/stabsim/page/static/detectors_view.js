@@ -6,7 +6,8 @@ import { findNumbered } from "./circuit.js";
 const DOT = 12;
 const GAP = 14;
 const TOP = 40;
-const COLOURS = ["zero", "one", "random", "flip", "quiet", "line", "ink"];
+const BETWEEN_OBSERVABLES = 34;
+const COLOURS = ["zero", "one", "random", "flip", "quiet", "line", "ink", "accent"];
 
 export class DetectorsView {
   #place;
@@ -23,8 +24,9 @@ export class DetectorsView {
   #size = { width: 0, height: 0 };
   #colours = {};
   #since = "edit";
+  #chosen = null;
 
-  // `act.select(path)` shows the item of a detector that is clicked.
+  // Of a detector that is clicked `act.select(path)` shows the item, and `act.choose(bit)` the region; of an observable the region.
   constructor({ place, tip }, act) {
     this.#place = place;
     this.#tip = tip;
@@ -68,6 +70,13 @@ export class DetectorsView {
     this.#draw();
   }
 
+  // Rings the bit whose region is shown, as D3 or L0, or none.
+  choose(bit) {
+    if (bit === this.#chosen) return;
+    this.#chosen = bit;
+    this.#draw();
+  }
+
   // Scrolls to the first detector that an edit flipped, where none that it flipped is in sight.
   #bringIntoSight() {
     const flipped = [...this.#state.flipped].filter((name) => name.startsWith("D")).map((name) => this.#sliceOf[Number(name.slice(1))]);
@@ -86,13 +95,17 @@ export class DetectorsView {
     const { detectors, observables, coordinates } = this.#state;
     this.#laid = coordinates;
     const byTime = new Map();
+    const atSpot = new Map();
     let [width, height] = [1, 1];
     for (let number = 0; number < detectors.length; number += 1) {
       const { time, x, y: given } = spotOf(number, coordinates[number]);
       if (!byTime.has(time)) byTime.set(time, []);
       const spots = byTime.get(time);
       const y = given ?? spots.length;
-      spots.push({ number, x: x * DOT, top: TOP + y * DOT });
+      // Those of one spot, as the X and the Z check of a face, stand beside each other.
+      const before = atSpot.get(`${time} ${x} ${y}`) ?? 0;
+      atSpot.set(`${time} ${x} ${y}`, before + 1);
+      spots.push({ number, x: (x + before / 2) * DOT, top: TOP + y * DOT });
       width = Math.max(width, x + 1);
       height = Math.max(height, y + 1);
     }
@@ -141,7 +154,7 @@ export class DetectorsView {
 
   #drawObservables(left) {
     const { observables, detectors } = this.#state;
-    const spots = Array.from(observables, (_, number) => ({ left: left + number * 34, top: 12, place: detectors.length + number }));
+    const spots = Array.from(observables, (_, number) => ({ left: left + number * BETWEEN_OBSERVABLES, top: 12, place: detectors.length + number }));
     this.#drawDots(spots);
     this.#pen.fillStyle = this.#colours.ink;
     spots.forEach((spot, number) => this.#pen.fillText(`L${number}`, spot.left + 8, 16));
@@ -168,6 +181,9 @@ export class DetectorsView {
     this.#pen.lineWidth = 2;
     this.#rings(spots.filter(({ place }) => flips.size > 0 && flips.has(nameOf(place))), 5.5);
     this.#pen.stroke();
+    this.#pen.strokeStyle = this.#colours.accent;
+    this.#rings(spots.filter(({ place }) => this.#chosen !== null && nameOf(place) === this.#chosen), 8);
+    this.#pen.stroke();
     this.#pen.lineWidth = 1;
   }
 
@@ -189,8 +205,17 @@ export class DetectorsView {
     const left = event.clientX - box.left + this.#place.scrollLeft;
     const top = event.clientY - box.top + this.#place.scrollTop;
     const slice = this.#slices[Math.floor((left - GAP + DOT / 2) / this.#across)];
-    const spot = slice?.spots.find((it) => (slice.left + it.x - left) ** 2 + (it.top - top) ** 2 <= 36);
-    return spot ? spot.number : null;
+    const far = (it) => (slice.left + it.x - left) ** 2 + (it.top - top) ** 2;
+    const nearest = slice?.spots.reduce((best, it) => (far(it) < far(best) ? it : best));
+    return nearest && far(nearest) <= 36 ? nearest.number : null;
+  }
+
+  // The observable under the pointer, with its name, or null.
+  #observableAt(event) {
+    const box = this.#canvas.getBoundingClientRect();
+    const top = event.clientY - box.top + this.#place.scrollTop;
+    const number = Math.floor((event.clientX - box.left - GAP) / BETWEEN_OBSERVABLES);
+    return top < TOP / 2 && number >= 0 && number < this.#state.observables.length ? number : null;
   }
 
   #point(event) {
@@ -214,14 +239,18 @@ export class DetectorsView {
 
   #choose(event) {
     const number = this.#numberAt(event);
-    if (number !== null) this.#act.select(findNumbered(this.#state.items, "detectors", number).path);
+    const observable = this.#observableAt(event);
+    if (number !== null) {
+      this.#act.select(findNumbered(this.#state.items, "detectors", number).path);
+      this.#act.choose(`D${number}`);
+    } else if (observable !== null) this.#act.choose(`L${observable}`);
   }
 }
 
-// Where a detector stands: by coordinates the last is time, and the first two are place; without any by its number. Those of a
-// time alone stand below each other.
+// Where a detector stands: by coordinates the third is time, or the last of fewer, and those before it are place; without any by its
+// number. Those of a time alone stand below each other.
 function spotOf(number, at = []) {
-  if (at.length >= 3) return { time: at.at(-1), x: at[0], y: at[1] };
+  if (at.length >= 3) return { time: at[2], x: at[0], y: at[1] };
   if (at.length === 2) return { time: at[1], x: 0, y: at[0] };
   if (at.length === 1) return { time: at[0], x: 0, y: null };
   return { time: Math.floor(number / 32), x: 0, y: number % 32 };

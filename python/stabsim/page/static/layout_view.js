@@ -1,14 +1,14 @@
-// The qubits at one moment: the gates of that moment, Paulis that can be put on a qubit there, and the way of a
-// Pauli through the moments behind it.
+// The qubits at one moment: the gates of that moment, Paulis that can be put on a qubit at its end, and the letters that the
+// region of a detector or observable has there.
 
-import { LETTERS, groupsOf, isCollapse, isPair, lead, resets } from "./paulis.js";
+import { PAULIS, groupsOf, isCollapse, isPair, resets } from "./instructions.js";
+import { keyOf } from "./keys.js";
 import { momentAt, momentsOf } from "./moments.js";
 
 const SVG = "http://www.w3.org/2000/svg";
 const STEP = 46;
 // Names are left out where they would be too small to be read: below this part of their size.
 const LEAST_SCALE = 0.5;
-const LETTER_CLASS = ["", "x", "z", "y"];
 
 export class LayoutView {
   #place;
@@ -25,9 +25,10 @@ export class LayoutView {
   #extent = { width: 1, height: 1 };
   #moment = 0;
   #instructions = [];
-  #way = null;
+  #region = {};
 
-  // `act` has put(letter, qubit, moment, instructions), choose(qubit, event), hover(qubit, moment), leave() and select(path).
+  // `act` has put(letter, qubit, moment, instructions), offer(qubit, element, place), hover(qubit, moment), leave(), select(path),
+  // and moved() for when another moment is shown.
   constructor({ place, slider, said }, act) {
     this.#place = place;
     this.#slider = slider;
@@ -41,7 +42,7 @@ export class LayoutView {
   // Coordinates are a list for each qubit that has some; the others stand in a row.
   show(items, qubits, coordinates) {
     this.#items = items;
-    this.#way = null;
+    this.#region = {};
     if (qubits !== this.#qubits || coordinates !== this.#coordinates) {
       this.#qubits = qubits;
       this.#coordinates = coordinates;
@@ -65,24 +66,13 @@ export class LayoutView {
     this.#said.textContent = `tick ${moment} of ${this.#slider.max}`;
     this.#instructions = momentAt(this.#items, moment);
     this.#draw();
+    this.#act.moved();
   }
 
-  // Shows where a letter on a qubit, put in at the end of a moment, is led by the moments behind it.
-  follow(letter, qubit, moment) {
-    this.#way = { letter, qubit, moment };
+  // Shows a region: for each moment at whose end it has letters, those of the qubits.
+  showRegion(region) {
+    this.#region = region;
     this.#draw();
-  }
-
-  // The string at the moment shown, and the qubits whose records it has flipped by then.
-  #string() {
-    if (!this.#way || this.#way.moment > this.#moment) return null;
-    const string = new Map([[this.#way.qubit, this.#way.letter]]);
-    const flipped = new Set();
-    const last = Math.min(this.#moment, this.#way.moment + 64);
-    for (let moment = this.#way.moment + 1; moment <= last; moment += 1) {
-      for (const { item } of momentAt(this.#items, moment)) lead(string, item, flipped);
-    }
-    return { string, flipped };
   }
 
   // Makes the picture of all qubits; each moment then changes what differs there.
@@ -110,27 +100,32 @@ export class LayoutView {
     const circle = element("circle", { cx: x, cy: y, r: 14 });
     const name = element("text", { x, y: y + 4, class: "name" }, "");
     const zero = element("text", { x: x + 15, y: y + 16, class: "pair-name" }, "");
+    const mark = element("text", { class: "letter" }, "");
     const title = element("title", {}, "");
-    group.append(circle, name, zero, title);
+    group.append(circle, name, zero, mark, title);
     group.addEventListener("pointerenter", () => this.#act.hover(qubit, this.#moment));
     group.addEventListener("focus", () => this.#act.hover(qubit, this.#moment));
-    group.addEventListener("click", (event) => this.#act.choose(qubit, event));
-    group.addEventListener("keydown", (event) => {
-      const typed = "ixzy".indexOf(event.key.toLowerCase());
-      if (typed > 0) this.#act.put(typed, qubit, this.#moment, this.#instructions);
-      if (event.key === "Enter") this.#act.choose(qubit, event);
-    });
-    return { group, circle, name, zero, title, shown: null };
+    group.addEventListener("click", (event) => this.#act.offer(qubit, group, { left: event.clientX, top: event.clientY }));
+    group.addEventListener("keydown", (event) => this.#key(event, qubit, group));
+    return { x, y, group, circle, name, zero, mark, title, shown: null };
+  }
+
+  #key(event, qubit, group) {
+    const key = keyOf(event);
+    const letter = key.toUpperCase();
+    if (PAULIS.includes(letter)) this.#act.put(letter, qubit, this.#moment, this.#instructions);
+    if (key !== "Enter" && key !== " ") return;
+    // Else the key would go on, and press the first button of the menu.
+    event.preventDefault();
+    const { right, bottom } = group.getBoundingClientRect();
+    this.#act.offer(qubit, group, { left: right, top: bottom });
   }
 
   #draw() {
     this.#drawLines();
     const labels = labelsOf(this.#instructions);
-    const way = this.#string();
-    this.#dots.forEach((dot, qubit) => {
-      const letter = way?.string.get(qubit) ?? 0;
-      drawDot(dot, qubit, { label: labels.get(qubit) ?? "", letter, flipped: Boolean(way?.flipped.has(qubit)) });
-    });
+    const letters = this.#region[this.#moment] ?? {};
+    this.#dots.forEach((dot, qubit) => drawDot(dot, qubit, labels.get(qubit) ?? "", letters[qubit] ?? ""));
   }
 
   // Gates on several qubits, drawn anew only where they are others than those that are drawn, or stand elsewhere.
@@ -166,17 +161,26 @@ function labelsOf(instructions) {
   return labels;
 }
 
-// Draws a qubit, where something else is shown on it than before.
-function drawDot(dot, qubit, { label, letter, flipped }) {
-  const shown = `${label} ${letter} ${flipped}`;
+// Draws a qubit, where something else is shown on it than before: the name of what happens on it, and the letter of a region.
+function drawDot(dot, qubit, label, letter) {
+  const shown = `${label} ${letter}`;
   if (dot.shown === shown) return;
   dot.shown = shown;
   const kind = label ? (isCollapse(label) ? "collapse" : "gate") : "";
-  dot.circle.setAttribute("class", [kind, LETTER_CLASS[letter], flipped ? "flipped" : ""].filter(Boolean).join(" "));
-  dot.name.setAttribute("class", letter ? "name letter" : "name");
-  dot.name.textContent = letter ? LETTERS[letter] : label ? short(label) : String(qubit);
+  dot.circle.setAttribute("class", [kind, letter.toLowerCase()].filter(Boolean).join(" "));
+  dot.name.setAttribute("class", letter ? "name filled" : "name");
+  dot.name.textContent = label ? short(label) : letter ? "" : String(qubit);
+  drawLetter(dot, letter, Boolean(label));
   dot.zero.textContent = label && resets(label) ? "0" : "";
   dot.title.textContent = `qubit ${qubit}${label ? `, ${label}` : ""}`;
+}
+
+// A letter stands on its qubit, or beside it where a name stands there.
+function drawLetter({ x, y, mark }, letter, isBeside) {
+  mark.setAttribute("class", isBeside ? `letter beside ${letter.toLowerCase()}` : "letter");
+  mark.setAttribute("x", isBeside ? x - 17 : x);
+  mark.setAttribute("y", isBeside ? y - 9 : y + 4);
+  mark.textContent = letter;
 }
 
 function targetOf(name, place) {

@@ -5,15 +5,15 @@ export class Link {
   #waiting = new Map();
   #next = 1;
 
-  // `hear` takes each event; `lose` is called once the server is gone.
+  // `hear` takes each event; `lose` is called once the server is gone, with its reason if it gave one.
   constructor(hear, lose) {
     const token = new URLSearchParams(location.search).get("token");
     this.#socket = new WebSocket(`ws://${location.host}/session?token=${token}`);
     this.#socket.onmessage = ({ data }) => this.#take(JSON.parse(data), hear);
-    this.#socket.onclose = () => {
+    this.#socket.onclose = ({ reason }) => {
       for (const { fail } of this.#waiting.values()) fail(new Error("the server is gone"));
       this.#waiting.clear();
-      lose();
+      lose(reason);
     };
   }
 

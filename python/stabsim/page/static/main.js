@@ -3,22 +3,31 @@
 import { applyEdit, parse, pathOf } from "./circuit.js";
 import { DetectorsView } from "./detectors_view.js";
 import { HistoryView } from "./history_view.js";
+import { PAULIS } from "./instructions.js";
+import { commandOf, isField } from "./keys.js";
 import { LayoutView } from "./layout_view.js";
 import { Link } from "./link.js";
+import { Menu } from "./menu.js";
 import { momentOf, momentsOf } from "./moments.js";
-import { LETTERS } from "./paulis.js";
+import { partsOf } from "./refusals.js";
+import { saidOfRegion } from "./regions.js";
 import { TextView } from "./text_view.js";
 
 const by = (id) => document.getElementById(id);
 
+const GONE = "The server is gone: nothing more can be asked. Start it again, and open the address that it prints.";
+
 // All that the views show; the server's events alone change it.
 let state = null;
+// The detector or observable whose region is shown, as D3 or L0, and the region, or why there is none.
+let chosen = { bit: null, region: {}, why: "" };
 
 const text = new TextView(by("text"), { select: showPath, edit, split });
-const layout = new LayoutView({ place: by("picture"), slider: by("moment"), said: by("moment-said") }, { put, hover, leave, choose, select });
-const detectors = new DetectorsView({ place: by("spacetime"), tip: by("tip") }, { select });
+const layout = new LayoutView({ place: by("picture"), slider: by("moment"), said: by("moment-said") }, { put, hover, leave, offer, select, moved });
+const detectors = new DetectorsView({ place: by("spacetime"), tip: by("tip") }, { select, choose });
 const history = new HistoryView(by("edits"), (position) => ask({ ask: "go", position }));
-const link = new Link(hear, () => say("The server is gone: nothing more can be asked. Start it again, and open the address that it prints.", true));
+const menu = new Menu(by("choice"));
+const link = new Link(hear, (reason) => say(reason || GONE, true));
 
 function hear(event) {
   const started = performance.now();
@@ -30,7 +39,10 @@ function hear(event) {
     take(event);
   } else if (state && event.event === "sure" && event.age === state.age) state.sure = bitsOf(event.sure);
   else if (state && event.event === "marked") mark(event);
-  else return;
+  else {
+    if (event.event === "faults" && event.age === state?.age) choose(chosen.bit);
+    return;
+  }
   show(event.event);
   // What a test's clock reads: the time from the event to the picture.
   requestAnimationFrame(() => {
@@ -54,6 +66,8 @@ function open(event) {
   };
   takeBits(event);
   by("save").hidden = !event.saves;
+  by("left-out").hidden = !event.left_out;
+  by("left-out").textContent = event.left_out;
   by("name").textContent = event.name;
   document.title = `${event.name} · stabsim`;
 }
@@ -76,8 +90,7 @@ function takeBits(event) {
 }
 
 function flip(name) {
-  const bits = name.startsWith("D") ? state.detectors : state.observables;
-  bits[Number(name.slice(1))] ^= 1;
+  listOf(name)[Number(name.slice(1))] ^= 1;
 }
 
 function mark(event) {
@@ -86,6 +99,11 @@ function mark(event) {
 }
 
 const bitsOf = (line) => Uint8Array.from(line, Number);
+
+// Of a bit as D3 or L0: whether there is one, and whether a coin decides it, as far as that is known.
+const listOf = (bit) => (bit.startsWith("D") ? state.detectors : state.observables);
+const isThere = (bit) => bit !== null && Number(bit.slice(1)) < listOf(bit).length;
+const isRandom = (bit) => state.sure?.[Number(bit.slice(1)) + (bit.startsWith("D") ? 0 : state.detectors.length)] === 0;
 
 // Draws what an event changed: sure bits and marks stand in few views.
 function show(kind) {
@@ -97,6 +115,7 @@ function show(kind) {
     by("numbers").textContent = `${numbers.qubits} qubits · ${numbers.steps} steps · ${numbers.records} records · ${numbers.detectors} detectors · ${numbers.observables} observables`;
     by("undo").disabled = state.position === 0;
     by("redo").disabled = state.position === state.entries.length;
+    choose(isThere(chosen.bit) ? chosen.bit : null);
   } else {
     detectors.show(state);
   }
@@ -105,6 +124,7 @@ function show(kind) {
 
 function say(words, bad = false) {
   by("message").textContent = words;
+  by("message").title = words;
   by("message").classList.toggle("bad", bad);
 }
 
@@ -112,7 +132,8 @@ function say(words, bad = false) {
 async function ask(question) {
   try {
     const answer = await link.ask(question);
-    say(answer.refused ?? answer.said ?? "", Boolean(answer.refused));
+    if (answer.refused) say(`${answer.refused} ${partsOf(answer.explanation).why}`.trim(), true);
+    else say(answer.said ?? "");
     return answer;
   } catch (fault) {
     say(fault.message, true);
@@ -123,7 +144,7 @@ async function ask(question) {
 // Makes an edit, where `round` is {place, number} in a round of that block that is first taken out of it.
 async function edit(made, round = null) {
   const answer = await ask({ ask: "edit", edit: made, round });
-  if (answer.refused) text.refuse(made.place, answer.refused);
+  if (answer.refused) text.refuse(made.place, answer);
   return !answer.refused;
 }
 
@@ -131,7 +152,7 @@ async function edit(made, round = null) {
 async function split(path, round) {
   const block = path.slice(0, -1);
   const answer = await ask({ ask: "split", place: block.join("/"), round });
-  if (answer.refused) text.refuse(block.join("/"), answer.refused);
+  if (answer.refused) text.refuse(block.join("/"), answer);
   else text.select([...pathOfRound(block, round), path.at(-1)]);
 }
 
@@ -153,42 +174,49 @@ function placeAtEnd(instructions) {
   return tick ?? { path: [state.items.length], rounds: [] };
 }
 
-// Puts a letter on a qubit at the end of a moment; where that stands in a block, in this round alone.
+// Puts a Pauli on a qubit at the end of a moment; where that stands in a block, in this round alone. The region of the first bit that
+// it flipped is then shown.
 async function put(letter, qubit, moment, instructions, everyRound = false) {
   const { path, rounds } = placeAtEnd(instructions);
-  const item = `${LETTERS[letter]} ${qubit}`;
+  const item = `${letter} ${qubit}`;
   let place = path;
   let round = null;
   if (rounds.length === 1 && !everyRound && state.items[path[0]].count > 1) {
     round = { place: String(path[0]), number: rounds[0] };
     place = [...pathOfRound([path[0]], rounds[0]), path[1]];
   }
-  if (await edit({ kind: "insert", place: place.join("/"), item }, round)) layout.follow(letter, qubit, moment);
+  if (await edit({ kind: "insert", place: place.join("/"), item }, round)) choose([...state.flipped][0] ?? null);
 }
 
-function choose(qubit, event) {
-  const menu = by("choice");
-  const instructions = layout.instructions;
+// Opens the menu of a qubit, which an element shows.
+function offer(qubit, element, place) {
+  const { moment, instructions } = layout;
   const inBlock = placeAtEnd(instructions).rounds.length > 0;
-  const offers = [1, 3, 2].map((letter) => offer(`${LETTERS[letter]} here`, () => put(letter, qubit, layout.moment, instructions)));
-  if (inBlock) offers.push(...[1, 3, 2].map((letter) => offer(`${LETTERS[letter]} in each round`, () => put(letter, qubit, layout.moment, instructions, true))));
-  offers.push(offer("Stabilised by Z?", () => askSign(`Z${qubit}`)), offer("by X?", () => askSign(`X${qubit}`)));
-  menu.replaceChildren(...offers);
-  menu.style.left = `${Math.min(event.clientX ?? 200, innerWidth - 460)}px`;
-  menu.style.top = `${event.clientY ?? 200}px`;
-  menu.hidden = false;
-  menu.firstChild.focus();
+  const offers = PAULIS.map((letter) => [`${letter} here`, () => put(letter, qubit, moment, instructions)]);
+  if (inBlock) offers.push(...PAULIS.map((letter) => [`${letter} in each round`, () => put(letter, qubit, moment, instructions, true)]));
+  offers.push(["Stabilised by Z?", () => askSign(`Z${qubit}`)], ["by X?", () => askSign(`X${qubit}`)]);
+  menu.open(element, place, offers);
 }
 
-function offer(words, act) {
-  const button = document.createElement("button");
-  button.role = "menuitem";
-  button.textContent = words;
-  button.addEventListener("click", () => {
-    by("choice").hidden = true;
-    act();
-  });
-  return button;
+// Shows the region of a bit, or with null that of none.
+async function choose(bit) {
+  chosen = { bit, region: {}, why: "its region is asked for" };
+  detectors.choose(bit);
+  const answer = bit === null ? {} : await link.ask({ ask: "region", bit }).catch(() => ({}));
+  if (chosen.bit !== bit) return;
+  chosen = { bit, region: answer.region ?? {}, why: answer.why ?? "" };
+  layout.showRegion(chosen.region);
+  moved();
+}
+
+// Says what the region has at the moment that is shown.
+function moved() {
+  const { bit, region, why } = chosen;
+  let said = "";
+  if (bit !== null && why) said = `${bit}: ${why}`;
+  else if (bit !== null && isRandom(bit)) said = `${bit}: a coin decides it, so that nothing flips it`;
+  else if (bit !== null) said = saidOfRegion(bit, region, layout.moment);
+  by("region").textContent = said;
 }
 
 async function askSign(pauli) {
@@ -242,14 +270,14 @@ by("replace").addEventListener("click", () => text.openForm("replace"));
 by("delete").addEventListener("click", deleteSelected);
 by("previous").addEventListener("click", () => layout.goTo(Math.max(0, layout.moment - 1)));
 by("next").addEventListener("click", () => layout.goTo(Math.min(momentsOf(state.items) - 1, layout.moment + 1)));
-document.addEventListener("click", (event) => {
-  if (!event.target.closest("#choice, .qubit")) by("choice").hidden = true;
-});
 document.addEventListener("keydown", (event) => {
-  if (event.target.matches("textarea, input")) return;
-  if (event.key === "Escape") by("choice").hidden = true;
-  if (event.key === "[") by("previous").click();
-  if (event.key === "]") by("next").click();
-  if ((event.ctrlKey || event.metaKey) && event.key === "z") by("undo").click();
-  if ((event.ctrlKey || event.metaKey) && event.key === "y") by("redo").click();
+  if (isField(event.target)) return;
+  const command = commandOf(event);
+  if (command) {
+    event.preventDefault();
+    by(command).click();
+  } else if (event.key === "Escape" && !menu.close()) choose(null);
+  // Brackets may need other keys held, so they are taken by what they type.
+  else if (event.key === "[" && !event.ctrlKey && !event.metaKey) by("previous").click();
+  else if (event.key === "]" && !event.ctrlKey && !event.metaKey) by("next").click();
 });

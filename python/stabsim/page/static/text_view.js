@@ -2,6 +2,8 @@
 // Only the rows in sight are in the document.
 
 import { blocksAround, pathOf, textOf } from "./circuit.js";
+import { keyOf } from "./keys.js";
+import { partsOf } from "./refusals.js";
 import { countRows, numberOfRow, rowsBetween } from "./rows.js";
 
 const ROW = 22;
@@ -49,10 +51,11 @@ export class TextView {
     this.#draw();
   }
 
-  // What an edit at a path was refused with.
-  refuse(place, words) {
-    this.#refusal = { place, words };
+  // What an edit at a path was refused with, and the lines that explain it, if there are some.
+  refuse(place, { refused, explanation }) {
+    this.#refusal = { place, words: refused, ...partsOf(explanation) };
     this.#draw();
+    this.#form?.element.scrollIntoView({ block: "nearest" });
   }
 
   // Behind the last item something can be put in, too, so there is a row more.
@@ -152,15 +155,8 @@ export class TextView {
     form.append(field, button("Put in", "submit"), button("Leave", "button", () => this.#closeForm()));
     if (path.length > 1) form.append(this.#roundOffer(path));
     // The row's own words may be out of sight behind the form.
-    form.append(span("refusal", ""));
-    field.addEventListener("keydown", (event) => {
-      event.stopPropagation();
-      if (event.key === "Escape") this.#closeForm();
-      if (event.key === "Enter" && !event.shiftKey) {
-        event.preventDefault();
-        form.requestSubmit();
-      }
-    });
+    form.append(span("refusal", ""), span("fault", ""), span("why", ""));
+    this.#listen(field, form);
     form.addEventListener("submit", (event) => {
       event.preventDefault();
       this.#send(kind, path, field.value);
@@ -168,11 +164,29 @@ export class TextView {
     return form;
   }
 
+  // In the form Enter puts the item in. The key that opened it may still be held down, and types nothing.
+  #listen(field, form) {
+    let isOpening = true;
+    field.addEventListener("keydown", (event) => {
+      event.stopPropagation();
+      isOpening &&= event.repeat;
+      const isEnter = event.key === "Enter" && !event.shiftKey;
+      if (event.repeat && (isOpening || isEnter)) event.preventDefault();
+      else if (event.key === "Escape") this.#closeForm();
+      else if (isEnter) {
+        event.preventDefault();
+        form.requestSubmit();
+      }
+    });
+  }
+
   #drawForm() {
     const { kind, path, element } = this.#form;
     const number = numberOfRow(this.#items, this.#unfolded, path);
     element.style.top = `${(number + (kind === "insert" ? 0 : 1)) * ROW}px`;
     element.querySelector(".refusal").textContent = this.#refusal?.words ?? "";
+    element.querySelector(".fault").textContent = this.#refusal?.shown ?? "";
+    element.querySelector(".why").textContent = this.#refusal?.why ?? "";
   }
 
   // An edit inside a block is one of each of its rounds; one round can be taken out first.
@@ -186,7 +200,6 @@ export class TextView {
     round.max = count - 1;
     round.value = 0;
     round.ariaLabel = "round";
-    round.addEventListener("keydown", (event) => event.stopPropagation());
     const split = button("Take out round", "button", () => {
       this.#closeForm();
       this.#act.split(path, Number(round.value));
@@ -211,6 +224,8 @@ export class TextView {
   }
 
   #key(event) {
+    // A form in the text has keys of its own.
+    if (event.target !== this.#place) return;
     const moves = { ArrowDown: 1, ArrowUp: -1, PageDown: 20, PageUp: -20 };
     const row = this.#selectedRow();
     if (event.key in moves) {
@@ -229,7 +244,7 @@ export class TextView {
       a: () => this.openForm("behind"),
       Delete: () => item && this.#act.edit({ kind: "delete", place: path.join("/") }),
     };
-    const act = keys[event.key];
+    const act = keys[keyOf(event)];
     if (act) {
       event.preventDefault();
       act();

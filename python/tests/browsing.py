@@ -1,0 +1,145 @@
+"""The page in a real browser: its server on a circuit, and what a person does there by keys and pointer."""
+
+import importlib.util
+import shutil
+import signal
+import subprocess
+import sys
+
+import pytest
+
+CHROMIUM = shutil.which("chromium")
+DRIVER = shutil.which("chromedriver")
+MISSING = [name for name in ("selenium", "aiohttp") if importlib.util.find_spec(name) is None]
+needs_browser = pytest.mark.skipif(not CHROMIUM or not DRIVER or bool(MISSING), reason="chromium, chromium-driver, selenium or aiohttp is missing")
+
+# A shell that starts tests in the background has them ignore Ctrl-C, and the server that they start would do so too.
+signal.signal(signal.SIGINT, signal.default_int_handler)
+
+if not MISSING:
+    from selenium import webdriver
+    from selenium.webdriver.chrome.service import Service
+    from selenium.webdriver.common.action_chains import ActionChains
+    from selenium.webdriver.common.by import By
+    from selenium.webdriver.common.keys import Keys
+    from selenium.webdriver.support.ui import WebDriverWait
+
+# The longest, in seconds, that anything is waited for.
+LONGEST = 60
+
+# Keys as the browser is told of them while they are held down.
+HELD = {
+    "x": {"key": "x", "code": "KeyX", "text": "x", "windowsVirtualKeyCode": 88},
+    "i": {"key": "i", "code": "KeyI", "text": "i", "windowsVirtualKeyCode": 73},
+    "Enter": {"key": "Enter", "code": "Enter", "text": "\r", "windowsVirtualKeyCode": 13},
+    "Delete": {"key": "Delete", "code": "Delete", "windowsVirtualKeyCode": 46},
+}
+
+
+class Page:
+    """A server of the page on a circuit, and a browser that looks at it."""
+
+    def __init__(self, browser, folder, text, *words):
+        self.browser = browser
+        file = folder / "circuit.stim"
+        file.write_text(text)
+        self.server = subprocess.Popen([sys.executable, "-B", "-m", "stabsim.page", str(file), *words], stdout=subprocess.PIPE, text=True)
+        self.address = self.server.stdout.readline().strip()
+
+    def open(self):
+        self.browser.get(self.address)
+        self.wait(lambda: self.find("numbers").text)
+
+    def close(self):
+        self.server.send_signal(signal.SIGINT)
+        self.server.wait(timeout=LONGEST)
+
+    def wait(self, test):
+        return WebDriverWait(self.browser, LONGEST).until(lambda _: test())
+
+    # What is shown.
+
+    def find(self, name):
+        return self.browser.find_element(By.ID, name)
+
+    def texts(self, selector):
+        """The texts of elements, read at one moment, since the page may draw them anew at any time."""
+        return self.browser.execute_script("return Array.from(document.querySelectorAll(arguments[0]), (it) => it.textContent)", selector)
+
+    def row(self, path):
+        """The text of the row of an item, once the row is in sight."""
+        return self.wait(lambda: self.texts(f"#text .row[data-path='{path}']"))[0]
+
+    def history(self):
+        return self.texts("#edits li button")
+
+    def letters(self):
+        """The letters of the region on the qubits that have one, as X3."""
+        return self.browser.execute_script(
+            "return Array.from(document.querySelectorAll('.qubit .letter')).filter((it) => it.textContent)"
+            ".map((it) => it.textContent + it.parentElement.dataset.qubit)")
+
+    # What a person does.
+
+    def click(self, selector):
+        self.wait(lambda: self.browser.execute_script(
+            "const it = document.querySelector(arguments[0]); it?.click(); return Boolean(it);", selector))
+
+    def choose(self, path):
+        self.click(f"#text .row[data-path='{path}']")
+
+    def unfold(self, place):
+        self.browser.execute_script("document.getElementById('text').scrollTop = arguments[0]", place * 22 - 100)
+        self.click(f"#text .row[data-path='{place}'] .fold")
+
+    def go_to(self, moment):
+        self.browser.execute_script(
+            "const slider = document.getElementById('moment'); slider.value = arguments[0]; slider.dispatchEvent(new Event('input'));", moment)
+
+    def put_in(self, words):
+        field = self.browser.find_element(By.CSS_SELECTOR, ".item-form textarea")
+        field.clear()
+        field.send_keys(words, Keys.ENTER)
+
+    def focus(self, selector):
+        self.browser.execute_script("document.querySelector(arguments[0]).focus()", selector)
+
+    def press(self, *keys, held=()):
+        """Presses keys where the focus is, one after another, with others held down all the while."""
+        chain = ActionChains(self.browser)
+        for key in held:
+            chain = chain.key_down(key)
+        chain = chain.send_keys(*keys)
+        for key in held:
+            chain = chain.key_up(key)
+        chain.perform()
+
+    def type_on(self, number, key):
+        """Presses a key with a qubit in focus."""
+        self.focus(f"[data-qubit='{number}']")
+        self.press(key)
+
+    def hold(self, name, repeats=4):
+        """Holds a key down, so that it repeats, and lets it go."""
+        key = HELD[name]
+        kind = "keyDown" if "text" in key else "rawKeyDown"
+        for repeat in range(1 + repeats):
+            self.browser.execute_cdp_cmd("Input.dispatchKeyEvent", {"type": kind, "autoRepeat": repeat > 0, **key})
+        self.browser.execute_cdp_cmd("Input.dispatchKeyEvent", {"type": "keyUp", **{word: key[word] for word in key if word != "text"}})
+
+    def point_at(self, selector, left=None, top=None):
+        """Moves the pointer to the middle of an element, or so many pixels from its upper left corner."""
+        element = self.browser.find_element(By.CSS_SELECTOR, selector)
+        chain = ActionChains(self.browser, duration=0)
+        if left is None:
+            return chain.move_to_element(element)
+        width, height = element.rect["width"], element.rect["height"]
+        return chain.move_to_element_with_offset(element, round(left - width / 2), round(top - height / 2))
+
+
+def open_browser():
+    options = webdriver.ChromeOptions()
+    options.binary_location = CHROMIUM
+    for word in ("--headless=new", "--no-sandbox", "--disable-gpu", "--window-size=1280,900"):
+        options.add_argument(word)
+    return webdriver.Chrome(options=options, service=Service(DRIVER))

@@ -1,0 +1,137 @@
+"""The page's keys, by events that the browser itself makes: which one does what, and what a held key does."""
+
+import pytest
+from browsing import Keys, needs_browser
+
+pytestmark = needs_browser
+
+# Four qubits, of which an X on the first, in each moment, flips the one detector.
+CODE = "R 0 1 2 3\nTICK\nCX 0 1\nTICK\nM 1\nDETECTOR rec[-1]\n"
+
+
+@pytest.fixture
+def page(open_page):
+    return open_page(CODE)
+
+
+def undone(page):
+    return page.texts("#edits .undone button")
+
+
+def put_x(page):
+    """An X on qubit 0, which stays in focus."""
+    page.type_on(0, "x")
+    page.wait(lambda: page.history() == ["opened", "insert 1 X 0"])
+
+
+def put_z_last(page):
+    """A Z on qubit 3: when it has its entry, all that was asked before has been answered. Tells the entries."""
+    page.type_on(3, "z")
+    page.wait(lambda: page.history()[-1].endswith("Z 3"))
+    return page.history()
+
+
+def test_ctrl_z_and_ctrl_y_on_a_qubit_undo_and_redo(page):
+    put_x(page)
+    page.press("z", held=[Keys.CONTROL])
+    page.wait(lambda: undone(page) == ["insert 1 X 0"])
+    page.press("y", held=[Keys.CONTROL])
+    page.wait(lambda: undone(page) == [])
+    page.press("z", held=[Keys.CONTROL])
+    page.wait(lambda: undone(page) == ["insert 1 X 0"])
+    page.press("z", held=[Keys.CONTROL, Keys.SHIFT])
+    page.wait(lambda: undone(page) == [])
+    assert page.history() == ["opened", "insert 1 X 0"]
+
+
+def test_a_letter_with_another_key_held_is_no_pauli(page):
+    page.focus("[data-qubit='0']")
+    for held in (Keys.CONTROL, Keys.ALT, Keys.META, Keys.SHIFT):
+        page.press("x", held=[held])
+    assert put_z_last(page) == ["opened", "insert 1 Z 3"]
+
+
+def test_a_key_that_is_held_down_puts_in_one_pauli(page):
+    page.focus("[data-qubit='0']")
+    page.hold("x")
+    assert put_z_last(page) == ["opened", "insert 1 X 0", "insert 2 Z 3"]
+
+
+def test_enter_on_a_qubit_opens_its_menu_and_enter_there_chooses(page):
+    page.type_on(0, Keys.ENTER)
+    page.wait(lambda: page.find("choice").is_displayed())
+    assert page.history() == ["opened"]
+    box = page.find("choice").rect
+    assert box["x"] >= 0 and box["x"] + box["width"] <= page.browser.execute_script("return innerWidth")
+    page.press(Keys.TAB, Keys.ENTER)
+    page.wait(lambda: page.history() == ["opened", "insert 1 Y 0"])
+    assert not page.find("choice").is_displayed()
+
+
+def test_space_on_a_qubit_opens_its_menu_too(page):
+    page.type_on(0, Keys.SPACE)
+    page.wait(lambda: page.find("choice").is_displayed())
+    assert page.history() == ["opened"]
+
+
+def test_enter_that_is_held_down_only_opens_the_menu(page):
+    page.focus("[data-qubit='0']")
+    page.hold("Enter")
+    assert page.find("choice").is_displayed()
+    page.press(Keys.ESCAPE)
+    assert not page.find("choice").is_displayed()
+    assert page.browser.switch_to.active_element.get_attribute("data-qubit") == "0"
+    assert put_z_last(page) == ["opened", "insert 1 Z 3"]
+
+
+def test_with_the_slider_in_focus_keys_do_what_they_do_elsewhere(page):
+    put_x(page)
+    page.focus("#moment")
+    page.press("]")
+    assert page.find("moment-said").text == "tick 1 of 2"
+    page.press("[")
+    assert page.find("moment-said").text == "tick 0 of 2"
+    page.press("z", held=[Keys.CONTROL])
+    page.wait(lambda: undone(page) == ["insert 1 X 0"])
+    page.press("y", held=[Keys.CONTROL])
+    page.wait(lambda: undone(page) == [])
+
+
+def test_in_the_text_letters_with_ctrl_open_no_form(page):
+    page.choose("1")
+    page.press("a", held=[Keys.CONTROL])
+    page.press("i", held=[Keys.ALT])
+    assert not page.texts(".item-form")
+    page.press("a")
+    assert page.texts(".item-form")
+
+
+def test_a_letter_that_is_held_down_opens_an_empty_form(page):
+    page.choose("1")
+    page.hold("i")
+    assert page.browser.execute_script("return document.querySelector('.item-form textarea').value") == ""
+    page.press("X 2", Keys.ENTER)
+    page.wait(lambda: page.history() == ["opened", "insert 1 X 2"])
+
+
+def test_enter_that_is_held_down_opens_the_form_and_sends_nothing(page):
+    page.choose("1")
+    page.hold("Enter")
+    assert page.texts(".item-form")
+    page.press(Keys.ESCAPE)
+    assert put_z_last(page) == ["opened", "insert 1 Z 3"]
+
+
+def test_delete_that_is_held_down_takes_one_item_out(page):
+    page.choose("1")
+    page.hold("Delete")
+    page.wait(lambda: len(page.history()) == 2)
+    assert put_z_last(page) == ["opened", "delete 1", "insert 2 Z 3"]
+
+
+def test_enter_on_a_button_of_the_form_presses_it(page):
+    page.choose("1")
+    page.press("i")
+    page.press("X 2", Keys.TAB, Keys.TAB, Keys.ENTER)
+    assert not page.texts(".item-form")
+    assert put_z_last(page) == ["opened", "insert 1 Z 3"]

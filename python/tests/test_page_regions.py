@@ -1,0 +1,124 @@
+"""What the page shows of regions, of the time of detectors, of refusals and of noise, in a browser."""
+
+import pytest
+from browsing import Keys, needs_browser
+
+pytestmark = needs_browser
+
+# A Bell pair is measured by a product and corrected by its record, so that both detectors are sure.
+CODE = """R 0 1 2
+TICK
+RX 2
+TICK
+MPP X0*Z2
+TICK
+CZ rec[-1] 0
+TICK
+MPP X0*Z2
+DETECTOR(0, 0, 0, 7) rec[-1]
+DETECTOR(0, 0, 1, 7) rec[-1]
+OBSERVABLE_INCLUDE(0) rec[-1]
+"""
+# The middles of detectors on the canvas: a slice is 26 pixels wide and begins at 14, the first row stands at 40.
+DETECTORS = {0: (14, 40), 1: (40, 40)}
+OBSERVABLE = (22, 12)
+
+
+@pytest.fixture
+def page(open_page):
+    return open_page(CODE)
+
+
+def said(page):
+    return page.find("region").text
+
+
+def choose(page, spot):
+    page.point_at("#spacetime canvas", *spot).click().perform()
+
+
+def test_time_is_the_third_coordinate(page):
+    for number, spot in DETECTORS.items():
+        page.point_at("#spacetime canvas", *spot).perform()
+        page.wait(lambda: page.find("tip").text.startswith(f"D{number} at (0, 0, {number}, 7) is "))
+
+
+def test_detectors_of_one_spot_stand_beside_each_other(open_page):
+    page = open_page("R 0\nM 0\nDETECTOR(0, 0, 0, 0) rec[-1]\nDETECTOR(0, 0, 0, 1) rec[-1]\n")
+    for number, left in ((0, 14), (1, 20)):
+        page.point_at("#spacetime canvas", left, 40).perform()
+        page.wait(lambda: page.find("tip").text.startswith(f"D{number} at (0, 0, 0, {number}) is "))
+
+
+def test_the_region_of_a_detector_stands_on_the_qubits_tick_by_tick(page):
+    # By hand: the record of the first product decides the sign of Z on qubit 0, with which X0*Z2 anticommutes, so between the
+    # two products the region is X0 Z2, and the record has to be in the detector's set: the first product takes R away again.
+    choose(page, DETECTORS[1])
+    page.wait(lambda: said(page) == "region of D1: nothing here; ticks 2 to 3")
+    shown = {}
+    for moment in range(5):
+        page.go_to(moment)
+        shown[moment] = page.letters()
+    assert shown == {0: [], 1: [], 2: ["X0", "Z2"], 3: ["X0", "Z2"], 4: []}
+    page.go_to(3)
+    assert said(page) == "region of D1: X0 Z2; ticks 2 to 3"
+    page.press(Keys.ESCAPE)
+    page.wait(lambda: page.letters() == [] and said(page) == "")
+
+
+def test_the_region_of_an_observable_is_shown_by_a_click(page):
+    choose(page, OBSERVABLE)
+    page.wait(lambda: said(page).startswith("region of L0: "))
+
+
+def test_a_pauli_shows_the_region_of_the_first_bit_that_it_flips(page):
+    page.go_to(2)
+    page.type_on(0, "z")
+    page.wait(lambda: page.texts("#edits .now .told")[0].startswith("D0 D1 L0"))
+    page.wait(lambda: said(page) == "region of D0: X0 Z2; ticks 2 to 3")
+    assert page.letters() == ["X0", "Z2"]
+    # What commutes with the region flips nothing, and no region is shown.
+    page.type_on(0, "x")
+    page.wait(lambda: page.texts("#edits .now .told")[0].startswith("nothing changed"))
+    page.wait(lambda: said(page) == "")
+
+
+def test_a_bit_that_a_coin_decides_has_no_region(open_page):
+    page = open_page("RX 0\nTICK\nM 0\nDETECTOR(0, 0, 0) rec[-1]\n")
+    choose(page, DETECTORS[0])
+    page.wait(lambda: said(page) == "D0: a coin decides it, so that nothing flips it")
+
+
+def test_too_many_steps_for_a_table_of_faults_are_said(open_page):
+    page = open_page("R 0 1\nREPEAT 600000 {\n    TICK\n}\nM 0\nDETECTOR(0, 0, 0) rec[-1]\n")
+    choose(page, DETECTORS[0])
+    page.wait(lambda: said(page) == "D0: there is no table of faults: it was refused as 9 TooManySteps")
+
+
+def test_a_refusal_is_explained_at_its_item(page):
+    page.choose("0")
+    page.press("i")
+    page.press("DETECTOR rec[-2]", Keys.ENTER)
+    page.wait(lambda: page.texts(".item-form .refusal") == ["refused 8 LookbackTooFar"])
+    assert page.texts(".item-form .fault") == ["DETECTOR rec[-2]\n         ^^^^^^^"]
+    [why] = page.texts(".item-form .why")
+    assert "item 0" in why and page.find("message").text == f"refused 8 LookbackTooFar {why}"
+
+
+def test_a_refusal_is_explained_where_there_is_no_form(page):
+    page.choose("4")
+    page.press(Keys.DELETE)
+    page.wait(lambda: "refused 8 LookbackTooFar" in page.row("4"))
+    assert "item 5" in page.find("message").text
+
+
+def test_what_was_left_out_of_a_noisy_file_stays_in_sight(open_page):
+    page = open_page("R 0\nX_ERROR(0.1) 0\nTICK\nM 0\n")
+    assert page.find("left-out").text.startswith("The noise of 1 line is left out")
+    page.type_on(0, "x")
+    page.wait(lambda: len(page.history()) == 2)
+    assert page.find("left-out").is_displayed()
+
+
+def test_of_a_file_without_noise_nothing_is_said(page):
+    assert not page.find("left-out").is_displayed()
