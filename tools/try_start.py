@@ -58,7 +58,7 @@ class Tree:
         self.programs = self.top / "python" / "stabsim" / "programs"
         self.bin = folder / "bin"
         self.bin.mkdir()
-        for name in ("stabsim", "tools/sum_sources.sh"):
+        for name in ("stabsim", "tools/find_program.sh", "tools/sum_sources.sh"):
             write(self.top / name, (TOP / name).read_text())
         write(self.top / "crates.txt", "stabsim:\n")
         write(self.top / "crates" / "stabsim" / "src" / "main.rt", "fn main() {}\n")
