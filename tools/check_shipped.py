@@ -55,13 +55,13 @@ def build(top: Path, named: list[str], crates: Crates, cpu: str, folder: Path) -
     used = {it: libraries[it] if it in libraries else kit / "rlibs" for it in ["std", *named]}
     externs = [word for it in used for word in ("--extern", f"{it}={used[it]}/{it}.rlib")]
     places = [word for it in (kit / "rlibs", *libraries.values()) for word in ("-L", f"dependency={it}")]
-    logic = ["--antt-project", kit / "rattle/logic/antt-project.json", "--logic-built", kit / "logic_built"]
-    compiler = ["--links", f"{PROGRAM}=", f"--cpu={cpu}", "--backend", "llvm", "--toolchain", kit / "toolchain"]
-    crate = top / "crates" / PROGRAM
-    made = folder / PROGRAM
-    words = ["--crate-name", PROGRAM, "src/main.rt", *externs, *places, *logic, *compiler, "-o", f"{made}.o"]
+    logic = ["--antt-project", f"{kit}/rattle/logic/antt-project.json", "--logic-built", f"{kit}/logic_built"]
+    compiler = ["--links", f"{PROGRAM}=", f"--cpu={cpu}", "--backend", "llvm"]
+    tools = ["--toolchain", f"{kit}/toolchain"]
+    crate, made = top / "crates" / PROGRAM, folder / PROGRAM
+    words = ["--crate-name", PROGRAM, "src/main.rt", *externs, *places, *logic, *compiler, *tools, "-o", f"{made}.o"]
     said_by(kit / "bin/rattle", "build", *words, folder=crate)
-    words = ["--target", "x86_64-unknown-linux-gnu", "--toolchain", kit / "toolchain", "-o", made, f"{made}.o"]
+    words = ["--target", "x86_64-unknown-linux-gnu", *tools, "-o", f"{made}", f"{made}.o"]
     said_by(kit / "bin/rattle-link", *words, kit / "c/libos_c.a", kit / "c/liblibc_c.a", folder=crate)
     return made.read_bytes()
 
