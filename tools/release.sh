@@ -17,7 +17,7 @@ fi
 version=$(sed -n 's/^version //p' python/stabsim/programs/shipped.txt)
 python=
 for it in python3 /usr/bin/python3; do
-    if "$it" -c 'import pip, setuptools, wheel' 2>/dev/null; then
+    if "$it" -c 'import setuptools, wheel, pip' 2>/dev/null; then
         python=$it
         break
     fi
