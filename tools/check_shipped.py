@@ -17,7 +17,7 @@ import sys
 import tempfile
 from pathlib import Path
 
-from build_program import Crates, crates_in, stands_on
+from build_order import Crates, crates_in, stands_on
 
 TOP = Path(__file__).resolve().parent.parent
 PROGRAMS = Path("python/stabsim/programs")

@@ -130,8 +130,9 @@ def try_environment(top: Path, folder: Path, python: str) -> None:
     expect("stabsim of the environment", output_of([here / "bin" / "stabsim", *SAMPLE], folder, HOME=str(folder)),
            output_of([top / "stabsim", *SAMPLE], folder, HOME=str(folder)))
     circuit = TOP / "examples" / "repetition_code.stim"
-    for page in ([here / "bin" / "stabsim-page"], [here / "bin" / "python", "-m", "stabsim.page"]):
-        expect(f"{page[0].name} serves the page", first_page([*page, circuit], folder), "<!doctype html>")
+    pages: list[list[str | Path]] = [[here / "bin" / "stabsim-page"], [here / "bin" / "python", "-m", "stabsim.page"]]
+    for page in pages:
+        expect(f"{page[0]} serves the page", first_page([*page, circuit], folder), "<!doctype html>")
     for name in ("man/man1/stabsim.1", "bash-completion/completions/stabsim.bash", "zsh/site-functions/_stabsim"):
         expect(f"the environment: {name}", (here / "share" / name).is_file(), True)
 
