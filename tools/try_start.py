@@ -1,5 +1,6 @@
 #!/usr/bin/env python3
-"""Tries how ./stabsim and the shipped programs start, in small trees with programs that say their names in place of the real ones.
+"""Tries how ./stabsim and the shipped programs start, and how tools/check_shipped.py compares these, in small trees with programs that
+say their names in place of the real ones.
 
     tools/try_start.py
 
@@ -14,6 +15,8 @@ import sys
 import tempfile
 import time
 from pathlib import Path
+
+import check_shipped
 
 TOP = Path(__file__).resolve().parent.parent
 SCRIPTS = ("choose", "level", "stabsim")
@@ -203,14 +206,44 @@ def try_libraries(tree: Tree) -> None:
     tree.expect_refusal("a program that says another version", "does not run here", "'stabsim 0.1.0' and not 'stabsim 0.1.2'")
 
 
+def try_comparison(tree: Tree) -> None:
+    """Compares what is shipped with what was built, as the test command does, with one thing changed at a time."""
+    built = {it: (tree.programs / it).read_bytes() for it in (check_shipped.V2, check_shipped.V3)}
+
+    def differences() -> list[str]:
+        sources = check_shipped.said_by(tree.top / "tools/sum_sources.sh")
+        return check_shipped.differences(tree.programs, {"version": "0.1.0", "sources": sources, "toolchain": "none"}, built)
+
+    expect("differences of what was shipped now", differences(), [])
+    source = tree.top / "crates" / "stabsim" / "src" / "main.rt"
+    text = source.read_text()
+    source.write_text(text + "// more\n")
+    expect("differences after a line more in a source", differences(), ["the line sources of shipped.txt"])
+    source.write_text(text)
+    source.rename(source.parent / "other.rt")
+    expect("differences after a source has another name", differences(), ["the line sources of shipped.txt"])
+    (source.parent / "other.rt").rename(source)
+    (source.parents[1] / "out").mkdir()
+    (source.parents[1] / "out" / "made").write_text("made")
+    expect("differences after something was built", differences(), [])
+    for name, program in built.items():
+        (tree.programs / name).write_bytes(program.replace(b"exit 0", b"exit 1"))
+        expect(f"differences after another byte in {name}", differences(), [name])
+        (tree.programs / name).unlink()
+        expect(f"differences without {name}", differences(), [name])
+        (tree.programs / name).write_bytes(program)
+    (tree.programs / "shipped.txt").unlink()
+    expect("lines that differ without shipped.txt", len(differences()), 5)
+
+
 def main() -> int:
-    for case in (try_processors, try_remembering, try_sources, try_damage, try_libraries):
+    for case in (try_processors, try_remembering, try_sources, try_damage, try_libraries, try_comparison):
         with tempfile.TemporaryDirectory() as folder:
             case(Tree(Path(folder)))
     if wrong:
         print("\n".join(f"try_start: {it}" for it in wrong), file=sys.stderr)
         return 1
-    print("the shipped programs started, or said why they can't")
+    print("the shipped programs started, or said why they can't, and were compared")
     return 0
 
 
