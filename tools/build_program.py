@@ -211,6 +211,7 @@ class Build:
             return self.build_program(flags)
         finally:
             self.end()
+            shutil.rmtree(self.out / "copies", ignore_errors=True)
 
     def end(self) -> None:
         """Ends what runs, and keeps what it made."""

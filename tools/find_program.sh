@@ -40,7 +40,7 @@ build() {
             "its command rt is not on the PATH" >&2
         exit 2
     fi
-    echo "stabsim: proves and builds the program first: from nothing, up to 55 minutes on four processors," >&2
+    echo "stabsim: proves and builds the program first: from nothing, up to an hour on four processors," >&2
     echo "stabsim: 4 GB of memory and 9 GB of disk; a build that is interrupted goes on where it stopped" >&2
     # What --version says of the toolchain is a constant of the source, which another one does not change.
     "$top/tools/check_version.sh" >&2 || echo "stabsim: builds it all the same" >&2
