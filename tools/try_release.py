@@ -80,7 +80,7 @@ def try_sums(what: str, folder: Path, text: str, kind: str) -> None:
     expect(f"{what}: the program has a checksum", any(it.endswith("/lib/stabsim/stabsim-x86-64-v2") for _, it in named), True)
 
 
-def try_release(folder: Path, python: str) -> None:
+def try_release(top: Path, folder: Path, python: str) -> None:
     """Unpacks what tools/release.sh makes, and asks each."""
     dist = folder / "dist"
     made = subprocess.run([TOP / "tools/release.sh", dist], env={**ENVIRONMENT, "HOME": str(folder)}, capture_output=True, text=True, check=False)
@@ -98,6 +98,9 @@ def try_release(folder: Path, python: str) -> None:
     unpacked = folder / tar.name.removesuffix(".tar.gz")
     try_first_example("the tar", unpacked / "bin" / "stabsim", folder)
     try_sums("the tar", unpacked, (unpacked / "SHA256SUMS").read_text(), "sha256")
+    driver = unpacked / "share/doc/stabsim/examples/drive_edit.py"
+    expect("an example of the tar", output_of([python, driver], folder, HOME=str(folder)),
+           output_of([python, top / "examples/drive_edit.py"], folder, HOME=str(folder)))
 
     root = folder / "root"
     expect("dpkg-deb -x", output_of(["dpkg-deb", "-x", package, root], folder), "")
@@ -148,7 +151,7 @@ def main() -> int:
         top = clean_copy(folder / "a clone")
         try_copy(top, able[0], folder)
         try_environment(top, folder, able[0])
-        try_release(folder, able[0])
+        try_release(top, folder, able[0])
     if wrong:
         print("\n".join(f"try_release: {it}" for it in wrong), file=sys.stderr)
         return 1
