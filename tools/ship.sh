@@ -7,6 +7,12 @@ top=$(CDPATH='' cd -- "$(dirname -- "$0")/.." && pwd)
 programs=$top/python/stabsim/programs
 cd "$top"
 tools/check_version.sh
+# Files that git doesn't keep would count for the checksum, and be missing in each clone.
+others=$(git ls-files --others --exclude=out/ -- crates | head -n 1)
+if [ -n "$others" ]; then
+    echo "ship: git does not keep $others, which stands among the sources: add it or remove it" >&2
+    exit 1
+fi
 made=$(mktemp -d)
 trap 'rm -rf "$made"' EXIT
 trap 'exit 130' INT TERM
