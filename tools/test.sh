@@ -8,7 +8,6 @@ cd "$top" || exit 2
 # The steps behind the gate, a line each: a command, from the top of the repository. They run side by side, so many as there
 # are processors, and those that take longest begin first. What the gate printed is in the file $told/gate.
 steps='tools/check_shipped.py
-tools/try_first_look.sh
 tools/try_release.py
 tools/try_python.sh
 tools/try_docs.sh
