@@ -13,6 +13,7 @@ import signal
 import sys
 import tempfile
 import threading
+import time
 from pathlib import Path
 from unittest import mock
 
@@ -158,13 +159,20 @@ def try_kept_work() -> None:
 
 
 def try_interrupt() -> None:
-    """Interrupts a build while two crates are built, which ends rt for both and keeps what it made."""
+    """Interrupts a build once two crates are under way, which ends rt for both and keeps what it made."""
     # A shell starts what it runs in the background with interrupts ignored.
     signal.signal(signal.SIGINT, signal.default_int_handler)
     with tempfile.TemporaryDirectory() as name:
         folder = Path(name)
         make_tree(folder, ["low"])
-        threading.Timer(2, os.kill, (os.getpid(), signal.SIGINT)).start()
+        made = [folder / "crates" / it / "out/incremental/kept" for it in ("left", "app/out/copies/left/crates/left", "right")]
+
+        def interrupt() -> None:
+            while sum(it.exists() for it in made) < 2:
+                time.sleep(0.1)
+            os.kill(os.getpid(), signal.SIGINT)
+
+        threading.Thread(target=interrupt, daemon=True).start()
         status, _, notes = build(folder, "exec sleep 60")
         expect("an interrupt: status", status, 130)
         expect("an interrupt: calls", sorted(calls_of(notes)), [LEFT, RIGHT])
