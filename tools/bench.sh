@@ -11,12 +11,8 @@ folder=$(mktemp -d)
 trap 'rm -rf "$folder"' EXIT
 trap 'exit 1' HUP INT TERM
 
-cpu=
-if grep -q -w avx2 /proc/cpuinfo 2>/dev/null; then
-    cpu=--cpu=x86-64-v3
-fi
-# shellcheck disable=SC2086 # without AVX2 there is no word at all
-if ! (cd "$bench" && rt run $cpu) </dev/null >"$folder/log" 2>&1; then
+level=$("$tools/../python/stabsim/programs/level")
+if ! (cd "$bench" && rt run "--cpu=x86-64-${level:-v2}") </dev/null >"$folder/log" 2>&1; then
     cat "$folder/log" >&2
     echo "bench.sh: the program was not built" >&2
     exit 1

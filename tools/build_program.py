@@ -3,10 +3,13 @@
 
     tools/build_program.py PROGRAM [flags of rt run]
 
-Where crates below the program were never built here, `rt all check` takes them side by side first: as many at once as processors
-and memory allow, each by one process and once the crates below it are built. (Calls of `rt lib`, one a crate, would wait for each
-other, since each holds the folders of all crates below its own.) What that leaves, the program's own code, and a later build over
-what earlier ones kept, is for `rt run`, which takes one crate after another and runs the program with --help.
+Where crates below the program were never built here, `rt lib` builds them, several at a time: each once those that it stands on are
+built, first those of the longest chain of crates that wait for each other, and those that are ready share the processors and the
+memory that are left. What that leaves, the program's own code, and a later build over what earlier ones kept, is for `rt run`, which
+takes one crate after another and runs the program with --help.
+
+rt locks the folder of a crate that it builds and those of all crates below it. So one crate at a time is built where it is, and any
+other meanwhile in a copy of the sources, with the libraries below it; what was made there is then moved to its place.
 
 What rt said is kept in crates/PROGRAM/out/build.log, and shown where the build failed. The status is rt's, and 130 after an
 interrupt, which ends what was started; the next call goes on from there.
@@ -17,73 +20,16 @@ import shutil
 import signal
 import subprocess
 import sys
-from collections.abc import Callable
+import time
 from pathlib import Path
 
-from gate_times import below, processes, work_of
+from build_order import Crates, chains, crates_in, free_memory, next_starts, processors, stands_on
 
 TOP = Path(__file__).resolve().parent.parent
-BETWEEN_LOOKS = 1.0
-# One process for a crate was seen to hold up to 2 GB, of those that were watched.
-MEMORY_OF_A_CRATE = 3_000_000_000
-# Where a container says how much memory it has, if there is a limit.
-LIMITS = (Path("/sys/fs/cgroup/memory.max"), Path("/sys/fs/cgroup/memory/memory.limit_in_bytes"))
-# What rt writes once a crate is done, under `rt all`; where it begins with one, else; how far it is there; and of one that was killed.
-DONE = re.compile(r"^== (\w+)$", re.MULTILINE)
-BEGUN = re.compile(r"^rt: chose --jobs \d+ for (\w+)$", re.MULTILINE)
+BETWEEN_LOOKS = 0.5
+# How far rt is in a crate, as it says in a line of its own; and that a crate was killed, most likely for memory.
 COUNTED = re.compile(r"^so far: ([^;\n]+)", re.MULTILINE)
-KILLED = re.compile(r"^\w+: failed \(-9\)$", re.MULTILINE)
-
-# The crates of a crates.txt, each with those of them that it names.
-Crates = dict[str, list[str]]
-
-
-def crates_in(text: str) -> Crates:
-    """What a crates.txt says; names that have no line of their own are the toolchain's libraries."""
-    lines = [line.partition("#")[0].partition(":") for line in text.splitlines()]
-    named = {head.split()[0]: uses.split() for head, _, uses in lines if head.strip()}
-    return {name: [it for it in uses if it in named] for name, uses in named.items()}
-
-
-def stands_on(program: str, crates: Crates) -> Crates:
-    """The program's own crates: each after those that it names, and the program last."""
-    found: Crates = {}
-
-    def visit(name: str) -> None:
-        if name not in found:
-            for it in crates[name]:
-                visit(it)
-            found[name] = crates[name]
-
-    visit(program)
-    return found
-
-
-def told_side_by_side(crates: Crates, said: str, at_work: set[str]) -> str:
-    """How far `rt all` is, by what it said and by the crates that its processes are at; empty where there is nothing to tell."""
-    done = crates.keys() & set(DONE.findall(said))
-    # The program is first looked through for what no proof needs, which is not its turn yet.
-    under_way = [it for it in crates if it in at_work - done and done.issuperset(crates[it])]
-    return f"{len(done)} of {len(crates)} crates done; under way: {', '.join(under_way)}" if under_way else ""
-
-
-def told_in_turn(crates: Crates, said: str, _at_work: set[str]) -> str:
-    """How far `rt run` is, by what it said."""
-    begun = [it for it in BEGUN.finditer(said) if it[1] in crates]
-    if not begun:
-        return ""
-    place = f"crate {[*crates].index(begun[-1][1]) + 1} of {len(crates)}, {begun[-1][1]}"
-    counted = COUNTED.findall(said, begun[-1].end())
-    return f"{place}: {counted[-1]}" if counted else place
-
-
-def most_at_once() -> int:
-    """How many crates rt may take at once: one more than there are processors, since one that waits for those below it counts too."""
-    free = re.search(r"MemAvailable:\s+(\d+)", Path("/proc/meminfo").read_text())
-    memory = [1024 * int(free[1])] if free else [0]
-    told = [it.read_text().strip() for it in LIMITS if it.exists()]
-    memory += [int(it) for it in told if it.isdigit()]
-    return min(len(os.sched_getaffinity(0)) + 1, min(memory) // MEMORY_OF_A_CRATE)
+KILLED = -signal.SIGKILL % 256
 
 
 class Teller:
@@ -109,52 +55,169 @@ class Teller:
             print(file=sys.stderr)
 
 
+def copy_files(source: Path, target: Path, *left_out: str) -> None:
+    """Copies a folder, by hard links where they can be made, since no file of it is written in its place."""
+
+    def link(one: str, other: str) -> None:
+        try:
+            os.link(one, other)
+        except OSError:
+            shutil.copy2(one, other)
+
+    shutil.copytree(source, target, copy_function=link, ignore=shutil.ignore_patterns(*left_out))
+
+
+def copy_sources(name: str, crates: Crates, to: Path) -> None:
+    """Copies a crate and the libraries below it, as they stand built, to an empty folder, and moves there what earlier builds left of
+    the crate."""
+    below = [*stands_on(name, crates)]
+    for it in below:
+        copy_files(TOP / "crates" / it, to / "crates" / it, "out")
+    for it in below[:-1]:
+        copy_files(TOP / "crates" / it / "out" / "rlib", to / "crates" / it / "out" / "rlib")
+    lines = (TOP / "crates.txt").read_text(encoding="utf-8").splitlines(keepends=True)
+    named = [it for it in lines if it.partition(":")[0].split()[:1] in [[name] for name in below]]
+    (to / "crates.txt").write_text("".join(named), encoding="utf-8")
+    out = TOP / "crates" / name / "out"
+    if out.exists():
+        out.rename(to / "crates" / name / "out")
+
+
+def sources(name: str) -> list[Path]:
+    """The files that a crate is proved and built from."""
+    return [it for part in ("src", "specs", "proofs") for it in (TOP / "crates" / name / part).rglob("*") if it.is_file()]
+
+
+def lines_of_code(name: str) -> int:
+    return sum(it.read_bytes().count(b"\n") for it in sources(name) if it.suffix == ".rt")
+
+
+class Run:
+    """A run of rt for one crate: where it is built, with how many jobs, and what rt says."""
+
+    def __init__(self, top: Path, name: str, words: list[str], jobs: int, log: Path) -> None:
+        self.top = top
+        self.name = name
+        self.jobs = jobs
+        self.log = log
+        with log.open("w", encoding="utf-8") as file:
+            folder = top / "crates" / name
+            self.process = subprocess.Popen(["rt", *words], cwd=folder, stdin=subprocess.DEVNULL, stdout=file, stderr=file)
+
+    def said(self) -> str:
+        return self.log.read_text(encoding="utf-8", errors="replace")
+
+    def told(self) -> str:
+        """The crate, and how far rt is in it."""
+        counted = COUNTED.findall(self.said())
+        return f"{self.name} ({counted[-1]})" if counted else self.name
+
+    def end(self) -> None:
+        self.process.terminate()
+        self.process.wait()
+
+
 class Build:
     """The build of a program: its crates, and where what rt says of them is kept."""
 
     def __init__(self, program: str, crates: Crates) -> None:
         self.crates = stands_on(program, crates)
-        self.folder = TOP / "crates" / program
-        self.log = self.folder / "out" / "build.log"
+        self.libraries = [*self.crates][:-1]
+        self.program = program
+        self.out = TOP / "crates" / program / "out"
+        self.log = self.out / "build.log"
         self.teller = Teller(program)
+        self.running: dict[str, Run] = {}
 
-    def is_first(self) -> bool:
-        """Whether crates below the program were never built here; rt leaves a stamp beside a library that was."""
-        *libraries, _ = self.crates
-        stamps = [TOP / "crates" / it / "out" / "rlib" / "stamp" for it in libraries]
-        return sum(not it.exists() for it in stamps) > 1
+    def stamp(self, name: str) -> Path:
+        """What rt leaves beside a library that was built."""
+        return TOP / "crates" / name / "out" / "rlib" / "stamp"
 
-    def said(self) -> str:
-        return self.log.read_text(encoding="utf-8", errors="replace")
+    def left(self) -> list[str]:
+        """The libraries that were never built here; none, if another one is older than its sources, which rt then builds anew."""
+        built = [it for it in self.libraries if self.stamp(it).exists()]
+        if any(self.stamp(it).stat().st_mtime < file.stat().st_mtime for it in built for file in sources(it)):
+            return []
+        return [it for it in self.libraries if it not in built]
 
-    def follow(self, words: list[str], told: Callable[[Crates, str, set[str]], str]) -> int:
-        """Runs rt, keeps what it says, and tells what `told` makes of that. It gives rt's status, and ends rt where it ends before."""
+    def start(self, name: str, words: list[str], jobs: int) -> None:
+        """Starts rt for a crate: where the crate is, or in a copy, if rt is at work there."""
+        top = TOP
+        if any(it.top == TOP for it in self.running.values()):
+            top = self.out / "copies" / name
+            copy_sources(name, self.crates, top)
+        self.running[name] = Run(top, name, words, jobs, self.out / f"build-{name}.log")
+
+    def take_back(self, run: Run) -> None:
+        """Keeps what a run said and made."""
+        del self.running[run.name]
         with self.log.open("a", encoding="utf-8") as log:
-            run = subprocess.Popen(["rt", *words], cwd=self.folder, stdin=subprocess.DEVNULL, stdout=log, stderr=log)
-        try:
-            while True:
-                works = [work_of(it) for it in below(run.pid, processes())]
-                self.teller.tell(told(self.crates, self.said(), {it[0] for it in works if it}))
-                try:
-                    return run.wait(BETWEEN_LOOKS)
-                except subprocess.TimeoutExpired:
-                    pass
-        finally:
-            run.terminate()
-            run.wait()
+            log.write(f"== {run.name}\n{run.said().replace(str(run.top), str(TOP))}")
+        run.log.unlink()
+        if run.top != TOP:
+            made = run.top / "crates" / run.name / "out"
+            if made.exists():
+                made.rename(TOP / "crates" / run.name / "out")
+            shutil.rmtree(run.top)
+
+    def next_ended(self, told: str) -> Run:
+        """Waits until a run has ended, and tells meanwhile how far all are."""
+        while True:
+            self.teller.tell(told + ", ".join(it.told() for it in self.running.values()))
+            for run in self.running.values():
+                if run.process.poll() is not None:
+                    return run
+            time.sleep(BETWEEN_LOOKS)
+
+    def build_libraries(self, left: list[str]) -> int:
+        """Builds libraries, and gives rt's status: of the first that failed, or 0."""
+        longest = chains(self.crates, {it: lines_of_code(it) for it in self.crates})
+        most, memory = processors(), free_memory()
+        done = {it for it in self.libraries if it not in left}
+        while len(done) < len(self.libraries):
+            ready = [it for it in left if it not in done and it not in self.running and done.issuperset(self.crates[it])]
+            ready.sort(key=lambda it: -longest[it])
+            running = {it.name: it.jobs for it in self.running.values()}
+            for name, jobs in next_starts(ready, running, most, memory).items():
+                self.start(name, ["lib", "--jobs", str(jobs)], jobs)
+            run = self.next_ended(f"{len(done)} of {len(self.crates)} crates done; under way: ")
+            self.take_back(run)
+            if run.process.returncode:
+                return run.process.returncode
+            done.add(run.name)
+        return 0
+
+    def build_program(self, flags: list[str]) -> int:
+        """Builds what is left and the program, and gives rt's status."""
+        [jobs] = next_starts([self.program], {}, processors(), free_memory()).values()
+        self.start(self.program, ["run", *flags, "--jobs", str(jobs), "--", "--help"], jobs)
+        run = self.next_ended("builds the program: ")
+        self.take_back(run)
+        return run.process.returncode
 
     def run(self, flags: list[str]) -> int:
         """Builds the program, and gives rt's status."""
-        self.log.parent.mkdir(exist_ok=True)
+        self.out.mkdir(exist_ok=True)
+        shutil.rmtree(self.out / "copies", ignore_errors=True)
         self.log.write_text("")
         self.teller.tell("reads the sources")
-        most = most_at_once()
-        if most > 1 and self.is_first():
-            status = self.follow(["all", "check", "--jobs", str(most)], told_side_by_side)
+        try:
+            left = self.left()
+            status = self.build_libraries(left) if len(left) > 1 else 0
             # A crate that was killed, most likely for memory, is tried again by itself.
-            if status and not KILLED.search(self.said()):
+            if status and status != KILLED:
                 return status
-        return self.follow(["run", *flags, "--", "--help"], told_in_turn)
+            self.end()
+            return self.build_program(flags)
+        finally:
+            self.end()
+            shutil.rmtree(self.out / "copies", ignore_errors=True)
+
+    def end(self) -> None:
+        """Ends what runs, and keeps what it made."""
+        for run in [*self.running.values()]:
+            run.end()
+            self.take_back(run)
 
 
 def main() -> int:
@@ -171,7 +234,7 @@ def main() -> int:
     finally:
         build.teller.end()
     if status:
-        sys.stderr.write(build.said())
+        sys.stderr.write(build.log.read_text(encoding="utf-8", errors="replace"))
     return status
 
 

@@ -7,7 +7,8 @@ cd "$top" || exit 2
 
 # The steps behind the gate, a line each: a command, from the top of the repository. They run side by side, so many as there
 # are processors, and those that take longest begin first. What the gate printed is in the file $told/gate.
-steps='tools/try_first_look.sh
+steps='tools/check_shipped.py
+tools/try_release.py
 tools/try_python.sh
 tools/try_docs.sh
 tools/try_scaling.sh
@@ -26,6 +27,7 @@ tools/try_help.py
 tools/try_drive.sh
 tools/wrong_bodies.py "$told/gate"
 tools/try_build.py
+tools/try_start.py
 tools/check_version.sh
 tools/check_words.py
 tools/check_gates.py

@@ -1,5 +1,5 @@
 #!/usr/bin/env python3
-"""Tries tools/build_program.py without the toolchain: what it tells of a build, and what it makes of how rt ends.
+"""Tries tools/build_program.py without the toolchain: which crates it takes when, what it tells, and what it makes of how rt ends.
 
     tools/try_build.py
 
@@ -13,22 +13,36 @@ import signal
 import sys
 import tempfile
 import threading
+import time
 from pathlib import Path
 from unittest import mock
 
+import build_order
 import build_program
 
 CRATES = "app: top kit # the program\ntop: left right\nleft: low kit\n\nright: low\nlow: kit\nother: app\n"
 IN_ORDER = {"low": [], "left": ["low"], "right": ["low"], "top": ["left", "right"], "app": ["top"]}
-# An rt that notes its process, where it runs and its words, and under `rt all` says and does what the variables hold.
+# How many lines each crate has; the longest chain is low, right, top, app.
+LINES = {"low": 3, "left": 2, "right": 5, "top": 1, "app": 1, "other": 1}
+# An rt that notes its process, where it runs, its words, and which crates stand built beside that one; a library is built unless
+# the variable holds an end of its own.
 RT = """#!/bin/sh
-echo "$$ ${PWD##*/} $*" >>"$NOTES"
+built=$(cd .. && ls -d */out/rlib/stamp 2>/dev/null | cut -d / -f 1 | tr '\\n' ' ')
+echo "$$ $PWD|${PWD##*/}|$*|$built" >>"$NOTES"
 [ "$1" = run ] && exit 0
-echo "$SAYS"
+echo "so far: 1 of 2 functions; more"
+mkdir -p out/incremental && echo "${PWD##*/}" >>out/incremental/kept
 eval "$DOES"
+mkdir -p out/rlib && echo "${PWD##*/}" >out/rlib/stamp
 """
-ALL = "app all check --jobs 2"
-RUN = "app run --cpu=some -- --help"
+GIGABYTE = 1_000_000_000
+AMPLE = 1000 * GIGABYTE
+LOW = "low|lib --jobs 4|"
+LEFT = "left|lib --jobs 2|low "
+RIGHT = "right|lib --jobs 2|low "
+TOP = "top|lib --jobs 4|left low right "
+RUN = "app|run --cpu=some --jobs 4 -- --help|"
+ALL_BUILT = "left low right top "
 
 wrong: list[str] = []
 
@@ -39,81 +53,160 @@ def expect(what: str, found: object, wanted: object) -> None:
         wrong.append(f"{what}: {found!r} and not {wanted!r}")
 
 
-def try_telling() -> None:
-    crates = build_program.stands_on("app", build_program.crates_in(CRATES))
+def try_order() -> None:
+    crates = build_order.stands_on("app", build_order.crates_in(CRATES))
     expect("the crates below come first, each once", list(crates.items()), list(IN_ORDER.items()))
-    said = "proved\n== low\nso far: 1 of 2\n== left\n"
-    cases = [
-        ("", {"app"}, ""),
-        ("", {"low"}, "0 of 5 crates done; under way: low"),
-        (said, {"left", "right", "top"}, "2 of 5 crates done; under way: right"),
-        (said + "== right\n== top\n", {"app"}, "4 of 5 crates done; under way: app"),
-        (said + "== right\n== top\n== app\n== summary\n", {"app"}, ""),
+    expect("the work of the longest chains", build_order.chains(crates, LINES), {"low": 10, "left": 4, "right": 7, "top": 2, "app": 1})
+    cases: list[tuple[list[str], dict[str, int], int, int, dict[str, int]]] = [
+        (["a"], {}, 4, AMPLE, {"a": 4}),
+        (["a", "b"], {}, 4, AMPLE, {"a": 2, "b": 2}),
+        (["a", "b", "c"], {}, 4, AMPLE, {"a": 2, "b": 1, "c": 1}),
+        (["a", "b", "c"], {}, 2, AMPLE, {"a": 1, "b": 1}),
+        (["a", "b"], {"c": 3}, 4, AMPLE, {"a": 1}),
+        (["a"], {"c": 4}, 4, AMPLE, {}),
+        ([], {}, 4, AMPLE, {}),
+        (["a"], {}, 64, AMPLE, {"a": build_order.MOST_JOBS}),
+        # A crate of two jobs holds 4.5 GB, and one of one job 3 GB.
+        (["a"], {}, 4, 5 * GIGABYTE, {"a": 2}),
+        (["a", "b"], {}, 4, 7 * GIGABYTE, {"a": 2}),
+        (["a", "b"], {"c": 1}, 4, 6 * GIGABYTE, {"a": 1}),
+        (["a"], {}, 4, GIGABYTE, {"a": 1}),
+        (["a"], {"b": 1}, 4, GIGABYTE, {}),
     ]
-    for text, at_work, told in cases:
-        expect(f"side by side, {at_work} at work", build_program.told_side_by_side(crates, text, at_work), told)
-    said += "rt: chose --jobs 2 for right\n"
-    expect("before the first crate", build_program.told_in_turn(crates, "rt: waiting\n", set()), "")
-    expect("a crate begins", build_program.told_in_turn(crates, said, set()), "crate 3 of 5, right")
-    said += "so far: 3 of 9 functions; more\nso far: 4 of 9 functions; more\n"
-    expect("a crate goes on", build_program.told_in_turn(crates, said, set()), "crate 3 of 5, right: 4 of 9 functions")
+    for ready, running, processors, memory, starts in cases:
+        found = build_order.next_starts(ready, running, processors, memory)
+        expect(f"{ready} are ready beside {running} on {processors} processors with {memory} bytes", found, starts)
+    for threads, jobs in (([[0]], 1), ([[0], [1]], 2), ([[0, 1]], 1), ([[0, 1], [2, 3]], 3), ([[0, 1], [2]], 2)):
+        expect(f"jobs that the threads {threads} serve", build_order.worth(threads), jobs)
 
 
-def build(folder: Path, built: list[str], says: str, does: str) -> tuple[int, str, list[str]]:
-    """Builds `app` where some libraries stand built and `rt all` says and does this: the status, what is told, and the notes of rt."""
+def make_tree(folder: Path, built: list[str]) -> None:
+    """The crates, of which some libraries stand built."""
     (folder / "crates.txt").write_text(CRATES)
-    for name in IN_ORDER:
-        (folder / "crates" / name).mkdir(parents=True)
+    for name, lines in LINES.items():
+        (folder / "crates" / name / "src").mkdir(parents=True)
+        (folder / "crates" / name / "src" / "lib.rt").write_text("\n" * lines)
     for name in built:
-        (folder / "crates" / name / "out" / "rlib" / "stamp").mkdir(parents=True)
+        stamp = folder / "crates" / name / "out" / "rlib" / "stamp"
+        stamp.parent.mkdir(parents=True)
+        stamp.write_text(f"{name}\n")
     (folder / "rt").write_text(RT)
     (folder / "rt").chmod(0o755)
+
+
+def build(folder: Path, does: str) -> tuple[int, str, list[str]]:
+    """Builds `app` where rt does this for each library: the status, what is told, and the notes of rt."""
     path = f"{folder}:{os.environ['PATH']}"
-    variables = {"PATH": path, "NOTES": str(folder / "notes"), "SAYS": says, "DOES": does}
+    variables = {"PATH": path, "NOTES": str(folder / "notes"), "DOES": does}
     told = io.StringIO()
     with contextlib.ExitStack() as stack:
         stack.enter_context(mock.patch.dict(os.environ, variables))
         stack.enter_context(mock.patch.object(sys, "argv", ["", "app", "--cpu=some"]))
-        stack.enter_context(mock.patch.multiple(build_program, TOP=folder, most_at_once=lambda: 2))
+        stack.enter_context(mock.patch.multiple(build_program, TOP=folder, processors=lambda: 4, free_memory=lambda: AMPLE))
         stack.enter_context(contextlib.redirect_stderr(told))
         status = build_program.main()
     return status, told.getvalue(), (folder / "notes").read_text().splitlines()
 
 
-def try_build(what: str, built: list[str], says: str, ends: int, calls: list[str], status: int) -> None:
-    """Looks which calls of rt there are where `rt all` says and ends so, and how the build ends; where it failed, what rt said is told."""
-    with tempfile.TemporaryDirectory() as folder:
-        found, told, notes = build(Path(folder), built, says, f"exit {ends}")
-        expect(f"{what}: calls", [it.partition(" ")[2] for it in notes], calls)
+def calls_of(notes: list[str]) -> list[str]:
+    return [it.partition("|")[2] for it in notes]
+
+
+def try_build(what: str, built: list[str], does: str, calls: list[str], status: int) -> None:
+    """Looks which calls of rt there are, and how the build ends; where it failed, what rt said is told."""
+    with tempfile.TemporaryDirectory() as name:
+        folder = Path(name)
+        make_tree(folder, built)
+        found, told, notes = build(folder, does)
+        expect(f"{what}: calls", sorted(calls_of(notes)), sorted(calls))
         expect(f"{what}: status", found, status)
-        expect(f"{what}: what is told", told, "app: reads the sources\n" + (f"{says}\n" if status else ""))
+        expect(f"{what}: what is told at first", told.partition("\n")[0], "app: reads the sources")
+        failed = "== low\nso far: 1 of 2 functions; more\n"
+        expect(f"{what}: what rt said is told", told.endswith(failed), status != 0)
+        expect(f"{what}: copies that are left", list((folder / "crates/app/out").glob("copies*")), [])
+
+
+def try_side_by_side() -> None:
+    """Builds all. The two crates in the middle wait for each other, one where it is and one in a copy."""
+    both = 'case ${PWD##*/} in left | right) : >"$NOTES.${PWD##*/}"; while [ ! -e "$NOTES.left" ] || [ ! -e "$NOTES.right" ]; do sleep 0.1; done ;; esac'
+    with tempfile.TemporaryDirectory() as name:
+        folder = Path(name)
+        make_tree(folder, [])
+        status, told, notes = build(folder, both)
+        expect("side by side: status", status, 0)
+        places = {it.split("|")[1]: it.split("|")[0].split()[1] for it in notes}
+        copy = str(folder / "crates/app/out/copies/left/crates/left")
+        expect("side by side: where", places, {**{it: str(folder / "crates" / it) for it in places}, "left": copy})
+        expect("side by side: in order", [calls_of(notes)[0], *calls_of(notes)[3:]], [LOW, TOP, RUN + ALL_BUILT])
+        for it in ("low", "left", "right", "top"):
+            out = folder / "crates" / it / "out"
+            expect(f"side by side: what was made of {it}", [(out / made).read_text() for made in ("rlib/stamp", "incremental/kept")], [f"{it}\n"] * 2)
+        lines = ["0 of 5 crates done; under way: low", "1 of 5 crates done; under way: right", "3 of 5 crates done; under way: top"]
+        expect("side by side: what is told", [it for it in lines if f"app: {it}" not in told], [])
+        expect("side by side: how far crates are", "under way: right (1 of 2 functions), left (1 of 2 functions)" in told, True)
+
+
+def try_kept_work() -> None:
+    """What an earlier build left of a crate is there when it is built in a copy, and after it."""
+    with tempfile.TemporaryDirectory() as name:
+        folder = Path(name)
+        make_tree(folder, ["low"])
+        kept = folder / "crates/left/out/incremental/kept"
+        kept.parent.mkdir(parents=True)
+        kept.write_text("earlier\n")
+        expect("over kept work: status", build(folder, "")[0], 0)
+        expect("over kept work: what is kept", kept.read_text(), "earlier\nleft\n")
 
 
 def try_interrupt() -> None:
-    """Interrupts a build a second after it began, which ends rt."""
+    """Interrupts a build once two crates are under way, which ends rt for both and keeps what it made."""
     # A shell starts what it runs in the background with interrupts ignored.
     signal.signal(signal.SIGINT, signal.default_int_handler)
-    with tempfile.TemporaryDirectory() as folder:
-        threading.Timer(1, os.kill, (os.getpid(), signal.SIGINT)).start()
-        status, _, notes = build(Path(folder), [], "", "exec sleep 60")
+    with tempfile.TemporaryDirectory() as name:
+        folder = Path(name)
+        make_tree(folder, ["low"])
+        made = [folder / "crates" / it / "out/incremental/kept" for it in ("left", "app/out/copies/left/crates/left", "right")]
+
+        def interrupt() -> None:
+            while sum(it.exists() for it in made) < 2:
+                time.sleep(0.1)
+            os.kill(os.getpid(), signal.SIGINT)
+
+        threading.Thread(target=interrupt, daemon=True).start()
+        status, _, notes = build(folder, "exec sleep 60")
         expect("an interrupt: status", status, 130)
-        expect("an interrupt: calls", [it.partition(" ")[2] for it in notes], [ALL])
-        expect("an interrupt: rt is left", Path(f"/proc/{notes[0].split()[0]}").exists(), False)
+        expect("an interrupt: calls", sorted(calls_of(notes)), [LEFT, RIGHT])
+        expect("an interrupt: rt is left", [it for it in notes if Path(f"/proc/{it.split()[0]}").exists()], [])
+        kept = [(folder / "crates" / it / "out/incremental/kept").exists() for it in ("left", "right")]
+        expect("an interrupt: what is kept", kept, [True, True])
+
+
+def try_other_sources() -> None:
+    """A library that is older than its sources is for rt run, which builds it before those above it."""
+    with tempfile.TemporaryDirectory() as name:
+        folder = Path(name)
+        make_tree(folder, ["low"])
+        stamp = folder / "crates/low/out/rlib/stamp"
+        os.utime(stamp, (1, 1))
+        status, _, notes = build(folder, "")
+        expect("an older library: status and calls", (status, calls_of(notes)), (0, [f"{RUN}low "]))
 
 
 def main() -> int:
-    try_telling()
-    libraries = [*IN_ORDER][:-1]
-    try_build("a first build", [], "== low", 0, [ALL, RUN], 0)
-    try_build("two crates were never built", libraries[:2], "", 0, [ALL, RUN], 0)
-    try_build("one crate was never built", libraries[:3], "", 1, [RUN], 0)
-    try_build("a crate fails", [], "low: failed (1)", 1, [ALL], 1)
-    try_build("a crate is killed", [], "low: failed (-9)", 1, [ALL, RUN], 0)
+    try_order()
+    try_build("a first build", [], "", [LOW, LEFT, RIGHT, TOP, RUN + ALL_BUILT], 0)
+    try_build("two crates were never built", ["low", "left"], "", [RIGHT.replace("2|low", "4|left low"), TOP, RUN + ALL_BUILT], 0)
+    try_build("one crate was never built", ["low", "left", "right"], "", [f"{RUN}left low right "], 0)
+    try_build("a crate fails", [], "exit 1", [LOW], 1)
+    try_build("a crate is killed", [], "exit 247", [LOW, RUN], 0)
+    try_side_by_side()
+    try_kept_work()
+    try_other_sources()
     try_interrupt()
     if wrong:
         print("\n".join(f"try_build: {it}" for it in wrong), file=sys.stderr)
         return 1
-    print("builds told what they should, and ended so")
+    print("builds took the crates in order, told what they should, and ended so")
     return 0
 
 

@@ -6,7 +6,7 @@
 A block that begins with ```sh is run by sh, which stops at the first command that fails, and one with ```python by the Python that
 runs this, with the package of python/; it is also the python3 of shell blocks. Where the next block of the page begins with ```output,
 that is what is printed. A block that can't be run here begins with ```sh not-run and a reason.
-The program must be built: this copies it, so that no page builds it anew.
+A program that was built here is copied, so that no page builds it anew.
 """
 
 import difflib
@@ -44,14 +44,16 @@ def blocks_of(text):
 
 
 def clean_copy(folder):
-    """What git keeps, the built program, newer than its sources, and this Python by the name python3."""
+    """What git keeps, the program newer than its sources, if it was built here and is not the shipped one, and this Python as python3."""
     names = subprocess.run(["git", "ls-files", "-z"], cwd=TOP, capture_output=True, text=True, check=True).stdout.split("\0")
     for name in filter(None, names):
         to = folder / name
         to.parent.mkdir(parents=True, exist_ok=True)
         shutil.copy(TOP / name, to)
-    (folder / PROGRAM).parent.mkdir(parents=True)
-    shutil.copy(TOP / PROGRAM, folder / PROGRAM)
+    found = subprocess.run([TOP / "tools/find_program.sh"], capture_output=True, text=True, check=True).stdout.strip()
+    if found == str(TOP / PROGRAM):
+        (folder / PROGRAM).parent.mkdir(parents=True)
+        shutil.copy(TOP / PROGRAM, folder / PROGRAM)
     python = folder / BIN / "python3"
     python.parent.mkdir()
     python.write_text(f'#!/bin/sh\nexec "{sys.executable}" "$@"\n')

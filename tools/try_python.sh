@@ -1,13 +1,15 @@
 #!/bin/sh
-# Runs the tests of the package python/ with the built program. Where no Python has what they want it says so, and skips them.
+# Runs the tests of the package python/ with the program of the sources as they are. Where no Python has what they want it says so,
+# and skips them.
 set -eu
 tools=$(CDPATH='' cd -- "$(dirname -- "$0")" && pwd)
 if ! python=$("$tools/find_python.sh"); then
     echo "try_python: skipped"
     exit 0
 fi
-"$tools/../stabsim" --version >/dev/null
-# Tests run side by side where pytest-xdist is there (Debian: python3-pytest-xdist); those of one xdist_group in one process.
+STABSIM=$("$tools/find_program.sh")
+export STABSIM
+# Tests run side by side if pytest-xdist is there (Debian: python3-pytest-xdist); those of one xdist_group in one process.
 if "$python" -c 'import xdist' 2>/dev/null; then
     set -- -n "$(nproc)" --dist loadgroup
 fi

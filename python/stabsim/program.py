@@ -10,29 +10,42 @@ import tempfile
 
 from stabsim.errors import MissingProgram, ProgramFailed, Refused
 
-# The least version of the program that has what this package asks for.
-NEEDED_VERSION = (0, 1, 0)
+# The version of the program that first had what this package asks for.
+NEEDED_VERSION = (0, 2, 0)
 
 REFUSAL = re.compile(r"^stabsim: (?:line (\d+): )?refused (\d+) (\w+)$", re.MULTILINE)
 
 WHAT_TO_DO = (
     "Build it by `./stabsim --version` at the top of its repository, and use this package from there, "
-    "or put the program on the PATH, or name it by the environment variable STABSIM."
+    "or install the package anew, which brings the program, or put the program on the PATH, "
+    "or name it by the environment variable STABSIM."
 )
 
 
 def find_program() -> str:
-    """The path of the program: what STABSIM names, else the one built in this repository, else the one on the PATH."""
+    """The path of the program: what STABSIM names, else the shipped one, the one built in this repository, the one on the PATH."""
     named = os.environ.get("STABSIM")
     if named:
         return checked(named, "STABSIM names")
-    built = pathlib.Path(__file__).resolve().parents[2] / "crates" / "stabsim" / "out" / "stabsim"
+    package = pathlib.Path(__file__).resolve().parent
+    if (package / "programs" / "shipped.txt").is_file():
+        return checked(shipped_program(package / "programs"), "the package has")
+    built = package.parents[1] / "crates" / "stabsim" / "out" / "stabsim"
     if built.is_file():
         return checked(str(built), "the repository has")
     found = shutil.which("stabsim")
     if found:
         return checked(found, "the PATH has")
     raise MissingProgram(f"There is no program stabsim {version_text(NEEDED_VERSION)} or later. {WHAT_TO_DO}")
+
+
+@functools.cache
+def shipped_program(folder: pathlib.Path) -> str:
+    """The path of the shipped program that this machine can run; raises MissingProgram if none can."""
+    chosen = subprocess.run(["sh", folder / "choose"], capture_output=True, text=True, check=False)
+    if chosen.returncode:
+        raise MissingProgram(chosen.stderr.removeprefix("stabsim: ").rstrip("\n"))
+    return chosen.stdout.rstrip("\n")
 
 
 @functools.cache
