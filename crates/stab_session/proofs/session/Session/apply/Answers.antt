@@ -8,6 +8,11 @@ use Rattle.stab_session.proofs.SessionLemmas.{statement, few-checkpoints}
 use Rattle.stab_session.proofs.EditedLemmas.{session-verdict, run-fault, followed, agreed, counted_same, new-run, edited-kept, session-edited, edited-applied, edited-counted, edited-early, refused-asks}
 use Rattle.stab_session.proofs.session.Session.apply.Goals as goal
 
+pub returns-in-Ok-follow-clause-asks : goal.returns-in-Ok-follow-clause-asks
+returns-in-Ok-follow-clause-asks g c =
+    let ran = c.in-Ok-follow.ensures {u = tt} in
+    omega (arith, ran.asks, ap (λ (s : SessionState g.row.C.Denot). g.C.Coins.asks s.coins) c.self.view_is)
+
 pub returns-in-Err-clause-refused : goal.returns-in-Err-clause-refused
 returns-in-Err-clause-refused g c =
     let refused = c.in-Err.ensures {u = tt} in
