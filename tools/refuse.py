@@ -227,7 +227,7 @@ def try_memory(library: pathlib.Path, folder: pathlib.Path) -> None:
 
 
 def expect_fault(what, done, number, path=None):
-    """A run that ended with this fault: its line, and a second one of a path that can't be opened or made."""
+    """A run that ended with this fault: its line, and a second one of a path that can't be opened, read or made."""
     first, *more = done.stderr.splitlines(keepends=True) or [b""]
     expect(done.returncode == 1, f"{what}: status {done.returncode}")
     expect(FAULT_LINE.fullmatch(first) is not None and f"refused {number} ".encode() in first, f"{what}: told {done.stderr!r}")
@@ -239,13 +239,13 @@ def expect_fault(what, done, number, path=None):
 
 
 def failing_files(folder):
-    """What is wrong with a file, the words that name it, the fault that it comes to, and the path that is told where it is none."""
+    """What is wrong with a file, the words that name it, the fault that it comes to, and the path that is named."""
     closed, missing, inside = folder / "closed.stim", folder / "none", folder / "none" / "shots"
     closed.write_text("M 0\n")
     closed.chmod(0)
-    yield "a folder for --in", ["--in", str(folder)], 15, None
+    yield "a folder for --in", ["--in", str(folder)], 15, folder
     yield "no file for --in", ["--in", str(missing)], 15, missing
-    yield "a file whose reads fail", ["--in", "/proc/self/mem"], 15, None
+    yield "a file whose reads fail", ["--in", "/proc/self/mem"], 15, "/proc/self/mem"
     if os.geteuid() != 0:  # who may read all files may read this one
         yield "a file that may not be read", ["--in", str(closed)], 15, closed
     yield "a folder for --out", ["--in", str(CIRCUIT), "--out", str(folder)], 16, folder
