@@ -8,6 +8,19 @@ use Rattle.stab_session.proofs.SessionLemmas.{statement, few-checkpoints}
 use Rattle.stab_session.proofs.EditedLemmas.{session-verdict, run-fault, followed, agreed, counted_same, new-run, edited-kept, session-edited, edited-applied, edited-counted, edited-early, refused-asks}
 use Rattle.stab_session.proofs.session.Session.apply.Goals as goal
 
+pub returns-in-Ok-follow-clause-applied : goal.returns-in-Ok-follow-clause-applied
+returns-in-Ok-follow-clause-applied g c =
+    let begun = c.in-Ok.ensures {u = tt} in
+    let ran = c.in-Ok-follow.ensures {u = tt} in
+    let coins = ap (λ (s : SessionState g.row.C.Denot). g.C.Coins.sequence s.coins) c.self.view_is in
+    let run = followed c.len-n.result c.self.inside.kept.tableau.qubits _ _ c.self.inside.stride _ _ c.follow.new.self c.len-n.ensures.value coins ran.kept in
+    edited-applied g.C.Coins.sequence c.args.edit c.args.self.now c.len-n.result c.self.inside.circuit c.begin.new.circuit c.in-Ok.begun.0 c.in-Ok.begun.1 begun.begun
+    (ap (λ (s : SessionState g.row.C.Denot). s.items) (sym c.self.view_is))
+    (ap (λ (s : SessionState g.row.C.Denot). s.qubits) (sym c.self.view_is) ∙ sym c.len-n.ensures.value)
+    c.finish.new.circuit c.finish.ensures.value c.self.inside.stride c.follow.new.coins c.follow.new.self
+    (ap (λ (s : SessionState g.row.C.Denot). s.stride) c.self.view_is) (ran.same_coins ∙ coins) run
+    c.in-Ok-follow.followed.applied (omega (arith, ran.applied))
+
 pub returns-in-Ok-follow-clause-asks : goal.returns-in-Ok-follow-clause-asks
 returns-in-Ok-follow-clause-asks g c =
     let ran = c.in-Ok-follow.ensures {u = tt} in
@@ -60,19 +73,6 @@ returns-in-Ok-follow-clause-edited g c =
     (ap (λ (s : SessionState g.row.C.Denot). s.qubits) (sym c.self.view_is) ∙ sym c.len-n.ensures.value)
     c.finish.new.circuit c.finish.ensures.value c.self.inside.stride c.follow.new.coins c.follow.new.self
     (ap (λ (s : SessionState g.row.C.Denot). s.stride) c.self.view_is) (ran.same_coins ∙ coins) run
-
-pub returns-in-Ok-follow-clause-applied : goal.returns-in-Ok-follow-clause-applied
-returns-in-Ok-follow-clause-applied g c =
-    let begun = c.in-Ok.ensures {u = tt} in
-    let ran = c.in-Ok-follow.ensures {u = tt} in
-    let coins = ap (λ (s : SessionState g.row.C.Denot). g.C.Coins.sequence s.coins) c.self.view_is in
-    let run = followed c.len-n.result c.self.inside.kept.tableau.qubits _ _ c.self.inside.stride _ _ c.follow.new.self c.len-n.ensures.value coins ran.kept in
-    edited-applied g.C.Coins.sequence c.args.edit c.args.self.now c.len-n.result c.self.inside.circuit c.begin.new.circuit c.in-Ok.begun.0 c.in-Ok.begun.1 begun.begun
-    (ap (λ (s : SessionState g.row.C.Denot). s.items) (sym c.self.view_is))
-    (ap (λ (s : SessionState g.row.C.Denot). s.qubits) (sym c.self.view_is) ∙ sym c.len-n.ensures.value)
-    c.finish.new.circuit c.finish.ensures.value c.self.inside.stride c.follow.new.coins c.follow.new.self
-    (ap (λ (s : SessionState g.row.C.Denot). s.stride) c.self.view_is) (ran.same_coins ∙ coins) run
-    c.in-Ok-follow.followed.applied (omega (arith, ran.applied))
 
 pub returns-in-Ok-follow-clause-framed : goal.returns-in-Ok-follow-clause-framed
 returns-in-Ok-follow-clause-framed g c =
