@@ -7,7 +7,7 @@ It takes the circuits in files, or those in examples/ and one of each code of st
 seconds. Each is run with random coins. The simulator says which coin numbers decide, and each record, detector and observable as a
 sum of these coins: `edit`, `sample` and `detect` have to give the same bits. A detector or observable in whose sum there is no coin is
 sure, as `deterministic` has to say; and some lines of `faults --everywhere` are compared with a run that has the fault in it. It prints how many circuits agreed, and ends with 1
-where one did not. It needs the program: build it by `./stabsim --help`.
+where one did not.
 """
 import argparse
 import pathlib
@@ -21,9 +21,10 @@ import check_circuits
 
 # check_circuits has put the package where it is found.
 from stabsim import codes
+from program import find_program
 
 TOP = pathlib.Path(__file__).resolve().parent.parent
-PROGRAM = TOP / "crates" / "stabsim" / "out" / "stabsim"
+PROGRAM = find_program()
 TIME_LIMIT = 60
 ROUNDS = 3
 CODES = {

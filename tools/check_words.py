@@ -4,8 +4,7 @@
     tools/check_words.py
 
 So are the lines of scripts that the manual page names. It ends with 1 where one is missing, or where one is named that the program
-doesn't have. The completion for bash is asked as bash asks it, which takes the = of --out_format=dets for a word by itself. It needs
-the program: build it by ./stabsim --help.
+doesn't have. The completion for bash is asked as bash asks it, which takes the = of --out_format=dets for a word by itself.
 """
 
 import pathlib
@@ -13,8 +12,10 @@ import re
 import subprocess
 import sys
 
+from program import find_program
+
 TOP = pathlib.Path(__file__).resolve().parent.parent
-PROGRAM = TOP / "crates" / "stabsim" / "out" / "stabsim"
+PROGRAM = find_program()
 OPTION = re.compile(r"--[a-z_]+")
 WITH_VALUE = re.compile(r"(--[a-z_]+) <")
 FORMATS = re.compile(r"\[possible values: (.*)\]")

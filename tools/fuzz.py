@@ -13,7 +13,7 @@ counts is compared with what a run writes, and the fault that it tells with that
 edits that put the faults in. The first difference is cut down to a small text and printed with its seed, and the status is then 1.
 So it is where some way of comparing was never taken, also in a minute more. With `--laws` those of `tools/oracle/laws.py` are
 tried alone, which ask no oracle of states, and with `--faults` the tables of `faults` and `deterministic`. The same seed makes
-the same cases. It needs the program: build it by `./stabsim --help`.
+the same cases.
 """
 
 import argparse
@@ -30,9 +30,9 @@ from oracle import fault_making, faults, formats, making, numbers, scripts, scri
 from oracle.coins import seed_coins
 from oracle.laws import LAWS
 from oracle.reading import Refused, items_of
+from program import find_program
 
-TOP = pathlib.Path(__file__).resolve().parent.parent
-PROGRAM = TOP / "crates" / "stabsim" / "out" / "stabsim"
+PROGRAM = find_program()
 TIME_LIMIT = 20
 # How many seconds more there are until each way of comparing was taken once.
 MOST_OVER = 60

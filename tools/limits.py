@@ -6,7 +6,7 @@
 
 The plain text is a surface code written out, cut and mended to the same number of bytes; what it costs grows with its length.
 Each text is read and run by `sample`, and read, run, edited and printed by `edit`. The table has the processor's time and the
-most memory of the best of some runs, as ratios to the plain text's. It needs the program: build it by ./stabsim --help.
+most memory of the best of some runs, as ratios to the plain text's.
 """
 
 import argparse
@@ -16,12 +16,14 @@ import subprocess
 import sys
 import tempfile
 
+from program import find_program
+
 TOP = pathlib.Path(__file__).resolve().parent.parent
 sys.path.insert(0, str(TOP / "python"))
 
 from stabsim import codes  # noqa: E402
 
-PROGRAM = TOP / "crates" / "stabsim" / "out" / "stabsim"
+PROGRAM = find_program()
 MOST_BYTES = 16_777_216
 MOST_DEPTH = 16
 MOST_OBSERVABLES = 4_096

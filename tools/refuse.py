@@ -26,8 +26,10 @@ import tempfile
 from collections.abc import Iterator
 from typing import NamedTuple
 
+from program import find_program
+
 TOP = pathlib.Path(__file__).resolve().parent.parent
-PROGRAM = TOP / "crates" / "stabsim" / "out" / "stabsim"
+PROGRAM = find_program()
 CALLS = TOP / "crates" / "tests_refusals" / "out" / "tests_refusals"
 PAGE = TOP / "docs" / "robustness.md"
 TABLE = re.compile(r"(?<=<!-- counts -->\n).*(?=<!-- end of counts -->)", re.DOTALL)

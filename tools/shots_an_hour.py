@@ -17,8 +17,10 @@ import sys
 import tempfile
 from typing import NamedTuple
 
+from program import find_program
+
 TOP = pathlib.Path(__file__).resolve().parent.parent
-PROGRAM = TOP / "crates" / "stabsim" / "out" / "stabsim"
+PROGRAM = find_program()
 SIZES = ((3, 3), (7, 7), (13, 13), (21, 21), (21, 349))
 FORMATS = ("01", "b8", "r8", "hits", "dets")
 MOST_SHOTS = 1_000_000
@@ -80,8 +82,6 @@ def main() -> int:
     words.add_argument("--seconds", type=float, default=5, help="how long a run takes at least (default 5)")
     words.add_argument("--program", type=pathlib.Path, default=PROGRAM, help="the program in place of the built one")
     asked = words.parse_args()
-    if asked.program == PROGRAM:
-        subprocess.run([TOP / "stabsim", "--version"], stdout=subprocess.DEVNULL, check=True)
     print("| Surface code | Steps | Detectors | Format | Shots an hour | Bytes a shot | GB an hour |")
     print("|---|---|---|---|---|---|---|")
     with tempfile.TemporaryDirectory() as folder:

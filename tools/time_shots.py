@@ -15,8 +15,9 @@ import subprocess
 import sys
 import time
 
-TOP = pathlib.Path(__file__).resolve().parent.parent
-PROGRAM = TOP / "crates" / "stabsim" / "out" / "stabsim"
+from program import find_program
+
+PROGRAM = find_program()
 CALLS = 5
 # One shot, and as many behind it as fill batches of any width from 64 lanes to 1,024.
 MANY = 7_169

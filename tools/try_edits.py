@@ -6,8 +6,7 @@
 Behind each edit, made or refused, the session shows what one shows that is opened anew on the text that this script keeps by edits
 of its own: with few steps between copies of the state and with many. At least half of the edits are made. A surface code, written
 out and in a block, is edited by Pauli gates alone: its instructions are long enough that frames go by outlines of them, and within
-the block each gate stands in every round. It prints how many were made, and ends with 1 where something differs. It needs the
-program: build it by ./stabsim --help.
+the block each gate stands in every round. It prints how many were made, and ends with 1 where something differs.
 """
 
 import pathlib
@@ -17,12 +16,14 @@ import sys
 import tempfile
 from dataclasses import dataclass
 
+from program import find_program
+
 TOP = pathlib.Path(__file__).resolve().parent.parent
 sys.path.insert(0, str(TOP / "python"))
 
 from stabsim import codes  # noqa: E402
 
-PROGRAM = TOP / "crates" / "stabsim" / "out" / "stabsim"
+PROGRAM = find_program()
 # The script ends itself after so many seconds, so that no reply is waited for without end.
 TIME_LIMIT = 300
 STRIDES = (1, 3, 64, 8192)

@@ -17,8 +17,9 @@ import sys
 import tempfile
 from collections.abc import Callable
 
-TOP = pathlib.Path(__file__).resolve().parent.parent
-PROGRAM = TOP / "crates" / "stabsim" / "out" / "stabsim"
+from program import find_program
+
+PROGRAM = find_program()
 TIME_LIMIT = 60
 CIRCUIT = "X 0\nM 0 1\n"
 SHARED = "stabsim: --in and --out are one file\n"

@@ -4,16 +4,17 @@
     tools/try_help.py
 
 Help ends with an example of the command and with where to read on, the example can be run at the top of the repository, no help
-names an option of another command, and --in and checkpoints are named as they are. It prints how many cases it tried and which went wrong, and ends with 1 where there is one. It
-needs the program: build it by ./stabsim --help.
+names an option of another command, and --in and checkpoints are named as they are. It prints how many cases it tried and which went wrong, and ends with 1 where there is one.
 """
 
 import pathlib
 import subprocess
 import sys
 
+from program import find_program
+
 TOP = pathlib.Path(__file__).resolve().parent.parent
-PROGRAM = TOP / "crates" / "stabsim" / "out" / "stabsim"
+PROGRAM = find_program()
 TIME_LIMIT = 60
 
 # Words that ask for help, and the command of its example.

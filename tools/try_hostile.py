@@ -6,7 +6,7 @@
 A circuit is cut off behind each of its bytes, and what is left is run or refused as a table says. Circuits and scripts come from a
 process that never stops writing. A script comes byte by byte over a socket whose reads fail at last: exactly the replies to the
 lines that were read whole stand written. And the group of 1,024 qubits has a row for each. It prints how many cases it tried and
-which went wrong, and ends with 1 where there is one. It needs the program: build it by ./stabsim --help.
+which went wrong, and ends with 1 where there is one.
 """
 
 import fcntl
@@ -18,8 +18,9 @@ import sys
 import tempfile
 import termios
 
-TOP = pathlib.Path(__file__).resolve().parent.parent
-PROGRAM = TOP / "crates" / "stabsim" / "out" / "stabsim"
+from program import find_program
+
+PROGRAM = find_program()
 # The script ends itself after so many seconds, so that no run is waited for without end.
 TIME_LIMIT = 300
 MOST_QUBITS = 1_024

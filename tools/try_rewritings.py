@@ -6,7 +6,7 @@
 What a gate is, is said by the definitions in Stim's list of gates: of a gate on one qubit which letters it makes of X and Z, with
 their signs; of a controlled one its two letters; of a square root its product. The lines are multiplied out, as are the gates of
 tools/try_states.py, and must be the same up to a phase; and the program must read them. It prints how many gates it tried and which
-went wrong, and ends with 1 where there is one. It needs the program: build it by ./stabsim --help.
+went wrong, and ends with 1 where there is one.
 """
 
 import functools
@@ -16,9 +16,9 @@ import subprocess
 import sys
 
 from try_states import CONTROLLED, GATES, LETTERS, Matrix
+from program import find_program
 
-TOP = pathlib.Path(__file__).resolve().parent.parent
-PROGRAM = TOP / "crates" / "stabsim" / "out" / "stabsim"
+PROGRAM = find_program()
 TIME_LIMIT = 60
 
 ONE = LETTERS["_"]

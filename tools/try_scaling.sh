@@ -10,8 +10,7 @@ set -eu
 top=$(CDPATH='' cd -- "$(dirname -- "$0")/.." && pwd)
 PROGRAM=${1:-}
 if [ -z "$PROGRAM" ]; then
-    "$top/stabsim" --version >/dev/null
-    PROGRAM=$top/crates/stabsim/out/stabsim
+    PROGRAM=$("$top/tools/find_program.sh")
 fi
 scripts=$top/examples/scaling
 work=$(mktemp -d)

@@ -8,8 +8,7 @@ change, say which of their 32 signed strings stabilise, the reduced rows of the 
 gate is tried so on each letter and on either sign, there and back; some states on sizes round those at which words and blocks of
 words end, some of them behind edits that a Pauli frame leads on, and some in shots that are run together; and on some each letter
 and each string is measured, with either coin. Then there are states of many qubits whose rows and outcomes follow from one line. It
-prints how many cases it tried and which went wrong, and ends with 1 where there is one. It needs the program: build it by
-./stabsim --help.
+prints how many cases it tried and which went wrong, and ends with 1 where there is one.
 """
 
 import itertools
@@ -20,9 +19,9 @@ import sys
 import tempfile
 
 from oracle.coins import seed_coins
+from program import find_program
 
-TOP = pathlib.Path(__file__).resolve().parent.parent
-PROGRAM = TOP / "crates" / "stabsim" / "out" / "stabsim"
+PROGRAM = find_program()
 # The script ends itself after so many seconds, so that no run is waited for without end.
 TIME_LIMIT = 300
 SIZES = (2, 63, 64, 65, 127, 128, 129, 255, 256, 257, 1023, 1024)
