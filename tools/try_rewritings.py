@@ -11,7 +11,6 @@ went wrong, and ends with 1 where there is one.
 
 import functools
 import itertools
-import pathlib
 import subprocess
 import sys
 
