@@ -1,5 +1,5 @@
 #!/usr/bin/env python3
-"""Compares what the pages name with what is there: clauses, definitions, files and headings.
+"""Compares what the pages name with what is there, clauses, definitions, files and headings, and looks at their words.
 
     tools/check_pages.py
 
@@ -9,8 +9,10 @@
 - A file that a page names between backquotes is there, by its path from the top or by its end.
 - A link leads to a page that is there, and to a heading of it; `docs/README.md` has a link to each page.
 - A page of over 1,500 words has a link to each of its headings.
+- A page has at most as many words as `MOST_WORDS` says, and a page that is not named there at most 1,500, code and tables counted.
+- A page has no phrase of `PLAINER`, which has a plainer form, unless it is named in `NOT_YET_PLAIN`. Code is not looked at.
 
-It ends with 1 where one is missing. What a clause or a definition says is not looked at.
+It ends with 1 if something is missing, too long or to be said more plainly. What a clause or a definition says is not looked at.
 """
 import functools
 import re
@@ -26,6 +28,55 @@ FILE = re.compile(r"[\w./-]+\.(?:rt|antt|md|py|sh|rows|stim|script)")
 FUNCTION = re.compile(r"\s*(?:pub(?:\([^)]*\))? )?fn (\w+)")
 CLAUSE = re.compile(r"\s*(?:requires|ensures)\*? (\w+) \{")
 WORDS_WITHOUT_CONTENTS = 1500
+MOST_WORDS_ELSE = 1500
+MOST_WORDS = {
+    "CHANGELOG.md": 1100,
+    "docs/DECISIONS.md": 3000,
+    "docs/architecture.md": 1400,
+    "docs/believe.md": 6200,
+    "docs/benchmarks.md": 2500,
+    "docs/circuit-text.md": 1600,
+    "docs/coins.md": 900,
+    "docs/editing.md": 4100,
+    "docs/faults.md": 2000,
+    "docs/gates.md": 800,
+    "docs/library.md": 1400,
+    "docs/paulis.md": 800,
+    "docs/proved.md": 5800,
+    "docs/python.md": 3500,
+    "docs/refusals.md": 1900,
+    "docs/result-formats.md": 700,
+    "docs/robustness.md": 1250,
+    "docs/scaling.md": 2000,
+    "docs/stabilisers.md": 900,
+    "docs/stim.md": 1000,
+    "docs/tested.md": 900,
+    "docs/trusted.md": 1100,
+    "docs/wrong-bodies.md": 700,
+}
+# Phrases and what to write in their place.
+PLAINER = {
+    r"\bbut for\b": "except, or up to",
+    r"\bbehind\b": "after",
+    r"\b(?:in the|in its|in their) stead\b": "in place of, or replaces",
+    r"\bso many\b": "as many, this many, or a name",
+    r"\btells\b": "says, or reports",
+    r"\bstands?\b": "is",
+    r"(?:^|[.:;] )Where\b": "if",
+    r"\bexactly where\b": "if and only if",
+    r"\bwhich bits are sure\b": "deterministic",
+    r"\bsome (?=\d|hundred|thousand|ten|twenty|thirty|forty|fifty|million)": "about",
+    r"\b[Ss]ince (?=\d|later|then\b|that)": "what is, without what was",
+    r"\b[Ll]ater that (?:day|night|evening)\b": "what is, without what was",
+    r"\ball from nothing\b": "everything from scratch",
+}
+# Pages that still have such phrases. A page that is rewritten leaves this list, and none comes to it.
+NOT_YET_PLAIN = {
+    "CHANGELOG.md", "README.md", "docs/believe.md", "docs/circuit-text.md", "docs/coins.md", "docs/editing.md",
+    "docs/faults.md", "docs/gates.md", "docs/page.md", "docs/paulis.md", "docs/proved.md", "docs/python.md",
+    "docs/refusals.md", "docs/result-formats.md", "docs/scaling.md", "docs/stabilisers.md", "docs/stim.md",
+    "docs/trusted.md",
+}
 DEFINED = re.compile(r"(?:(?:abbrev|unfoldable|opaque|pub|record|data)\s+)+([^\s:({]+)|  (?:pub )?(\S+) :")
 
 
@@ -127,6 +178,27 @@ def wrong_links(page: Path) -> Iterator[str]:
             yield f"the link {link}"
 
 
+def name_of(page: Path) -> str:
+    """The path of a page from the top."""
+    return str(page.relative_to(TOP))
+
+
+def too_many_words(page: Path) -> Iterator[str]:
+    """By how much a page is longer than it may be."""
+    words, most = len(page.read_text(encoding="utf-8").split()), MOST_WORDS.get(name_of(page), MOST_WORDS_ELSE)
+    if words > most:
+        yield f"{words} words, and {most} are the most"
+
+
+def plainer_phrases(page: Path) -> Iterator[str]:
+    """Phrases of a page that have a plainer form."""
+    text = re.sub(r"`[^`\n]*`", "`", prose(page))
+    for phrase, plainer in PLAINER.items() if name_of(page) not in NOT_YET_PLAIN else ():
+        for found in re.finditer(phrase, text, re.MULTILINE):
+            around = " ".join(text[max(0, found.start() - 20):found.end() + 20].split())
+            yield f"\"{around}\": write {plainer}"
+
+
 def unlinked_pages() -> Iterator[str]:
     """Pages of docs/ that docs/README.md leads to by no link."""
     text = (TOP / "docs" / "README.md").read_text(encoding="utf-8")
@@ -141,10 +213,13 @@ def main() -> int:
     wrong += [f"docs/README.md: {it}" for it in unlinked_pages()]
     for page in PAGES:
         found = (*wrong_files(page), *wrong_links(page), *missing_contents(page))
-        wrong += [f"{page.relative_to(TOP)}: {it}" for it in found]
+        wrong += [f"{name_of(page)}: {it}" for it in found]
+    wrong = [f"{it} is not there" for it in wrong]
+    for page in PAGES:
+        wrong += [f"{name_of(page)}: {it}" for it in (*too_many_words(page), *plainer_phrases(page))]
     for it in wrong:
-        print(f"{it} is not there", file=sys.stderr)
-    print(f"{len(PAGES)} pages compared with what they name: {len(wrong)} wrong")
+        print(it, file=sys.stderr)
+    print(f"{len(PAGES)} pages compared with what they name, and their words looked at: {len(wrong)} wrong")
     return 1 if wrong else 0
 
 
