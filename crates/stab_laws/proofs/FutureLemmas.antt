@@ -4,10 +4,10 @@ use Rattle.stab_letters.specs.declared.letter.Letter.{Letter}
 use Rattle.stab_letters.specs.Letters.{◌⊕◌}
 use Rattle.stab_pauli.specs.Paulis.{Signed, single}
 use Rattle.stab_letters.proofs.ParityLemmas.{parity-false}
-use Rattle.stab_tableau.specs.Traces.{Event, applied, applied_pair, projected, member, is_free}
+use Rattle.stab_tableau.specs.Traces.{Event, projected, member, is_free}
 use Rattle.stab_tableau.specs.Groups.{SameGroup}
 use Rattle.stab_tableau.proofs.OneLetterLemmas.{length-one_letter}
-use Rattle.stab_tableau.proofs.MemberLemmas.{same-more, same-outcome, same-free}
+use Rattle.stab_tableau.proofs.MemberLemmas.{same-applied, same-applied_pair, same-projected, same-outcome, same-free}
 use Rattle.stab_circuit.specs.Steps.{Step, one, two, controlled, collapse, product, detector, observable, lookbacks}
 use Rattle.stab_steps.specs.Records.{looked_up, parity}
 use Rattle.stab_steps.specs.Runs.{when, string_of, gate_of, flip_of, applied_where, outcome_at}
@@ -28,11 +28,11 @@ module _ (n : ℕ) (coins : ℕ → Bool) (a b : Point) (group : SameGroup n (me
   projected-same p size =
       subst (λ o. SameGroup n (member (projected p (outcome_at coins p a.trace a.coin) ∷ a.trace)) (member (projected p o ∷ b.trace)))
       (outcome-same p size)
-      (same-more n (projected p (outcome_at coins p a.trace a.coin) ∷ []) a.trace b.trace (size, tt) group)
+      (same-projected n (member a.trace) (member b.trace) p (outcome_at coins p a.trace a.coin) size group)
 
   applied-same : (bit other : Bool) → bit ≡ other → (l : Letter) (q : ℕ) (s t : List Event) → SameGroup n (member s) (member t)
       → SameGroup n (member (applied_where bit l q s)) (member (applied_where other l q t))
-  applied-same true other is l q s t e = subst (λ o. SameGroup n (member (applied_where true l q s)) (member (applied_where o l q t))) is (same-more n (applied (gate_of l) q ∷ []) s t tt e)
+  applied-same true other is l q s t e = subst (λ o. SameGroup n (member (applied_where true l q s)) (member (applied_where o l q t))) is (same-applied n (member s) (member t) (gate_of l) q e)
   applied-same false other is l q s t e = subst (λ o. SameGroup n (member s) (member (applied_where o l q t))) is e
 
   pub given-same : (x : Step) → parity a.records (lookbacks x) ≡ parity b.records (lookbacks x) → given n coins x a ≡ given n coins x b
@@ -51,8 +51,8 @@ module _ (n : ℕ) (coins : ℕ → Bool) (a b : Point) (group : SameGroup n (me
   given-same (observable j ks) read = λ i. record nothing { additions = record { observable = j; bit = read i } ∷ [] }
 
   pub trace-same : (x : Step) → parity a.records (lookbacks x) ≡ parity b.records (lookbacks x) → SameGroup n (member (trace_after n coins x a)) (member (trace_after n coins x b))
-  trace-same (one g q) read = same-more n (applied g q ∷ []) a.trace b.trace tt group
-  trace-same (two g q r) read = same-more n (applied_pair g q r ∷ []) a.trace b.trace tt group
+  trace-same (one g q) read = same-applied n (member a.trace) (member b.trace) g q group
+  trace-same (two g q r) read = same-applied_pair n (member a.trace) (member b.trace) g q r group
   trace-same (controlled l k q) read = applied-same _ _ (sym (parity-false (looked_up a.records k)) ∙ read ∙ parity-false (looked_up b.records k)) l q a.trace b.trace group
   trace-same (collapse l q recorded inverted resets) read =
       applied-same _ _ (ap (λ o. resets && o) (outcome-same (single n q l) (length-one_letter n q l))) (flip_of l) q _ _

@@ -10,17 +10,18 @@ use Rattle.stab_letters.specs.declared.letter.Letter.TheVariants.{I}
 use Rattle.stab_pauli.specs.inner.Words.{letter_of_bits}
 use Rattle.stab_pauli.specs.inner.Blocks.{row_letters, IsRow, IsBlankFrom, IsNextBit, IsNextLetter}
 use Rattle.stab_pauli.proofs.BitLemmas.{two_cases}
+use Rattle.stab_pauli.proofs.MaskLemmas.{clash}
 use Rattle.stab_pauli.proofs.BlankLemmas.{fits}
 use Rattle.stab_pauli.proofs.PlaceLemmas.{x_place, bits_letter, letter_at_place}
 use Rattle.stab_pauli.proofs.XPartLemmas.{before, blank_behind}
 
--- bits of a word
+-- bits of a word behind the first s
 
-moved : (word s i : ℕ) → bit_at (word / 2 ^ s) i ≡ bit_at word (s + i)
-moved word s i = ap (λ x. x % 2) (shr-shr word s i)
+pub bit_behind : (word s i : ℕ) → bit_at (word / 2 ^ s) i ≡ bit_at word (s + i)
+bit_behind word s i = ap (λ x. x % 2) (shr-shr word s i)
 
 moved_back : (word s k : ℕ) → s ≤ k → bit_at word k ≡ bit_at (word / 2 ^ s) (k - s)
-moved_back word s k le = ap (bit_at word) (let e : k ≡ s + (k - s) = omega arith in e) ∙ sym (moved word s (k - s))
+moved_back word s k le = ap (bit_at word) (let e : k ≡ s + (k - s) = omega arith in e) ∙ sym (bit_behind word s (k - s))
 
 pub no_bit : (word s rest : ℕ) → rest ≡ word / 2 ^ s → rest ≡ 0 → (k : ℕ) → s ≤ k → k < 64 → bit_at word k ≡ 0
 no_bit word s rest e none k le lt = moved_back word s k le ∙ ap (λ w. bit_at w (k - s)) (sym e ∙ none) ∙ bit_at-zero (k - s)
@@ -37,7 +38,7 @@ next_bit-found word s rest e small pos fits = record {
     found = bit_at-trailing_zeros w64 rest pos fits
 
     one : bit_at word (s + trailing_zeros w64 rest) ≡ 1
-    one = sym (moved word s (trailing_zeros w64 rest)) ∙ ap (λ w. bit_at w (trailing_zeros w64 rest)) (sym e) ∙ found.1
+    one = sym (bit_behind word s (trailing_zeros w64 rest)) ∙ ap (λ w. bit_at w (trailing_zeros w64 rest)) (sym e) ∙ found.1
 
     by_place : (s + trailing_zeros w64 rest < 64) ⊎ (64 ≤ s + trailing_zeros w64 rest) → s + trailing_zeros w64 rest < 64
     by_place (inl lt) = lt
@@ -50,9 +51,6 @@ no_bits false false e = (refl, refl)
 no_bits false true e = cc
 no_bits true false e = cc
 no_bits true true e = cc
-
-clash : (b : Bool) → b ≡ true → b ≡ false → ⊥
-clash b e f = cc
 
 pub blank_letter : (x z bit : ℕ) → bit_at (bit_or x z) bit ≡ 0 → bits_letter x z bit ≡ I
 blank_letter x z bit none = λ i. letter_of_bits (eqb (x0 i) 1) (eqb (z0 i) 1)

@@ -55,9 +55,6 @@ length-packed k (x ∷ xs) (z ∷ zs) e =
     suc_times : (n : ℕ) → k + n * k ≡ suc n * k
     suc_times n = grind arith
 
-pub same_length : (k : ℕ) (xs zs xs' zs' : List ℕ) → length xs ≡ length zs → length xs' ≡ length xs → length zs' ≡ length xs → length (packed_letters k xs zs) ≡ length (packed_letters k xs' zs')
-same_length k xs zs xs' zs' a b c = length-packed k xs zs a ∙ ap (λ n. n * k) (sym b) ∙ sym (length-packed k xs' zs' (b ∙ sym c))
-
 -- the letters of a product of words
 pub packed_product : (k : ℕ) (x1 z1 x2 z2 : List ℕ) → length x1 ≡ length z1 → length x1 ≡ length x2 → length x1 ≡ length z2
     → packed_letters k (xor_words x1 x2) (xor_words z1 z2) ≡ string_product (packed_letters k x1 z1) (packed_letters k x2 z2)

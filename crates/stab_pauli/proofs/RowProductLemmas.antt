@@ -1,7 +1,7 @@
 -- Products with a row of a table, read and written through slices of its words, as contracts see them.
 use Rattle.std.proofs.Common.{◌≡◌, ℕ, ◌*◌, ◌<◌, Bool, true, false, refl, sym, ◌∙◌, ap, subst, List, ◌++◌, length, get_or, set, take, drop, arith, length-drop}
 use Rattle.std.proofs.lemmas.List.{take_all, take-append-drop}
-use Rattle.std.specs.Simd.Lanes.{chunk}
+use Rattle.std.specs.Simd.Lanes.{chunk, put_chunk}
 use Rattle.stab_letters.specs.declared.phase.Phase.{Phase}
 use Rattle.stab_letters.specs.declared.phase.Phase.TheVariants.{Quarter}
 use Rattle.stab_letters.specs.Phases.{phase_add, phase_of_sign}
@@ -10,41 +10,44 @@ use Rattle.stab_pauli.specs.Rows.{Rows, row_at, with_row, product_times_i}
 use Rattle.stab_pauli.specs.inner.Words.{xor_words}
 use Rattle.stab_pauli.specs.inner.Powers.{strings_meet}
 use Rattle.stab_pauli.specs.inner.Blocks.{blocks_of, row_letters}
-use Rattle.stab_pauli.specs.inner.Placed.{WordRows, row_words, with_words}
 use Rattle.stab_pauli.proofs.PaddedLemmas.{IsView, IsFitting, same_numbers, alike, written_view}
-use Rattle.stab_pauli.proofs.SeenLemmas.{IsSeen, AreSeen, words_seen, put_row, qubits_seen, row_seen, read_power, product_view, times_i_view, fitting}
+use Rattle.stab_pauli.proofs.SeenLemmas.{IsSeen, qubits_seen, row_seen, put_seen, written_seen, read_power, product_view, times_i_view, fitting}
 
--- row a, multiplied by others, and whether bits met
-pub record IsTimes (r : WordRows) (a : ℕ) (other : List ℕ) (now : WordRows) (b : Bool) : Type 0 where
-  pub rows_are : now ≡ with_words r a (xor_words (row_words r a) other)
-  pub meet_is : b ≡ strings_meet (row_letters r.blocks (row_words r a)) (row_letters r.blocks other)
+-- a slice of words that was multiplied at row a by others, and whether bits met
+pub record IsTimes (m a : ℕ) (slice other words : List ℕ) (b : Bool) : Type 0 where
+  pub words_are : words ≡ put_chunk (8 * m * a) slice (xor_words (chunk (8 * m * a) (8 * m) slice) other)
+  pub meet_is : b ≡ strings_meet (row_letters m (chunk (8 * m * a) (8 * m) slice)) (row_letters m other)
 
--- the same of the words that others were read from
-read_times : {r : WordRows} {a : ℕ} {other : List ℕ} {now : WordRows} {b : Bool} (ws' : List ℕ) → other ≡ ws' → IsTimes r a other now b → IsTimes r a ws' now b
-read_times {r} {a} ws' eo times = record {
-  rows_are = times.rows_are ∙ ap (λ w. with_words r a (xor_words (row_words r a) w)) eo;
-  meet_is = times.meet_is ∙ ap (λ w. strings_meet (row_letters r.blocks (row_words r a)) (row_letters r.blocks w)) eo;
+-- the same of the words that the slice is of
+read_times : {m a : ℕ} {slice other words : List ℕ} {b : Bool} (ws ws' : List ℕ) → slice ≡ ws → other ≡ ws' → IsTimes m a slice other words b → IsTimes m a ws ws' words b
+read_times {m} {a} ws ws' es eo times = record {
+  words_are = times.words_are ∙ (λ i. put_chunk (8 * m * a) (es i) (xor_words (chunk (8 * m * a) (8 * m) (es i)) (eo i)));
+  meet_is = times.meet_is ∙ (λ i. strings_meet (row_letters m (chunk (8 * m * a) (8 * m) (es i))) (row_letters m (eo i)));
 }
 
 -- row a, multiplied by a string
-pub product_seen : {n : ℕ} {r : WordRows} {ps : List Phase} {v : Rows} {ws' : List ℕ} {k' : Phase} {v' : Signed} {other : List ℕ} → AreSeen n r ps v → IsView n r.blocks ws' k' v'
-    → (a : ℕ) → a < length ps → anticommute (row_at v a) v' ≡ false → (now : WordRows) (x y p : Phase) (b : Bool) → other ≡ ws' → IsTimes r a other now b
-    → x ≡ get_or ps a x → y ≡ k' → p ≡ phase_add (phase_add x y) (phase_of_sign b) → AreSeen n now (set ps a p) (with_row v a (product (row_at v a) v'))
-product_seen {n} {r} {ps} {v} {ws'} mine theirs a la apart now x y p b eo times ex ey er =
-    put_row mine a la (product_view (xor_words (row_words r a) ws') x y p b (row_seen (words_seen mine) a la) theirs apart refl (read_power ps a x la ex) ey read.meet_is er) now read.rows_are
+pub product_seen : {n m : ℕ} {ws : List ℕ} {ps : List Phase} {v : Rows} {ws' : List ℕ} {k' : Phase} {v' : Signed} {slice other : List ℕ} → IsSeen n m ws ps v → IsView n m ws' k' v'
+    → (a : ℕ) → a < length ps → anticommute (row_at v a) v' ≡ false → (words : List ℕ) (len : ℕ) (x y r : Phase) (b : Bool) → slice ≡ ws → other ≡ ws' → IsTimes m a slice other words b
+    → x ≡ get_or ps a x → y ≡ k' → r ≡ phase_add (phase_add x y) (phase_of_sign b) → len ≡ length ws
+    → IsSeen n m (take len (words ++ drop (length words) ws)) (set ps a r) (with_row v a (product (row_at v a) v'))
+product_seen {n} {m} {ws} {ps} {v} {ws'} mine theirs a la apart words len x y r b es eo times ex ey er l =
+    written_seen ws words (xor_words (chunk (8 * m * a) (8 * m) ws) ws') (8 * m * a) len read.words_are l
+    (put_seen mine a la (product_view (xor_words (chunk (8 * m * a) (8 * m) ws) ws') x y r b (row_seen mine a la) theirs apart refl (read_power ps a x la ex) ey read.meet_is er))
   where
-    read : IsTimes r a ws' now b
-    read = read_times ws' eo times
+    read : IsTimes m a ws ws' words b
+    read = read_times ws ws' es eo times
 
 -- i times that product
-pub times_i_seen : {n : ℕ} {r : WordRows} {ps : List Phase} {v : Rows} {ws' : List ℕ} {k' : Phase} {v' : Signed} {other : List ℕ} → AreSeen n r ps v → IsView n r.blocks ws' k' v'
-    → (a : ℕ) → a < length ps → anticommute (row_at v a) v' ≡ true → (now : WordRows) (x y t p : Phase) (b : Bool) → other ≡ ws' → IsTimes r a other now b
-    → x ≡ get_or ps a x → y ≡ k' → t ≡ phase_add (phase_add x y) (phase_of_sign b) → p ≡ phase_add Quarter t → AreSeen n now (set ps a p) (with_row v a (product_times_i (row_at v a) v'))
-times_i_seen {n} {r} {ps} {v} {ws'} mine theirs a la apart now x y t p b eo times ex ey et er =
-    put_row mine a la (times_i_view (xor_words (row_words r a) ws') x y t p b (row_seen (words_seen mine) a la) theirs apart refl (read_power ps a x la ex) ey read.meet_is et er) now read.rows_are
+pub times_i_seen : {n m : ℕ} {ws : List ℕ} {ps : List Phase} {v : Rows} {ws' : List ℕ} {k' : Phase} {v' : Signed} {slice other : List ℕ} → IsSeen n m ws ps v → IsView n m ws' k' v'
+    → (a : ℕ) → a < length ps → anticommute (row_at v a) v' ≡ true → (words : List ℕ) (len : ℕ) (x y t r : Phase) (b : Bool) → slice ≡ ws → other ≡ ws' → IsTimes m a slice other words b
+    → x ≡ get_or ps a x → y ≡ k' → t ≡ phase_add (phase_add x y) (phase_of_sign b) → r ≡ phase_add Quarter t → len ≡ length ws
+    → IsSeen n m (take len (words ++ drop (length words) ws)) (set ps a r) (with_row v a (product_times_i (row_at v a) v'))
+times_i_seen {n} {m} {ws} {ps} {v} {ws'} mine theirs a la apart words len x y t r b es eo times ex ey et er l =
+    written_seen ws words (xor_words (chunk (8 * m * a) (8 * m) ws) ws') (8 * m * a) len read.words_are l
+    (put_seen mine a la (times_i_view (xor_words (chunk (8 * m * a) (8 * m) ws) ws') x y t r b (row_seen mine a la) theirs apart refl (read_power ps a x la ex) ey read.meet_is et er))
   where
-    read : IsTimes r a ws' now b
-    read = read_times ws' eo times
+    read : IsTimes m a ws ws' words b
+    read = read_times ws ws' es eo times
 
 -- a string beside a table of its length, by the table's numbers as contracts see them
 pub string_viewed : {n m : ℕ} {ws : List ℕ} {ps : List Phase} {v : Rows} {n' m' : ℕ} {ws' : List ℕ} {k' : Phase} {v' : Signed} → IsSeen n m ws ps v → IsView n' m' ws' k' v'

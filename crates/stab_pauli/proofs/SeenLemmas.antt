@@ -1,7 +1,7 @@
 -- What contracts see of a table: its rows one by one, and a row that was replaced.
 use Rattle.std.proofs.Common.{◌≡◌, ℕ, ◌+◌, ◌*◌, ◌<◌, ◌≤◌, Bool, true, false, refl, sym, ◌∙◌, ap, List, ◌++◌, length, get_or, set, take, drop, replicate, arith, subst}
 use Rattle.std.specs.Simd.Lanes.{chunk, put_chunk}
-use Rattle.std.proofs.lemmas.List.{length-set, length-replicate, get_or-set_same}
+use Rattle.std.proofs.lemmas.List.{length-set, get_or-set_same}
 use Rattle.stab_letters.specs.declared.letter.Letter.{Letter}
 use Rattle.stab_letters.specs.declared.letter.Letter.TheVariants.{I}
 use Rattle.stab_letters.specs.declared.phase.Phase.{Phase}
@@ -14,14 +14,14 @@ use Rattle.stab_pauli.specs.inner.Words.{xor_words, swapped_words}
 use Rattle.stab_pauli.specs.inner.Powers.{string_power, strings_meet, power_of}
 use Rattle.stab_letters.specs.Letters.{letter_power}
 use Rattle.stab_pauli.specs.inner.Blocks.{row_letters, blocks_of, AreBlocks, IsRow, IsTable, table}
-use Rattle.stab_pauli.specs.inner.Placed.{WordRows, with_words, AreRows}
 use Rattle.stab_pauli.proofs.SignedLemmas.{phased-times_phase}
 use Rattle.stab_pauli.proofs.PowerLemmas.{power_of-product, power_of-times_phase, power_of-with_sign, power_of-with_letter}
-use Rattle.stab_pauli.proofs.BlankLemmas.{fits, IsTable-none, table-none, IsSigned-none, signed_row-none}
+use Rattle.stab_pauli.proofs.BlankLemmas.{fits, IsSigned-none, signed_row-none}
 use Rattle.stab_pauli.proofs.RowLemmas.{put_same}
-use Rattle.stab_pauli.proofs.PaddedLemmas.{IsView, view_of, lies_of, is_of, length-view, IsRow-none, letters-none, IsRow-read, letters-read, meet-product, IsRow-set, letters-set, IsRow-written, letters-written, IsFitting, fitting_numbers}
+use Rattle.stab_pauli.proofs.SwapLemmas.{length-swapped}
+use Rattle.stab_pauli.proofs.PaddedLemmas.{IsView, view_of, lies_of, is_of, length-view, IsRow-none, letters-none, IsRow-read, letters-read, meet-product, IsRow-set, letters-set, IsRow-written, letters-written, IsFitting, fitting_numbers, written_all}
 use Rattle.stab_pauli.proofs.LetterMaskLemmas.{string-letter}
-use Rattle.stab_pauli.proofs.TableLemmas.{padded-power, length-table, row_at-table, table-put, IsTable-put, padded-row, sign-row, length-row_at, part_fits, get_or-any}
+use Rattle.stab_pauli.proofs.TableLemmas.{padded-power, length-table, row_at-table, table-put, IsTable-put, padded-row, sign-row, length-row_at, row_fits, written, get_or-any}
 
 -- words and powers of a table that contracts see as v
 pub record IsSeen (n m : ℕ) (ws : List ℕ) (ps : List Phase) (v : Rows) : Type 0 where
@@ -77,6 +77,11 @@ put_seen {n} {m} {ws} {ps} {v} {new} {k} seen a lt view = record {
   lies = IsTable-put n m ws ps a new k seen.lies lt (lies_of view);
   is = table-put n m ws ps a new k seen.lies lt view.row.size ∙ (λ i. with_row (seen.is i) a (is_of view i));
 }
+
+-- words that were written through a slice
+pub written_seen : {n m : ℕ} {ps : List Phase} {v : Rows} (ws words new : List ℕ) (k len : ℕ) → words ≡ put_chunk k ws new → len ≡ length ws
+    → IsSeen n m (put_chunk k ws new) ps v → IsSeen n m (take len (words ++ drop (length words) ws)) ps v
+written_seen {n} {m} {ps} {v} ws words new k len e l seen = subst (λ w. IsSeen n m w ps v) (sym (written ws words new k len e l)) seen
 
 -- the same words in their place
 pub kept_words : {n m : ℕ} {ws : List ℕ} {ps : List Phase} {v : Rows} (k s : ℕ) → k + s ≤ length ws → IsSeen n m (put_chunk k ws (chunk k s ws)) ps v → IsSeen n m ws ps v
@@ -211,49 +216,12 @@ swapped_seen {n} {m} {ws} {ps} {v} mine a b la lb =
 pub negated_seen : {n m : ℕ} {ws : List ℕ} {ps : List Phase} {v : Rows} → IsSeen n m ws ps v → (a : ℕ) (b : Bool) (x r : Phase) → a < length ps → x ≡ get_or ps a x → r ≡ phase_add x (phase_of_sign b)
     → IsSeen n m ws (set ps a r) (with_row v a (with_sign b (row_at v a)))
 negated_seen {n} {m} {ws} {ps} {v} mine a b x r la ex er =
-    kept_words (8 * m * a) (8 * m) (part_fits (8 * m) (length ps) a (length ws) la mine.lies.size)
+    kept_words (8 * m * a) (8 * m) (row_fits m (length ps) a (length ws) la mine.lies.size)
     (put_seen mine a la (signed_view b x r (row_seen mine a la) (read_power ps a x la ex) er))
 
--- rows of words, and powers, that contracts see as v
-pub record AreSeen (n : ℕ) (r : WordRows) (ps : List Phase) (v : Rows) : Type 0 where
-  pub lie : AreRows n r ps
-  pub are : table n r.blocks r.words ps ≡ v
-
-pub rows_of : {n : ℕ} {r : WordRows} {ps : List Phase} {v : Rows} → AreRows n r ps → table n r.blocks r.words ps ≡ v → AreSeen n r ps v
-rows_of lie are = record { lie = lie; are = are }
-
-pub words_seen : {n : ℕ} {r : WordRows} {ps : List Phase} {v : Rows} → AreSeen n r ps v → IsSeen n r.blocks r.words ps v
-words_seen rows = record { lies = rows.lie.lies; is = rows.are }
-
--- strings of letters I
-pub rows_none : (n m count : ℕ) (now : WordRows) (ps : List Phase) → AreBlocks n m → now ≡ record { blocks = m; count = count; words = replicate (8 * m * count) 0 } → ps ≡ replicate count Zero
-    → AreSeen n now ps (record { qubits = n; rows = replicate count (identity n) })
-rows_none n m count now ps eb e ep = subst (λ r. AreSeen n r ps (record { qubits = n; rows = replicate count (identity n) })) (sym e) record {
-  lie = record { lies = IsTable-none n m count (replicate (8 * m * count) 0) ps eb refl ep; count = sym (ap length ep ∙ length-replicate count Zero) };
-  are = table-none n m count (replicate (8 * m * count) 0) ps (fits n m eb) refl ep;
-}
-
--- one of so many
-pub among_rows : {n : ℕ} {r : WordRows} {ps : List Phase} {v : Rows} → AreSeen n r ps v → (a : ℕ) → a < length v.rows → a < r.count
-among_rows rows a lt = counted_seen (words_seen rows) a _ lt rows.lie.count
-
--- others with as many powers
-other_rows : {n : ℕ} {r : WordRows} {ps : List Phase} {v : Rows} (now next : WordRows) (powers : List Phase) (w : Rows) → AreSeen n r ps v → now ≡ next → next.count ≡ r.count → length powers ≡ length ps
-    → IsSeen n next.blocks next.words powers w → AreSeen n now powers w
-other_rows {n} now next powers w rows e count l seen =
-    subst (λ x. AreSeen n x powers w) (sym e) record { lie = record { lies = seen.lies; count = count ∙ rows.lie.count ∙ sym l }; are = seen.is }
-
--- another row in the place of one
-pub put_row : {n : ℕ} {r : WordRows} {ps : List Phase} {v : Rows} {new : List ℕ} {k : Phase} {p : Signed} → AreSeen n r ps v → (a : ℕ) → a < length ps → IsView n r.blocks new k p
-    → (now : WordRows) → now ≡ with_words r a new → AreSeen n now (set ps a k) (with_row v a p)
-put_row {n} {r} {ps} {v} {new} {k} {p} rows a lt view now e =
-    other_rows now (with_words r a new) (set ps a k) (with_row v a p) rows e refl (length-set ps a k) (put_seen (words_seen rows) a lt view)
-
--- two that have changed places
-pub swap_rows : {n : ℕ} {r : WordRows} {ps : List Phase} {v : Rows} → AreSeen n r ps v → (a b : ℕ) → a < length ps → b < length ps → (now : WordRows) (powers : List Phase)
-    → now ≡ record r { words = swapped_words (8 * r.blocks * a) (8 * r.blocks * b) (8 * r.blocks) r.words } → powers ≡ set (set ps a (get_or ps b Zero)) b (get_or ps a Zero)
-    → AreSeen n now powers (swapped_rows v a b)
-swap_rows {n} {r} {ps} {v} rows a b la lb now powers e ep =
-    other_rows now (record r { words = swapped_words (8 * r.blocks * a) (8 * r.blocks * b) (8 * r.blocks) r.words }) powers (swapped_rows v a b) rows e refl
-    (ap length ep ∙ length-set (set ps a (get_or ps b Zero)) b (get_or ps a Zero) ∙ length-set ps a (get_or ps b Zero))
-    (subst (λ s. IsSeen n r.blocks (swapped_words (8 * r.blocks * a) (8 * r.blocks * b) (8 * r.blocks) r.words) s (swapped_rows v a b)) (sym ep) (swapped_seen (words_seen rows) a b la lb))
+pub swapped_written : {n m : ℕ} {ws : List ℕ} {ps : List Phase} {v : Rows} → IsSeen n m ws ps v → (a b : ℕ) → a < length ps → b < length ps
+    → (words : List ℕ) (powers : List Phase) (len : ℕ) → words ≡ swapped_words (8 * m * a) (8 * m * b) (8 * m) ws → powers ≡ set (set ps a (get_or ps b Zero)) b (get_or ps a Zero)
+    → len ≡ length ws → IsSeen n m (take len (words ++ drop (length words) ws)) powers (swapped_rows v a b)
+swapped_written {n} {m} {ws} {ps} {v} mine a b la lb words powers len ew es l =
+    subst (λ w. IsSeen n m w powers (swapped_rows v a b)) (sym (written_all ws words len (ap length ew ∙ length-swapped (8 * m * a) (8 * m * b) (8 * m) ws) l ∙ ew))
+    (subst (λ s. IsSeen n m (swapped_words (8 * m * a) (8 * m * b) (8 * m) ws) s (swapped_rows v a b)) (sym es) (swapped_seen mine a b la lb))

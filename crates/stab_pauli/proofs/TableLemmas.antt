@@ -163,21 +163,12 @@ IsTable-put n m ws ps a new k is lt put = record {
       (All-set IsSign (zip2 (row_sign n) ps (full_rows m ws (length ps))) a (row_sign n k (row_letters m new)) put.sign is.signs);
 }
 
--- parts of one size, by their numbers
-
-pub part_fits : (size count a total : ℕ) → a < count → total ≡ size * count → size * a + size ≤ total
-part_fits size count a total lt e =
-    let le : size * suc a ≤ size * count = mul-le-mul_left size (let h : suc a ≤ count = omega arith in h) in
-    let one : size * suc a ≡ size * a + size = grind arith in
+-- a row's part of the words fits in
+pub row_fits : (m count a size : ℕ) → a < count → size ≡ 8 * m * count → 8 * m * a + 8 * m ≤ size
+row_fits m count a size lt e =
+    let le : 8 * m * suc a ≤ 8 * m * count = mul-le-mul_left (8 * m) (let h : suc a ≤ count = omega arith in h) in
+    let one : 8 * m * suc a ≡ 8 * m * a + 8 * m = grind arith in
     omega arith
-
-pub parts_apart : (size a b : ℕ) → a ≢ b → (size * a + size ≤ size * b) ⊎ (size * b + size ≤ size * a)
-parts_apart size a b h = by_order (cases_order a b)
-  where
-    by_order : (a ≡ b) ⊎ ((a < b) ⊎ (b < a)) → (size * a + size ≤ size * b) ⊎ (size * b + size ≤ size * a)
-    by_order (inl e) = absurd (h e)
-    by_order (inr (inl lt)) = inl (part_fits size b a (size * b) lt refl)
-    by_order (inr (inr lt)) = inr (part_fits size a b (size * a) lt refl)
 
 pub padded-row : (n m : ℕ) (ws : List ℕ) (ps : List Phase) (a : ℕ) → IsTable n m ws ps → a < length ps → IsPadded n m (row_letters m (chunk (8 * m * a) (8 * m) ws))
 padded-row n m ws ps a is lt =
@@ -192,7 +183,16 @@ sign-row n m ws ps a is lt =
     (All-get_or IsSign (zip2 (row_sign n) ps (full_rows m ws (length ps))) a Zero (rw (length-zip2 (row_sign n) ps (full_rows m ws (length ps)) (sym (length-full_rows m ws (length ps)))) lt) is.signs)
 
 pub length-row_at : (m : ℕ) (ws : List ℕ) (ss : List Phase) (a : ℕ) → length ws ≡ 8 * m * length ss → a < length ss → length (chunk (8 * m * a) (8 * m) ws) ≡ 8 * m
-length-row_at m ws ss a e lt = length-chunk (8 * m * a) (8 * m) ws (part_fits (8 * m) (length ss) a (length ws) lt e)
+length-row_at m ws ss a e lt = length-chunk (8 * m * a) (8 * m) ws (row_fits m (length ss) a (length ws) lt e)
+
+-- two rows do not overlap
+pub rows_apart : (m a b : ℕ) → a ≢ b → (8 * m * a + 8 * m ≤ 8 * m * b) ⊎ (8 * m * b + 8 * m ≤ 8 * m * a)
+rows_apart m a b h = by_order (cases_order a b)
+  where
+    by_order : (a ≡ b) ⊎ ((a < b) ⊎ (b < a)) → (8 * m * a + 8 * m ≤ 8 * m * b) ⊎ (8 * m * b + 8 * m ≤ 8 * m * a)
+    by_order (inl e) = absurd (h e)
+    by_order (inr (inl lt)) = inl (row_fits m b a (8 * m * b) lt refl)
+    by_order (inr (inr lt)) = inr (row_fits m a b (8 * m * a) lt refl)
 
 -- what a caller sees of the number of rows
 pub length-table : (n m : ℕ) (ws : List ℕ) (ss : List Phase) (v : Rows) → table n m ws ss ≡ v → length v.rows ≡ length ss

@@ -80,6 +80,9 @@ word_told (suc k) x z x' z' hx hz hx' hz' e =
 
 -- words of k bits
 
+pub AreShort-same : (k : ℕ) (ws now : List ℕ) → now ≡ ws → AreShort k now → AreShort k ws
+AreShort-same k ws now e s = subst (AreShort k) e s
+
 short_head : (k w : ℕ) (ws : List ℕ) → AreShort k (w ∷ ws) → w < 2 ^ k
 short_head k w ws s = s.below 0
 

@@ -2,4 +2,3 @@ pub mod Words
 pub mod Powers
 pub mod Blocks
 pub mod Sparse
-pub mod Placed

@@ -6,12 +6,10 @@
 //! - `part`: eight of these, which of them have X or Y at a place, and where any has in the words with it.
 //! - `support`: in which blocks a string has letters other than I, and products in these alone.
 //! - `sparse`: words of which most are 0, kept without these.
-//! - `placed`: rows that lie somewhere among words, and change places without being moved.
 
 pub(crate) mod flat;
 pub(crate) mod ones;
 pub(crate) mod part;
-pub(crate) mod placed;
 pub(crate) mod row;
 pub(crate) mod sparse;
 pub(crate) mod support;

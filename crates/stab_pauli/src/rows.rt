@@ -1,8 +1,7 @@
 mod chosen;
 mod compact;
 
-use super::packed::placed::PlacedRows;
-use super::packed::row;
+use super::packed::{flat, row};
 use super::pauli::Pauli;
 pub use compact::CompactRows;
 use stab_io::Refusal;
@@ -16,8 +15,8 @@ use std::marker::Model;
 /// Contracts see the number of qubits and the list of the strings. No call takes memory but `new` and `copy`.
 pub struct PauliRows {
     qubits: usize,
-    // The words of each.
-    rows: PlacedRows,
+    blocks: usize,
+    words: Vec<u64>,
     // The power of i before the X bits and then the Z bits of each.
     powers: Vec<Phase>,
 }
@@ -27,7 +26,8 @@ impl Drop for PauliRows {
     fn drop(self) {
         let PauliRows {
             qubits: _,
-            rows: _,
+            blocks: _,
+            words: _,
             powers: _,
         } = self;
     }
@@ -35,14 +35,13 @@ impl Drop for PauliRows {
 
 impl Model for PauliRows {
     ghost use Rattle.stab_pauli.specs.Rows.{Rows};
-    ghost use Rattle.stab_pauli.specs.inner.Blocks.{table};
-    ghost use Rattle.stab_pauli.specs.inner.Placed.{AreRows};
+    ghost use Rattle.stab_pauli.specs.inner.Blocks.{table, IsTable};
 
     ghost Value = { Rows };
 
-    ghost view = { λ p. table p.qubits p.rows.blocks p.rows.words p.powers.items };
+    ghost view = { λ p. table p.qubits p.blocks p.words.items p.powers.items };
 
-    ghost invariant = { λ p. AreRows p.qubits p.rows p.powers.items };
+    ghost invariant = { λ p. IsTable p.qubits p.blocks p.words.items p.powers.items };
 }
 
 impl PauliRows {
@@ -65,11 +64,13 @@ impl PauliRows {
         ensures ok { IfOk result (λ r. r ≡ record { qubits = qubits; rows = replicate rows (identity qubits) }) }
         ensures err { IfErr result (λ r. r ≡ OutOfMemory) }
     {
-        let words = PlacedRows::new(alloc, row::blocks_of(qubits), rows)?;
+        let blocks = row::blocks_of(qubits);
+        let words = vec![in alloc; 0; 8 * blocks * rows]?;
         let powers = vec![in alloc; Phase::Zero; rows]?;
         Ok(PauliRows {
             qubits,
-            rows: words,
+            blocks,
+            words,
             powers,
         })
     }
@@ -83,7 +84,8 @@ impl PauliRows {
     {
         Ok(PauliRows {
             qubits: self.qubits,
-            rows: self.rows.copy(alloc)?,
+            blocks: self.blocks,
+            words: Vec::from_slice(alloc, self.words.as_slice())?,
             powers: Vec::from_slice(alloc, self.powers.as_slice())?,
         })
     }
@@ -109,8 +111,8 @@ impl PauliRows {
         requires qubit_in_range { qubit < self.now.qubits }
         ensures value { result ≡ slice_index_or (row_at self.now a).letters qubit I }
     {
-        let words = self.rows.row(a);
-        row::letter(self.rows.blocks(), words, qubit)
+        let words = flat::row_of(self.words.as_slice(), self.powers.len(), self.blocks, a);
+        row::letter(self.blocks, words, qubit)
     }
 
     /// Whether the letter of row a at a qubit is X or Y: one bit of one word.
@@ -120,8 +122,8 @@ impl PauliRows {
         requires qubit_in_range { qubit < self.now.qubits }
         ensures value { result ≡ has_x (slice_index_or (row_at self.now a).letters qubit I) }
     {
-        let words = self.rows.row(a);
-        row::has_x_at(self.rows.blocks(), words, qubit)
+        let words = flat::row_of(self.words.as_slice(), self.powers.len(), self.blocks, a);
+        row::has_x_at(self.blocks, words, qubit)
     }
 
     /// Whether the sign of row a is -.
@@ -130,8 +132,8 @@ impl PauliRows {
         requires in_range { a < length self.now.rows }
         ensures value { result ≡ (row_at self.now a).negative }
     {
-        let words = self.rows.row(a);
-        row::is_negative(self.rows.blocks(), words, self.powers[a])
+        let words = flat::row_of(self.words.as_slice(), self.powers.len(), self.blocks, a);
+        row::is_negative(self.blocks, words, self.powers[a])
     }
 
     /// Whether the sign of row a is -, where no letter of it is X or Y: then none has to be looked at.
@@ -153,8 +155,8 @@ impl PauliRows {
         ensures has_x { IfSome result (λ k. has_x (slice_index_or (row_at self.now a).letters k I) ≡ true) }
         ensures first { IfSome result (λ k. list_any has_x (take k (row_at self.now a).letters) ≡ false) }
     {
-        let words = self.rows.row(a);
-        row::first_x(self.rows.blocks(), words)
+        let words = flat::row_of(self.words.as_slice(), self.powers.len(), self.blocks, a);
+        row::first_x(self.blocks, words)
     }
 
     /// Puts a letter at a qubit of row a, and keeps the sign and all other letters.
@@ -164,8 +166,16 @@ impl PauliRows {
         requires qubit_in_range { qubit < self.old.qubits }
         ensures value { self.new ≡ with_row self.old a (with_letter qubit letter (row_at self.old a)) }
     {
+        let count = self.powers.len();
         let old = self.letter(a, qubit);
-        self.rows.set(a, qubit, letter);
+        flat::set(
+            self.words.as_mut_slice(),
+            count,
+            self.blocks,
+            a,
+            qubit,
+            letter,
+        );
         self.powers[a] = row::power_with(self.powers[a], old, letter);
     }
 
@@ -184,11 +194,12 @@ impl PauliRows {
         requires in_range { a < length self.old.rows }
         ensures value { self.new ≡ with_row self.old a (identity self.old.qubits) }
     {
-        self.rows.clear(a);
+        let count = self.powers.len();
+        flat::clear(self.words.as_mut_slice(), count, self.blocks, a);
         self.powers[a] = Phase::Zero;
     }
 
-    /// Exchanges row a and row b. Over 256 qubits no letter is moved.
+    /// Exchanges row a and row b.
     #[inline(always)]
     pub fn swap(&mut self, a: usize, b: usize)
         requires a_in_range { a < length self.old.rows }
@@ -196,7 +207,8 @@ impl PauliRows {
         requires apart { a ≢ b }
         ensures value { self.new ≡ swapped_rows self.old a b }
     {
-        self.rows.swap(a, b);
+        let count = self.powers.len();
+        flat::swap(self.words.as_mut_slice(), count, self.blocks, a, b);
         self.powers.swap(a, b);
     }
 
@@ -209,7 +221,8 @@ impl PauliRows {
         requires commuting { anticommute (row_at self.old a) (row_at self.old b) ≡ false }
         ensures value { self.new ≡ with_row self.old a (product (row_at self.old a) (row_at self.old b)) }
     {
-        let meet = self.rows.multiply(a, b);
+        let count = self.powers.len();
+        let meet = flat::multiply(self.words.as_mut_slice(), count, self.blocks, a, b);
         self.powers[a] = row::product_power(self.powers[a], self.powers[b], meet);
     }
 
@@ -224,7 +237,8 @@ impl PauliRows {
         ensures value { self.new ≡ with_row self.old a (product_times_i (row_at self.old a) (row_at self.old b)) }
         ensures phased { phased (row_at self.new a) ≡ times_phase Quarter (phased_product (phased (row_at self.old a)) (phased (row_at self.old b))) }
     {
-        let meet = self.rows.multiply(a, b);
+        let count = self.powers.len();
+        let meet = flat::multiply(self.words.as_mut_slice(), count, self.blocks, a, b);
         self.powers[a] = row::product_power(self.powers[a], self.powers[b], meet).times_i();
     }
 
@@ -238,7 +252,9 @@ impl PauliRows {
         ensures value { self.new ≡ with_row self.old a (product_times_i (row_at self.old a) other.now) }
         ensures phased { phased (row_at self.new a) ≡ times_phase Quarter (phased_product (phased (row_at self.old a)) (phased other.now)) }
     {
-        let meet = self.rows.multiply_by(a, other.words.as_slice());
+        let count = self.powers.len();
+        let words = self.words.as_mut_slice();
+        let meet = flat::multiply_by(words, count, self.blocks, a, other.words.as_slice());
         self.powers[a] = row::product_power(self.powers[a], other.power, meet).times_i();
     }
 
@@ -250,8 +266,8 @@ impl PauliRows {
         requires commuting { anticommute out.old (row_at self.now a) ≡ false }
         ensures value { out.new ≡ product out.old (row_at self.now a) }
     {
-        let words = self.rows.row(a);
-        let meet = row::multiply(self.rows.blocks(), out.words.as_mut_slice(), words);
+        let words = flat::row_of(self.words.as_slice(), self.powers.len(), self.blocks, a);
+        let meet = row::multiply(self.blocks, out.words.as_mut_slice(), words);
         out.power = row::product_power(out.power, self.powers[a], meet);
     }
 
@@ -265,8 +281,8 @@ impl PauliRows {
         ensures value { out.new ≡ product_times_i out.old (row_at self.now a) }
         ensures phased { phased out.new ≡ times_phase Quarter (phased_product (phased out.old) (phased (row_at self.now a))) }
     {
-        let words = self.rows.row(a);
-        let meet = row::multiply(self.rows.blocks(), out.words.as_mut_slice(), words);
+        let words = flat::row_of(self.words.as_slice(), self.powers.len(), self.blocks, a);
+        let meet = row::multiply(self.blocks, out.words.as_mut_slice(), words);
         out.power = row::product_power(out.power, self.powers[a], meet).times_i();
     }
 
@@ -277,7 +293,7 @@ impl PauliRows {
         requires same_length { length out.old.letters ≡ self.now.qubits }
         ensures value { out.new ≡ row_at self.now a }
     {
-        let words = self.rows.row(a);
+        let words = flat::row_of(self.words.as_slice(), self.powers.len(), self.blocks, a);
         out.words.as_mut_slice().copy_from_slice(words);
         out.power = self.powers[a];
     }
@@ -289,7 +305,9 @@ impl PauliRows {
         requires same_length { length other.now.letters ≡ self.old.qubits }
         ensures value { self.new ≡ with_row self.old a other.now }
     {
-        self.rows.copy_from(a, other.words.as_slice());
+        let count = self.powers.len();
+        let words = self.words.as_mut_slice();
+        flat::copy_from(words, count, self.blocks, a, other.words.as_slice());
         self.powers[a] = other.power;
     }
 
@@ -314,8 +332,8 @@ impl PauliRows {
         if self.powers.len() != other.powers.len() {
             return false;
         }
-        self.rows.are_short();
-        other.rows.are_short();
-        self.rows.same(&other.rows)
+        let words = self.words.as_slice();
+        let others = other.words.as_slice();
+        flat::same(words, others)
     }
 }

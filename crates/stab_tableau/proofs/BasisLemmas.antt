@@ -17,11 +17,7 @@ use Rattle.stab_tableau.specs.Columns.{stabiliser_of, destabiliser_of, chosen_pr
 use Rattle.stab_tableau.specs.inner.Eliminations.{IsLinear, IsBasis}
 use Rattle.stab_tableau.proofs.GeneratedLemmas.{stabiliser-length, stabiliser-member, are-dual, is-generated}
 use Rattle.stab_tableau.proofs.GroupTestLemmas.{group-stabilises}
-use Rattle.stab_tableau.proofs.EliminationStepLemmas.{and-true, and-false}
-
-and-parity : (a b c : Bool) → (a && (b ⊕ c)) ≡ (a && b) ⊕ (a && c)
-and-parity false b c = refl
-and-parity true b c = refl
+use Rattle.stab_tableau.proofs.EliminationStepLemmas.{and-true, and-false, and-parity}
 
 module _ (t : TableauState) where
   -- a linear test that is 0 on the stabilisers is 0 on their products

@@ -11,6 +11,7 @@ use Rattle.stab_pauli.specs.Paulis.{identity, string_product}
 use Rattle.stab_letters.proofs.ParityLemmas.{parity-self}
 use Rattle.stab_letters.proofs.LetterLemmas.{letters_anticommute-comm, letters_anticommute-product, letters_anticommute-tells}
 use Rattle.stab_pauli.proofs.StringLemmas.{get_or-string_product, string_product-self}
+use Rattle.stab_pauli.proofs.MaskLemmas.{clash}
 use Rattle.stab_tableau.specs.Gates.{letter_at}
 use Rattle.stab_tableau.specs.Reduced.{bit_at, IsFirst}
 
@@ -69,9 +70,6 @@ bit-identity n k =
     ∙ parity-self (bit_at n (identity n).letters k)
 
 -- places
-
-pub clash : (b : Bool) → b ≡ true → b ≡ false → ⊥
-clash b e f = cc
 
 pub nat-apart : (a b : ℕ) → a ≢ b → (a < b) ⊎ (b < a)
 nat-apart a b ne = by_test (nat_lt a b) refl

@@ -21,7 +21,7 @@ use Rattle.stab_tableau.specs.inner.Pairs.{row_place, row_letter, row_string, Ar
 use Rattle.stab_tableau.specs.inner.Collapses.{collapsed_row, CollapsedRow, IsTold}
 use Rattle.stab_tableau.proofs.CollapsedStringLemmas.{collapsed-bit}
 use Rattle.stab_tableau.proofs.RowsApartLemmas.{apart-I}
-use Rattle.stab_tableau.proofs.TableauColumnLemmas.{x-with_Z}
+use Rattle.stab_tableau.proofs.DiagonalLemmas.{x-with_Z}
 
 -- either row of a qubit
 told-string : (w : InverseRow) (k : ℕ) (j : Signed) (l : Letter) (row : InverseRows) → IsTold k j l row

@@ -7,10 +7,11 @@ use Rattle.stab_pauli.specs.Paulis.{Signed, string_product}
 use Rattle.stab_pauli.specs.Rows.{Rows}
 use Rattle.stab_letters.proofs.ParityLemmas.{parity-self, parity-mid}
 use Rattle.stab_pauli.proofs.StringLemmas.{length-string_product}
+use Rattle.stab_pauli.proofs.MaskLemmas.{clash}
 use Rattle.stab_tableau.specs.Reduced.{bit_at, IsLead, IsRowAt, AreRowsFrom, AreReduced}
 use Rattle.stab_tableau.specs.inner.Eliminations.{IsLinear, HasCome}
-use Rattle.stab_tableau.proofs.BitLemmas.{bit-product, bits-tell, clash, nat-apart, up-to}
-use Rattle.stab_tableau.proofs.EliminationStepLemmas.{rows_of, at, and-false, and-true}
+use Rattle.stab_tableau.proofs.BitLemmas.{bit-product, bits-tell, nat-apart, up-to}
+use Rattle.stab_tableau.proofs.EliminationStepLemmas.{rows_of, at, and-false, and-true, and-parity}
 
 -- a linear test of a string of zeros is 0: the string is its own product with itself
 zeros-quiet : (n : ℕ) (f : List Letter → Bool) → IsLinear f → (p : List Letter) → length p ≡ n → ((j : ℕ) → j < n + n → bit_at n p j ≡ false) → f p ≡ false
@@ -22,10 +23,6 @@ zeros-quiet n f linear p lp zeros = ap f twice ∙ linear p p ∙ parity-self (f
 
 left-false : (a b : Bool) → a ≡ false → (a && b) ≡ false
 left-false a b e = ap (λ a. a && b) e
-
-and-parity : (a b c : Bool) → (a && (b ⊕ c)) ≡ (a && b) ⊕ (a && c)
-and-parity false b c = refl
-and-parity true b c = refl
 
 -- rows by the list: the next row is at the next lead
 rows-from : (n : ℕ) (member : Signed → Bool) (low : ℕ) (ys : List Signed) (lead : ℕ → ℕ)

@@ -32,6 +32,10 @@ pub and-true : (a b : Bool) → b ≡ true → (a && b) ≡ a
 and-true false b e = refl
 and-true true b e = e
 
+pub and-parity : (a b c : Bool) → (a && (b ⊕ c)) ≡ (a && b) ⊕ (a && c)
+and-parity false b c = refl
+and-parity true b c = refl
+
 abbrev pub rows_of : ℕ → List Signed → Rows
 rows_of n xs = record { qubits = n; rows = xs }
 

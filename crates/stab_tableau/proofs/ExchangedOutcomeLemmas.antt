@@ -17,7 +17,8 @@ use Rattle.stab_tableau.proofs.HomomorphismLemmas.{kept-anticommute}
 use Rattle.stab_tableau.proofs.OneLetterLemmas.{one_letter-anticommute}
 use Rattle.stab_tableau.proofs.ColumnLemmas.{column-preimage}
 use Rattle.stab_tableau.proofs.GeneratedLemmas.{stabiliser-length, stabiliser-member}
-use Rattle.stab_tableau.proofs.MeasureLemmas.{has_x-Z, place-in}
+use Rattle.stab_tableau.proofs.DiagonalLemmas.{x-with_Z}
+use Rattle.stab_tableau.proofs.MeasureLemmas.{place-in}
 
 -- a tableau's stabiliser number k exchanges the outcomes of a string whose preimage has X or Y at place k
 pub column-exchanges : (t : TableauState) → IsTable t.qubits t.rows → IsOnto t.qubits t.rows
@@ -42,7 +43,7 @@ pub place-exchanges : (n : ℕ) (rows : List InverseRows) (scratch : InverseRows
     → Exchanges n (stabilises (record { qubits = n; rows = rows })) p (column Z k rows)
 place-exchanges n rows scratch is p lp sent k lt here =
     column-exchanges (record { qubits = n; rows = rows }) is.table is.onto p lp k (place-in n scratch.x is.size.x k lt here false)
-    (ap (λ (a : Phased). letters_anticommute Z (letter_at a.letters k)) (sym sent) ∙ has_x-Z (letter_at scratch.x.letters k) here)
+    (ap (λ (a : Phased). letters_anticommute Z (letter_at a.letters k)) (sym sent) ∙ x-with_Z (letter_at scratch.x.letters k) ∙ here)
 
 -- as contracts see the tableau
 pub exchanges-seen : (rows : List InverseRows) (t : TableauState) → record { qubits = length rows; rows = rows } ≡ t → (p : Signed) (s : List Letter)

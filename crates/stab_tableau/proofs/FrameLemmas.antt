@@ -4,12 +4,13 @@ use Rattle.std.specs.List.{list_any}
 use Rattle.std.proofs.Common.{◌≡◌, ℕ, zero, suc, ◌<◌, ◌≤◌, ◌+◌, ◌*◌, Bool, true, false, not, refl, sym, ◌∙◌, ap, List, [], ◌∷◌, length, map, get_or, set, drop, arith, below_more}
 use Rattle.std.proofs.lemmas.List.{get_or-set_other, get_or-set_same, ext_get_or}
 use Rattle.stab_letters.specs.declared.letter.Letter.{Letter}
-use Rattle.stab_letters.specs.declared.letter.Letter.TheVariants.{I, X, Y, Z}
+use Rattle.stab_letters.specs.declared.letter.Letter.TheVariants.{I, Z}
 use Rattle.stab_letters.specs.Letters.{◌⊕◌, letters_anticommute}
 use Rattle.stab_letters.specs.XParts.{has_x}
 use Rattle.stab_pauli.specs.Paulis.{Signed}
 use Rattle.stab_pauli.specs.Phaseds.{Phased, phased}
 use Rattle.stab_pauli.specs.Rows.{Rows, unsigned_rows}
+use Rattle.stab_pauli.proofs.MaskLemmas.{clash}
 use Rattle.stab_tableau.specs.Gates.{letter_at}
 use Rattle.stab_tableau.specs.Traces.{diagonal}
 use Rattle.stab_tableau.specs.Groups.{SameGroup}
@@ -18,9 +19,10 @@ use Rattle.stab_tableau.specs.inner.InverseRows.{InverseRows, rows_at, string_pr
 use Rattle.stab_tableau.specs.inner.Pairs.{paired, IsPaired}
 use Rattle.stab_tableau.specs.inner.Tables.{IsTableau}
 use Rattle.stab_tableau.specs.inner.Frames.{SameLetters, frame_letter, sign_frame}
-use Rattle.stab_tableau.proofs.BitLemmas.{clash}
 use Rattle.stab_tableau.proofs.StabiliseLemmas.{diagonal-at}
 use Rattle.stab_tableau.proofs.MeasureLemmas.{diagonal-none}
+use Rattle.stab_tableau.proofs.DiagonalLemmas.{x-with_Z}
+use Rattle.stab_tableau.proofs.PairedRowsLemmas.{length-paired}
 use Rattle.stab_tableau.proofs.SignFrameLemmas.{length-frame, frame-same, same-frame}
 
 -- strings two by two: what is the same of the strings is so of the pairs
@@ -58,12 +60,6 @@ unpaired-paired [] n e = refl
 unpaired-paired (x ∷ []) n e = absurd (omega arith)
 unpaired-paired (x ∷ z ∷ xs) zero e = absurd (omega arith)
 unpaired-paired (x ∷ z ∷ xs) (suc n) e = ap (λ l. x ∷ z ∷ l) (unpaired-paired xs n (omega arith))
-
-length-paired : (xs : List Signed) (n : ℕ) → length xs ≡ 2 * n → length (paired xs) ≡ n
-length-paired [] n e = omega arith
-length-paired (x ∷ []) n e = absurd (omega arith)
-length-paired (x ∷ z ∷ xs) zero e = absurd (omega arith)
-length-paired (x ∷ z ∷ xs) (suc n) e = ap suc (length-paired xs n (omega arith))
 
 pub length-same : (rows others : List InverseRows) → SameLetters rows others → length rows ≡ length others
 length-same [] [] s = refl
@@ -129,12 +125,6 @@ frame-all q rows others now same size le done =
 
 -- the preimage of the frame, which the program reads
 
-has_x-Z : (l : Letter) → letters_anticommute Z l ≡ has_x l
-has_x-Z I = refl
-has_x-Z X = refl
-has_x-Z Y = refl
-has_x-Z Z = refl
-
 module _ (rows others : List InverseRows) (scratch : InverseRows) (is : IsTableau (length rows) rows scratch) (s : SameLetters rows others)
     (z x : Signed) (z_is : z.letters ≡ sign_frame rows others) (sent : phased x ≡ extend (string_preimage (length rows) rows) (phased z)) where
   x_is : x.letters ≡ (string_preimage (length rows) rows (sign_frame rows others)).letters
@@ -158,5 +148,5 @@ module _ (rows others : List InverseRows) (scratch : InverseRows) (is : IsTablea
   pub signs-no : (k : ℕ) → has_x (letter_at x.letters k) ≡ true
       → SameGroup (length rows) (stabilises (record { qubits = length rows; rows = rows })) (stabilises (record { qubits = length rows; rows = others })) → ⊥
   signs-no k f same =
-      clash (letters_anticommute Z (get_or x.letters k I)) (has_x-Z (get_or x.letters k I) ∙ f)
+      clash (letters_anticommute Z (get_or x.letters k I)) (x-with_Z (get_or x.letters k I) ∙ f)
       (diagonal-at x.letters k (ap diagonal x_is ∙ same-frame (length rows) rows others is.table is.onto s same))

@@ -4,6 +4,7 @@ pub mod PlaceLemmas
 pub mod SymmetryLemmas
 pub mod TestLemmas
 pub mod DiagonalLemmas
+pub mod FrontLemmas
 pub mod GroupLemmas
 pub mod TraceLemmas
 pub mod FreeLemmas

@@ -3,20 +3,17 @@ use Rattle.std.proofs.Common.{◌≡◌, ℕ, ◌+◌, ◌-◌, ◌*◌, ◌/◌
 use Rattle.std.specs.Prelude.{◌⊎◌, bit_and}
 use Rattle.std.specs.Int.{bit_at}
 use Rattle.std.proofs.lemmas.Bool.{cases_lt}
-use Rattle.std.proofs.lemmas.Nat.{shr-shr}
 use Rattle.std.proofs.lemmas.Nat.Bits.{bit_at_and, bit_at_ones, bit_at_ones_above, bit_at-lt}
 use Rattle.stab_letters.specs.declared.letter.Letter.{Letter}
 use Rattle.stab_letters.specs.declared.letter.Letter.TheVariants.{I}
 use Rattle.stab_pauli.specs.Masks.{chooses}
 use Rattle.stab_pauli.proofs.MaskLemmas.{spared, clash}
+use Rattle.stab_pauli.proofs.NextLetterLemmas.{bit_behind}
 use Rattle.stab_tableau.specs.Gates.{letter_at}
 
 -- the 32 bits of a mask behind the first s
 abbrev pub half : ℕ → ℕ → ℕ
 half mask s = bit_and (mask / 2 ^ s) (2 ^ 32 - 1)
-
-bit_behind : (mask s k : ℕ) → bit_at (mask / 2 ^ s) k ≡ bit_at mask (s + k)
-bit_behind mask s k = ap (λ n. n % 2) (shr-shr mask s k)
 
 half-within : (mask s k : ℕ) → k < 32 → chooses (half mask s) k ≡ chooses mask (s + k)
 half-within mask s k lt =

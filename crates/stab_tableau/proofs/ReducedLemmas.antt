@@ -4,9 +4,10 @@ use Rattle.std.proofs.Common.{◌≡◌, ◌≢◌, eqb, subst, ℕ, suc, ◌+�
 use Rattle.stab_letters.specs.Letters.{◌⊕◌}
 use Rattle.stab_pauli.specs.Paulis.{Signed, minus, product}
 use Rattle.stab_pauli.proofs.SignedLemmas.{signed_path, length-product}
+use Rattle.stab_pauli.proofs.MaskLemmas.{clash}
 use Rattle.stab_tableau.specs.Groups.{IsStabiliserGroup, SameGroup}
 use Rattle.stab_tableau.specs.Reduced.{bit_at, IsLead, IsRowAt, AreRowsFrom, AreReduced}
-use Rattle.stab_tableau.proofs.BitLemmas.{bit-product, bits-tell, clash, HasFirst, find-first}
+use Rattle.stab_tableau.proofs.BitLemmas.{bit-product, bits-tell, HasFirst, find-first}
 
 -- two members with the same letters are one
 pub same-letters : (n : ℕ) (member : Signed → Bool) → IsStabiliserGroup n member → (p q : Signed) → length p.letters ≡ n

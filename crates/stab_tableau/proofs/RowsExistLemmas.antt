@@ -6,9 +6,10 @@ use Rattle.stab_letters.specs.declared.letter.Letter.{Letter}
 use Rattle.stab_letters.specs.Letters.{◌⊕◌}
 use Rattle.stab_pauli.specs.Paulis.{Signed, product}
 use Rattle.stab_pauli.proofs.SignedLemmas.{length-product}
+use Rattle.stab_pauli.proofs.MaskLemmas.{clash}
 use Rattle.stab_tableau.specs.Groups.{IsStabiliserGroup}
 use Rattle.stab_tableau.specs.Reduced.{bit_at, IsFirst, IsLead, IsRowAt, AreRowsFrom, AreReduced}
-use Rattle.stab_tableau.proofs.BitLemmas.{bit-product, clash, nat-apart, find-first, first-one}
+use Rattle.stab_tableau.proofs.BitLemmas.{bit-product, nat-apart, find-first, first-one}
 use Rattle.stab_tableau.proofs.SearchLemmas.{Decides, HasNone, HasSome, search}
 
 -- whether a place is a lead

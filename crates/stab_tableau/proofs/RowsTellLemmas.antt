@@ -5,10 +5,11 @@ use Rattle.stab_letters.specs.declared.letter.Letter.TheVariants.{I}
 use Rattle.stab_letters.specs.Letters.{◌⊕◌}
 use Rattle.stab_pauli.specs.Paulis.{Signed, identity, anticommute, product}
 use Rattle.stab_pauli.proofs.SignedLemmas.{length-product, product-twice}
+use Rattle.stab_pauli.proofs.MaskLemmas.{clash}
 use Rattle.stab_tableau.specs.Groups.{IsStabiliserGroup, SameGroup}
 use Rattle.stab_tableau.specs.Reduced.{bit_at, IsLead, AreRowsFrom, AreReduced}
 use Rattle.stab_tableau.proofs.TestLemmas.{same_test}
-use Rattle.stab_tableau.proofs.BitLemmas.{bit-product, bits-tell, bit-identity, clash, up-to, find-first, first-one}
+use Rattle.stab_tableau.proofs.BitLemmas.{bit-product, bits-tell, bit-identity, up-to, find-first, first-one}
 use Rattle.stab_tableau.proofs.ReducedLemmas.{same-letters}
 
 not-less : (a b : ℕ) → (a < b → ⊥) → b ≤ a

@@ -11,6 +11,7 @@ use Rattle.stab_letters.proofs.PhaseLemmas.{phase_of_sign-parity}
 use Rattle.stab_pauli.proofs.StringLemmas.{strings_anticommute-comm}
 use Rattle.stab_pauli.proofs.PhasedLemmas.{times_phase-times_phase, times_phase-comm, phased_product-times_phase_left, phased_product-times_phase_right}
 use Rattle.stab_pauli.proofs.SignedLemmas.{signed_path, phased-with_sign}
+use Rattle.stab_pauli.proofs.MaskLemmas.{clash}
 use Rattle.stab_tableau.specs.Traces.{diagonal}
 use Rattle.stab_tableau.specs.inner.InverseRows.{InverseRows, blank, letter_preimage, string_preimage, extend, IsTable, IsOnto}
 use Rattle.stab_tableau.specs.Tableaus.{stabilises_zeros, stabilises}
@@ -23,7 +24,7 @@ use Rattle.stab_tableau.proofs.OneLetterLemmas.{one_letter-anticommute}
 use Rattle.stab_tableau.proofs.DiagonalLemmas.{diagonal-commute}
 use Rattle.stab_tableau.proofs.TestLemmas.{not-true}
 use Rattle.stab_tableau.proofs.StabiliseLemmas.{zeros-letters, diagonal-from}
-use Rattle.stab_tableau.proofs.ColumnLemmas.{length-column_n, column-preimage}
+use Rattle.stab_tableau.proofs.ColumnLemmas.{letter_anticommuting-X, letter_anticommuting-Z, length-column_n, column-preimage}
 use Rattle.stab_tableau.proofs.GeneratedLemmas.{stabiliser-length, stabiliser-member}
 use Rattle.stab_tableau.proofs.GroupTestLemmas.{group-stabilises}
 
@@ -35,14 +36,8 @@ length-frame (r ∷ rows) (t ∷ others) s = ap suc (length-frame rows others s.
 
 -- one letter
 
-by-X : (a b : Bool) → letters_anticommute (letter_anticommuting a b) X ≡ a
-by-X a b = grind arith
-
 by-Y : (a b : Bool) → letters_anticommute (letter_anticommuting a b) Y ≡ a ⊕ b
 by-Y a b = grind arith
-
-by-Z : (a b : Bool) → letters_anticommute (letter_anticommuting a b) Z ≡ b
-by-Z a b = grind arith
 
 by-I : (a b : Bool) → letters_anticommute (letter_anticommuting a b) I ≡ false
 by-I a b = grind arith
@@ -68,9 +63,9 @@ frame-letter : (n : ℕ) (r s : InverseRows) → r.x.letters ≡ s.x.letters →
     → letter_preimage n s l ≡ times_phase (phase_of_sign (letters_anticommute (letter_anticommuting (r.x.negative ⊕ s.x.negative) (r.z.negative ⊕ s.z.negative)) l)) (letter_preimage n r l)
 frame-letter n r s ex ez I = ap (λ b. times_phase (phase_of_sign b) (plain (blank n))) (sym (by-I (r.x.negative ⊕ s.x.negative) (r.z.negative ⊕ s.z.negative)))
 frame-letter n r s ex ez X =
-    other-sign r.x s.x ex ∙ ap (λ b. times_phase (phase_of_sign b) (phased r.x)) (sym (by-X (r.x.negative ⊕ s.x.negative) (r.z.negative ⊕ s.z.negative)))
+    other-sign r.x s.x ex ∙ ap (λ b. times_phase (phase_of_sign b) (phased r.x)) (sym (letter_anticommuting-X (r.x.negative ⊕ s.x.negative) (r.z.negative ⊕ s.z.negative)))
 frame-letter n r s ex ez Z =
-    other-sign r.z s.z ez ∙ ap (λ b. times_phase (phase_of_sign b) (phased r.z)) (sym (by-Z (r.x.negative ⊕ s.x.negative) (r.z.negative ⊕ s.z.negative)))
+    other-sign r.z s.z ez ∙ ap (λ b. times_phase (phase_of_sign b) (phased r.z)) (sym (letter_anticommuting-Z (r.x.negative ⊕ s.x.negative) (r.z.negative ⊕ s.z.negative)))
 frame-letter n r s ex ez Y =
     (λ i. times_phase Quarter (phased_product (other-sign r.x s.x ex i) (other-sign r.z s.z ez i)))
     ∙ ap (times_phase Quarter) (times_phase_both (r.x.negative ⊕ s.x.negative) (r.z.negative ⊕ s.z.negative) (phased r.x) (phased r.z))
@@ -151,9 +146,6 @@ module _ (n : ℕ) (rows others : List InverseRows) (is : IsTable n rows) (onto 
               sym (frame-stabilises n rows others s (stabiliser_of (record { qubits = n; rows = rows }) k))
               ∙ sym (same (stabiliser_of (record { qubits = n; rows = rows }) k) (stabiliser-length (record { qubits = n; rows = rows }) is onto k lt))
               ∙ stabiliser-member (record { qubits = n; rows = rows }) is onto k lt
-
-          clash : (b : Bool) → b ≡ true → b ≡ false → ⊥
-          clash b e f = cc
 
           by_sign : (b : Bool) → strings_anticommute (sign_frame rows others) (column Z k rows) ≡ b
               → strings_anticommute (sign_frame rows others) (column Z k rows) ≡ false

@@ -255,17 +255,6 @@ impl Table {
         self.rows.is_negative(row.place(qubit))
     }
 
-    /// The first place of a row whose letter is X or Y.
-    #[inline(always)]
-    pub fn first_x(&self, row: InverseRow, qubit: usize) -> Option<usize>
-        requires in_range { qubit < length self.now }
-        ensures none { IfNone result (list_any has_x (row_string row (rows_at self.now qubit)).letters ≡ false) }
-        ensures in_range { IfSome result (λ k. k < length self.now) }
-        ensures has_x { IfSome result (λ k. has_x (letter_at (row_string row (rows_at self.now qubit)).letters k) ≡ true) }
-    {
-        self.rows.first_x(row.place(qubit))
-    }
-
     /// The sign of a row of letters I and Z alone, which is the outcome of a measurement, or `None` where it has others.
     #[inline(always)]
     pub fn fixed_sign(&self, row: InverseRow, qubit: usize) -> Option<bool>

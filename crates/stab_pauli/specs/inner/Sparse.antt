@@ -1,6 +1,6 @@
 -- Words of which most are 0.
 -- Source: this project's own.
-use Rattle.std.specs.Prelude.{ℕ, ◌≡◌, ◌+◌, ◌^◌, ◌<◌, ◌≤◌, List, [], ◌∷◌, ◌++◌, length, drop, replicate}
+use Rattle.std.specs.Prelude.{ℕ, ◌≡◌, ◌+◌, List, [], ◌∷◌, ◌++◌, length, drop, replicate}
 use Rattle.stab_letters.specs.declared.phase.Phase.{Phase}
 use Rattle.stab_pauli.specs.inner.Blocks.{IsTable}
 
@@ -24,9 +24,8 @@ pub record IsSparse (gaps kept : List ℕ) (behind : ℕ) (words : List ℕ) : T
   pub even : length gaps ≡ length kept
   pub words_are : spread gaps kept behind ≡ words
 
--- what is kept of words, with powers of i, that lie as rows of m blocks, for n letters each
-pub record IsCompact (n m : ℕ) (gaps kept : List ℕ) (behind : ℕ) (powers : List Phase) : Type 0 where
+-- what is kept of so many words, with powers of i, that lie as rows of m blocks, for n letters each
+pub record IsCompact (n m : ℕ) (gaps kept : List ℕ) (behind size : ℕ) (powers : List Phase) : Type 0 where
   pub even : length gaps ≡ length kept
-  pub few : length powers ≤ 2 ^ 32
-  pub fits : length (spread gaps kept behind) < 2 ^ 64
+  pub size_is : size ≡ length (spread gaps kept behind)
   pub lies : IsTable n m (spread gaps kept behind) powers

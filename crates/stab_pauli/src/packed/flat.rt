@@ -192,30 +192,37 @@ pub(crate) fn set(
     row::set(blocks, &mut words[at..at + 8 * blocks], qubit, letter);
 }
 
-/// Exchanges row a and row b of so many, of one block each.
+/// Exchanges row a and row b.
 #[inline(always)]
-pub(crate) fn swap(words: &mut [u64], count: usize, a: usize, b: usize)
-    requires all { length words.old ≡ 8 * 1 * count }
+pub(crate) fn swap(words: &mut [u64], count: usize, blocks: usize, a: usize, b: usize)
+    requires all { length words.old ≡ 8 * blocks * count }
     requires a_in_range { a < count }
     requires b_in_range { b < count }
     requires apart { a ≢ b }
-    ensures words { words.new ≡ swapped_words (8 * 1 * a) (8 * 1 * b) (8 * 1) words.old }
+    ensures words { words.new ≡ swapped_words (8 * blocks * a) (8 * blocks * b) (8 * blocks) words.old }
 {
     let size = words.len();
-    let first = place_of(size, count, 1, a);
-    let second = place_of(size, count, 1, b);
-    swap_blocks(words, first, second);
+    // One block, which most codes have, is told apart so that its two halves need no loop.
+    if blocks == 1 {
+        let first = place_of(size, count, 1, a);
+        let second = place_of(size, count, 1, b);
+        swap_at(words, 1, first, second);
+        return;
+    }
+    let first = place_of(size, count, blocks, a);
+    let second = place_of(size, count, blocks, b);
+    swap_at(words, blocks, first, second);
 }
 
-/// Exchanges the block at word a and that at word b, which do not overlap.
+/// Exchanges the rows of so many blocks at word a and at word b, which do not overlap.
 #[inline(always)]
-fn swap_blocks(words: &mut [u64], a: usize, b: usize)
-    requires a_fits { a + 8 ≤ length words.old }
-    requires b_fits { b + 8 ≤ length words.old }
-    requires apart { (a + 8 ≤ b) ⊎ (b + 8 ≤ a) }
-    ensures words { words.new ≡ swapped_words a b 8 words.old }
+fn swap_at(words: &mut [u64], blocks: usize, a: usize, b: usize)
+    requires a_fits { a + 8 * blocks ≤ length words.old }
+    requires b_fits { b + 8 * blocks ≤ length words.old }
+    requires apart { (a + 8 * blocks ≤ b) ⊎ (b + 8 * blocks ≤ a) }
+    ensures words { words.new ≡ swapped_words a b (8 * blocks) words.old }
 {
-    for half in 0..2 {
+    for half in 0..2 * blocks {
         let first = u64x4::from_slice(&words[a + 4 * half..]);
         let second = u64x4::from_slice(&words[b + 4 * half..]);
         second.copy_to_slice(&mut words[a + 4 * half..]);

@@ -18,7 +18,7 @@ pub(crate) struct SparseWords {
 
 /// A place among such words.
 #[derive(Clone, Copy)]
-pub(crate) struct SparsePlace {
+struct SparsePlace {
     /// How many of the words that are kept are passed.
     next: usize,
     /// How many words 0 stand before the next of these, or, behind the last, how many are left.
@@ -45,7 +45,7 @@ pub(crate) fn is_blank(block: &[u64]) -> bool
 
 impl SparseWords {
     /// No words, with room for so many that are kept.
-    pub(crate) fn with_room(alloc: Global, size: usize) -> Result<SparseWords, AllocError>
+    fn with_room(alloc: Global, size: usize) -> Result<SparseWords, AllocError>
         ensures value { IfOk result (λ s. IsSparse s.gaps.items s.kept.items s.behind []) }
     {
         Ok(SparseWords {
@@ -141,28 +141,20 @@ impl SparseWords {
         self.push_words(block)
     }
 
-    /// Puts the words of a row behind these, eight for each of so many blocks.
-    pub(crate) fn push_row(&mut self, row: &[u64], blocks: usize) -> Result<(), AllocError>
-        requires even { length self.old.gaps.items ≡ length self.old.kept.items }
-        requires size { length row.now ≡ 8 * blocks }
-        requires fits { length (spread self.old.gaps.items self.old.kept.items self.old.behind) + 8 * blocks < 2 ^ 64 }
-        ensures value { OnOk result (IsSparse self.new.gaps.items self.new.kept.items self.new.behind (spread self.old.gaps.items self.old.kept.items self.old.behind ++ row.now)) }
+    /// What these words are, of which there are eight times so many.
+    pub(crate) fn of(alloc: Global, words: &[u64], blocks: usize) -> Result<SparseWords, AllocError>
+        requires all { length words.now ≡ 8 * blocks }
+        ensures value { IfOk result (λ s. IsSparse s.gaps.items s.kept.items s.behind words.now) }
     {
+        // Room for two words of each block, about as many as a code's states keep. What is not used is given back untouched.
+        let mut sparse = SparseWords::with_room(alloc, 2 * blocks)?;
         for block in 0..blocks {
             let at = 8 * block;
-            self.push_block(&row[at..at + 8])?;
+            sparse.push_block(&words[at..at + 8])?;
         }
-        Ok(())
-    }
-
-    /// Gives back what room is not used, untouched.
-    pub(crate) fn shrink(&mut self)
-        ensures gaps { self.new.gaps.items ≡ self.old.gaps.items }
-        ensures kept { self.new.kept.items ≡ self.old.kept.items }
-        ensures behind { self.new.behind ≡ self.old.behind }
-    {
-        self.gaps.shrink_to_fit();
-        self.kept.shrink_to_fit();
+        sparse.gaps.shrink_to_fit();
+        sparse.kept.shrink_to_fit();
+        Ok(sparse)
     }
 
     /// Writes the words over as many words 0.
@@ -205,7 +197,7 @@ impl SparseWords {
 
     /// The place before all of them.
     #[inline(always)]
-    pub(crate) fn first_place(&self) -> SparsePlace
+    fn first_place(&self) -> SparsePlace
         requires even { length self.now.gaps.items ≡ length self.now.kept.items }
         ensures value { words_from self.now.gaps.items self.now.kept.items self.now.behind result.next result.gap ≡ spread self.now.gaps.items self.now.kept.items self.now.behind }
     {
@@ -266,19 +258,17 @@ impl SparseWords {
         self.has_words(place, block)
     }
 
-    /// Whether the next words are those of a row, eight for each of so many blocks: the place then has passed them, and else tells
-    /// nothing more.
-    #[inline(always)]
-    pub(crate) fn has_row(&self, place: &mut SparsePlace, row: &[u64], blocks: usize) -> bool
+    /// Whether these are the words, of which there are as many, eight for each of so many blocks.
+    pub(crate) fn are(&self, words: &[u64], blocks: usize) -> bool
         requires even { length self.now.gaps.items ≡ length self.now.kept.items }
-        requires size { length row.now ≡ 8 * blocks }
-        requires fits { 8 * blocks ≤ length (words_from self.now.gaps.items self.now.kept.items self.now.behind place.old.next place.old.gap) }
-        ensures value { IsTrue result ↔ (take (8 * blocks) (words_from self.now.gaps.items self.now.kept.items self.now.behind place.old.next place.old.gap) ≡ row.now) }
-        ensures behind { IsTrue result → words_from self.now.gaps.items self.now.kept.items self.now.behind place.new.next place.new.gap ≡ drop (8 * blocks) (words_from self.now.gaps.items self.now.kept.items self.now.behind place.old.next place.old.gap) }
+        requires all { length words.now ≡ 8 * blocks }
+        requires size { length words.now ≡ length (spread self.now.gaps.items self.now.kept.items self.now.behind) }
+        ensures value { IsTrue result ↔ (spread self.now.gaps.items self.now.kept.items self.now.behind ≡ words.now) }
     {
+        let mut place = self.first_place();
         for block in 0..blocks {
             let at = 8 * block;
-            if !self.has_block(place, &row[at..at + 8]) {
+            if !self.has_block(&mut place, &words[at..at + 8]) {
                 return false;
             }
         }

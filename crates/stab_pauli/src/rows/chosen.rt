@@ -2,7 +2,7 @@
 
 use super::PauliRows;
 use crate::masks;
-use crate::packed::{part, row, sparse};
+use crate::packed::{flat, part, row, sparse, support};
 use crate::pauli::Pauli;
 use stab_letters::Phase;
 use std::simd::u64x4;
@@ -26,10 +26,7 @@ impl PauliRows {
         ensures value { (k : ℕ) → k < 64 → chooses result k ≡ has_x (slice_index_or (row_at self.now (first + k)).letters qubit I) }
     {
         let end = first + (self.len() - first).min(64);
-        if self.rows.blocks() == 1 {
-            return self.mask_of_x(first, end, qubit).0;
-        }
-        self.mask_row_by_row(first, end, qubit).0
+        self.mask_of_x(first, end, qubit).0
     }
 
     /// The same, and at which of the 64 qubits from 64 * (qubit / 64) on any of these rows has X or Y, by a mask too, which
@@ -100,7 +97,8 @@ impl PauliRows {
         requires some { 64 * word < self.now.qubits }
         ensures value { (j : ℕ) → j < 64 → chooses result j ≡ has_x (slice_index_or (row_at self.now a).letters (64 * word + j) I) }
     {
-        row::x_mask(self.rows.blocks(), self.rows.row(a), word)
+        let words = flat::row_of(self.words.as_slice(), self.powers.len(), self.blocks, a);
+        row::x_mask(self.blocks, words, word)
     }
 
     /// Which of the eight rows from row a on have X or Y at a qubit, and at which of the 64 qubits of its word any of them has,
@@ -113,30 +111,8 @@ impl PauliRows {
         ensures short { result.0 < 2 ^ 8 }
         ensures places { (k j : ℕ) → k < 8 → j < 64 → has_x (slice_index_or (row_at self.now (a + k)).letters (64 * (qubit / 64) + j) I) ≡ true → chooses result.1 j ≡ true }
     {
-        let _count = self.len();
-        if self.rows.blocks() == 1 {
-            return part::rows_with_x(1, self.rows.part(a), qubit);
-        }
-        let places = self.eight_places(a, qubit / 64);
-        if !row::bit_of(places, qubit % 64) {
-            return (0, places);
-        }
-        (self.mask_row_by_row(a, a + 8, qubit).0, places)
-    }
-
-    /// At which of the 64 qubits of a word any of the eight rows from row a on has X or Y, by a mask.
-    #[inline(always)]
-    fn eight_places(&self, a: usize, word: usize) -> u64
-        requires in_range { a + 8 ≤ length self.now.rows }
-        requires some { 64 * word < self.now.qubits }
-        ensures value { (k j : ℕ) → k < 8 → j < 64 → has_x (slice_index_or (row_at self.now (a + k)).letters (64 * word + j) I) ≡ true → chooses result j ≡ true }
-    {
-        let _count = self.len();
-        let mut places = 0;
-        for k in 0..8 {
-            places = places | self.x_mask(a + k, word);
-        }
-        places
+        let words = flat::part_of(self.words.as_slice(), self.powers.len(), self.blocks, a);
+        part::rows_with_x(self.blocks, words, qubit)
     }
 
     /// Makes each chosen one of the 64 rows from one on i times the product of itself and another string, with which it
@@ -151,7 +127,7 @@ impl PauliRows {
         requires anticommuting { (k : ℕ) → k < 64 → chooses mask k ≡ true → anticommute (row_at self.old (first + k)) other.now ≡ true }
         ensures value { AreChosen first mask (λ b p. product_times_i_if b p other.now) self.old self.new }
     {
-        if self.rows.blocks() == 1 {
+        if self.blocks == 1 {
             let words = other.words.as_slice();
             let x = u64x4::from_slice(words);
             let z = u64x4::from_slice(&words[4..]);
@@ -172,7 +148,7 @@ impl PauliRows {
         ensures value { AreChosen first mask (λ b p. product_times_i_if b p other.now) self.old self.new }
     {
         // Where all blocks have letters other than I, as in dense states, there is none to pass over.
-        if (support.count_ones() as usize) < self.rows.blocks() {
+        if (support.count_ones() as usize) < self.blocks {
             let words = other.words.as_slice();
             sparse::are_short(words);
             self.multiply_rows_in_support(first, mask, support, words, other.power);
@@ -227,7 +203,8 @@ impl PauliRows {
         requires anticommuting { anticommute (row_at self.old a) (signed_row self.old.qubits power (row_letters 1 (x ++ z))) ≡ true }
         ensures value { self.new ≡ with_row self.old a (product_times_i (row_at self.old a) (signed_row self.old.qubits power (row_letters 1 (x ++ z)))) }
     {
-        let meet = self.rows.multiply_block(a, x, z);
+        let at = flat::place_of(self.words.len(), self.powers.len(), 1, a);
+        let meet = flat::multiply_block_by(self.words.as_mut_slice(), at, x, z);
         self.powers[a] = row::product_power(self.powers[a], power, meet).times_i();
     }
 
@@ -269,7 +246,9 @@ impl PauliRows {
         requires anticommuting { anticommute (row_at self.old a) (signed_row self.old.qubits power (row_letters (blocks_of self.old.qubits) words.now)) ≡ true }
         ensures value { self.new ≡ with_row self.old a (product_times_i (row_at self.old a) (signed_row self.old.qubits power (row_letters (blocks_of self.old.qubits) words.now))) }
     {
-        let meet = self.rows.multiply_in(a, support, words);
+        let count = self.powers.len();
+        let rows = self.words.as_mut_slice();
+        let meet = support::multiply_by(rows, count, self.blocks, a, support, words);
         self.powers[a] = row::product_power(self.powers[a], power, meet).times_i();
     }
 

@@ -1,8 +1,7 @@
-ghost use Rattle.std.specs.Prelude.{IfOk};
+ghost use Rattle.std.specs.Prelude.{◌≡◌, ◌*◌, ◌/◌, length, IfOk};
 ghost use Rattle.stab_pauli.specs.inner.Sparse.{IsSparse};
 
 use super::PauliRows;
-use crate::packed::placed::PlacedRows;
 use crate::packed::sparse::{SparseWords, are_short};
 use stab_io::Refusal;
 use stab_letters::Phase;
@@ -16,6 +15,8 @@ use std::rc::Rc;
 pub struct CompactRows {
     qubits: usize,
     blocks: usize,
+    // How many words the rows have.
+    size: usize,
     // Copies share them: what a copy may change is its signs.
     words: Rc<SparseWords>,
     powers: Vec<Phase>,
@@ -27,6 +28,7 @@ impl Drop for CompactRows {
         let CompactRows {
             qubits: _,
             blocks: _,
+            size: _,
             words: _,
             powers: _,
         } = self;
@@ -42,14 +44,15 @@ impl Model for CompactRows {
 
     ghost view = { λ p. table p.qubits p.blocks (spread p.words.value.gaps.items p.words.value.kept.items p.words.value.behind) p.powers.items };
 
-    ghost invariant = { λ p. IsCompact p.qubits p.blocks p.words.value.gaps.items p.words.value.kept.items p.words.value.behind p.powers.items };
+    ghost invariant = { λ p. IsCompact p.qubits p.blocks p.words.value.gaps.items p.words.value.kept.items p.words.value.behind p.size p.powers.items };
 }
 
-/// The words of rows, without those that are 0, to be shared.
-fn shared(alloc: Global, rows: &PlacedRows) -> Result<Rc<SparseWords>, AllocError>
-    ensures value { IfOk result (λ s. IsSparse s.value.gaps.items s.value.kept.items s.value.behind rows.now.words) }
+/// Words, without those that are 0, to be shared. There are eight times as many as blocks.
+fn shared(alloc: Global, words: &[u64]) -> Result<Rc<SparseWords>, AllocError>
+    requires all { length words.now ≡ 8 * (length words.now / 8) }
+    ensures value { IfOk result (λ s. IsSparse s.value.gaps.items s.value.kept.items s.value.behind words.now) }
 {
-    let sparse = rows.keep(alloc)?;
+    let sparse = SparseWords::of(alloc, words, words.len() / 8)?;
     Ok(Rc::new(alloc, sparse)?)
 }
 
@@ -64,11 +67,12 @@ impl PauliRows {
         ensures ok { IfOk result (λ r. r ≡ self.now) }
         ensures err { IfErr result (λ r. r ≡ OutOfMemory) }
     {
-        self.rows.are_in_memory();
+        let words = self.words.as_slice();
         Ok(CompactRows {
             qubits: self.qubits,
-            blocks: self.rows.blocks(),
-            words: shared(alloc, &self.rows)?,
+            blocks: self.blocks,
+            size: words.len(),
+            words: shared(alloc, words)?,
             powers: Vec::from_slice(alloc, self.powers.as_slice())?,
         })
     }
@@ -98,6 +102,7 @@ impl CompactRows {
         Ok(CompactRows {
             qubits: self.qubits,
             blocks: self.blocks,
+            size: self.size,
             words: self.words.clone()?,
             powers: Vec::from_slice(alloc, self.powers.as_slice())?,
         })
@@ -125,11 +130,12 @@ impl CompactRows {
         ensures ok { IfOk result (λ r. r ≡ self.now) }
         ensures err { IfErr result (λ r. r ≡ OutOfMemory) }
     {
-        let mut rows = PlacedRows::new(alloc, self.blocks, self.powers.len())?;
-        rows.write(self.words.as_ref());
+        let mut words = vec![in alloc; 0; self.size]?;
+        self.words.as_ref().write_into(words.as_mut_slice());
         Ok(PauliRows {
             qubits: self.qubits,
-            rows,
+            blocks: self.blocks,
+            words,
             powers: Vec::from_slice(alloc, self.powers.as_slice())?,
         })
     }
@@ -140,7 +146,9 @@ impl CompactRows {
         requires same_number { length rows.old.rows ≡ length self.now.rows }
         ensures value { rows.new ≡ self.now }
     {
-        rows.rows.write(self.words.as_ref());
+        let words = rows.words.as_mut_slice();
+        words.fill(0);
+        self.words.as_ref().write_into(words);
         rows.powers
             .as_mut_slice()
             .copy_from_slice(self.powers.as_slice());
@@ -157,10 +165,11 @@ impl CompactRows {
         if self.qubits != rows.qubits {
             return false;
         }
+        let words = rows.words.as_slice();
         let sparse = self.words.as_ref();
-        rows.rows.are_short();
+        are_short(words);
         are_short(sparse.kept.as_slice());
-        rows.rows.are(sparse)
+        sparse.are(words, words.len() / 8)
     }
 
     /// Whether both have as many strings over as many qubits, with the same letters, whatever their signs.
@@ -173,10 +182,11 @@ impl CompactRows {
         if self.powers.len() != rows.powers.len() {
             return false;
         }
+        let words = rows.words.as_slice();
         let sparse = self.words.as_ref();
-        rows.rows.are_short();
+        are_short(words);
         are_short(sparse.kept.as_slice());
-        rows.rows.are(sparse)
+        sparse.are(words, words.len() / 8)
     }
 
     /// Whether the signs of row a differ in both, where its letters are the same: then none has to be looked at.

@@ -3,11 +3,11 @@ use Rattle.std.specs.Simd.Lanes.{chunk, put_chunk}
 use Rattle.stab_pauli.specs.inner.Powers.{strings_meet}
 use Rattle.stab_pauli.specs.inner.Words.{xor_words}
 use Rattle.stab_pauli.specs.inner.Blocks.{row_letters}
-use Rattle.stab_pauli.proofs.TableLemmas.{parts_apart}
+use Rattle.stab_pauli.proofs.TableLemmas.{rows_apart}
 use Rattle.stab_pauli.proofs.packed.flat.multiply.Goals as goal
 
 pub multiply_at-requires-clause-apart : goal.multiply_at-requires-clause-apart
-multiply_at-requires-clause-apart c = rw (c.place_of-first-2.ensures.value, c.place_of-second-2.ensures.value) (parts_apart (8 * c.args.blocks) c.args.a c.args.b c.requires.apart)
+multiply_at-requires-clause-apart c = rw (c.place_of-first-2.ensures.value, c.place_of-second-2.ensures.value) (rows_apart c.args.blocks c.args.a c.args.b c.requires.apart)
 
 pub returns-then-blocks-eq1-clause-meet : goal.returns-then-blocks-eq1-clause-meet
 returns-then-blocks-eq1-clause-meet c =

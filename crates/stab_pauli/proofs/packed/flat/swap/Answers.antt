@@ -1,6 +1,8 @@
-use Rattle.std.proofs.Common.{◌*◌}
-use Rattle.stab_pauli.proofs.TableLemmas.{parts_apart}
+use Rattle.stab_pauli.proofs.TableLemmas.{rows_apart}
 use Rattle.stab_pauli.proofs.packed.flat.swap.Goals as goal
 
-pub swap_blocks-requires-clause-apart : goal.swap_blocks-requires-clause-apart
-swap_blocks-requires-clause-apart c = rw (c.place_of-first.ensures.value, c.place_of-second.ensures.value) (parts_apart (8 * 1) c.args.a c.args.b c.requires.apart)
+pub swap_at-requires-clause-apart : goal.swap_at-requires-clause-apart
+swap_at-requires-clause-apart c = rw (c.place_of-first.ensures.value, c.place_of-second.ensures.value) (rows_apart 1 c.args.a c.args.b c.requires.apart)
+
+pub swap_at-requires-2-clause-apart : goal.swap_at-requires-2-clause-apart
+swap_at-requires-2-clause-apart c = rw (c.place_of-first-2.ensures.value, c.place_of-second-2.ensures.value) (rows_apart c.args.blocks c.args.a c.args.b c.requires.apart)

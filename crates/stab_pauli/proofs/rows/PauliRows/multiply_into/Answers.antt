@@ -1,35 +1,34 @@
-use Rattle.std.proofs.Common.{◌*◌, ◌∙◌, ap, length, ◌++◌, take, drop, sym}
-use Rattle.stab_pauli.specs.inner.Blocks.{row_letters}
-use Rattle.stab_pauli.specs.inner.Powers.{strings_meet}
+use Rattle.std.proofs.Common.{arith, ◌*◌, ◌∙◌, ap, length, ℕ, List, ◌++◌, take, drop}
+use Rattle.std.specs.Simd.Lanes.{chunk}
 use Rattle.stab_pauli.proofs.PaddedLemmas.{is_of, lies_of, view_of, IsView}
-use Rattle.stab_pauli.proofs.SeenLemmas.{rows_of, among_rows, counted_seen, seen_of, in_seen, fitting}
+use Rattle.stab_pauli.proofs.SeenLemmas.{counted_seen, seen_of, in_seen, fitting}
 use Rattle.stab_pauli.proofs.RowProductLemmas.{product_viewed}
 use Rattle.stab_pauli.specs.Paulis.{product}
 use Rattle.stab_pauli.specs.Rows.{row_at}
 use Rattle.stab_pauli.proofs.rows.PauliRows.multiply_into.Goals as goal
 use Rattle.stab_pauli.proofs.rows.PauliRows.multiply_into.Goals.{After-product_power-out-inside}
 
-pub row-words-requires : goal.row-words-requires
-row-words-requires c = record { in_range = among_rows (rows_of c.self.invariant c.self.view_is) c.args.a c.requires.in_range }
+pub row_of-words-requires-clause-in_range : goal.row_of-words-requires-clause-in_range
+row_of-words-requires-clause-in_range c = counted_seen (seen_of c.self.invariant c.self.view_is) c.args.a c.len.result c.requires.in_range (omega (arith, c.self.inside.powers.ok.0))
 
 pub multiply-meet-requires-clause-length : goal.multiply-meet-requires-clause-length
 multiply-meet-requires-clause-length c =
-    let fit = fitting (seen_of c.self.invariant.lies c.self.view_is) (view_of c.out.invariant c.out.view_is) c.requires.same_length in
-    ap length c.as_mut_slice.ensures.value ∙ fit.view.row.size ∙ ap (λ m. 8 * m) (sym c.blocks-2.ensures.value)
+    let fit = fitting (seen_of c.self.invariant c.self.view_is) (view_of c.out.invariant c.out.view_is) c.requires.same_length in
+    ap length c.as_mut_slice.ensures.value ∙ fit.view.row.size
 
 pub index-requires : goal.index-requires
-index-requires c = counted_seen (seen_of c.self.invariant.lies c.self.view_is) c.args.a c.self.inside.powers.len c.requires.in_range c.self.inside.powers.ok.0
+index-requires c = counted_seen (seen_of c.self.invariant c.self.view_is) c.args.a c.self.inside.powers.len c.requires.in_range c.self.inside.powers.ok.0
 
 -- the string after the call
 view_after : (c : After-product_power-out-inside) → IsView c.out.inside.qubits c.out.inside.blocks
     (take c.out.inside.words.len (c.multiply-meet.new.row ++ drop (length c.multiply-meet.new.row) c.out.inside.words.items)) c.product_power-out-inside.result
     (product c.args.out.now (row_at c.args.self.now c.args.a))
 view_after c =
-    let mine = seen_of c.self.invariant.lies c.self.view_is in
+    let mine = seen_of c.self.invariant c.self.view_is in
     let la = in_seen mine c.args.a c.requires.in_range in
-    let read = c.row-words.ensures.value in
+    let read = c.row_of-words.ensures.value ∙ ap (λ (w : List ℕ). chunk (8 * c.self.inside.blocks * c.args.a) (8 * c.self.inside.blocks) w) c.as_slice.ensures.value in
     product_viewed mine (view_of c.out.invariant c.out.view_is) c.requires.same_length c.args.a la c.requires.commuting c.multiply-meet.new.row c.out.inside.words.len c.index.result.now c.product_power-out-inside.result c.multiply-meet.result
-    c.as_mut_slice.ensures.value read (record { words_are = c.multiply-meet.ensures.words; meet_is = c.multiply-meet.ensures.meet ∙ ap (λ m. strings_meet (row_letters m c.as_mut_slice.result.now) (row_letters m c.row-words.result.now)) c.blocks-2.ensures.value }) c.index.ensures c.product_power-out-inside.ensures.value c.out.inside.words.ok.0
+    c.as_mut_slice.ensures.value read (record { words_are = c.multiply-meet.ensures.words; meet_is = c.multiply-meet.ensures.meet }) c.index.ensures c.product_power-out-inside.ensures.value c.out.inside.words.ok.0
 
 pub invariant_of-out : goal.invariant_of-out
 invariant_of-out c = lies_of (view_after (goal.at.invariant_of-out c).After-product_power-out-inside)

@@ -1,4 +1,4 @@
-use Rattle.std.proofs.Common.{◌+◌, ◌∙◌, ap, sym, subst}
+use Rattle.std.proofs.Common.{◌+◌, ◌∙◌, ap, subst}
 use Rattle.stab_pauli.specs.Masks.{AreChosen}
 use Rattle.stab_pauli.specs.Paulis.{Signed, anticommute}
 use Rattle.stab_pauli.specs.Rows.{row_at, product_times_i_if}
@@ -9,16 +9,16 @@ use Rattle.stab_pauli.proofs.rows.PauliRows.multiply_rows_by_times_i.Goals as go
 
 pub multiply_rows_by_block-requires-clause-string : goal.multiply_rows_by_block-requires-clause-string
 multiply_rows_by_block-requires-clause-string c =
-    lies_of (block_viewed (seen_of c.self.invariant.lies c.self.view_is) (view_of c.other.invariant c.other.view_is) c.requires.same_length (sym c.blocks-2.ensures.value ∙ c.if-blocks-eq1.true) c.as_slice-words.result.now c.as_slice-words.ensures.value)
+    lies_of (block_viewed (seen_of c.self.invariant c.self.view_is) (view_of c.other.invariant c.other.view_is) c.requires.same_length c.if-self-eq1.true c.as_slice-words.result.now c.as_slice-words.ensures.value)
 
 pub multiply_rows_by_block-requires-clause-anticommuting : goal.multiply_rows_by_block-requires-clause-anticommuting
 multiply_rows_by_block-requires-clause-anticommuting c =
-    let view = block_viewed (seen_of c.self.invariant.lies c.self.view_is) (view_of c.other.invariant c.other.view_is) c.requires.same_length (sym c.blocks-2.ensures.value ∙ c.if-blocks-eq1.true) c.as_slice-words.result.now c.as_slice-words.ensures.value in
+    let view = block_viewed (seen_of c.self.invariant c.self.view_is) (view_of c.other.invariant c.other.view_is) c.requires.same_length c.if-self-eq1.true c.as_slice-words.result.now c.as_slice-words.ensures.value in
     λ k lk one. ap (anticommute (row_at c.args.self.now (c.args.first + k))) (is_of view) ∙ c.requires.anticommuting k lk one
 
-pub returns-then-blocks-eq1 : goal.returns-then-blocks-eq1
-returns-then-blocks-eq1 c =
-    let view = block_viewed (seen_of c.self.invariant.lies c.self.view_is) (view_of c.other.invariant c.other.view_is) c.requires.same_length (sym c.blocks-2.ensures.value ∙ c.if-blocks-eq1.true) c.as_slice-words.result.now c.as_slice-words.ensures.value in
+pub returns-then-self-eq1 : goal.returns-then-self-eq1
+returns-then-self-eq1 c =
+    let view = block_viewed (seen_of c.self.invariant c.self.view_is) (view_of c.other.invariant c.other.view_is) c.requires.same_length c.if-self-eq1.true c.as_slice-words.result.now c.as_slice-words.ensures.value in
     record {
       value = subst (λ (p : Signed). AreChosen c.args.first c.args.mask (λ b q. product_times_i_if b q p) c.args.self.now c.multiply_rows_by_block.new.self) (is_of view) c.multiply_rows_by_block.ensures.value;
     }

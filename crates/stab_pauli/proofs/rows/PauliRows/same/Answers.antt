@@ -8,15 +8,15 @@ use Rattle.stab_pauli.proofs.rows.PauliRows.same.Goals as goal
 
 pub returns-then-not-same : goal.returns-then-not-same
 returns-then-not-same c =
-    let mine = seen_of c.self.invariant.lies c.self.view_is in
-    let theirs = seen_of c.other.invariant.lies c.other.view_is in
+    let mine = seen_of c.self.invariant c.self.view_is in
+    let theirs = seen_of c.other.invariant c.other.view_is in
     let told = slice_eq-Decides (tells_phases _ refl refl refl refl refl refl refl refl refl refl refl refl refl refl refl refl) c.as_slice.result.now c.as_slice-2.result.now false c.if-not-same.ensures in
     record { value = powers_apart mine theirs c.as_slice.ensures.value c.as_slice-2.ensures.value told.1 }
 
 pub returns : goal.returns
 returns c =
-    let mine = seen_of c.self.invariant.lies c.self.view_is in
-    let theirs = seen_of c.other.invariant.lies c.other.view_is in
+    let mine = seen_of c.self.invariant c.self.view_is in
+    let theirs = seen_of c.other.invariant c.other.view_is in
     let told = slice_eq-Decides (tells_phases _ refl refl refl refl refl refl refl refl refl refl refl refl refl refl refl refl) c.as_slice.result.now c.as_slice-2.result.now true c.if-not-same.ensures in
     let powers = sym c.as_slice.ensures.value ∙ told.0 refl ∙ c.as_slice-2.ensures.value in
     record {

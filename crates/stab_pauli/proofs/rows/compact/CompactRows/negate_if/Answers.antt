@@ -1,5 +1,4 @@
 use Rattle.std.proofs.Common.{◌∙◌, ap}
-use Rattle.std.proofs.lemmas.List.{length-set}
 use Rattle.stab_letters.specs.Phases.{phase_add}
 use Rattle.stab_pauli.proofs.SeenLemmas.{counted_seen, seen_of, in_seen, negated_seen}
 use Rattle.stab_pauli.proofs.rows.compact.CompactRows.negate_if.Goals as goal
@@ -15,7 +14,7 @@ invariant_of-self c =
     let mine = seen_of c.self.invariant.lies c.self.view_is in
     let la = in_seen mine c.args.a c.requires.in_range in
     let seen = negated_seen mine c.args.a c.args.bit c.index.result.now c.times.result la c.index.ensures (c.times.ensures.value ∙ ap (phase_add c.index.result.now) c.of_sign.ensures.value) in
-    record { even = c.self.invariant.even; few = rw (length-set c.self.inside.powers.items c.args.a c.times.result) c.self.invariant.few; fits = c.self.invariant.fits; lies = seen.lies }
+    record { even = c.self.invariant.even; size_is = c.self.invariant.size_is; lies = seen.lies }
 
 pub returns : goal.returns
 returns c =

@@ -9,12 +9,12 @@ pub index-requires : goal.index-requires
 index-requires c = counted_seen (seen_of c.self.invariant.lies c.self.view_is) c.args.a c.self.inside.powers.len c.requires.in_range c.self.inside.powers.ok.0
 
 pub index-requires-2 : goal.index-requires-2
-index-requires-2 c = counted_seen (seen_of c.rows.invariant.lies c.rows.view_is) c.args.a c.rows.inside.powers.len c.requires.other_in_range c.rows.inside.powers.ok.0
+index-requires-2 c = counted_seen (seen_of c.rows.invariant c.rows.view_is) c.args.a c.rows.inside.powers.len c.requires.other_in_range c.rows.inside.powers.ok.0
 
 pub returns : goal.returns
 returns c =
     let mine = seen_of c.self.invariant.lies c.self.view_is in
-    let theirs = seen_of c.rows.invariant.lies c.rows.view_is in
+    let theirs = seen_of c.rows.invariant c.rows.view_is in
     let la = in_seen mine c.args.a c.requires.in_range in
     let lb = in_seen theirs c.args.a c.requires.other_in_range in
     let power = read_power c.self.inside.powers.items c.args.a c.index.result.now la c.index.ensures ∙ (row_seen mine c.args.a la).power in

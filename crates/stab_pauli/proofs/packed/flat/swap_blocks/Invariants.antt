@@ -1,6 +1,0 @@
-use Rattle.std.proofs.Common.{◌≡◌, ◌*◌}
-use Rattle.stab_pauli.specs.inner.Words.{swapped_words}
-use Rattle.stab_pauli.proofs.packed.flat.swap_blocks.Given as goal
-
-abbrev pub invariant-loop-half : goal.invariant-loop-half
-invariant-loop-half l = l.words ≡ swapped_words l.a l.b (4 * l.half) l.initial.words

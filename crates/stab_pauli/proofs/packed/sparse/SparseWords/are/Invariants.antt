@@ -1,0 +1,8 @@
+use Rattle.std.proofs.Common.{◌≡◌, ◌*◌, ◌++◌, take}
+use Rattle.stab_pauli.specs.inner.Sparse.{spread, words_from}
+use Rattle.stab_pauli.proofs.packed.sparse.SparseWords.are.Given as goal
+
+abbrev pub invariant-loop-block : goal.invariant-loop-block
+invariant-loop-block l =
+    spread l.self.gaps.items l.self.kept.items l.self.behind
+    ≡ take (8 * l.block) l.words ++ words_from l.self.gaps.items l.self.kept.items l.self.behind l.place.next l.place.gap

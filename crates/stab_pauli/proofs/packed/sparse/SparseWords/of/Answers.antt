@@ -1,0 +1,17 @@
+use Rattle.std.proofs.Common.{arith, ◌*◌, take}
+use Rattle.std.proofs.lemmas.List.{length-take}
+use Rattle.stab_pauli.proofs.PackingLemmas.{sparse-few, sparse-behind, blocks-next}
+use Rattle.stab_pauli.proofs.packed.sparse.SparseWords.of.Goals as goal
+
+pub push_block-requires-clause-fits : goal.push_block-requires-clause-fits
+push_block-requires-clause-fits c =
+    let mine = c.loop-block.sparse in
+    let few = sparse-few mine.gaps.items mine.kept.items mine.behind (take (8 * c.loop-block.block) c.args.words.now) c.loop-block.invariant in
+    omega (arith, few, length-take (8 * c.loop-block.block) c.args.words.now, c.requires.all, c.loop-block-test.true)
+
+pub loop-block-preserved : goal.loop-block-preserved
+loop-block-preserved c =
+    let mine = c.loop-block.sparse in
+    let new = c.push_block.new.self in
+    sparse-behind mine.gaps.items mine.kept.items new.gaps.items new.kept.items mine.behind new.behind _ _ _
+    (blocks-next c.args.words.now c.loop-block.block _ (omega arith)) c.loop-block.invariant c.in_ok-push_block.ensures.value

@@ -1,0 +1,6 @@
+use Rattle.std.proofs.Common.{◌*◌, take}
+use Rattle.stab_pauli.specs.inner.Sparse.{IsSparse}
+use Rattle.stab_pauli.proofs.packed.sparse.SparseWords.of.Given as goal
+
+abbrev pub invariant-loop-block : goal.invariant-loop-block
+invariant-loop-block l = IsSparse l.sparse.gaps.items l.sparse.kept.items l.sparse.behind (take (8 * l.block) l.words)

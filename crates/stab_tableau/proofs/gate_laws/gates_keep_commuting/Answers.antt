@@ -1,0 +1,11 @@
+use Rattle.std.proofs.Common.{length, refl}
+use Rattle.stab_tableau.proofs.SymmetryLemmas.{IsSymmetry-image, IsSymmetry-pair}
+use Rattle.stab_tableau.proofs.gate_laws.gates_keep_commuting.Goals as goal
+
+pub returns : goal.returns
+returns c = record {
+  law = (
+    (λ g q p r same. (IsSymmetry-image (length r.letters) g q).keeps_parity p r same refl),
+    (λ g n a b lt_a lt_b apart. (IsSymmetry-pair n g a b lt_a lt_b apart).keeps_parity),
+  );
+}
