@@ -90,7 +90,7 @@ module _ (steps : List Step) (r : Repeat) (is : IsRepeat steps r) where
   one_round : r.length ≤ r.rounds * r.length
   one_round = let some : 1 ≤ r.rounds = omega (arith, is.many) in let le = mul-le-mul_right r.length some in omega arith
 
-  length-round : length (round_of r steps) ≡ r.length
+  pub length-round : length (round_of r steps) ≡ r.length
   length-round = length-take-le r.length (drop r.first steps) (omega (arith, length-drop r.first steps, is.inside, one_round))
 
   pub more-rounds : (j m : ℕ) → j + m ≤ r.rounds → take (behind_rounds r (j + m)) steps ≡ take (behind_rounds r j) steps ++ rounds m (round_of r steps)

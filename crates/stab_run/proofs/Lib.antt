@@ -7,3 +7,4 @@ mod FramedLemmas
 mod OverLemmas
 mod PeriodLemmas
 mod PeriodStartLemmas
+mod TogetherLemmas

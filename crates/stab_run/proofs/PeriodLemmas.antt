@@ -1,5 +1,5 @@
 -- Periods: a frame that goes over a period of rounds tells the next one from it, and goes over that.
-use Rattle.std.proofs.Common.{◌≡◌, ℕ, ◌+◌, ◌-◌, ◌*◌, ◌<◌, ◌≤◌, refl, sym, ◌∙◌, ap, subst, Bool, false, List, [], ◌∷◌, ◌++◌, All, length, take, drop, replicate, arith}
+use Rattle.std.proofs.Common.{◌≡◌, ℕ, ◌+◌, ◌-◌, ◌*◌, ◌≤◌, refl, sym, ◌∙◌, ap, subst, Bool, false, List, [], ◌++◌, All, length, take, drop, arith}
 use Rattle.std.specs.Prelude.{Option, None}
 use Rattle.std.proofs.Math.Nat.{add-mul}
 use Rattle.std.proofs.Math.Seq.{take-add}
@@ -24,7 +24,6 @@ use Rattle.stab_laws.proofs.FitLemmas.{check-fits}
 use Rattle.stab_laws.proofs.PointLemmas.{flags-are-coins, records-are-records}
 use Rattle.stab_laws.proofs.RoundLemmas.{rounds-within}
 use Rattle.stab_frames.specs.Flips.{flipped, flipped_additions, flipped_output}
-use Rattle.stab_frames.specs.Frames.{Frame}
 use Rattle.stab_frames.specs.FrameSteps.{frame_over, flips_over}
 use Rattle.stab_frames.specs.Notes.{Notes}
 use Rattle.stab_frames.specs.StepNotes.{AreEnough}

@@ -1,5 +1,5 @@
 -- Starts of periods: where a state comes again up to the signs of its rows, a frame tells the one point from the other.
-use Rattle.std.proofs.Common.{◌≡◌, ℕ, zero, suc, ◌+◌, ◌-◌, ◌*◌, ◌<◌, ◌≤◌, refl, sym, ◌∙◌, ap, subst, Bool, false, List, [], ◌∷◌, ◌++◌, All, length, take, drop, get_or, replicate, arith}
+use Rattle.std.proofs.Common.{◌≡◌, ℕ, zero, suc, ◌+◌, ◌-◌, ◌<◌, ◌≤◌, refl, sym, ◌∙◌, ap, subst, Bool, false, List, [], ◌∷◌, ◌++◌, All, length, take, drop, get_or, replicate, arith}
 use Rattle.std.proofs.lemmas.List.{length-append, length-drop, length-take-le, take-append-drop, take_at, drop_at, take_all}
 use Rattle.std.proofs.lemmas.List.Elements.{All-take}
 use Rattle.stab_letters.specs.declared.letter.Letter.{Letter}
@@ -8,13 +8,12 @@ use Rattle.stab_letters.specs.Letters.{◌⊕◌}
 use Rattle.stab_pauli.specs.Paulis.{Signed, with_sign, strings_anticommute, string_product}
 use Rattle.stab_pauli.proofs.StringLemmas.{string_product-blank}
 use Rattle.stab_tableau.specs.Tableaus.{TableauState, stabilises}
-use Rattle.stab_tableau.specs.Turns.{IsTurned}
 use Rattle.stab_circuit.specs.Steps.{Step, rounds}
 use Rattle.stab_circuit.specs.declared.circuit.repeats.Repeat.{Repeat}
 use Rattle.stab_circuit.specs.Repeats.{round_of, IsRepeat}
 use Rattle.stab_steps.specs.declared.records.Lengths.{Lengths}
 use Rattle.stab_steps.specs.Records.{looked_up, ones}
-use Rattle.stab_steps.specs.Points.{Point, RunOutput, origin, nothing, joined, all_coins_of, point_after, outputs}
+use Rattle.stab_steps.specs.Points.{Point, RunOutput, origin, nothing, joined, all_coins_of, outputs}
 use Rattle.stab_steps.specs.Cuts.{rest_of}
 use Rattle.stab_steps.specs.ProgramStates.{StepFits, program_state, output_of}
 use Rattle.stab_steps.proofs.RunLemmas.{outputs-append}

@@ -8,6 +8,7 @@
 //! - `part`: steps from one on, whose strings of free outcomes are noted or not.
 //! - `earlier`: what is kept of a run behind a round, and rounds that are given again since it stands there again.
 //! - `turned`: rounds that come again up to the signs of the state's rows, which a frame goes over.
+//! - `together`: short rounds, of which some are taken as one.
 //! - `rounds`: rounds, of blocks or written out. They are carried out until a state comes again; from there
 //!   on they give again what they gave, or a frame goes over them.
 //! - `whole`: all steps of a circuit.
@@ -34,6 +35,7 @@ mod part;
 mod rounds;
 mod run;
 mod sampler;
+mod together;
 mod turned;
 mod turns;
 mod whole;

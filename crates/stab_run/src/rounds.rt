@@ -14,6 +14,7 @@ ghost use Rattle.stab_run.specs.inner.Noted.{IsNoted};
 
 use crate::earlier::{Earlier, comes_again, give_rounds, kept_behind};
 use crate::part::run_noted_part;
+use crate::together::taken_together;
 use crate::turned::{go_over_rounds, period_since};
 use stab_circuit::{Circuit, Repeat};
 use stab_frames::{KeptStrings, RunNotes};
@@ -327,7 +328,16 @@ pub fn run_repeats<C: Coins>(
     let mut from = 0;
     for repeat in repeats {
         from = run_block(
-            alloc, circuit, tableau, string, coins, outputs, from, *repeat, left, &mut notes,
+            alloc,
+            circuit,
+            tableau,
+            string,
+            coins,
+            outputs,
+            from,
+            taken_together(*repeat),
+            left,
+            &mut notes,
         )?;
     }
     Ok(from)

@@ -36,9 +36,13 @@ pub struct Period {
     pub walk: FrameWalk,
 }
 
+/// For so many rounds a state is awaited that comes again with its signs, if no coin decided: what is given again then costs nothing.
+const MOST_AWAITED: usize = 8;
+
 /// Whether a frame may go over the rounds since an earlier one: two periods more are left at least, each measurement since made a
-/// record, the steps look back to no record that was not there, and all strings are kept. Where no further string is kept and an
-/// outcome since was free, it says no without counting: its string is missing, or was the last that there was room for.
+/// record, the steps look back to no record that was not there, and all strings are kept. If no further string is kept and an
+/// outcome since was free, it says no without counting: its string is missing, or was the last that there was room for. Nor does
+/// it go over rounds whose signs may come again too.
 fn may_turn(
     earlier: &Earlier,
     outputs: &Outputs,
@@ -56,12 +60,14 @@ fn may_turn(
     let lengths = earlier.lengths;
     let records = outputs.records.len();
     let flags = outputs.free.len();
+    let fixed = are_fixed(outputs.free.as_slice(), lengths.free);
     (repeat.rounds - done) / (done - earlier.done) >= 2
         && repeat.reach as usize <= lengths.records
         && lengths.records <= records
         && lengths.free <= flags
         && records - lengths.records == flags - lengths.free
-        && (!strings.is_full() || are_fixed(outputs.free.as_slice(), lengths.free))
+        && (!fixed || done > MOST_AWAITED)
+        && (fixed || !strings.is_full())
         && count_ones(outputs.free.as_slice()) <= strings.len()
 }
 

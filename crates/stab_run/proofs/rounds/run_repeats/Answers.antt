@@ -1,8 +1,10 @@
-use Rattle.std.proofs.Common.{sym, ◌∙◌, arith}
+use Rattle.std.proofs.Common.{◌≤◌, sym, ◌∙◌, get_or, arith}
 use Rattle.stab_circuit.specs.declared.circuit.repeats.Repeat.{Repeat}
 use Rattle.stab_circuit.specs.Steps.{unroll}
 use Rattle.stab_circuit.specs.Views.{circuit_items}
 use Rattle.stab_steps.specs.ProgramStates.{program_state, output_of}
+use Rattle.stab_laws.proofs.FitLemmas.{check-steps, check-whole}
+use Rattle.stab_run.specs.inner.Led.{behind_rounds}
 use Rattle.stab_run.proofs.LedLemmas.{coins-all}
 use Rattle.stab_run.proofs.AgainLemmas.{repeat-here, repeats-behind, led-same}
 use Rattle.stab_run.proofs.NotedLemmas.{noted-same}
@@ -10,6 +12,29 @@ use Rattle.stab_run.proofs.rounds.run_repeats.Goals as goal
 
 abbrev none : Repeat
 none = record { first = 0; length = 0; rounds = 0; reach = 0 }
+
+pub taken_together-requires-clause-some : goal.taken_together-requires-clause-some
+taken_together-requires-clause-some g c =
+    (repeat-here c.loop-repeat.from (unroll (circuit_items c.args.circuit.now)) c.args.repeats.now c.loop-repeat.repeat-index none c.loop-repeat-test.true
+    c.loop-repeat.invariant.repeats).1.some
+
+pub taken_together-requires-clause-few : goal.taken_together-requires-clause-few
+taken_together-requires-clause-few g c =
+    let items = circuit_items c.args.circuit.now in
+    let here = repeat-here c.loop-repeat.from (unroll items) c.args.repeats.now c.loop-repeat.repeat-index none c.loop-repeat-test.true c.loop-repeat.invariant.repeats in
+    omega (arith, here.1.inside, check-steps items (check-whole c.args.tableau.now.qubits items c.requires.checked))
+
+pub run_block-requires-clause-before : goal.run_block-requires-clause-before
+run_block-requires-clause-before g c =
+    let here = repeat-here c.loop-repeat.from (unroll (circuit_items c.args.circuit.now)) c.args.repeats.now c.loop-repeat.repeat-index none c.loop-repeat-test.true
+    c.loop-repeat.invariant.repeats in
+    omega (arith, here.0, c.taken_together.ensures.first)
+
+pub run_block-requires-clause-repeat : goal.run_block-requires-clause-repeat
+run_block-requires-clause-repeat g c =
+    let steps = unroll (circuit_items c.args.circuit.now) in
+    let here = repeat-here c.loop-repeat.from steps c.args.repeats.now c.loop-repeat.repeat-index none c.loop-repeat-test.true c.loop-repeat.invariant.repeats in
+    c.taken_together.ensures.repeat steps here.1
 
 pub run_block-requires-clause-noted : goal.run_block-requires-clause-noted
 run_block-requires-clause-noted g c =
@@ -26,10 +51,12 @@ loop-repeat-preserved g c =
     let i = c.loop-repeat.repeat-index in
     let from = c.loop-repeat.from in
     let here = repeat-here from steps all i none c.loop-repeat-test.true inv.repeats in
+    let next : c.in_ok-from.from ≤ behind_rounds (get_or all i none) (get_or all i none).rounds =
+    omega (arith, done.next, c.taken_together.ensures.first, c.taken_together.ensures.within) in
     record {
-      within = omega (arith, done.next, here.1.inside);
+      within = omega (arith, next, here.1.inside);
       left = omega (arith, inv.left, done.left);
-      repeats = repeats-behind from c.in_ok-from.from steps all i none c.loop-repeat-test.true inv.repeats done.next;
+      repeats = repeats-behind from c.in_ok-from.from steps all i none c.loop-repeat-test.true inv.repeats next;
       qubits = ran.qubits ∙ inv.qubits;
       string = ran.string ∙ inv.string;
       same_coins = ran.same_coins ∙ inv.same_coins;

@@ -1,4 +1,4 @@
-use Rattle.std.proofs.Common.{◌≡◌, ◌+◌, ◌-◌, ◌*◌, refl, sym, ◌∙◌, ap, subst, All, [], length, take, drop, arith}
+use Rattle.std.proofs.Common.{◌≡◌, ◌+◌, ◌-◌, ◌*◌, sym, ◌∙◌, ap, subst, All, [], length, take, drop, arith}
 use Rattle.std.proofs.Math.Seq.{take-length}
 use Rattle.std.proofs.Math.Nat.{mul-le-mul_right}
 use Rattle.std.proofs.lemmas.List.{length-drop}
@@ -9,7 +9,7 @@ use Rattle.stab_circuit.specs.Steps.{rounds, unroll}
 use Rattle.stab_circuit.specs.Repeats.{round_of}
 use Rattle.stab_circuit.specs.Views.{circuit_items}
 use Rattle.stab_steps.specs.Records.{ones}
-use Rattle.stab_steps.specs.Points.{RunOutput, nothing, origin, all_coins_of, point_after}
+use Rattle.stab_steps.specs.Points.{RunOutput, nothing, origin, all_coins_of}
 use Rattle.stab_steps.specs.ProgramStates.{StepFits, output_of}
 use Rattle.stab_steps.proofs.RecordLemmas.{ones-append}
 use Rattle.stab_frames.specs.Flips.{flipped_output}

@@ -1,4 +1,4 @@
-use Rattle.std.proofs.Common.{◌≡◌, ◌+◌, ◌-◌, ◌≤◌, length, take}
+use Rattle.std.proofs.Common.{◌≡◌, ◌+◌, ◌-◌, ◌≤◌, take}
 use Rattle.stab_circuit.specs.Steps.{unroll}
 use Rattle.stab_circuit.specs.Views.{circuit_items}
 use Rattle.stab_steps.specs.Records.{ones}

@@ -1,0 +1,34 @@
+//! Short rounds, of which some are taken as one.
+
+ghost use Rattle.std.specs.Prelude.{◌≡◌, ◌+◌, ◌*◌, ◌<◌, ◌≤◌, ◌^◌, List};
+ghost use Rattle.stab_circuit.specs.Steps.{Step};
+ghost use Rattle.stab_circuit.specs.Repeats.{IsRepeat};
+
+use stab_circuit::Repeat;
+
+/// How many steps a round has at least that is taken by itself: what is done at the end of one costs about as much as some hundred.
+const LEAST_TOGETHER: usize = 512;
+
+/// How many such rounds there are at least, so that enough are left for what comes again.
+const LEAST_ROUNDS: usize = 8;
+
+/// The rounds of a repeat, or if they are short, so many of them taken as one that it has some hundred steps. Rounds that are left at
+/// the end are none of it.
+pub fn taken_together(repeat: Repeat) -> Repeat
+    requires some { 0 < repeat.length }
+    requires few { repeat.rounds * repeat.length < 2 ^ 63 }
+    ensures repeat { (steps : List Step) → IsRepeat steps repeat → IsRepeat steps result }
+    ensures first { result.first ≡ repeat.first }
+    ensures within { result.rounds * result.length ≤ repeat.rounds * repeat.length }
+{
+    let together = LEAST_TOGETHER.div_ceil(repeat.length);
+    let rounds = repeat.rounds / together;
+    if rounds < LEAST_ROUNDS {
+        return repeat;
+    }
+    Repeat {
+        length: repeat.length * together,
+        rounds,
+        ..repeat
+    }
+}
