@@ -49,7 +49,7 @@ fn print_line<R: CpuClock + AllocGlobal + Print>(
     path: Path,
     place: usize,
 ) -> Result<(), Failure> {
-    let items = nearest_usize_to_f64(circuit.len());
+    let items = nearest_usize_to_f64(circuit.items().len());
     let parts = [
         ("two edits at place ", nearest_usize_to_f64(place), 0),
         (" in ", items, 0),

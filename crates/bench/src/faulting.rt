@@ -132,7 +132,7 @@ fn ask_for_all<R: CpuClock + AllocGlobal>(
     session: &mut Session<SeedCoins>,
     before: &[bool],
 ) -> Result<f64, Failure> {
-    let apart = session.circuit().len() / ASKED;
+    let apart = session.circuit().items().len() / ASKED;
     let mut seconds = 0.0;
     for number in 0..ASKED {
         let place = Path::new(&[apart.saturating_mul(number)]);

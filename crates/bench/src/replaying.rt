@@ -103,7 +103,7 @@ fn print_opening<R: CpuClock + Files + AllocGlobal + Print>(
     let kept = resident(rt)? - before;
     let circuit = session.circuit();
     let parts = [
-        ("", nearest_usize_to_f64(circuit.len()), 0),
+        ("", nearest_usize_to_f64(circuit.items().len()), 0),
         (" items, ", nearest_usize_to_f64(circuit.steps()), 0),
         (" steps, open ", open, 1),
         (" ms, ", kept, 1),
@@ -119,7 +119,7 @@ fn print_edits<R: CpuClock + AllocGlobal + Print>(
     flip: &str,
     whole: Whole,
 ) -> Result<(), Failure> {
-    let hundredth = session.circuit().len() / 100;
+    let hundredth = session.circuit().items().len() / 100;
     for part in PARTS {
         print_edits_at(rt, session, hundredth.saturating_mul(part), flip, whole)?;
     }

@@ -1,17 +1,13 @@
 -- Edits in blocks keep the blocks right.
-use Rattle.std.proofs.Common.{◌≡◌, ◌≤◌, ◌<◌, refl, ap, sym, ◌∙◌, subst, ℕ, ◌+◌, ◌-◌, suc, zero, max, nat_le, nat_lt, if◌then◌else◌, List, [], ◌∷◌, length, set, get_or, arith, Option, Some, Result, Ok, Err}
+use Rattle.std.proofs.Common.{◌≡◌, ◌≤◌, ◌<◌, ap, sym, ◌∙◌, subst, ℕ, ◌+◌, suc, zero, max, List, [], ◌∷◌, length, set, get_or, arith, Option, Some, Result, Ok, Err}
 use Rattle.std.specs.Prelude.{slice_get}
-use Rattle.std.specs.List.{insert, remove}
 use Rattle.std.proofs.lemmas.Option.{slice_get-get_or}
 use Rattle.std.specs.Result.{OnOk, OnErr}
 use Rattle.stab_io.specs.declared.refusal.Refusal.{Refusal}
-use Rattle.stab_io.specs.declared.refusal.Refusal.TheVariants.{PlaceOutOfRange}
 use Rattle.stab_circuit.specs.declared.edit.Edit.{Edit}
-use Rattle.stab_circuit.specs.declared.edit.Edit.TheVariants.{Insert, Replace, Delete}
 use Rattle.stab_items.specs.Items.{Items, OneItem, operation, repeat, listed, before, depth, depth_of}
 use Rattle.stab_items.specs.inner.Blocks.{with_body}
-use Rattle.stab_circuit.specs.Edits.{with_item, rebuilt, edited_inside, changed, edited_in, inner, taken_at, taken_in}
-use Rattle.stab_circuit.specs.inner.Behind.{changed_behind, edited_behind, taken_at_behind, taken_behind}
+use Rattle.stab_circuit.specs.Edits.{with_item, rebuilt, edited_inside, edited_in, inner, taken_in}
 use Rattle.stab_circuit.specs.inner.Judgements.{IsShallow, IsShallowItem}
 use Rattle.stab_circuit.proofs.EditLemmas.{entries-listed}
 
@@ -28,57 +24,34 @@ put_shallow : (xs : List OneItem) (b : ℕ) (x : OneItem) (r : Result OneItem Re
 put_shallow xs b x (Ok y) e h = omega (arith, depth-set xs b x y e)
 put_shallow xs b x (Err r) e h = absurd h
 
--- a list with an item edited, before which so many items stand
-edited_at : (edit : Edit) (n b : ℕ) (bs blocks : List ℕ) (xs : List OneItem) (x : OneItem) → blocks ≡ b ∷ bs → slice_get xs (b - n) ≡ Some x
-    → edited_behind n edit blocks xs ≡ with_item (b - n) xs (edited_inside (edited_in edit bs) (Some x))
-edited_at edit n b bs blocks xs x e f = ap (λ l. edited_behind n edit l xs) e ∙ ap (λ g. with_item (b - n) xs (edited_inside (edited_in edit bs) g)) f
+-- a list with an item edited
+edited_at : (edit : Edit) (b : ℕ) (bs blocks : List ℕ) (xs : List OneItem) (x : OneItem) → blocks ≡ b ∷ bs → slice_get xs b ≡ Some x
+    → edited_in edit blocks xs ≡ with_item b xs (edited_inside (edited_in edit bs) (Some x))
+edited_at edit b bs blocks xs x e f = ap (λ l. edited_in edit l xs) e ∙ ap (λ g. with_item b xs (edited_inside (edited_in edit bs) g)) f
 
-pub allowed_at : (edit : Edit) (n b : ℕ) (bs blocks : List ℕ) (xs : List OneItem) (x : OneItem) → blocks ≡ b ∷ bs → slice_get xs (b - n) ≡ Some x
-    → IsShallow (edited_behind n edit blocks xs) → IsShallowItem (edited_inside (edited_in edit bs) (Some x))
-allowed_at edit n b bs blocks xs x e f h = put_shallow xs (b - n) x (edited_inside (edited_in edit bs) (Some x)) f (subst IsShallow (edited_at edit n b bs blocks xs x e f) h)
+pub allowed_at : (edit : Edit) (b : ℕ) (bs blocks : List ℕ) (xs : List OneItem) (x : OneItem) → blocks ≡ b ∷ bs → slice_get xs b ≡ Some x
+    → IsShallow (edited_in edit blocks xs) → IsShallowItem (edited_inside (edited_in edit bs) (Some x))
+allowed_at edit b bs blocks xs x e f h = put_shallow xs b x (edited_inside (edited_in edit bs) (Some x)) f (subst IsShallow (edited_at edit b bs blocks xs x e f) h)
 
-pub committed_at : (r : Result (Option OneItem) Edit) (edit : Edit) (n b : ℕ) (bs blocks : List ℕ) (xs : List OneItem) (x y : OneItem) → blocks ≡ b ∷ bs → slice_get xs (b - n) ≡ Some x
-    → OnOk r (edited_inside (edited_in edit bs) (Some x) ≡ Ok y) → OnOk r (edited_behind n edit blocks xs ≡ Ok (set xs (b - n) y))
-committed_at (Ok u) edit n b bs blocks xs x y e f h = edited_at edit n b bs blocks xs x e f ∙ ap (with_item (b - n) xs) h
-committed_at (Err c) edit n b bs blocks xs x y e f h = h
+pub committed_at : (r : Result (Option OneItem) Edit) (edit : Edit) (b : ℕ) (bs blocks : List ℕ) (xs : List OneItem) (x y : OneItem) → blocks ≡ b ∷ bs → slice_get xs b ≡ Some x
+    → OnOk r (edited_inside (edited_in edit bs) (Some x) ≡ Ok y) → OnOk r (edited_in edit blocks xs ≡ Ok (set xs b y))
+committed_at (Ok u) edit b bs blocks xs x y e f h = edited_at edit b bs blocks xs x e f ∙ ap (with_item b xs) h
+committed_at (Err c) edit b bs blocks xs x y e f h = h
 
-pub taken_through : (edit : Edit) (n b : ℕ) (bs blocks : List ℕ) (xs : List OneItem) (x : OneItem) → blocks ≡ b ∷ bs → slice_get xs (b - n) ≡ Some x
-    → taken_behind n edit blocks xs ≡ taken_in edit bs (inner (Some x))
-taken_through edit n b bs blocks xs x e f = ap (λ l. taken_behind n edit l xs) e ∙ ap (λ g. taken_in edit bs (inner g)) f
+pub taken_through : (edit : Edit) (b : ℕ) (bs blocks : List ℕ) (xs : List OneItem) (x : OneItem) → blocks ≡ b ∷ bs → slice_get xs b ≡ Some x
+    → taken_in edit blocks xs ≡ taken_in edit bs (inner (Some x))
+taken_through edit b bs blocks xs x e f = ap (λ l. taken_in edit l xs) e ∙ ap (λ g. taken_in edit bs (inner g)) f
 
 in_range : (edit : List OneItem → Result (List OneItem) Refusal) (xs zs : List OneItem) (b q : ℕ) → IsShallow (with_item q zs (edited_inside edit (slice_get xs b))) → b < length xs
 in_range edit [] zs b q h = absurd h
 in_range edit (x ∷ xs) zs zero q h = omega arith
 in_range edit (x ∷ xs) zs (suc b) q h = omega (arith, in_range edit xs zs b q h)
 
-pub there_at : (edit : Edit) (n b : ℕ) (bs blocks : List ℕ) (xs : List OneItem) → blocks ≡ b ∷ bs → IsShallow (edited_behind n edit blocks xs) → b - n < length xs
-there_at edit n b bs blocks xs e h = in_range (edited_in edit bs) xs xs (b - n) (b - n) (subst (λ l. IsShallow (edited_behind n edit l xs)) e h)
+pub there_at : (edit : Edit) (b : ℕ) (bs blocks : List ℕ) (xs : List OneItem) → blocks ≡ b ∷ bs → IsShallow (edited_in edit blocks xs) → b < length xs
+there_at edit b bs blocks xs e h = in_range (edited_in edit bs) xs xs b b (subst (λ l. IsShallow (edited_in edit l xs)) e h)
 
-pub found_at : (edit : Edit) (n b : ℕ) (bs blocks : List ℕ) (xs : List OneItem) (x : OneItem) → blocks ≡ b ∷ bs → IsShallow (edited_behind n edit blocks xs) → x ≡ get_or xs (b - n) x → slice_get xs (b - n) ≡ Some x
-found_at edit n b bs blocks xs x e h f = slice_get-get_or xs (b - n) x (there_at edit n b bs blocks xs e h) ∙ ap Some (sym f)
-
--- where no items stand before the list
-changed_alone : (edit : Edit) (xs : List OneItem) → changed_behind 0 edit xs ≡ changed edit xs
-changed_alone (Insert at x) xs = let same : at.place - 0 ≡ at.place = omega arith in ap (λ p. if nat_le p (length xs) then Ok (insert xs p x) else Err PlaceOutOfRange) same
-changed_alone (Replace at x) xs = let same : at.place - 0 ≡ at.place = omega arith in ap (λ p. if nat_lt p (length xs) then Ok (set xs p x) else Err PlaceOutOfRange) same
-changed_alone (Delete at) xs = let same : at.place - 0 ≡ at.place = omega arith in ap (λ p. if nat_lt p (length xs) then Ok (remove xs p) else Err PlaceOutOfRange) same
-
-pub edited_alone : (edit : Edit) (bs : List ℕ) (xs : List OneItem) → edited_behind 0 edit bs xs ≡ edited_in edit bs xs
-edited_alone edit [] xs = changed_alone edit xs
-edited_alone edit (b ∷ bs) xs = let same : b - 0 ≡ b = omega arith in ap (λ p. with_item p xs (edited_inside (edited_in edit bs) (slice_get xs p))) same
-
-taken_alone_at : (edit : Edit) (xs : List OneItem) → taken_at_behind 0 edit xs ≡ taken_at edit xs
-taken_alone_at (Insert at x) xs = refl
-taken_alone_at (Replace at x) xs = let same : at.place - 0 ≡ at.place = omega arith in ap (slice_get xs) same
-taken_alone_at (Delete at) xs = let same : at.place - 0 ≡ at.place = omega arith in ap (slice_get xs) same
-
-pub taken_alone : (edit : Edit) (bs : List ℕ) (xs : List OneItem) → taken_behind 0 edit bs xs ≡ taken_in edit bs xs
-taken_alone edit [] xs = taken_alone_at edit xs
-taken_alone edit (b ∷ bs) xs = let same : b - 0 ≡ b = omega arith in ap (λ p. taken_in edit bs (inner (slice_get xs p))) same
-
--- the same of answers
-pub ok_alone : (r : Result (Option OneItem) Edit) (edit : Edit) (bs : List ℕ) (xs ys : List OneItem) → OnOk r (edited_behind 0 edit bs xs ≡ Ok ys) → OnOk r (edited_in edit bs xs ≡ Ok ys)
-ok_alone r edit bs xs ys h = subst (λ q. OnOk r (q ≡ Ok ys)) (edited_alone edit bs xs) h
+pub found_at : (edit : Edit) (b : ℕ) (bs blocks : List ℕ) (xs : List OneItem) (x : OneItem) → blocks ≡ b ∷ bs → IsShallow (edited_in edit blocks xs) → x ≡ get_or xs b x → slice_get xs b ≡ Some x
+found_at edit b bs blocks xs x e h f = slice_get-get_or xs b x (there_at edit b bs blocks xs e h) ∙ ap Some (sym f)
 
 -- a block whose items were taken out and others put in
 pub put_back : (x y z : OneItem) (ys : List OneItem) → y ≡ with_body [] x → z ≡ with_body ys y → z ≡ with_body ys x

@@ -179,7 +179,6 @@ edit_result_is edit blocks xs taken front gone back j before of behind o e small
       total = summed_around edit blocks w xs front back j o.total e small first b (omega (arith, far.reach, ap (λ v. v.reach) hb))
           (ap (λ v. v.total) is ∙ ap (λ v. followed_by v (followed_by j.put behind)) hf ∙ ap (λ v. followed_by (summary_of (listed front)) (followed_by j.put v)) hb);
       small = all;
-      behind = ap (λ v. v.behind) is ∙ ap (λ v. v.behind) same ∙ sym (taken_is edit blocks xs s found.1);
       first = ends_first edit blocks xs front s before.steps j.within o.first found.1 first' (ap (λ v. v.steps) hf) (ap (λ v. v.within) same) (ap (λ v. v.first) is);
       front = begins;
       old_end = ends_old edit blocks xs front gone s before.steps of.steps o.old_end found.1 whole (ap (λ v. v.steps) hf) (ap (λ v. v.steps) hg) (ap (λ v. v.old_end) is);
@@ -191,7 +190,3 @@ edit_result_is edit blocks xs taken front gone back j before of behind o e small
       new_order = omega (arith, at_first, ap (λ v. v.new_end) is, put_long);
       order = omega (arith, at_first, ap (λ v. v.total.steps) is, put_long);
     }
-
--- the same of blocks that are these
-pub edit_result_at : (edit : Edit) (blocks bs : List ℕ) (xs : List OneItem) (o : EditResult) → bs ≡ blocks → IsEditResult edit bs xs o → IsEditResult edit blocks xs o
-edit_result_at edit blocks bs xs o e h = subst (λ q. IsEditResult edit q xs o) e h

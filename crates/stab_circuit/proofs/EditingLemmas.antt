@@ -15,10 +15,15 @@ use Rattle.stab_circuit.specs.Paths.{Path}
 use Rattle.stab_circuit.specs.Edits.{edited_in, edited, list_refusal, list_verdict, edit_refusal, verdict, inner, taken_at, taken_in, taken, IsInsert}
 use Rattle.stab_items.specs.inner.Summaries.{summary_of, judged}
 use Rattle.stab_circuit.specs.inner.Splices.{Splice, splice_at, spliced}
-use Rattle.stab_circuit.specs.inner.Judgements.{summed}
+use Rattle.stab_circuit.specs.inner.Judgements.{summed, IsShallow}
 use Rattle.stab_items.proofs.SummaryLemmas.{check_judged}
 use Rattle.stab_circuit.proofs.EditLemmas.{if_ok, lt_holds, rebuilds}
 use Rattle.stab_circuit.proofs.SpliceLemmas.{edited_spliced}
+
+-- blocks are nested at most 16 deep where they are so by the summary
+pub result_shallow : (q : Result (List OneItem) Refusal) (t : Summary) → Ok t ≡ summed q → t.depth ≤ 16 → IsShallow q
+result_shallow (Ok ys) t e deep = let same : t ≡ summary_of (listed ys) = cc in omega (arith, deep, ap (λ s. s.depth) same)
+result_shallow (Err r) t e deep = absurd (cc)
 
 -- a edit that takes out nothing is an insertion
 taken_there : (edit : Edit) (xs : List OneItem) (s : Splice) → splice_at edit (length xs) ≡ Ok s → taken_at edit xs ≡ None → IsInsert edit

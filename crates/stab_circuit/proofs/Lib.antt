@@ -19,10 +19,8 @@ mod LineItemLemmas
 mod SpliceLemmas
 mod JudgementLemmas
 mod EditResultLemmas
-mod ChunkLemmas
-mod EditPartLemmas
-mod ChunkEditLemmas
 mod CommitLemmas
+mod StretchLemmas
 mod PathLemmas
 pub mod PlaceLemmas
 mod StepPathLemmas

@@ -4,11 +4,11 @@ use Rattle.std.proofs.lemmas.List.{take_more, drop-drop}
 use Rattle.stab_circuit.specs.declared.walk.Walk.{Walk}
 use Rattle.stab_items.specs.Items.{OneItem, before, done, listed}
 use Rattle.stab_items.specs.Steps.{Step, rounds, unroll}
-use Rattle.stab_circuit.specs.inner.Walks.{kind_steps, levels_left, chunks_left, ahead, walk_left}
+use Rattle.stab_circuit.specs.inner.Walks.{kind_steps, levels_left, ahead, walk_left}
 use Rattle.stab_circuit.proofs.EditLemmas.{steps-append, steps_split}
 
 abbrev pub past_items : Walk → ℕ → Walk
-past_items w n = record { kind = w.kind; within = w.within; top = record { items = w.top.items; place = w.top.place + n; rounds = w.top.rounds }; around = w.around; rest = w.rest }
+past_items w n = record { kind = w.kind; within = w.within; top = record { items = w.top.items; place = w.top.place + n; rounds = w.top.rounds }; around = w.around }
 
 -- past items of the innermost block that have these steps
 pub items_taken : (w : Walk) (n : ℕ) (ss : List Step) → drop w.within (kind_steps w.kind) ≡ []
@@ -16,7 +16,7 @@ pub items_taken : (w : Walk) (n : ℕ) (ss : List Step) → drop w.within (kind_
 items_taken w n ss given here =
     let xs = w.top.items.now in
     let more = rounds w.top.rounds (unroll (listed xs)) in
-    let others = levels_left (chunks_left w.rest.now) w.around.items in
+    let others = levels_left [] w.around.items in
     let behind = unroll (listed (drop (w.top.place + n) xs)) in
     ap (λ l. l ++ ahead w) given
     ∙ ap (λ l. (l ++ more) ++ others) here

@@ -1,30 +1,16 @@
 -- Repeats: the blocks of a list, by the steps that they make.
-use Rattle.std.proofs.Common.{◌≡◌, ◌≤◌, ◌<◌, refl, ap, sym, ◌∙◌, subst, ℕ, ◌+◌, ◌*◌, zero, suc, min, Bool, true, false, ◌&&◌, nat_lt, if◌then◌else◌, List, [], ◌∷◌, ◌++◌, length, take, drop, get_or, arith, append_assoc, append-nil}
+use Rattle.std.proofs.Common.{◌≡◌, ◌≤◌, ◌<◌, refl, ap, sym, ◌∙◌, subst, ℕ, ◌+◌, ◌*◌, zero, suc, min, Bool, true, false, ◌&&◌, nat_lt, if◌then◌else◌, List, [], ◌∷◌, ◌++◌, length, take, drop, arith, append_assoc, append-nil}
 use Rattle.std.proofs.lemmas.Bool.{ltb-true}
-use Rattle.std.proofs.lemmas.List.{length-append, drop_at, take_at, drop_all}
+use Rattle.std.proofs.lemmas.List.{length-append, drop_at, take_at}
 use Rattle.stab_circuit.specs.declared.circuit.repeats.Repeat.{Repeat}
 use Rattle.stab_items.specs.Items.{OneItem, operation, repeat, done, before, listed, depth}
 use Rattle.stab_items.specs.Steps.{Step, rounds, unroll, looks_too_far}
 use Rattle.stab_items.specs.inner.Summaries.{reach}
-use Rattle.stab_items.specs.inner.Chunks.{flattened}
 use Rattle.stab_circuit.specs.Repeats.{IsRepeat, AreRepeats, repeated_blocks}
-use Rattle.stab_circuit.specs.inner.Repeats.{finer, repeat_as, repeat_in, repeats_in}
+use Rattle.stab_circuit.specs.inner.Repeats.{finer, repeat_as, repeats_in}
 use Rattle.stab_items.proofs.StepLemmas.{length-rounds, looks_too_far_reach}
 use Rattle.stab_circuit.proofs.FinerLemmas.{IsFiner, is-finer}
-use Rattle.stab_circuit.proofs.EditLemmas.{steps-append}
-use Rattle.stab_circuit.proofs.ChunkLemmas.{flattened_from}
 use Rattle.stab_circuit.proofs.WalkLemmas.{unroll_before}
-
--- one list behind another
-repeats-append : (first : ℕ) (xs ys : List OneItem) → repeats_in first (xs ++ ys) ≡ repeats_in first xs ++ repeats_in (first + length (unroll (listed xs))) ys
-repeats-append first [] ys = let same : first ≡ first + 0 = omega arith in ap (λ n. repeats_in n ys) same
-repeats-append first (x ∷ xs) ys =
-    let n = length (unroll (before x done)) in
-    let m = length (unroll (listed xs)) in
-    let all : first + n + m ≡ first + length (unroll (before x (listed xs))) = omega (arith, ap length (unroll_before x (listed xs)), length-append (unroll (before x done)) (unroll (listed xs))) in
-    ap (λ l. repeat_in first x ++ l) (repeats-append (first + n) xs ys)
-    ∙ sym (append_assoc (repeat_in first x) (repeats_in (first + n) xs) (repeats_in (first + n + m) ys))
-    ∙ ap (λ k. (repeat_in first x ++ repeats_in (first + n) xs) ++ repeats_in k ys) all
 
 -- a list without a block
 repeats_flat : (first : ℕ) (xs : List OneItem) → depth (listed xs) ≡ 0 → repeats_in first xs ≡ []
@@ -32,49 +18,8 @@ repeats_flat first [] h = refl
 repeats_flat first (operation op ∷ xs) h = repeats_flat (first + length (unroll (before (operation op) done))) xs h
 repeats_flat first (repeat count tag body ∷ xs) h = absurd (omega (arith, h))
 
-pub chunk_flat : (first deep : ℕ) (held : List Repeat) (xs : List OneItem) → deep ≡ min (depth (listed xs)) 17 → deep ≡ 0 → held ≡ held ++ repeats_in first xs
-chunk_flat first deep held xs e h = sym (ap (λ l. held ++ l) (repeats_flat first xs (omega (arith, e, h))) ∙ append-nil held)
-
--- the repeats behind a chunk
-pub chunk_added : (held new : List Repeat) (first behind : ℕ) (cs : List (List OneItem)) (k : ℕ) (c : List OneItem) → k < length cs → c ≡ get_or cs k c → new ≡ held ++ repeats_in first c → behind ≡ first + length (unroll (listed c))
-    → new ++ repeats_in behind (flattened (drop (k + 1) cs)) ≡ held ++ repeats_in first (flattened (drop k cs))
-chunk_added held new first behind cs k c h e added at =
-    let rest = flattened (drop (k + 1) cs) in
-    (λ i. added i ++ repeats_in (at i) rest)
-    ∙ append_assoc held (repeats_in first c) (repeats_in (first + length (unroll (listed c))) rest)
-    ∙ ap (λ l. held ++ l) (sym (repeats-append first c rest))
-    ∙ ap (λ l. held ++ repeats_in first l) (sym (flattened_from cs k c h e))
-
--- behind all chunks
-pub all_added : (held all : List Repeat) (first : ℕ) (cs : List (List OneItem)) (k : ℕ) → length cs ≤ k → held ++ repeats_in first (flattened (drop k cs)) ≡ all → held ≡ all
-all_added held all first cs k h e = sym (append-nil held) ∙ ap (λ l. held ++ repeats_in first (flattened l)) (sym (drop_all k cs h)) ∙ e
-
--- the steps up to the end of a chunk
-
-chunk_steps : (first all : ℕ) (cs : List (List OneItem)) (k : ℕ) (c : List OneItem) → k < length cs → c ≡ get_or cs k c → first + length (unroll (listed (flattened (drop k cs)))) ≡ all
-    → first + length (unroll (listed c)) + length (unroll (listed (flattened (drop (k + 1) cs)))) ≡ all
-chunk_steps first all cs k c h e counted =
-    let rest = flattened (drop (k + 1) cs) in
-    let here = ap (λ l. length (unroll (listed l))) (flattened_from cs k c h e) ∙ ap length (steps-append c rest) ∙ length-append (unroll (listed c)) (unroll (listed rest)) in
-    omega (arith, here, counted)
-
-pub chunk_few : (first all : ℕ) (cs : List (List OneItem)) (k : ℕ) (c : List OneItem) → k < length cs → c ≡ get_or cs k c → first + length (unroll (listed (flattened (drop k cs)))) ≡ all → all ≤ 1048576
-    → first + length (unroll (listed c)) ≤ 1048576
-chunk_few first all cs k c h e counted few = omega (arith, chunk_steps first all cs k c h e counted, few)
-
-pub record IsCounted (first steps behind all : ℕ) (c : List OneItem) : Type 0 where
-  pub exact : steps ≡ length (unroll (listed c))
-  pub on : first + steps + behind ≡ all
-
--- the same by a number that stops growing
-pub chunk_counted : (first steps all : ℕ) (cs : List (List OneItem)) (k : ℕ) (c : List OneItem) → k < length cs → c ≡ get_or cs k c → first + length (unroll (listed (flattened (drop k cs)))) ≡ all → all ≤ 1048576
-    → steps ≡ min (length (unroll (listed c))) 1048577 → IsCounted first steps (length (unroll (listed (flattened (drop (k + 1) cs))))) all c
-chunk_counted first steps all cs k c h e counted few capped =
-    let here = chunk_steps first all cs k c h e counted in
-    record {
-      exact = omega (arith, here, few, capped);
-      on = omega (arith, here, few, capped);
-    }
+pub no_repeats : (deep : ℕ) (xs : List OneItem) → deep ≡ min (depth (listed xs)) 17 → deep ≡ 0 → repeats_in 0 xs ≡ []
+no_repeats deep xs e h = repeats_flat 0 xs (omega (arith, e, h))
 
 -- how many there are
 

@@ -93,6 +93,14 @@ passed_operation a b c x op kind count rest free t is k left few stays light = (
   omega (arith, light, t.1, ap (λ y. weight (before y done)) is),
 )
 
+pub passed_nothing : (a b : Walk) (x : Bor OneItem) (op : Operation) (count : ℕ) → a.kind ≡ None → SameKind a b → Takes a b (Some x) → x.now ≡ operation op → steps_of op.kind ≡ [] → Passes count a b (Some count)
+passed_nothing a b x op count free s t is none = (
+  ap (drop count) (free_left b (same_free a b s free) ∙ ap (λ l. l ++ ahead b) (sym (append-nil (steps_of op.kind) ∙ none)) ∙ ap (λ y. unroll (before y done) ++ ahead b) (sym is) ∙ sym t.0 ∙ sym (free_left a free)),
+  omega arith,
+  (λ some. same_free a b s free),
+  omega (arith, t.1, ap (λ y. weight (before y done)) is),
+)
+
 pub passed_block : (a b c : Walk) (x : Bor OneItem) (rs n : ℕ) (tag : List ℕ) (body : Items) (count rest : ℕ) → a.kind ≡ None → Takes a b (Some x) → x.now ≡ repeat n tag body → rs ≡ n
     → drop rest (walk_left c) ≡ drop count (rounds rs (unroll body) ++ ahead b) → rest ≤ count → c.kind ≡ None → walk_weight c ≤ rs * (1 + weight body) + walk_weight b → Passes count a c (Some rest)
 passed_block a b c x rs n tag body count rest free t is same left few stays light =

@@ -1,20 +1,14 @@
 -- The item that each unrolled step is of.
 use Rattle.std.proofs.Common.{◌≡◌, ◌≤◌, ◌<◌, refl, ap, sym, ◌∙◌, subst, ℕ, ◌+◌, ◌*◌, ◌-◌, ◌/◌, ◌%◌, zero, suc, min, List, [], ◌∷◌, ◌++◌, length, take, drop, get_or, map, replicate, arith, append_assoc, append-nil}
-use Rattle.std.proofs.lemmas.List.{length-append, length-drop, length-map, length-replicate, map-append, drop-map, drop-replicate, drop-append-le}
+use Rattle.std.proofs.lemmas.List.{length-append, length-map, length-replicate, map-append, drop-map, drop-replicate, drop-append-le, length-take-le, take-append-drop}
 use Rattle.std.proofs.Math.Seq.{drop-append-add}
 use Rattle.std.proofs.Math.Nat.{div-lt_iff_lt-mul, div-add-mod, mod-lt}
 use Rattle.stab_lines.specs.declared.operation.Operation.{Operation}
-use Rattle.stab_circuit.specs.declared.chunks.SkippedChunks.{SkippedChunks}
 use Rattle.stab_items.specs.Items.{Items, OneItem, operation, repeat, done, next, block, before, listed}
 use Rattle.stab_items.specs.Steps.{steps_of, rounds, unroll}
 use Rattle.stab_circuit.specs.Paths.{Path, numbers}
 use Rattle.stab_circuit.specs.StepPaths.{outside, within, path_rounds, paths_from, paths_of}
-use Rattle.stab_circuit.specs.inner.Chunks.{Skips}
 use Rattle.stab_items.proofs.StepLemmas.{length-rounds}
-use Rattle.stab_items.specs.inner.Chunks.{flattened}
-use Rattle.stab_items.proofs.ChunkLemmas.{flattened_split}
-use Rattle.stab_circuit.proofs.EditLemmas.{steps-append}
-use Rattle.stab_circuit.proofs.ChunkLemmas.{flattened_from}
 use Rattle.stab_circuit.proofs.WalkLemmas.{unroll_before, items_from}
 use Rattle.stab_circuit.proofs.PathLemmas.{path_is}
 
@@ -74,51 +68,18 @@ paths-append place (x ∷ xs) ys =
     ∙ sym (append_assoc (paths_from place (before x done)) (paths_from (place + 1) (listed xs)) behind)
     ∙ ap (λ l. l ++ behind) (sym (paths_before place x (listed xs)))
 
--- the steps of the first chunks, and of the others
-pub steps_of_chunks : (cs : List (List OneItem)) (k : ℕ) → length (unroll (listed (flattened cs))) ≡ length (unroll (listed (flattened (take k cs)))) + length (unroll (listed (flattened (drop k cs))))
-steps_of_chunks cs k =
-    ap (λ l. length (unroll (listed l))) (sym (flattened_split k cs))
-    ∙ ap length (steps-append (flattened (take k cs)) (flattened (drop k cs)))
-    ∙ length-append (unroll (listed (flattened (take k cs)))) (unroll (listed (flattened (drop k cs))))
-
-pub step_behind : (cs : List (List OneItem)) (step : ℕ) (s : SkippedChunks) → Skips step cs s → step < length (unroll (listed (flattened cs))) → step ≡ length (unroll (listed (flattened (take s.number cs)))) + s.rest
-step_behind cs step s skips h =
-    omega (arith, h, ap length skips.same, length-drop s.rest (unroll (listed (flattened (drop s.number cs)))), length-drop step (unroll (listed (flattened cs))), steps_of_chunks cs s.number)
-
--- what chunks left out, told by the paths
-pub chunks_passed : (cs : List (List OneItem)) (step : ℕ) (s : SkippedChunks) → Skips step cs s → step < length (unroll (listed (flattened cs)))
-    → drop s.rest (paths_from s.items (listed (flattened (drop s.number cs)))) ≡ drop step (paths_of (listed (flattened cs)))
-chunks_passed cs step s skips h =
-    let front = flattened (take s.number cs) in
-    let back = flattened (drop s.number cs) in
-    let at : step ≡ length (paths_from 0 (listed front)) + s.rest = omega (arith, step_behind cs step s skips h, length-paths 0 (listed front)) in
-    let place : 0 + length front ≡ s.items = omega (arith, skips.before) in
-    sym (ap (λ l. drop step (paths_from 0 (listed l))) (sym (flattened_split s.number cs))
-    ∙ ap (drop step) (paths-append 0 front back)
-    ∙ ap (λ n. drop n (paths_from 0 (listed front) ++ paths_from (0 + length front) (listed back))) at
-    ∙ drop-append-add (paths_from 0 (listed front)) (paths_from (0 + length front) (listed back)) s.rest
-    ∙ ap (λ p. drop s.rest (paths_from p (listed back))) place)
-
-some_chunk : (cs : List (List OneItem)) (k n : ℕ) → n < length (unroll (listed (flattened (drop k cs)))) → k < length cs
-some_chunk [] zero n h = absurd (omega (arith, h))
-some_chunk [] (suc k) n h = absurd (omega (arith, h))
-some_chunk (c ∷ cs) zero n h = omega arith
-some_chunk (c ∷ cs) (suc k) n h = omega (arith, some_chunk cs k n h)
-
--- the step is of a chunk
-pub chunk_there : (cs : List (List OneItem)) (step : ℕ) (s : SkippedChunks) → Skips step cs s → step < length (unroll (listed (flattened cs))) → s.number < length cs
-chunk_there cs step s skips h =
-    some_chunk cs s.number s.rest (omega (arith, h, ap length skips.same, length-drop s.rest (unroll (listed (flattened (drop s.number cs)))), length-drop step (unroll (listed (flattened cs)))))
-
-pub few_in_chunk : (cs : List (List OneItem)) (k : ℕ) (c : List OneItem) → k < length cs → c ≡ get_or cs k c → length (unroll (listed c)) ≤ length (unroll (listed (flattened cs)))
-few_in_chunk cs k c h e =
-    omega (
-      arith,
-      steps_of_chunks cs k,
-      ap (λ l. length (unroll (listed l))) (flattened_from cs k c h e),
-      ap length (steps-append c (flattened (drop (k + 1) cs))),
-      length-append (unroll (listed c)) (unroll (listed (flattened (drop (k + 1) cs)))),
-    )
+-- the paths from a step on, by the items from a place on
+pub paths_from_place : (xs : List OneItem) (place rest step : ℕ) → place ≤ length xs → length (unroll (listed (take place xs))) + rest ≡ step
+    → drop rest (paths_from place (listed (drop place xs))) ≡ drop step (paths_of (listed xs))
+paths_from_place xs place rest step h e =
+    let front = paths_from 0 (listed (take place xs)) in
+    let at : step ≡ length front + rest = omega (arith, e, length-paths 0 (listed (take place xs))) in
+    let begin : 0 + length (take place xs) ≡ place = omega (arith, length-take-le place xs h) in
+    sym (ap (λ l. drop step (paths_from 0 (listed l))) (sym (take-append-drop place xs))
+    ∙ ap (drop step) (paths-append 0 (take place xs) (drop place xs))
+    ∙ ap (λ p. drop step (front ++ paths_from p (listed (drop place xs)))) begin
+    ∙ ap (λ n. drop n (front ++ paths_from place (listed (drop place xs)))) at
+    ∙ drop-append-add front (paths_from place (listed (drop place xs))) rest)
 
 -- the item at a place
 
@@ -204,19 +165,16 @@ round_of x n kept w tag body is small h few =
     min_same l h = omega arith
 
 -- past an item
-pub item_passed : (first : ℕ) (xs : List OneItem) (p w n : ℕ) (x : OneItem) → p < length xs → x ≡ get_or xs p x → n ≡ length (unroll (before x done)) → n ≤ w
-    → drop (w - n) (paths_from (first + (p + 1)) (listed (drop (p + 1) xs))) ≡ drop w (paths_from (first + p) (listed (drop p xs)))
-item_passed first xs p w n x h e is enough =
-    let q = first + p in
+pub item_passed : (xs : List OneItem) (p w n : ℕ) (x : OneItem) → p < length xs → x ≡ get_or xs p x → n ≡ length (unroll (before x done)) → n ≤ w
+    → drop (w - n) (paths_from (p + 1) (listed (drop (p + 1) xs))) ≡ drop w (paths_from p (listed (drop p xs)))
+item_passed xs p w n x h e is enough =
     let rest = listed (drop (p + 1) xs) in
-    let own = paths_from q (before x done) in
-    let at : w ≡ length own + (w - n) = omega (arith, is, enough, length-paths q (before x done)) in
-    let next' : q + 1 ≡ first + (p + 1) = omega arith in
-    sym (ap (λ l. drop w (paths_from q l)) (items_from xs p x h e)
-    ∙ ap (drop w) (paths_before q x rest)
-    ∙ ap (λ k. drop k (own ++ paths_from (q + 1) rest)) at
-    ∙ drop-append-add own (paths_from (q + 1) rest) (w - n)
-    ∙ ap (λ k. drop (w - n) (paths_from k rest)) next')
+    let own = paths_from p (before x done) in
+    let at : w ≡ length own + (w - n) = omega (arith, is, enough, length-paths p (before x done)) in
+    sym (ap (λ l. drop w (paths_from p l)) (items_from xs p x h e)
+    ∙ ap (drop w) (paths_before p x rest)
+    ∙ ap (λ k. drop k (own ++ paths_from (p + 1) rest)) at
+    ∙ drop-append-add own (paths_from (p + 1) rest) (w - n))
 
 -- a path in some blocks
 abbrev pub around : List ℕ → Path → Path
@@ -236,27 +194,18 @@ around_replicate : (bs : List ℕ) (n : ℕ) (path : Path) → map (around bs) (
 around_replicate bs zero path = refl
 around_replicate bs (suc n) path = ap (λ l. around bs path ∷ l) (around_replicate bs n path)
 
--- the paths are those of a list in some blocks, before which so many items stand, from a step within the item at a place on, and then others
-pub record Reached (all : List Path) (bs : List ℕ) (first : ℕ) (xs : List OneItem) (p w : ℕ) : Type 0 where
+-- the paths are those of a list in some blocks, from a step within the item at a place on, and then others
+pub record Reached (all : List Path) (bs : List ℕ) (xs : List OneItem) (p w : ℕ) : Type 0 where
   pub others : List Path
-  pub same : all ≡ map (around bs) (drop w (paths_from (first + p) (listed (drop p xs)))) ++ others
+  pub same : all ≡ map (around bs) (drop w (paths_from p (listed (drop p xs)))) ++ others
 
--- a chunk of the outermost list
-pub reached_first : (cs : List (List OneItem)) (step : ℕ) (s : SkippedChunks) (c : List OneItem) (p w : ℕ) → Skips step cs s → step < length (unroll (listed (flattened cs))) → s.number < length cs → c ≡ get_or cs s.number c
-    → drop w (paths_from (s.items + p) (listed (drop p c))) ≡ drop s.rest (paths_from s.items (listed c)) → Reached (drop step (paths_of (listed (flattened cs)))) [] s.items c p w
-reached_first cs step s c p w skips h there is found =
-    let behind = flattened (drop (s.number + 1) cs) in
-    let own = paths_from s.items (listed c) in
-    let others = paths_from (s.items + length c) (listed behind) in
-    let few : s.rest ≤ length own = omega (arith, skips.stops c there is, length-paths s.items (listed c)) in
-    let left = drop w (paths_from (s.items + p) (listed (drop p c))) in
+-- the outermost list
+pub reached_first : (xs ys : List OneItem) (step p w : ℕ) → ys ≡ xs → drop w (paths_from p (listed (drop p ys))) ≡ drop step (paths_of (listed ys)) → Reached (drop step (paths_of (listed xs))) [] ys p w
+reached_first xs ys step p w same found =
+    let left = drop w (paths_from p (listed (drop p ys))) in
     record {
-      others = others;
-      same = sym (chunks_passed cs step s skips h)
-          ∙ ap (λ l. drop s.rest (paths_from s.items (listed l))) (flattened_from cs s.number c there is)
-          ∙ ap (drop s.rest) (paths-append s.items c behind)
-          ∙ drop-append-le s.rest own others few
-          ∙ ap (λ l. l ++ others) (sym found ∙ sym (around_none left));
+      others = [];
+      same = ap (λ l. drop step (paths_of (listed l))) (sym same) ∙ sym found ∙ sym (around_none left) ∙ sym (append-nil (map (around []) left));
     }
 
 -- into the round of a block
@@ -278,10 +227,10 @@ into_round (suc n) (suc k) r ps others h few =
     ∙ into_round n k r ps others (omega arith) few
     ∙ ap (λ m. drop r ps ++ (path_rounds m ps ++ others)) rest
 
-pub reached_block : (all : List Path) (bs : List ℕ) (first : ℕ) (xs ys : List OneItem) (p w n k r q v : ℕ) (tag : List ℕ) (x : OneItem) → Reached all bs first xs p w → p < length xs → x ≡ get_or xs p x → x ≡ repeat n tag (listed ys)
-    → w ≡ k * length (unroll (listed ys)) + r → k < n → r ≤ length (unroll (listed ys)) → drop v (paths_from (0 + q) (listed (drop q ys))) ≡ drop r (paths_from 0 (listed ys)) → Reached all (bs ++ (first + p) ∷ []) 0 ys q v
-reached_block all bs first xs ys p w n k r q v tag x reached h e is at some few found =
-    let b = first + p in
+pub reached_block : (all : List Path) (bs : List ℕ) (xs ys : List OneItem) (p w n k r q v : ℕ) (tag : List ℕ) (x : OneItem) → Reached all bs xs p w → p < length xs → x ≡ get_or xs p x → x ≡ repeat n tag (listed ys)
+    → w ≡ k * length (unroll (listed ys)) + r → k < n → r ≤ length (unroll (listed ys)) → drop v (paths_from q (listed (drop q ys))) ≡ drop r (paths_of (listed ys)) → Reached all (bs ++ p ∷ []) ys q v
+reached_block all bs xs ys p w n k r q v tag x reached h e is at some few found =
+    let b = p in
     let rest = paths_from (b + 1) (listed (drop (p + 1) xs)) in
     let inside = paths_from 0 (listed ys) in
     let round = map (within b) inside in
@@ -292,7 +241,7 @@ reached_block all bs first xs ys p w n k r q v tag x reached h e is at some few 
     ∙ ap (λ y. drop w (paths_from b (before y (listed (drop (p + 1) xs))))) is
     ∙ ap (λ m. drop m (path_rounds n round ++ rest)) (at ∙ ap (λ m. k * m + r) as_many)
     ∙ into_round n k r round rest some (omega (arith, few, as_many)) in
-    let down : map (around bs) (drop r round) ≡ map (around (bs ++ b ∷ [])) (drop v (paths_from (0 + q) (listed (drop q ys)))) =
+    let down : map (around bs) (drop r round) ≡ map (around (bs ++ b ∷ [])) (drop v (paths_from q (listed (drop q ys)))) =
     ap (map (around bs)) (drop-map (within b) r inside)
     ∙ around_within bs b (drop r inside)
     ∙ ap (map (around (bs ++ b ∷ []))) (sym found) in
@@ -310,10 +259,10 @@ take_same zero path others = refl
 take_same (suc n) path others = ap (λ l. path ∷ l) (take_same n path others)
 
 -- the instruction that the step is of
-pub reached_operation : (all : List Path) (bs : List ℕ) (first : ℕ) (xs : List OneItem) (p w steps : ℕ) (op : Operation) (x : OneItem) (path : Path) → Reached all bs first xs p w → p < length xs → x ≡ get_or xs p x → x ≡ operation op
-    → w ≤ length (steps_of op.kind) → steps ≡ length (steps_of op.kind) - w → numbers path ≡ bs ++ (first + p) ∷ [] → take steps all ≡ replicate steps path
-reached_operation all bs first xs p w steps op x path reached h e is few count named =
-    let b = first + p in
+pub reached_operation : (all : List Path) (bs : List ℕ) (xs : List OneItem) (p w steps : ℕ) (op : Operation) (x : OneItem) (path : Path) → Reached all bs xs p w → p < length xs → x ≡ get_or xs p x → x ≡ operation op
+    → w ≤ length (steps_of op.kind) → steps ≡ length (steps_of op.kind) - w → numbers path ≡ bs ++ p ∷ [] → take steps all ≡ replicate steps path
+reached_operation all bs xs p w steps op x path reached h e is few count named =
+    let b = p in
     let n = length (steps_of op.kind) in
     let own = replicate n (outside b) in
     let rest = paths_from (b + 1) (listed (drop (p + 1) xs)) in

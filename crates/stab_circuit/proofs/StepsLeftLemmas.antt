@@ -1,20 +1,14 @@
 -- How many steps from a step on are its item's, in the same round.
 use Rattle.std.proofs.Common.{◌≡◌, ◌≤◌, ◌<◌, refl, ap, sym, ◌∙◌, ℕ, ◌+◌, ◌*◌, ◌-◌, ◌%◌, Bool, true, false, nat_lt, if◌then◌else◌, List, [], ◌∷◌, ◌++◌, length, take, drop, get_or, arith, append-nil}
+use Rattle.std.proofs.lemmas.List.{length-append, take-append-drop}
 use Rattle.std.proofs.lemmas.Bool.{ltb-true, lt-ltb}
-use Rattle.std.proofs.lemmas.Bool.Decides.{nat_tests}
-use Rattle.std.proofs.lemmas.List.{length-append}
 use Rattle.stab_lines.specs.declared.operation.Operation.{Operation}
-use Rattle.stab_circuit.specs.declared.chunks.SkippedChunks.{SkippedChunks}
 use Rattle.stab_items.specs.Items.{Items, OneItem, operation, repeat, done, before, listed}
 use Rattle.stab_items.specs.Steps.{steps_of, rounds, unroll}
 use Rattle.stab_circuit.specs.StepPaths.{item_steps_left}
-use Rattle.stab_circuit.specs.inner.Chunks.{Skips}
 use Rattle.stab_items.proofs.StepLemmas.{length-rounds}
 use Rattle.stab_circuit.proofs.WalkLemmas.{unroll_before, items_from}
-use Rattle.stab_items.specs.inner.Chunks.{flattened}
-use Rattle.stab_items.proofs.ChunkLemmas.{flattened_split}
-use Rattle.stab_circuit.proofs.ChunkLemmas.{flattened_from}
-use Rattle.stab_circuit.proofs.StepPathLemmas.{InRound, step_behind}
+use Rattle.stab_circuit.proofs.StepPathLemmas.{InRound}
 
 pick_first : (a b x y : ℕ) → a < b → (if nat_lt a b then x else y) ≡ x
 pick_first a b x y h = ap (λ t. if t then x else y) (lt-ltb a b h)
@@ -25,9 +19,6 @@ picked a b x y false e h = refl
 
 pick_second : (a b x y : ℕ) → b ≤ a → (if nat_lt a b then x else y) ≡ y
 pick_second a b x y h = picked a b x y (nat_lt a b) refl h
-
-not_below : (a b : ℕ) → nat_lt a b ≡ false → b ≤ a
-not_below a b e = grind (arith, e, nat_tests)
 
 -- behind an item
 left_past : (x : OneItem) (rest : Items) (w n : ℕ) → n ≡ length (unroll (before x done)) → n ≤ w → item_steps_left (before x rest) w ≡ item_steps_left rest (w - n)
@@ -59,44 +50,11 @@ left_behind (x ∷ xs) ys m =
     ∙ ap (item_steps_left (listed (xs ++ ys))) less
     ∙ left_behind xs ys m
 
--- within the first items
-left_here : (x : OneItem) (rest others : Items) (w : ℕ) → w < length (unroll (before x done)) → item_steps_left (before x rest) w ≡ item_steps_left (before x others) w
-left_here (operation op) rest others w h =
-    let k = length (steps_of op.kind) in
-    let all : length (unroll (before (operation op) done)) ≡ k = ap length (append-nil (steps_of op.kind)) in
-    pick_first w k (k - w) (item_steps_left rest (w - k)) (omega (arith, h, all)) ∙ sym (pick_first w k (k - w) (item_steps_left others (w - k)) (omega (arith, h, all)))
-left_here (repeat count tag body) rest others w h =
-    let l = length (unroll body) in
-    let all : length (unroll (before (repeat count tag body) done)) ≡ count * l = ap length (append-nil (rounds count (unroll body))) ∙ length-rounds count (unroll body) in
-    pick_first w (count * l) (item_steps_left body (w % l)) (item_steps_left rest (w - count * l)) (omega (arith, h, all))
-    ∙ sym (pick_first w (count * l) (item_steps_left body (w % l)) (item_steps_left others (w - count * l)) (omega (arith, h, all)))
-
-left_at : (x : OneItem) (xs ys : List OneItem) (w n : ℕ) (t : Bool) → n ≡ length (unroll (before x done)) → nat_lt w n ≡ t
-    → (n ≤ w → item_steps_left (listed (xs ++ ys)) (w - n) ≡ item_steps_left (listed xs) (w - n)) → item_steps_left (before x (listed (xs ++ ys))) w ≡ item_steps_left (before x (listed xs)) w
-left_at x xs ys w n true is e more = left_here x (listed (xs ++ ys)) (listed xs) w (omega (arith, ltb-true w n e, is))
-left_at x xs ys w n false is e more =
-    let past : n ≤ w = not_below w n e in
-    left_past x (listed (xs ++ ys)) w n is past ∙ more past ∙ sym (left_past x (listed xs) w n is past)
-
-left_front : (xs ys : List OneItem) (w : ℕ) → w < length (unroll (listed xs)) → item_steps_left (listed (xs ++ ys)) w ≡ item_steps_left (listed xs) w
-left_front [] ys w h = absurd (omega (arith, h))
-left_front (x ∷ xs) ys w h =
-    let n = length (unroll (before x done)) in
-    let all : length (unroll (before x (listed xs))) ≡ n + length (unroll (listed xs)) = ap length (unroll_before x (listed xs)) ∙ length-append (unroll (before x done)) (unroll (listed xs)) in
-    left_at x xs ys w n (nat_lt w n) refl refl (λ past. left_front xs ys (w - n) (omega (arith, h, all, past)))
-
--- in a chunk
-pub left_chunks : (cs : List (List OneItem)) (step : ℕ) (s : SkippedChunks) (c : List OneItem) → Skips step cs s → step < length (unroll (listed (flattened cs))) → s.number < length cs → c ≡ get_or cs s.number c
-    → item_steps_left (listed c) s.rest ≡ item_steps_left (listed (flattened cs)) step
-left_chunks cs step s c skips h there is =
-    let front = flattened (take s.number cs) in
-    let back = flattened (drop s.number cs) in
-    let here : item_steps_left (listed back) s.rest ≡ item_steps_left (listed c) s.rest =
-    ap (λ l. item_steps_left (listed l) s.rest) (flattened_from cs s.number c there is) ∙ left_front c (flattened (drop (s.number + 1) cs)) s.rest (skips.stops c there is) in
-    sym (ap (item_steps_left (listed (flattened cs))) (step_behind cs step s skips h)
-    ∙ ap (λ l. item_steps_left (listed l) (length (unroll (listed front)) + s.rest)) (sym (flattened_split s.number cs))
-    ∙ left_behind front back s.rest
-    ∙ here)
+pub left_from_place : (xs : List OneItem) (place rest step : ℕ) → length (unroll (listed (take place xs))) + rest ≡ step → item_steps_left (listed (drop place xs)) rest ≡ item_steps_left (listed xs) step
+left_from_place xs place rest step e =
+    sym (left_behind (take place xs) (drop place xs) rest)
+    ∙ ap (item_steps_left (listed (take place xs ++ drop place xs))) e
+    ∙ ap (λ l. item_steps_left (listed l) step) (take-append-drop place xs)
 
 -- in a block
 pub left_block : (xs ys : List OneItem) (p w n kept : ℕ) (tag : List ℕ) (x : OneItem) → p < length xs → x ≡ get_or xs p x → x ≡ repeat n tag (listed ys) → InRound n kept (length (unroll (listed ys))) w

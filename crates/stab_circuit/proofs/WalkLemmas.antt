@@ -2,7 +2,6 @@
 use Rattle.std.proofs.Common.{◌≡◌, ◌≤◌, ◌<◌, refl, ap, sym, ◌∙◌, ℕ, ◌+◌, ◌*◌, ◌-◌, zero, suc, min, Bool, true, false, List, [], ◌∷◌, ◌++◌, length, drop, get_or, arith, drop-cons, append-nil, append_assoc, Bor, subst, Some, None}
 use Rattle.std.specs.List.{slice_get}
 use Rattle.std.specs.Prelude.{vec_capacity}
-use Rattle.std.specs.Global.{Vec}
 use Rattle.std.proofs.lemmas.List.{length-append, drop_all}
 use Rattle.stab_lines.specs.declared.operation.Operation.{Operation}
 use Rattle.stab_lines.specs.declared.operation.Kind.{Kind}
@@ -10,9 +9,8 @@ use Rattle.stab_circuit.specs.declared.walk.Level.{Level}
 use Rattle.stab_circuit.specs.declared.walk.Walk.{Walk}
 use Rattle.stab_items.specs.Items.{Items, OneItem, operation, repeat, done, before, listed, depth}
 use Rattle.stab_items.specs.Steps.{Step, steps_of, rounds, unroll}
-use Rattle.stab_circuit.specs.inner.Walks.{kind_steps, level_left, levels_left, IsNested, weight, weight_at, level_weight, levels_weight, chunks_left, chunks_weight, ahead, walk_left, walk_weight, IsWalk, SameKind, Takes, GoesOn}
-use Rattle.stab_items.specs.inner.Chunks.{flattened}
-use Rattle.stab_items.proofs.ItemLemmas.{before-join, depth_at, listed-append, depth-join}
+use Rattle.stab_circuit.specs.inner.Walks.{kind_steps, level_left, levels_left, IsNested, weight, weight_at, level_weight, levels_weight, ahead, walk_left, walk_weight, IsWalk, SameKind, Takes, GoesOn}
+use Rattle.stab_items.proofs.ItemLemmas.{before-join, depth_at}
 use Rattle.stab_items.proofs.StepLemmas.{unroll-join}
 
 -- an item before others
@@ -94,14 +92,14 @@ taken_weight t x h e =
     omega (arith, here)
 
 abbrev pub past_item : Walk → Walk
-past_item w = record { kind = w.kind; within = w.within; top = past_one w.top; around = w.around; rest = w.rest }
+past_item w = record { kind = w.kind; within = w.within; top = past_one w.top; around = w.around }
 
 pub taken : (old new : Walk) (x : Bor OneItem) → IsWalk old → old.top.place < length old.top.items.now → x.now ≡ get_or old.top.items.now old.top.place x.now
-    → new.top ≡ past_one old.top → new.around ≡ old.around → new.rest ≡ old.rest → Takes old new (Some x)
-taken old new x w h e top around rest = (
-  taken_left old.top (levels_left (chunks_left old.rest.now) old.around.items) x.now h e
-      ∙ (λ i. unroll (before x.now done) ++ (level_left (sym top i) ++ levels_left (chunks_left (sym rest i).now) (sym around i).items)),
-  omega (arith, taken_weight old.top x.now h e, ap level_weight top, ap (λ v. levels_weight v.items) around, ap (λ r. chunks_weight r.now) rest),
+    → new.top ≡ past_one old.top → new.around ≡ old.around → Takes old new (Some x)
+taken old new x w h e top around = (
+  taken_left old.top (levels_left [] old.around.items) x.now h e
+      ∙ (λ i. unroll (before x.now done) ++ (level_left (sym top i) ++ levels_left [] (sym around i).items)),
+  omega (arith, taken_weight old.top x.now h e, ap level_weight top, ap (λ v. levels_weight v.items) around),
   omega (arith, w.shallow, depth_at old.top.items.now old.top.place x.now h e, ap (λ v. length v.items) around),
 )
 
@@ -113,20 +111,19 @@ entered_left others t ls new body more pushed =
     let bs = unroll (listed body.now) in
     ap (λ l. (bs ++ rounds more bs) ++ l) (ap (levels_left others) pushed ∙ levels_left-push others ls t)
 
-pub entered_weight : (others : ℕ) (t : Level) (ls new : List Level) (body : Bor (List OneItem)) (more : ℕ) → new ≡ ls ++ t ∷ []
-    → level_weight (record { items = body; place = 0; rounds = more }) + levels_weight new + others ≡ weight_at body.now 0 more + (level_weight t + levels_weight ls + others)
-entered_weight others t ls new body more pushed = omega (arith, ap levels_weight pushed, levels_weight-push ls t)
+pub entered_weight : (t : Level) (ls new : List Level) (body : Bor (List OneItem)) (more : ℕ) → new ≡ ls ++ t ∷ []
+    → level_weight (record { items = body; place = 0; rounds = more }) + levels_weight new ≡ weight_at body.now 0 more + (level_weight t + levels_weight ls)
+entered_weight t ls new body more pushed = omega (arith, ap levels_weight pushed, levels_weight-push ls t)
 
-pub entered : (w u : Walk) → IsWalk w → u.around.items ≡ w.around.items ++ w.top ∷ [] → vec_capacity u.around ≡ vec_capacity w.around → u.rest ≡ w.rest
+pub entered : (w u : Walk) → IsWalk w → u.around.items ≡ w.around.items ++ w.top ∷ [] → vec_capacity u.around ≡ vec_capacity w.around
     → depth (listed u.top.items.now) + 1 + length w.around.items ≤ 16 → IsWalk u
-entered w u h pushed same rest room =
+entered w u h pushed same room =
     let P : List Level → Type 0 = λ l. IsNested 0 l in
     let len : length u.around.items ≡ length w.around.items + 1 = ap length pushed ∙ length-append w.around.items (w.top ∷ []) in
     record {
       roomy = omega (arith, h.roomy);
       nested = subst P (sym pushed) (nested-push 0 w.around.items w.top h.nested (omega (arith, h.shallow)));
       shallow = omega (arith, len);
-      others = omega (arith, h.others, ap (λ r. depth (listed (flattened r.now))) rest);
     }
 
 -- to the next round
@@ -138,9 +135,9 @@ pub next_round : (t : Level) (more : List Step) → length t.items.now ≤ t.pla
     → level_left (record { items = t.items; place = 0; rounds = t.rounds - 1 }) ++ more ≡ level_left t ++ more
 next_round t more h some = ap (λ l. l ++ more) (sym (more_rounds t.rounds (unroll (listed t.items.now)) some) ∙ sym (ended_left t h))
 
-pub next_round_less : (t : Level) (n m : ℕ) → length t.items.now ≤ t.place → 0 < t.rounds
-    → level_weight (record { items = t.items; place = 0; rounds = t.rounds - 1 }) + n + m < level_weight t + n + m
-next_round_less t n m h some =
+pub next_round_less : (t : Level) (n : ℕ) → length t.items.now ≤ t.place → 0 < t.rounds
+    → level_weight (record { items = t.items; place = 0; rounds = t.rounds - 1 }) + n < level_weight t + n
+next_round_less t n h some =
     let xs = t.items.now in
     omega (arith, ap (λ l. weight (listed l)) (drop_all t.place xs h), more_times t.rounds (1 + weight (listed xs)) some)
 
@@ -153,65 +150,40 @@ left_out more t l ls new h last popped =
     sym (levels_left-push more new l) ∙ ap (levels_left more) (sym popped)
     ∙ ap (λ q. q ++ levels_left more ls) (sym (ended_left t h ∙ ap (λ n. rounds n (unroll (listed t.items.now))) none))
 
-pub left_out_less : (m : ℕ) (t l : Level) (ls new : List Level) → ls ≡ new ++ l ∷ [] → level_weight l + levels_weight new + m < level_weight t + levels_weight ls + m
-left_out_less m t l ls new popped = omega (arith, ap levels_weight popped, levels_weight-push new l)
+pub left_out_less : (t l : Level) (ls new : List Level) → ls ≡ new ++ l ∷ [] → level_weight l + levels_weight new < level_weight t + levels_weight ls
+left_out_less t l ls new popped = omega (arith, ap levels_weight popped, levels_weight-push new l)
 
-pub left_walk : (w u : Walk) → IsWalk w → w.around.items ≡ u.around.items ++ u.top ∷ [] → vec_capacity u.around ≡ vec_capacity w.around → u.rest ≡ w.rest → IsWalk u
-left_walk w u h popped same rest =
+pub left_walk : (w u : Walk) → IsWalk w → w.around.items ≡ u.around.items ++ u.top ∷ [] → vec_capacity u.around ≡ vec_capacity w.around → IsWalk u
+left_walk w u h popped same =
     let P : List Level → Type 0 = λ q. IsNested 0 q in
     let inner : IsNested 0 (u.around.items ++ u.top ∷ []) = subst P popped h.nested in
     record {
       roomy = omega (arith, h.roomy);
       nested = nested-front 0 u.around.items u.top inner;
       shallow = omega (arith, nested-last 0 u.around.items u.top inner);
-      others = omega (arith, h.others, ap (λ r. depth (listed (flattened r.now))) rest);
     }
 
 no_levels : (ls : List Level) → length ls ≡ 0 → ls ≡ []
 no_levels [] h = refl
 no_levels (l ∷ ls) h = absurd (omega arith)
 
--- what is left at the end of a chunk
-at_end : (more : List Step) (t : Level) (ls : List Level) → length t.items.now ≤ t.place → t.rounds ≤ 0 → length ls ≤ 0 → level_left t ++ levels_left more ls ≡ more
+-- what is left at the end of the outermost list
+pub at_end : (more : List Step) (t : Level) (ls : List Level) → length t.items.now ≤ t.place → t.rounds ≤ 0 → length ls ≤ 0 → level_left t ++ levels_left more ls ≡ more
 at_end more t ls h last empty =
     let none : t.rounds ≡ 0 = omega arith in
     ap (λ q. level_left t ++ levels_left more q) (no_levels ls (omega (arith, empty)))
     ∙ ap (λ l. l ++ more) (ended_left t h ∙ ap (λ n. rounds n (unroll (listed t.items.now))) none)
 
--- to the next chunk
+-- what is left at the beginning
 
-abbrev chunk_level : Bor (List OneItem) → Level
-chunk_level items = record { items = items; place = 0; rounds = 0 }
+pub begun_at : (items : Bor (List OneItem)) (place : ℕ) (ls : List Level) → ls ≡ [] → level_left (record { items = items; place = place; rounds = 0 }) ++ levels_left [] ls ≡ unroll (listed (drop place items.now))
+begun_at items place ls none =
+    ap (λ q. level_left (record { items = items; place = place; rounds = 0 }) ++ levels_left [] q) none
+    ∙ append-nil (unroll (listed (drop place items.now)) ++ [])
+    ∙ append-nil (unroll (listed (drop place items.now)))
 
-pub next_chunk_left : (t : Level) (ls : List Level) (cs ds : List (List OneItem)) (items : Bor (List OneItem)) → length t.items.now ≤ t.place → t.rounds ≤ 0 → length ls ≤ 0 → cs ≡ items.now ∷ ds
-    → level_left (chunk_level items) ++ levels_left (chunks_left ds) ls ≡ level_left t ++ levels_left (chunks_left cs) ls
-next_chunk_left t ls cs ds items h last empty e =
-    let here = unroll (listed items.now) in
-    ap (λ q. level_left (chunk_level items) ++ levels_left (chunks_left ds) q) (no_levels ls (omega (arith, empty)))
-    ∙ ap (λ l. l ++ chunks_left ds) (append-nil here)
-    ∙ sym (ap unroll (listed-append items.now (flattened ds)) ∙ unroll-join (listed items.now) (listed (flattened ds)))
-    ∙ ap chunks_left (sym e)
-    ∙ sym (at_end (chunks_left cs) t ls h last empty)
-
-pub next_chunk_less : (t : Level) (n : ℕ) (cs ds : List (List OneItem)) (items : Bor (List OneItem)) → cs ≡ items.now ∷ ds
-    → level_weight (chunk_level items) + n + chunks_weight ds < level_weight t + n + chunks_weight cs
-next_chunk_less t n cs ds items e = omega (arith, ap chunks_weight e)
-
-pub next_chunk_walk : (w u : Walk) (c : List OneItem) → IsWalk w → length w.around.items ≤ 0 → u.around ≡ w.around → u.top.items.now ≡ c → w.rest.now ≡ c ∷ u.rest.now → IsWalk u
-next_chunk_walk w u c h none same top rest =
-    let V : Vec Level → Type 0 = λ v. (16 ≤ vec_capacity v) × IsNested 0 v.items in
-    let held : V u.around = subst V (sym same) (h.roomy, h.nested) in
-    let both = ap (λ l. depth (listed l)) top in
-    let all = ap (λ l. depth (listed (flattened l))) rest ∙ ap depth (listed-append c (flattened u.rest.now)) ∙ depth-join (listed c) (listed (flattened u.rest.now)) in
-    record {
-      roomy = held.0;
-      nested = held.1;
-      shallow = omega (arith, none, ap (λ v. length v.items) same, both, all, h.others);
-      others = omega (arith, all, h.others);
-    }
-
-pub past_chunks : (t : Level) (ls : List Level) (cs : List (List OneItem)) → length t.items.now ≤ t.place → t.rounds ≤ 0 → length ls ≤ 0 → cs ≡ [] → level_left t ++ levels_left (chunks_left cs) ls ≡ []
-past_chunks t ls cs h last empty e = at_end (chunks_left cs) t ls h last empty ∙ ap chunks_left e
+pub begun_left : (items : Bor (List OneItem)) (ls : List Level) → ls ≡ [] → level_left (record { items = items; place = 0; rounds = 0 }) ++ levels_left [] ls ≡ unroll (listed items.now)
+begun_left items ls none = begun_at items 0 ls none
 
 -- an instruction that has no more steps
 
@@ -231,9 +203,17 @@ goes_out a b c false e s t u g =
 
 -- an instruction was taken
 pub goes_into : (a b : Walk) (x : Bor OneItem) (op : Operation) (kind : Bor Kind) → drop a.within (kind_steps a.kind) ≡ [] → Takes a b (Some x) → x.now ≡ operation op → kind.now ≡ op.kind
-    → GoesOn (walk_left a) (walk_left (record { kind = Some kind; within = 0; top = b.top; around = b.around; rest = b.rest })) a (record { kind = Some kind; within = 0; top = b.top; around = b.around; rest = b.rest }) true
+    → GoesOn (walk_left a) (walk_left (record { kind = Some kind; within = 0; top = b.top; around = b.around })) a (record { kind = Some kind; within = 0; top = b.top; around = b.around }) true
 goes_into a b x op kind e t is k = (
   sym (given_left a e ∙ t.0 ∙ ap (λ y. unroll (before y done) ++ ahead b) is ∙ ap (λ l. l ++ ahead b) (append-nil (steps_of op.kind)) ∙ ap (λ q. steps_of q ++ ahead b) (sym k)),
+  omega (arith, t.1, ap (λ y. weight (before y done)) is),
+)
+
+-- an instruction without steps was taken
+pub goes_over : (a b : Walk) (x : Bor OneItem) (op : Operation) → drop a.within (kind_steps a.kind) ≡ [] → SameKind a b → Takes a b (Some x) → x.now ≡ operation op → steps_of op.kind ≡ [] → GoesOn (walk_left a) (walk_left b) a b true
+goes_over a b x op e s t is none = (
+  given_left b (same_given a b s e)
+      ∙ sym (given_left a e ∙ t.0 ∙ ap (λ y. unroll (before y done) ++ ahead b) is ∙ ap (λ l. l ++ ahead b) (append-nil (steps_of op.kind) ∙ none)),
   omega (arith, t.1, ap (λ y. weight (before y done)) is),
 )
 
@@ -280,5 +260,5 @@ some_given (r ∷ l) zero s e = let same : r ≡ s = cc in ap (λ x. x ∷ l) sa
 some_given (r ∷ l) (suc n) s e = let next' : suc n + 1 ≡ suc (n + 1) = omega arith in some_given l n s e ∙ ap (λ k. s ∷ drop k (r ∷ l)) (sym next')
 
 pub gives : (w : Walk) (s : Step) → Some s ≡ slice_get (kind_steps w.kind) w.within
-    → walk_left w ≡ s ∷ walk_left (record { kind = w.kind; within = w.within + 1; top = w.top; around = w.around; rest = w.rest })
+    → walk_left w ≡ s ∷ walk_left (record { kind = w.kind; within = w.within + 1; top = w.top; around = w.around })
 gives w s e = ap (λ l. l ++ ahead w) (some_given (kind_steps w.kind) w.within s e)

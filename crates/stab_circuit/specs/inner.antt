@@ -4,9 +4,8 @@ pub mod Places
 pub mod Splices
 pub mod Judgements
 pub mod EditResults
-pub mod Chunks
-pub mod Behind
 pub mod StepItems
+pub mod Stretches
 pub mod Gaps
 pub mod Repeats
 pub mod Changes

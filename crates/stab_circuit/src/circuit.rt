@@ -1,7 +1,5 @@
-ghost use Rattle.std.specs.Prelude.{◌≡◌, ◌++◌, ◌∷◌, [], List, None, IfOk, IfErr, IfSome, IfNone};
-ghost use Rattle.stab_items.specs.Items.{OneItem, depth, listed};
-ghost use Rattle.stab_items.specs.Steps.{check_of, Checks};
-ghost use Rattle.stab_items.specs.inner.Chunks.{flattened};
+ghost use Rattle.std.specs.Prelude.{◌≡◌, None, IfOk, IfErr};
+ghost use Rattle.stab_items.specs.Steps.{check_of};
 ghost use Rattle.stab_circuit.specs.Views.{circuit_items};
 ghost use Rattle.stab_circuit.specs.Readings.{ReadsCircuit, ReadsInput, ReadsItem, IsPlaced, is_of_circuit, is_of_item};
 
@@ -11,23 +9,25 @@ mod places;
 mod repeats;
 mod splits;
 mod step_items;
+mod stretches;
 
-use crate::chunks::{chunks_len, chunks_summary};
 use crate::input::{MOST_BYTES, read_text};
 pub use repeats::Repeat;
 use stab_io::{Fault, Input, Refusal};
-use stab_items::{Chunk, Item, STEPS_CAP, Summary, read_lines};
+use stab_items::{Item, STEPS_CAP, Summary, items_summary, read_lines};
 use std::alloc::Global;
 use std::marker::Model;
 pub use step_items::StepItem;
+use stretches::{Stretch, stretches_of};
 
 /// A list of items. Contracts see them one by one.
 ///
 /// What is known of them all is kept, so that no call walks over them for it.
 pub struct Circuit {
-    /// The items in chunks of some hundred, so that an edit moves those of one chunk alone.
-    chunks: Vec<Chunk>,
-    len: usize,
+    items: Vec<Item>,
+    /// How many steps parts of the items make, by which a step is found: as they were read, and none once
+    /// an item was edited.
+    stretches: Vec<Stretch>,
     total: Summary,
 }
 
@@ -35,15 +35,15 @@ pub struct Circuit {
 impl Drop for Circuit {
     fn drop(self) {
         let Circuit {
-            chunks: _,
-            len: _,
+            items: _,
+            stretches: _,
             total: _,
         } = self;
     }
 }
 
 impl Model for Circuit {
-    ghost use Rattle.std.specs.Prelude.{◌≡◌, ◌≤◌, List, All, length};
+    ghost use Rattle.std.specs.Prelude.{◌≡◌, ◌≤◌, List, All};
     ghost use Rattle.stab_items.specs.Items.{OneItem, listed};
     ghost use Rattle.stab_items.specs.Steps.{unroll};
     ghost use Rattle.stab_circuit.specs.Cursors.{IsApart};
@@ -54,22 +54,21 @@ impl Model for Circuit {
     ghost coded = { entries_code };
 
     ghost use Rattle.stab_items.specs.inner.Summaries.{summary_of, IsSummary};
-    ghost use Rattle.stab_items.specs.inner.Chunks.{flattened};
+    ghost use Rattle.stab_circuit.specs.inner.Stretches.{AreStretches};
 
-    ghost view = { λ c. flattened c.chunks.items };
+    ghost view = { λ c. c.items.items };
 
-    ghost invariant = { λ c. (c.total ≡ summary_of (listed (flattened c.chunks.items))) × IsSummary c.total × (c.total.depth ≤ 16) × All IsApart (unroll (listed (flattened c.chunks.items))) × (c.len ≡ length (flattened c.chunks.items)) };
+    ghost invariant = { λ c. (c.total ≡ summary_of (listed c.items.items)) × IsSummary c.total × (c.total.depth ≤ 16) × All IsApart (unroll (listed c.items.items)) × AreStretches c.stretches.items c.items.items };
 }
 
 impl Circuit {
-    ghost use Rattle.std.specs.Prelude.{◌≡◌, ◌≤◌, ◌<◌, ◌^◌, [], All, min, length, IfOk};
+    ghost use Rattle.std.specs.Prelude.{◌≡◌, ◌≤◌, [], All, min, length, IfOk};
     ghost use Rattle.stab_items.specs.Items.{listed, depth};
     ghost use Rattle.stab_letters.specs.Limits.{most_qubits};
-    ghost use Rattle.stab_items.specs.Steps.{unroll, records_of, qubits_of, observables_of, most_steps, steps_cap, check_of, check_within, Checks};
+    ghost use Rattle.stab_items.specs.Steps.{unroll, records_of, detectors_of, qubits_of, observables_of, most_steps, steps_cap, check_of, check_within, Checks};
     ghost use Rattle.stab_circuit.specs.Cursors.{IsApart};
-    ghost use Rattle.stab_items.specs.inner.Chunks.{flattened};
     ghost use Rattle.stab_circuit.specs.Views.{circuit_items};
-    ghost use Rattle.stab_items.specs.inner.Chunks.{flattened};
+    ghost use Rattle.stab_circuit.specs.inner.Stretches.{AreStretches};
 
     /// The empty circuit, which takes no memory.
     #[tactic(auto, using(stab_items::proofs::StepApartLemmas::nothing_apart))]
@@ -77,47 +76,39 @@ impl Circuit {
         ensures empty { result ≡ [] }
     {
         Circuit {
-            chunks: Vec::new(alloc),
-            len: 0,
+            items: Vec::new(alloc),
+            stretches: Vec::new(alloc),
             total: Summary::NONE,
         }
     }
 
-    /// The circuit of these items, so many, where nothing refuses it as a whole.
+    /// The circuit of these items, with stretches of them, where nothing refuses it as a whole.
     #[tactic(auto, using(stab_items::proofs::SummaryLemmas::check_judged))]
-    fn of_chunks(chunks: Vec<Chunk>, len: usize) -> Result<Circuit, Fault>
-        requires shallow { depth (listed (flattened chunks.items)) ≤ 16 }
-        requires len { len ≡ length (flattened chunks.items) }
-        ensures value { IfOk result (λ c. c ≡ flattened chunks.items) }
-        ensures checked { Checks result (check_of (listed (flattened chunks.items))) }
+    fn of_items(items: Vec<Item>, stretches: Vec<Stretch>) -> Result<Circuit, Fault>
+        requires shallow { depth (listed items.items) ≤ 16 }
+        requires stretches { AreStretches stretches.items items.items }
+        ensures value { IfOk result (λ c. c ≡ items.items) }
+        ensures checked { Checks result (check_of (listed items.items)) }
     {
-        let total = chunks_summary(chunks.as_slice());
+        let total = items_summary(items.as_slice());
         match total.refusal() {
             Some(refusal) => Err(Fault::whole(refusal)),
-            None => Ok(Circuit { chunks, len, total }),
+            None => Ok(Circuit {
+                items,
+                stretches,
+                total,
+            }),
         }
     }
 
-    /// How many items the outermost list has. It takes no time, however long the list.
-    pub fn len(&self) -> usize
-        ensures value { result ≡ length self.now }
+    /// The items of the outermost list. It takes no memory.
+    pub fn items(&self) -> &[Item]
+        ensures value { result.now ≡ self.now }
         ensures shallow { depth (circuit_items self.now) ≤ 16 }
         ensures apart { All IsApart (unroll (circuit_items self.now)) }
     {
         let _ = &self.total;
-        self.len
-    }
-
-    /// The items in chunks.
-    pub(crate) fn chunks(&self) -> &[Chunk]
-        ensures value { flattened result.now ≡ self.now }
-        ensures shallow { depth (circuit_items self.now) ≤ 16 }
-        ensures apart { All IsApart (unroll (circuit_items self.now)) }
-        ensures fits { length self.now < 2 ^ 64 }
-    {
-        let _ = &self.total;
-        let _len = self.len;
-        self.chunks.as_slice()
+        self.items.as_slice()
     }
 
     /// One more than the greatest qubit named anywhere, by QUBIT_COORDS too, or 0. It is at most
@@ -150,6 +141,13 @@ impl Circuit {
         self.total.records.min(STEPS_CAP) as usize
     }
 
+    /// The number of detectors, or 1,048,577 where there are more.
+    pub fn detectors(&self) -> usize
+        ensures value { result ≡ min (detectors_of (unroll (circuit_items self.now))) steps_cap }
+    {
+        self.total.detectors.min(STEPS_CAP) as usize
+    }
+
     /// Whether nothing refuses the circuit on n qubits: a qubit that isn't below n, then a
     /// lookback past the first record, then too many steps. The fault's line is 0.
     #[tactic(auto, using(stab_items::proofs::SummaryLemmas::check_judged))]
@@ -176,9 +174,9 @@ pub fn circuit_of_text(alloc: Global, text: &[u8]) -> Result<Circuit, Fault>
     if text.len() > MOST_BYTES {
         return Err(Fault::whole(Refusal::TooLong));
     }
-    let chunks = read_lines(alloc, false, text)?;
-    let len = chunks_len(chunks.as_slice()).map_err(Fault::whole)?;
-    Circuit::of_chunks(chunks, len)
+    let items = read_lines(alloc, false, text)?;
+    let stretches = stretches_of(alloc, items.as_slice())?;
+    Circuit::of_items(items, stretches)
 }
 
 /// Reads the circuit that the input's text stands for.
@@ -203,24 +201,9 @@ pub fn read_item(alloc: Global, text: &[u8]) -> Result<Item, Fault>
     if text.len() > MOST_BYTES {
         return Err(Fault::whole(Refusal::TooLong));
     }
-    let chunks = read_lines(alloc, true, text)?;
-    match last_item(chunks) {
+    let mut items = read_lines(alloc, true, text)?;
+    match items.pop() {
         Some(item) => Ok(item),
         None => Err(Fault::whole(Refusal::BadLine)),
     }
-}
-
-/// The last item in chunks, if there is one.
-fn last_item(mut chunks: Vec<Chunk>) -> Option<Item>
-    ensures some { IfSome result (λ x. (front : List OneItem) × (flattened chunks.items ≡ front ++ x ∷ [])) }
-    ensures none { IfNone result (flattened chunks.items ≡ []) }
-{
-    'chunks: while let Some(chunk) = chunks.pop() {
-        let mut items = chunk.into_items();
-        match items.pop() {
-            Some(item) => return Some(item),
-            None => {}
-        }
-    }
-    None
 }

@@ -1,26 +1,23 @@
-ghost use Rattle.std.specs.Prelude.{◌≡◌, ◌≤◌, Some, OnOk, OnErr, IfOk, IfErr};
-ghost use Rattle.stab_circuit.specs.Edits.{edited_in, edited_inside, edit_path, inner, taken_in, IsInsert};
+ghost use Rattle.std.specs.Prelude.{◌≡◌, Some, OnOk, OnErr, IfOk, IfErr};
+ghost use Rattle.stab_circuit.specs.Edits.{changed, edited_in, edited_inside, inner, taken_at, taken_in, IsInsert};
 ghost use Rattle.stab_circuit.specs.inner.Judgements.{IsShallow, IsShallowItem};
-ghost use Rattle.stab_circuit.specs.inner.Behind.{first_place, changed_behind, edited_behind, taken_at_behind, taken_behind};
 
 use crate::edit::Edit;
 use stab_items::Item;
 use std::mem;
 
-/// Makes an edit in the innermost list around its place, before which so many items stand, and gives
-/// the item that it takes out. An insertion alone wants memory; where that is refused the edit comes
-/// back.
-fn commit_at(items: &mut Vec<Item>, before: usize, edit: Edit) -> Result<Option<Item>, Edit>
-    requires begins { before ≤ (edit_path edit).place }
-    requires allowed { IsShallow (changed_behind before edit items.old.items) }
-    ensures ok { OnOk result (changed_behind before edit items.old.items ≡ Ok items.new.items) }
-    ensures taken { IfOk result (λ old. old ≡ taken_at_behind before edit items.old.items) }
+/// Makes an edit in the innermost list around its place, and gives the item that it takes out. An
+/// insertion alone wants memory; where that is refused the edit comes back.
+fn commit_at(items: &mut Vec<Item>, edit: Edit) -> Result<Option<Item>, Edit>
+    requires allowed { IsShallow (changed edit items.old.items) }
+    ensures ok { OnOk result (changed edit items.old.items ≡ Ok items.new.items) }
+    ensures taken { IfOk result (λ old. old ≡ taken_at edit items.old.items) }
     ensures edit { IfErr result (λ e. e ≡ edit) }
     ensures memory { OnErr result (IsInsert edit) }
     ensures unchanged { OnErr result (items.new.items ≡ items.old.items) }
 {
     match edit {
-        Edit::Insert { place, item } => match items.insert(place.place() - before, item) {
+        Edit::Insert { place, item } => match items.insert(place.place(), item) {
             Ok(()) => Ok(None),
             Err(refused) => Err(Edit::Insert {
                 place,
@@ -28,33 +25,30 @@ fn commit_at(items: &mut Vec<Item>, before: usize, edit: Edit) -> Result<Option<
             }),
         },
         Edit::Replace { place, item } => {
-            let old = mem::replace(&mut items[place.place() - before], item);
+            let old = mem::replace(&mut items[place.place()], item);
             Ok(Some(old))
         }
-        Edit::Delete { place } => Ok(Some(items.remove(place.place() - before))),
+        Edit::Delete { place } => Ok(Some(items.remove(place.place()))),
     }
 }
 
-/// Makes an edit in nested blocks of a list before which so many items stand, and renews what the
-/// blocks keep.
+/// Makes an edit in nested blocks of a list, and renews what the blocks keep.
 #[cycle(commit)]
 pub(crate) fn commit(
     items: &mut Vec<Item>,
-    before: usize,
     blocks: &[usize],
     edit: Edit,
 ) -> Result<Option<Item>, Edit>
-    requires begins { before ≤ first_place edit blocks.now }
-    requires allowed { IsShallow (edited_behind before edit blocks.now items.old.items) }
-    ensures ok { OnOk result (edited_behind before edit blocks.now items.old.items ≡ Ok items.new.items) }
-    ensures taken { IfOk result (λ old. old ≡ taken_behind before edit blocks.now items.old.items) }
+    requires allowed { IsShallow (edited_in edit blocks.now items.old.items) }
+    ensures ok { OnOk result (edited_in edit blocks.now items.old.items ≡ Ok items.new.items) }
+    ensures taken { IfOk result (λ old. old ≡ taken_in edit blocks.now items.old.items) }
     ensures edit { IfErr result (λ e. e ≡ edit) }
     ensures memory { OnErr result (IsInsert edit) }
     ensures unchanged { OnErr result (items.new.items ≡ items.old.items) }
 {
     match blocks.split_first() {
-        None => commit_at(items, before, edit),
-        Some((block, others)) => commit_within(&mut items[*block - before], others, edit),
+        None => commit_at(items, edit),
+        Some((block, others)) => commit_within(&mut items[*block], others, edit),
     }
 }
 
@@ -71,7 +65,7 @@ fn commit_within(item: &mut Item, blocks: &[usize], edit: Edit) -> Result<Option
     let Some(mut body) = item.take_body() else {
         unreachable!()
     };
-    let done = commit(&mut body, 0, blocks, edit);
+    let done = commit(&mut body, blocks, edit);
     item.set_body(body);
     done
 }

@@ -1,10 +1,9 @@
-use crate::chunks::skip_chunks;
 use crate::circuit::Circuit;
 use crate::step::Step;
 use crate::steps::Steps;
 use crate::walk::Walk;
 use stab_io::Refusal;
-use stab_items::Chunk;
+use stab_items::Item;
 use std::alloc::Global;
 use std::marker::Model;
 
@@ -14,7 +13,7 @@ use std::marker::Model;
 /// It keeps a place within nested blocks, and no list of steps.
 #[derive(Drop)]
 pub struct Cursor<'a> {
-    chunks: &'a [Chunk],
+    items: &'a [Item],
     walk: Walk<'a>,
 }
 
@@ -22,16 +21,15 @@ impl<'a> Model for Cursor<'a> {
     ghost use Rattle.std.specs.Prelude.{◌≤◌};
     ghost use Rattle.stab_items.specs.Items.{listed, depth};
     ghost use Rattle.stab_items.specs.Steps.{unroll};
-    ghost use Rattle.stab_items.specs.inner.Chunks.{flattened};
     ghost use Rattle.stab_circuit.specs.Cursors.{CursorState};
 
     ghost Value = { CursorState };
 
     ghost use Rattle.stab_circuit.specs.inner.Walks.{walk_left, IsWalk};
 
-    ghost view = { λ c. record { all = unroll (listed (flattened c.chunks.now)); left = walk_left c.walk } };
+    ghost view = { λ c. record { all = unroll (listed c.items.now); left = walk_left c.walk } };
 
-    ghost invariant = { λ c. IsWalk c.walk × (depth (listed (flattened c.chunks.now)) ≤ 16) };
+    ghost invariant = { λ c. IsWalk c.walk × (depth (listed c.items.now) ≤ 16) };
 }
 
 impl<'a> Cursor<'a> {
@@ -45,7 +43,7 @@ impl<'a> Cursor<'a> {
     ///
     /// Asks that no lookback of the circuit goes too far and that it has no more steps than a
     /// circuit may have. Refusal `OutOfMemory` alone.
-    #[tactic(auto, using(stab_items::proofs::SummaryLemmas::few_steps))]
+    #[tactic(auto, using(stab_items::proofs::SummaryLemmas::few_steps, crate::proofs::StretchLemmas::steps_from_place))]
     pub fn at(alloc: Global, circuit: &'a Circuit, step: usize) -> Result<Cursor<'a>, Refusal>
         requires checked { check_of (circuit_items circuit.now) ≡ None }
         requires in_range { step ≤ length (unroll (circuit_items circuit.now)) }
@@ -54,12 +52,11 @@ impl<'a> Cursor<'a> {
         ensures apart { IfOk result (λ c. All IsApart c.all) }
         ensures err { IfErr result (λ r. r ≡ OutOfMemory) }
     {
-        let chunks = circuit.chunks();
-        let skipped = skip_chunks(chunks, step as u32);
-        let (_, rest) = chunks.split_at(skipped.number);
-        let mut walk = Walk::new(alloc, rest)?;
-        walk.skip(skipped.rest);
-        Ok(Cursor { chunks, walk })
+        let items = circuit.items();
+        let found = circuit.place_before(step as u32);
+        let mut walk = Walk::new(alloc, items, found.place)?;
+        walk.skip(found.steps);
+        Ok(Cursor { items, walk })
     }
 
     /// The next step, or `None` where none is left, and then for ever. It takes no memory.
@@ -104,6 +101,6 @@ impl<'a> Cursor<'a> {
         ensures all { self.new.all ≡ self.old.all }
         ensures left { self.new.left ≡ self.old.all }
     {
-        self.walk.restart(self.chunks);
+        self.walk.restart(self.items);
     }
 }

@@ -4,15 +4,12 @@ ghost use Rattle.stab_items.specs.Steps.{unroll, steps_cap};
 ghost use Rattle.stab_circuit.specs.Edits.{edited_in, edited, edit_path, inner, steps_in as steps_of_place};
 ghost use Rattle.stab_items.specs.inner.Summaries.{IsSummary};
 ghost use Rattle.stab_circuit.specs.inner.Splices.{splice_of, splice_at};
-ghost use Rattle.stab_circuit.specs.inner.Judgements.{judgement_of, IsBlockAt, BeginsWith};
-ghost use Rattle.stab_circuit.specs.inner.EditResults.{steps_within, PutsApart, AreApart, edit_result_by, IsEditResult};
-ghost use Rattle.stab_items.specs.inner.Chunks.{flattened};
-ghost use Rattle.stab_circuit.specs.inner.Chunks.{shown_item};
+ghost use Rattle.stab_circuit.specs.inner.Judgements.{judgement_of, shown_item, IsBlockAt, BeginsWith};
+ghost use Rattle.stab_circuit.specs.inner.EditResults.{steps_within, PutsApart, edit_result_by, IsEditResult};
 
-use crate::chunks::{back_summary, front_summary, item_at, item_summary};
 use crate::edit::Edit;
 use stab_io::Refusal;
-use stab_items::{Chunk, Item, Part, STEPS_CAP, Summary, items_summary};
+use stab_items::{Item, Part, STEPS_CAP, Summary, items_summary};
 use stab_lines::Count;
 
 /// What an edit comes to in a list of items: which items leave it, from the first up to the one
@@ -26,15 +23,14 @@ pub(crate) struct Judgement {
     pub(crate) within: u32,
 }
 
-/// What a list comes to by an edit: the summary of the items that the edit leaves, the place behind
-/// those that leave the list, and which steps it changes.
+/// What a list comes to by an edit: the summary of the items that the edit leaves, and which steps it
+/// changes.
 ///
 /// Steps are counted up to 1,048,577: how many stand before the place, before the end of what
 /// leaves the list, and before the end of what is put in its stead.
 #[derive(Clone, Copy)]
 pub(crate) struct EditResult {
     pub(crate) total: Summary,
-    pub(crate) behind: usize,
     pub(crate) first: u32,
     pub(crate) old_end: u32,
     pub(crate) new_end: u32,
@@ -61,7 +57,7 @@ pub(crate) fn block_of(found: Option<&Item>) -> Result<Block<'_>, Refusal>
     match found {
         None => Err(Refusal::PlaceOutOfRange),
         Some(item) => match item.part() {
-            Part::Operation { .. } => Err(Refusal::NotABlock),
+            Part::Tick | Part::Operation { .. } => Err(Refusal::NotABlock),
             Part::Block { count, body, .. } => Ok(Block { count, body }),
         },
     }
@@ -146,7 +142,6 @@ fn edit_result_of(judgement: Judgement, front: Summary, gone: Summary, back: Sum
     let new_end = front.steps + judgement.put.steps;
     EditResult {
         total: front.then(judgement.put.then(back)),
-        behind: judgement.behind,
         first: first.min(STEPS_CAP),
         old_end: old_end.min(STEPS_CAP),
         new_end: new_end.min(STEPS_CAP),
@@ -174,60 +169,13 @@ fn edit_result_in(items: &[Item], blocks: &[usize], edit: &Edit) -> Result<EditR
     }
 }
 
-/// What an edit in nested blocks comes to in the outermost list, which is in chunks.
-fn judge_chunks(
-    chunks: &[Chunk],
-    len: usize,
-    blocks: &[usize],
-    edit: &Edit,
-) -> Result<Judgement, Refusal>
-    requires len { len ≡ length (flattened chunks.now) }
-    ensures value { result ≡ judgement_of (min (length (steps_within blocks.now (edit_path edit.now).place (flattened chunks.now))) steps_cap) (splice_of edit.now blocks.now (flattened chunks.now)) }
-    ensures small { IfOk result (λ j. IsSummary j.put) }
-    ensures within { IfOk result (λ j. (j.first ≤ j.behind) × (j.behind ≤ length (flattened chunks.now)) × (j.within ≤ steps_cap)) }
-    ensures front { OnOk result (BeginsWith (steps_of_place blocks.now (edit_path edit.now).place (flattened chunks.now)) (unroll (listed (flattened chunks.now)))) }
-    ensures apart { OnOk result (IfOk (splice_of edit.now blocks.now (flattened chunks.now)) PutsApart) }
-    ensures within_put { IfOk result (λ j. j.within ≤ j.put.steps) }
-    ensures within_gone { IfOk result (λ j. j.within ≤ length (unroll (listed (drop j.first (take j.behind (flattened chunks.now)))))) }
-{
-    match blocks.split_first() {
-        None => judge_at(len, edit),
-        Some((block, others)) => match block_of(item_at(chunks, *block)) {
-            Err(refusal) => Err(refusal),
-            Ok(inner) => match edit_result_in(inner.body, others, edit) {
-                Err(refusal) => Err(refusal),
-                Ok(round) => Ok(Judgement {
-                    first: *block,
-                    behind: *block + 1,
-                    put: round.total.repeated(inner.count.number()),
-                    within: round.first,
-                }),
-            },
-        },
-    }
-}
-
-/// What a list in chunks, of so many items, comes to by an edit.
-pub(crate) fn edit_result_by_chunks(
-    chunks: &[Chunk],
-    len: usize,
-    edit: &Edit,
-) -> Result<EditResult, Refusal>
-    requires len { len ≡ length (flattened chunks.now) }
-    requires apart { AreApart (flattened chunks.now) }
-    ensures ok { IfOk result (IsEditResult edit.now (edit_path edit.now).blocks (flattened chunks.now)) }
-    ensures refused { IfErr result (λ r. edited edit.now (flattened chunks.now) ≡ Err r) }
+/// What a list comes to by an edit.
+pub(crate) fn judged_edit(items: &[Item], edit: &Edit) -> Result<EditResult, Refusal>
+    ensures ok { IfOk result (IsEditResult edit.now (edit_path edit.now).blocks items.now) }
+    ensures refused { IfErr result (λ r. edited edit.now items.now ≡ Err r) }
 {
     let path = edit.path();
-    match judge_chunks(chunks, len, path.blocks(), edit) {
-        Err(refusal) => Err(refusal),
-        Ok(judgement) => Ok(edit_result_of(
-            judgement,
-            front_summary(chunks, judgement.first),
-            item_summary(chunks, judgement.first, judgement.behind),
-            back_summary(chunks, judgement.behind),
-        )),
-    }
+    edit_result_in(items, path.blocks(), edit)
 }
 
 /// How many steps stand before a place in nested blocks, or 1,048,577 where there are more.
@@ -262,29 +210,4 @@ fn steps_up_to(items: &[Item], place: usize) -> u32
 {
     let (front, _) = items.split_at(place.min(items.len()));
     items_summary(front).steps
-}
-
-/// How many steps stand before a place in nested blocks of a list in chunks, or 1,048,577 where there
-/// are more.
-pub(crate) fn steps_by_chunks(chunks: &[Chunk], blocks: &[usize], place: usize) -> u32
-    ensures value { result ≡ min (length (steps_of_place blocks.now place (flattened chunks.now))) steps_cap }
-{
-    match blocks.split_first() {
-        None => front_summary(chunks, place).steps,
-        Some((block, others)) => {
-            let front = front_summary(chunks, *block).steps;
-            (front + steps_inside_chunks(chunks, *block, others, place)).min(STEPS_CAP)
-        }
-    }
-}
-
-/// How many steps stand before a place in a block of a list in chunks and the blocks in it, or
-/// 1,048,577 where there are more; none where the list has no block there.
-fn steps_inside_chunks(chunks: &[Chunk], block: usize, others: &[usize], place: usize) -> u32
-    ensures value { result ≡ min (length (steps_of_place others.now place (inner (slice_get (flattened chunks.now) block)))) steps_cap }
-{
-    match block_of(item_at(chunks, block)) {
-        Err(_) => 0,
-        Ok(found) => steps_in(found.body, others, place),
-    }
 }

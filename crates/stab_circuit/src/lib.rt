@@ -4,7 +4,6 @@
 //! `stab_items`; here items are put together.
 //!
 //! - `input`: reading an input whole.
-//! - `chunks`: lists of items in chunks, so that a long circuit is added up, and one edited, fast.
 //! - `path`: the places of items.
 //! - `edit`: how a circuit is edited at a path, and which steps that changes.
 //! - `judge`, `commit`: judging an edit by what items keep, and making it.
@@ -30,7 +29,7 @@
 //! Proved: every text is that of one circuit or has one fault, and never both; it is read as exactly
 //! the items that it stands for, or refused with exactly its fault, and behind the limit of a text
 //! nothing is read but what one read brings; qubits and observables are those of its items, and
-//! steps, records and what refuses a whole circuit those of its unrolled steps; the path that is told
+//! steps, records, detectors and what refuses a whole circuit those of its unrolled steps; the path that is told
 //! of a step is that of its item; one item's text without a fault stands for one item; what is printed
 //! of the items of any lines stands for these items and no others, within the limit of a text, and
 //! edits and splits of items of lines leave such items; an edit leaves exactly the items that
@@ -42,7 +41,6 @@
 //! `specs/Splits.antt` gives, and all steps, or is refused so.
 #![tactic(auto)]
 
-mod chunks;
 mod circuit;
 mod commit;
 mod cursor;

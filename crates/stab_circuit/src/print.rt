@@ -4,7 +4,7 @@ ghost use Rattle.stab_circuit.specs.Views.{circuit_items};
 
 use crate::circuit::Circuit;
 use stab_io::{Fault, Output};
-use stab_items::write_all_chunks;
+use stab_items::write_all_items;
 
 /// Writes the circuit's text, and takes no memory: each instruction by its first name, four
 /// spaces for each open block, a line feed after every line, nothing for the empty circuit.
@@ -15,5 +15,5 @@ use stab_items::write_all_chunks;
 pub fn write_circuit<O: Output>(out: &mut O, circuit: &Circuit) -> Result<(), Fault>
     ensures writes { WritesAllOrFault (O.seen out.old) (O.seen out.new) (printed (circuit_items circuit.now)) result }
 {
-    write_all_chunks(out, circuit.chunks()).map_err(Fault::whole)
+    write_all_items(out, circuit.items()).map_err(Fault::whole)
 }

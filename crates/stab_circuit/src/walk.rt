@@ -9,7 +9,7 @@ use crate::detectors::Detectors;
 use crate::instruction::step_at;
 use crate::step::Step;
 use crate::steps::{Steps, part, steps_from};
-use stab_items::{Chunk, Item, Part};
+use stab_items::{Item, Part};
 use stab_lines::Kind;
 use std::alloc::{AllocError, Global};
 
@@ -40,10 +40,8 @@ pub struct Walk<'a> {
     within: usize,
     // The innermost block, beside those around it: so the common step leaves these alone.
     top: Level<'a>,
-    // The outermost block first.
+    // The outermost list first.
     around: Vec<Level<'a>>,
-    // The chunks of the outermost list behind the one that the walk is in.
-    rest: &'a [Chunk],
 }
 
 impl<'a> Walk<'a> {
@@ -51,14 +49,14 @@ impl<'a> Walk<'a> {
     ghost use Rattle.stab_items.specs.Items.{depth, listed};
     ghost use Rattle.stab_items.specs.Steps.{unroll, detector, rounds as rounds_of};
     ghost use Rattle.stab_circuit.specs.Cursors.{step_shown, lookbacks_of, steps_shown, IsApart, IsApartAlone};
-    ghost use Rattle.stab_items.specs.inner.Chunks.{flattened};
     ghost use Rattle.stab_circuit.specs.inner.Walks.{kind_steps, ahead, walk_left, walk_weight, weight_at, IsWalk, SameKind, Takes, GoesOn};
 
-    /// A walk over the items of chunks, with room for every level.
-    pub fn new(alloc: Global, chunks: &'a [Chunk]) -> Result<Walk<'a>, AllocError>
-        requires shallow { depth (listed (flattened chunks.now)) ≤ 16 }
+    /// A walk over items from a place on, with room for every level.
+    #[tactic(auto, using(crate::proofs::WalkLemmas::begun_at))]
+    pub fn new(alloc: Global, items: &'a [Item], place: usize) -> Result<Walk<'a>, AllocError>
+        requires shallow { depth (listed items.now) ≤ 16 }
         ensures walks { IfOk result IsWalk }
-        ensures left { IfOk result (λ w. walk_left w ≡ unroll (listed (flattened chunks.now))) }
+        ensures left { IfOk result (λ w. walk_left w ≡ unroll (listed (drop place items.now))) }
         ensures none { IfOk result (λ w. w.kind ≡ None) }
     {
         let around = Vec::with_capacity(alloc, 16)?;
@@ -66,31 +64,30 @@ impl<'a> Walk<'a> {
             kind: None,
             within: 0,
             top: Level {
-                items: &[],
-                place: 0,
+                items,
+                place,
                 rounds: 0,
             },
             around,
-            rest: chunks,
         })
     }
 
-    /// Back to the first of the items that the walk is over, which are in these chunks.
-    pub fn restart(&mut self, chunks: &'a [Chunk])
-        requires shallow { depth (listed (flattened chunks.now)) ≤ 16 }
+    /// Back to the first of the items that the walk is over, which are these.
+    #[tactic(auto, using(crate::proofs::WalkLemmas::begun_left))]
+    pub fn restart(&mut self, items: &'a [Item])
+        requires shallow { depth (listed items.now) ≤ 16 }
         requires walks { IsWalk self.old }
         ensures walks { IsWalk self.new }
-        ensures left { walk_left self.new ≡ unroll (listed (flattened chunks.now)) }
+        ensures left { walk_left self.new ≡ unroll (listed items.now) }
     {
         self.kind = None;
         self.within = 0;
         self.top = Level {
-            items: &[],
+            items,
             place: 0,
             rounds: 0,
         };
         self.around.clear();
-        self.rest = chunks;
     }
 
     /// The next step of the instruction under way, unless it has no more.
@@ -135,30 +132,6 @@ impl<'a> Walk<'a> {
         };
     }
 
-    /// Goes to the next chunk of the outermost list. False at the end of all.
-    fn next_chunk(&mut self) -> bool
-        requires walks { IsWalk self.old }
-        requires done { length self.old.top.items.now ≤ self.old.top.place }
-        requires last { self.old.top.rounds ≤ 0 }
-        requires outermost { length self.old.around.items ≤ 0 }
-        ensures walks { IsWalk self.new }
-        ensures same { SameKind self.old self.new }
-        ensures goes { GoesOn (ahead self.old) (ahead self.new) self.old self.new result }
-    {
-        match self.rest.split_first() {
-            Some((chunk, rest)) => {
-                self.top = Level {
-                    items: chunk.items(),
-                    place: 0,
-                    rounds: 0,
-                };
-                self.rest = rest;
-                true
-            }
-            None => false,
-        }
-    }
-
     /// Goes to the next round of the innermost block, or out of it. False at the end of all.
     fn leave(&mut self) -> bool
         requires walks { IsWalk self.old }
@@ -177,7 +150,7 @@ impl<'a> Walk<'a> {
                 self.top = level;
                 true
             }
-            None => self.next_chunk(),
+            None => false,
         }
     }
 
@@ -192,6 +165,7 @@ impl<'a> Walk<'a> {
             return self.leave();
         };
         match item.part() {
+            Part::Tick => {}
             Part::Operation { kind, .. } => {
                 self.kind = Some(kind);
                 self.within = 0;

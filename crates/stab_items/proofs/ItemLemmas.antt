@@ -1,6 +1,5 @@
 -- Lists of items.
-use Rattle.std.proofs.Common.{◌≡◌, ◌≤◌, ◌<◌, refl, ap, sym, ◌∙◌, ℕ, zero, suc, List, [], ◌∷◌, ◌++◌, length, get_or, max, arith}
-use Rattle.stab_lines.specs.declared.operation.Operation.{Operation}
+use Rattle.std.proofs.Common.{◌≡◌, ◌≤◌, ◌<◌, refl, ap, ◌∙◌, ℕ, zero, suc, List, [], ◌∷◌, ◌++◌, length, get_or, max, arith}
 use Rattle.stab_items.specs.Items.{Items, OneItem, operation, repeat, done, next, block, before, listed, join, depth, depth_of}
 
 pub join_done : (xs : Items) → join xs done ≡ xs
@@ -41,6 +40,6 @@ depth_at (operation op ∷ xs) zero x h e = omega (arith, ap depth_of e)
 depth_at (repeat c t body ∷ xs) zero x h e = omega (arith, ap depth_of e)
 depth_at (y ∷ xs) (suc p) x h e = omega (arith, depth_at xs p x (omega arith) e, deeper y (listed xs))
 
--- an instruction with an empty tag
-pub untagged : (op : Operation) → op.tag ≡ [] → operation (record { kind = op.kind; tag = [] }) ≡ operation op
-untagged op e = ap (λ t. operation (record { kind = op.kind; tag = t })) (sym e)
+pub no_length : (xs : List OneItem) → length xs ≡ 0 → xs ≡ []
+no_length [] h = refl
+no_length (x ∷ xs) h = absurd (omega (arith, h))

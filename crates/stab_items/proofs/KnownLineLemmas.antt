@@ -2,21 +2,19 @@
 use Rattle.std.proofs.Common.{◌≡◌, ◌<◌, List, ℕ, Bool, true, false, ◌==◌, length, Option, MatchOption, Ok, Err, if◌then◌else◌}
 use Rattle.stab_io.specs.declared.refusal.Refusal.TheVariants.{BadLine}
 use Rattle.stab_lines.specs.declared.operation.Operation.{Operation}
-use Rattle.stab_lines.specs.declared.operation.Kind.{Kind}
 use Rattle.stab_lines.specs.declared.meanings.Line.{Line}
 use Rattle.stab_lines.specs.declared.meanings.Line.TheVariants.{Blank, Close, Open}
 use Rattle.stab_lines.specs.declared.meanings.Line.TheVariants as line
 use Rattle.stab_lines.specs.Lines.{content_of}
 use Rattle.stab_lines.specs.Meanings.{meaning_of, is_close}
-use Rattle.stab_items.specs.declared.summary.Summary.{Summary}
 use Rattle.stab_items.specs.Items.{OneItem, operation}
 use Rattle.stab_items.specs.inner.Readers.{Progress, is_whole, meaning_at}
-use Rattle.stab_items.specs.inner.KnownLines.{IsCut, IsMeant, BeginsWithItem, IsKnownLine, without_tag}
+use Rattle.stab_items.specs.inner.KnownLines.{IsCut, IsMeant, BeginsWithItem, IsKnownLine}
 use Rattle.stab_items.proofs.FrontLemmas.{cut_split, split_cut, cut_shorter}
 
 -- a text begins with a line that is known
-pub known_front : (text bytes : List ℕ) (kind : Kind) (sum : Summary) (x : OneItem) (after : Option (List ℕ)) → IsKnownLine bytes kind sum → IsCut text bytes after → x ≡ operation (without_tag kind) → BeginsWithItem text x after
-known_front text bytes kind sum x after known cut e = (bytes, without_tag kind, cut_split text bytes after known.whole cut, known.means, e)
+pub known_front : (text bytes : List ℕ) (op : Operation) (x : OneItem) (after : Option (List ℕ)) → IsKnownLine bytes op → IsCut text bytes after → x ≡ operation op → BeginsWithItem text x after
+known_front text bytes op x after known cut e = (bytes, op, cut_split text bytes after known.whole cut, known.means, e)
 
 -- the lines behind it are shorter than the text
 pub begun_shorter : (text : List ℕ) (x : OneItem) (after : Option (List ℕ)) → BeginsWithItem text x after → MatchOption after (Unit {0}) (λ rest. length rest < length text)

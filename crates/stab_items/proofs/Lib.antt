@@ -1,11 +1,11 @@
 pub mod ItemLemmas
-pub mod ChunkLemmas
 pub mod FrontLemmas
 pub mod ReaderLemmas
-mod ReadChunkLemmas
+mod ReadingLemmas
 pub mod KnownLineLemmas
 mod PieceLemmas
 pub mod StretchLemmas
+mod CopyLemmas
 mod PrintLemmas
 pub mod StepLemmas
 pub mod StepApartLemmas

@@ -3,9 +3,7 @@ use Rattle.std.proofs.Common.{◌≡◌, ◌<◌, ℕ, ◌+◌, suc, List, [], �
 use Rattle.std.proofs.lemmas.List.{take-append-drop, take_more, replicate-append-replicate}
 use Rattle.stab_lines.specs.declared.operation.Operation.{Operation}
 use Rattle.stab_items.specs.Items.{Items, OneItem, operation, repeat, done, next, block, join, before, listed}
-use Rattle.stab_items.specs.inner.Chunks.{flattened}
 use Rattle.stab_items.proofs.ItemLemmas.{before-join, listed-append, listed_pushed}
-use Rattle.stab_items.proofs.ChunkLemmas.{flattened_split, flattened_more}
 use Rattle.stab_lines.specs.Prints.{operation_text, open_text}
 use Rattle.stab_items.specs.Prints.{PrintedLine, printed_lines, line_text, text_of, printed_in}
 
@@ -77,21 +75,3 @@ operation_lines d x o e = sym (ap (λ y. printed_in d (before y done)) e ∙ pri
 pub block_lines : (d : ℕ) (x : OneItem) (count : ℕ) (tag : List ℕ) (body : Items) → x ≡ repeat count tag body
     → line_text (record { depth = d; content = open_text count tag }) ++ (printed_in (suc d) body ++ line_text (record { depth = d; content = codes "}" })) ≡ printed_in d (before x done)
 block_lines d x count tag body e = sym (ap (λ y. printed_in d (before y done)) e ∙ printed_block d count tag body)
-
--- items in chunks
-printed-append : (d : ℕ) (xs ys : List OneItem) → printed_in d (listed (xs ++ ys)) ≡ printed_in d (listed xs) ++ printed_in d (listed ys)
-printed-append d xs ys = ap (printed_in d) (listed-append xs ys) ∙ printed_in-join d (listed xs) (listed ys)
-
-pub printed_chunk : (cs : List (List OneItem)) (k : ℕ) (c : List OneItem) → k < length cs → c ≡ get_or cs k c
-    → printed_in 0 (listed (flattened (take k cs))) ++ printed_in 0 (listed c) ≡ printed_in 0 (listed (flattened (take (k + 1) cs)))
-printed_chunk cs k c h e = sym (ap (λ l. printed_in 0 (listed l)) (flattened_more cs k c h e) ∙ printed-append 0 (flattened (take k cs)) c)
-
-pub printed_chunks : (cs : List (List OneItem)) (k : ℕ) (c : List OneItem) → k < length cs → c ≡ get_or cs k c
-    → printed_in 0 (listed (flattened (take k cs))) ++ (printed_in 0 (listed c) ++ printed_in 0 (listed (flattened (drop (k + 1) cs)))) ≡ printed_in 0 (listed (flattened cs))
-printed_chunks cs k c h e =
-    let front = printed_in 0 (listed (flattened (take k cs))) in
-    let back = printed_in 0 (listed (flattened (drop (k + 1) cs))) in
-    sym (append_assoc front (printed_in 0 (listed c)) back)
-    ∙ ap (λ l. l ++ back) (printed_chunk cs k c h e)
-    ∙ sym (printed-append 0 (flattened (take (k + 1) cs)) (flattened (drop (k + 1) cs)))
-    ∙ ap (λ l. printed_in 0 (listed l)) (flattened_split (k + 1) cs)

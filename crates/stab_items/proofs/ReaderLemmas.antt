@@ -17,7 +17,6 @@ use Rattle.stab_items.specs.Circuits.{Meaning, at_line, meaning_after, one_item,
 use Rattle.stab_items.specs.inner.Readers.{OpenBlock, Progress, closed, stepped, finished, read_on, is_some_items, is_whole, meaning_at, pending, line_fault, ReadsItems, IsShallowProgress}
 use Rattle.stab_items.specs.inner.Stretches.{reading_on}
 use Rattle.stab_lines.specs.Words.{pieces_after}
-use Rattle.stab_items.specs.inner.Chunks.{flattened}
 use Rattle.stab_items.proofs.ItemLemmas.{depth-join}
 use Rattle.stab_lines.proofs.BoolLemmas.{chosen}
 
@@ -152,12 +151,12 @@ stepped_shallow n m s t h e = lines m s.open_blocks s.now h e
 pub closes_shallow : (gs : List OpenBlock) (f : OpenBlock) (fs : List OpenBlock) (now : Items) → gs ≡ f ∷ fs → IsShallowProgress (record { open_blocks = gs; now = now }) → depth now ≤ 15
 closes_shallow gs f fs now e h = omega (arith, h.now, ap length e)
 
-pub finished_shallow : (s : Progress) (given : Result (Vec (List OneItem)) Fault) → IsShallowProgress s → ReadsItems given (finished s) → IfOk given (λ v. depth (listed (flattened v.items)) ≤ 16)
+pub finished_shallow : (s : Progress) (given : Result (Vec OneItem) Fault) → IsShallowProgress s → ReadsItems given (finished s) → IfOk given (λ v. depth (listed v.items) ≤ 16)
 finished_shallow s (Err f) h e = tt
 finished_shallow s (Ok v) h e = ended s.open_blocks s.now h e
   where
-    ended : (fs : List OpenBlock) (now : Items) → IsShallowProgress (record { open_blocks = fs; now = now }) → finished (record { open_blocks = fs; now = now }) ≡ Ok (listed (flattened v.items)) → depth (listed (flattened v.items)) ≤ 16
-    ended [] now h e = let same : now ≡ listed (flattened v.items) = cc in omega (arith, h.now, ap depth same)
+    ended : (fs : List OpenBlock) (now : Items) → IsShallowProgress (record { open_blocks = fs; now = now }) → finished (record { open_blocks = fs; now = now }) ≡ Ok (listed v.items) → depth (listed v.items) ≤ 16
+    ended [] now h e = let same : now ≡ listed v.items = cc in omega (arith, h.now, ap depth same)
     ended (f ∷ fs) now h e = cc
 
 -- the fault of a line's refusal

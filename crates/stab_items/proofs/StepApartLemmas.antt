@@ -67,9 +67,6 @@ rounds_apart : (n : ℕ) (ss : List Step) → All IsApart ss → All IsApart (ro
 rounds_apart zero ss a = All-nil IsApart
 rounds_apart (suc n) ss a = All-append IsApart ss (rounds n ss) a (rounds_apart n ss a)
 
-pub operation_apart : (x : OneItem) (op : Operation) → operation op ≡ x → All IsApart (steps_of op.kind) → All IsApart (unroll (before x done))
-operation_apart x op is a = subst (λ y. All IsApart (unroll (before y done))) is (subst (All IsApart) (sym (append-nil (steps_of op.kind))) a)
-
 pub block_apart : (x : OneItem) (count : ℕ) (tag : List ℕ) (body : Items) → repeat count tag body ≡ x → All IsApart (unroll body) → All IsApart (unroll (before x done))
 block_apart x count tag body is a =
     subst (λ y. All IsApart (unroll (before y done))) is (subst (All IsApart) (sym (append-nil (rounds count (unroll body)))) (rounds_apart count (unroll body) a))

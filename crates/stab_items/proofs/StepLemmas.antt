@@ -1,5 +1,5 @@
 -- Numbers over the unrolled steps.
-use Rattle.std.proofs.Common.{◌≡◌, ◌≤◌, ◌<◌, refl, ap, sym, ◌∙◌, Some, append-nil, ℕ, ◌+◌, ◌*◌, ◌-◌, zero, suc, max, min, List, [], ◌∷◌, ◌++◌, ◌||◌, nat_lt, length, All, arith, append_assoc}
+use Rattle.std.proofs.Common.{◌≡◌, ◌≤◌, ◌<◌, refl, ap, sym, ◌∙◌, Some, append-nil, ℕ, ◌+◌, ◌*◌, ◌-◌, zero, suc, max, min, Bool, true, false, if◌then◌else◌, List, [], ◌∷◌, ◌++◌, ◌||◌, nat_lt, length, All, arith, append_assoc}
 use Rattle.std.proofs.lemmas.List.{length-append}
 use Rattle.std.proofs.lemmas.List.Elements.{All-head, All-tail}
 use Rattle.std.specs.List.{list_any}
@@ -7,7 +7,7 @@ use Rattle.stab_lines.specs.declared.operation.Kind.{Kind}
 use Rattle.stab_lines.specs.declared.operation.Kind.TheVariants as kind
 use Rattle.stab_lines.specs.Lookbacks.{IsLookback}
 use Rattle.stab_items.specs.Items.{Items, OneItem, done, next, block, join, operation, repeat, before}
-use Rattle.stab_items.specs.Steps.{Step, detector, steps_of, detector_in, detector_of, rounds, unroll, makes, records_of, lookbacks, looks_too_far}
+use Rattle.stab_items.specs.Steps.{Step, detector, steps_of, detector_in, detector_of, rounds, unroll, makes, records_of, is_detector, detectors_of, lookbacks, looks_too_far}
 use Rattle.stab_items.specs.inner.Summaries.{greatest, reach}
 
 pub greatest_small : (ks : List ℕ) → All IsLookback ks → greatest ks ≤ 16777215
@@ -28,6 +28,18 @@ records_of-append (s ∷ ss) ts = omega (arith, records_of-append ss ts)
 pub records_of-rounds : (n : ℕ) (ss : List Step) → records_of (rounds n ss) ≡ n * records_of ss
 records_of-rounds zero ss = omega arith
 records_of-rounds (suc n) ss = records_of-append ss (rounds n ss) ∙ ap (λ m. records_of ss + m) (records_of-rounds n ss) ∙ sym (times_more n (records_of ss))
+
+detectors_more : (b : Bool) (n m k : ℕ) → n ≡ m + k → (if b then 1 + n else n) ≡ (if b then 1 + m else m) + k
+detectors_more true n m k e = omega (arith, e)
+detectors_more false n m k e = e
+
+pub detectors_of-append : (ss ts : List Step) → detectors_of (ss ++ ts) ≡ detectors_of ss + detectors_of ts
+detectors_of-append [] ts = omega arith
+detectors_of-append (s ∷ ss) ts = detectors_more (is_detector s) (detectors_of (ss ++ ts)) (detectors_of ss) (detectors_of ts) (detectors_of-append ss ts)
+
+pub detectors_of-rounds : (n : ℕ) (ss : List Step) → detectors_of (rounds n ss) ≡ n * detectors_of ss
+detectors_of-rounds zero ss = omega arith
+detectors_of-rounds (suc n) ss = detectors_of-append ss (rounds n ss) ∙ ap (λ m. detectors_of ss + m) (detectors_of-rounds n ss) ∙ sym (times_more n (detectors_of ss))
 
 later_max : (l a b m s : ℕ) → max l (max a (b - m) - s) ≡ max (max l (a - s)) (b - (s + m))
 later_max l a b m s = omega arith

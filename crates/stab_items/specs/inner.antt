@@ -4,7 +4,6 @@ pub mod Kept
 pub mod ItemSizes
 pub mod Parts
 pub mod Blocks
-pub mod Chunks
 pub mod Readers
 pub mod Margins
 pub mod KnownLines

@@ -1,6 +1,6 @@
-ghost use Rattle.std.specs.Prelude.{◌≡◌, IfOk};
+ghost use Rattle.std.specs.Prelude.{◌≡◌, ◌≤◌, ◌++◌, length, take, drop, IfOk, OnOk};
 
-use crate::item::{Head, Item, Node};
+use crate::item::{Block, Head, Item, Node};
 use std::alloc::{AllocError, Global};
 
 /// A copy of an item. It shares an instruction that the item shares.
@@ -9,29 +9,14 @@ pub fn copied_item(alloc: Global, item: &Item) -> Result<Item, AllocError>
     ensures ok { IfOk result (λ i. i ≡ item.now) }
 {
     match &item.node {
-        Node::Plain(kind) => {
-            let kind = kind.copy(alloc)?;
+        Node::Tick => Ok(Item { node: Node::Tick }),
+        Node::Instruction(instruction) => Ok(Item::shared(instruction.clone()?)),
+        Node::Block(block) => {
+            let body = copied_items(alloc, block.body.as_slice())?;
+            let head = copied_head(alloc, &block.head)?;
+            let block = Box::new(alloc, Block { head, body })?;
             Ok(Item {
-                node: Node::Plain(kind),
-            })
-        }
-        Node::Shared(kind) => {
-            let kind = kind.clone()?;
-            Ok(Item {
-                node: Node::Shared(kind),
-            })
-        }
-        Node::Tagged(operation) => {
-            let operation = Box::new(alloc, operation.copy(alloc)?)?;
-            Ok(Item {
-                node: Node::Tagged(operation),
-            })
-        }
-        Node::Repeat { head, body } => {
-            let body = copied_items(alloc, body.as_slice())?;
-            let head = copied_head(alloc, head)?;
-            Ok(Item {
-                node: Node::Repeat { head, body },
+                node: Node::Block(block),
             })
         }
     }
@@ -39,7 +24,7 @@ pub fn copied_item(alloc: Global, item: &Item) -> Result<Item, AllocError>
 
 /// A copy of items.
 #[cycle(copying)]
-pub(crate) fn copied_items(alloc: Global, items: &[Item]) -> Result<Vec<Item>, AllocError>
+fn copied_items(alloc: Global, items: &[Item]) -> Result<Vec<Item>, AllocError>
     ensures ok { IfOk result (λ v. v.items ≡ items.now) }
 {
     let mut all = Vec::with_capacity(alloc, items.len())?;
@@ -50,14 +35,31 @@ pub(crate) fn copied_items(alloc: Global, items: &[Item]) -> Result<Vec<Item>, A
 }
 
 /// A copy of what is known of a block.
-fn copied_head(alloc: Global, head: &Head) -> Result<Box<Head>, AllocError>
-    ensures ok { IfOk result (λ h. h.value ≡ head.now) }
+fn copied_head(alloc: Global, head: &Head) -> Result<Head, AllocError>
+    ensures ok { IfOk result (λ h. h ≡ head.now) }
 {
     let tag = head.tag.copy(alloc)?;
-    let head = Head {
+    Ok(Head {
         count: head.count,
         tag,
         kept: head.kept,
-    };
-    Ok(Box::new(alloc, head)?)
+    })
+}
+
+/// Puts copies of some items behind all.
+pub(crate) fn push_copies(
+    alloc: Global,
+    items: &mut Vec<Item>,
+    first: usize,
+    behind: usize,
+) -> Result<(), AllocError>
+    requires within { behind ≤ length items.old.items }
+    requires order { first ≤ behind }
+    ensures ok { OnOk result (items.new.items ≡ items.old.items ++ drop first (take behind items.old.items)) }
+{
+    for place in first..behind {
+        let copy = copied_item(alloc, &items[place])?;
+        items.push(copy)?;
+    }
+    Ok(())
 }

@@ -1,5 +1,6 @@
-use crate::summary::{Summary, kind_summary};
-use stab_lines::{Count, Kind, Operation, Sequence};
+use crate::instruction::Instruction;
+use crate::summary::Summary;
+use stab_lines::{Count, Kind, Sequence};
 use std::alloc::{AllocError, Global};
 use std::marker::Model;
 use std::mem;
@@ -18,14 +19,20 @@ pub struct Item {
 #[cycle(item)]
 #[derive(Drop)]
 pub(crate) enum Node {
-    // An instruction without a tag.
-    Plain(Kind),
-    // An instruction without a tag that the same lines of a text share.
-    Shared(Rc<Kind>),
-    // One with a tag, which few have, has a box of its own.
-    Tagged(Box<Operation>),
-    // What is known of a block has a box of its own, so that instructions stay small.
-    Repeat { head: Box<Head>, body: Vec<Item> },
+    // TICK without a tag, which takes no memory.
+    Tick,
+    // An instruction, which the same lines of a text share.
+    Instruction(Rc<Instruction>),
+    // A block has a box of its own, so that items stay small.
+    Block(Box<Block>),
+}
+
+/// A block: what is known of it, and its items.
+#[cycle(item)]
+#[derive(Drop)]
+pub(crate) struct Block {
+    pub(crate) head: Head,
+    pub(crate) body: Vec<Item>,
 }
 
 /// What is known of a block besides its items.
@@ -48,7 +55,7 @@ impl Drop for Head {
 }
 
 // Long circuits are lists of items, which an edit moves.
-const _: () = prove!(size_of::<Item>() <= 40);
+const _: () = prove!(size_of::<Item>() <= 16);
 
 impl Model for Item {
     ghost use Rattle.stab_items.specs.Items.{OneItem, depth_of};
@@ -74,6 +81,8 @@ impl Model for Item {
 /// What an item shows of itself.
 #[derive(Clone, Copy)]
 pub enum Part<'a> {
+    /// `TICK` without a tag that keeps no instruction.
+    Tick,
     Operation {
         kind: &'a Kind,
         /// Empty where there is none.
@@ -97,36 +106,21 @@ impl Item {
     ghost use Rattle.stab_items.specs.inner.Parts.{part_of, IsPart};
     ghost use Rattle.stab_items.specs.inner.Blocks.{with_rounds, with_body, IsInstruction};
 
-    /// The item that is one instruction. Without a tag it takes no memory.
-    #[tactic(auto, using(crate::proofs::ItemLemmas::untagged))]
-    pub(crate) fn operation(alloc: Global, operation: Operation) -> Result<Item, AllocError>
-        ensures ok { IfOk result (λ i. i ≡ single operation) }
+    /// The item that is one instruction.
+    pub(crate) fn operation(alloc: Global, instruction: Instruction) -> Result<Item, AllocError>
+        ensures ok { IfOk result (λ i. i ≡ single instruction) }
     {
-        let node = if operation.tag.as_slice().is_empty() {
-            Node::Plain(operation.kind)
-        } else {
-            Node::Tagged(Box::new(alloc, operation)?)
-        };
-        Ok(Item { node })
+        let instruction = Rc::new(alloc, instruction)?;
+        Ok(Item::shared(instruction))
     }
 
-    /// The item that is one instruction without a tag. It takes no memory.
+    /// The item that is one instruction, which others share. It takes no memory.
     #[inline]
-    pub(crate) fn plain(kind: Kind) -> Item
-        ensures value { result ≡ single (record { kind = kind; tag = [] }) }
+    pub(crate) fn shared(instruction: Rc<Instruction>) -> Item
+        ensures value { result ≡ single instruction.value }
     {
         Item {
-            node: Node::Plain(kind),
-        }
-    }
-
-    /// The item that is one instruction without a tag, which others share. It takes no memory.
-    #[inline]
-    pub(crate) fn shared(kind: Rc<Kind>) -> Item
-        ensures value { result ≡ single (record { kind = kind.value; tag = [] }) }
-    {
-        Item {
-            node: Node::Shared(kind),
+            node: Node::Instruction(instruction),
         }
     }
 
@@ -136,9 +130,7 @@ impl Item {
     pub fn tick(_alloc: Global) -> Item
         ensures nothing { IsNothing result }
     {
-        Item {
-            node: Node::Plain(Kind::Tick),
-        }
+        Item { node: Node::Tick }
     }
 
     /// The item that is a block: its count of rounds, its tag, the items of one round and their
@@ -154,9 +146,10 @@ impl Item {
         requires sum { IsSumOf (listed body.items) kept }
         ensures ok { IfOk result (λ i. i ≡ repeated count tag (listed body.items)) }
     {
-        let head = Box::new(alloc, Head { count, tag, kept })?;
+        let head = Head { count, tag, kept };
+        let block = Box::new(alloc, Block { head, body })?;
         Ok(Item {
-            node: Node::Repeat { head, body },
+            node: Node::Block(block),
         })
     }
 
@@ -166,17 +159,16 @@ impl Item {
         ensures kept { IsPart result }
     {
         match &self.node {
-            Node::Plain(kind) => Part::Operation { kind, tag: &[] },
-            Node::Shared(kind) => Part::Operation { kind, tag: &[] },
-            Node::Tagged(operation) => Part::Operation {
-                kind: &operation.kind,
-                tag: operation.tag.as_slice(),
+            Node::Tick => Part::Tick,
+            Node::Instruction(instruction) => Part::Operation {
+                kind: instruction.kind(),
+                tag: instruction.tag(),
             },
-            Node::Repeat { head, body } => Part::Block {
-                count: head.count,
-                tag: head.tag.as_slice(),
-                kept: head.kept,
-                body: body.as_slice(),
+            Node::Block(block) => Part::Block {
+                count: block.head.count,
+                tag: block.head.tag.as_slice(),
+                kept: block.head.kept,
+                body: block.body.as_slice(),
             },
         }
     }
@@ -191,7 +183,7 @@ impl Item {
                 kind: Kind::Detector(located),
                 ..
             } => Some(located.records()),
-            Part::Operation { .. } | Part::Block { .. } => None,
+            Part::Tick | Part::Operation { .. } | Part::Block { .. } => None,
         }
     }
 
@@ -200,8 +192,8 @@ impl Item {
         ensures value { self.new ≡ with_rounds count self.old }
     {
         match &mut self.node {
-            Node::Plain(_) | Node::Shared(_) | Node::Tagged(_) => {}
-            Node::Repeat { head, .. } => head.count = count,
+            Node::Tick | Node::Instruction(_) => {}
+            Node::Block(block) => block.head.count = count,
         }
     }
 
@@ -215,11 +207,11 @@ impl Item {
         ensures none { IfNone result (IsInstruction self.old) }
     {
         match &mut self.node {
-            Node::Plain(_) | Node::Shared(_) | Node::Tagged(_) => None,
-            Node::Repeat { head, body } => {
-                let empty = Vec::new(*body.allocator());
-                head.kept = Summary::NONE;
-                Some(mem::replace(body, empty))
+            Node::Tick | Node::Instruction(_) => None,
+            Node::Block(block) => {
+                let empty = Vec::new(*block.body.allocator());
+                block.head.kept = Summary::NONE;
+                Some(mem::replace(&mut block.body, empty))
             }
         }
     }
@@ -231,26 +223,26 @@ impl Item {
         ensures value { self.new ≡ with_body items.items self.old }
     {
         match &mut self.node {
-            Node::Plain(_) | Node::Shared(_) | Node::Tagged(_) => {}
-            Node::Repeat { head, body } => {
-                head.kept = items_summary(items.as_slice());
-                *body = items;
+            Node::Tick | Node::Instruction(_) => {}
+            Node::Block(block) => {
+                block.head.kept = items_summary(items.as_slice());
+                block.body = items;
             }
         }
     }
 
-    /// The summary of the item, without a walk over a block's body.
-    #[tactic(auto, using(crate::proofs::SummaryLemmas::operation_summary, crate::proofs::StepApartLemmas::operation_apart))]
+    /// The summary of the item, without a look at targets or at a block's body.
+    #[inline]
+    #[tactic(auto, using(crate::proofs::SummaryLemmas::tick_sum, crate::proofs::SummaryLemmas::instruction_sum))]
     pub fn summary(&self) -> Summary
         ensures value { result ≡ summary_of (before self.now done) }
         ensures small { IsSummary result }
         ensures apart { All IsApart (unroll (before self.now done)) }
     {
         match &self.node {
-            Node::Plain(kind) => kind_summary(kind),
-            Node::Shared(kind) => kind_summary(kind),
-            Node::Tagged(operation) => kind_summary(&operation.kind),
-            Node::Repeat { head, .. } => head.kept.repeated(head.count.number()),
+            Node::Tick => Summary::NONE,
+            Node::Instruction(instruction) => instruction.summary(),
+            Node::Block(block) => block.head.kept.repeated(block.head.count.number()),
         }
     }
 }

@@ -1,8 +1,7 @@
 use crate::front::behind_front;
+use crate::instruction::Instruction;
 use crate::item::Item;
 use crate::marks::{LINE_SLOTS, Mark, NO_MARK, line_mark};
-use crate::summary::Summary;
-use stab_lines::Kind;
 use std::alloc::{AllocError, Global};
 use std::marker::Model;
 use std::rc::Rc;
@@ -19,12 +18,10 @@ const PATIENCE: u32 = 8192;
 /// A line that was known makes up for so many that were not.
 const WORTH: u32 = 64;
 
-/// A line that was read, the instruction without a tag that it means, and that one's summary. Contracts
-/// see the line and the instruction.
+/// A line that was read, and the instruction that it means. Contracts see both.
 struct KnownLine<'a> {
     bytes: &'a [u8],
-    kind: Rc<Kind>,
-    sum: Summary,
+    instruction: Rc<Instruction>,
 }
 
 // Written out, so that to a proof a value that is let go is one call, and not one for each of its parts.
@@ -32,30 +29,27 @@ impl<'a> Drop for KnownLine<'a> {
     fn drop(self) {
         let KnownLine {
             bytes: _,
-            kind: _,
-            sum: _,
+            instruction: _,
         } = self;
     }
 }
 
 impl<'a> Model for KnownLine<'a> {
     ghost use Rattle.std.specs.Prelude.{ℕ, List};
-    ghost use Rattle.stab_lines.specs.declared.operation.Kind.{Kind};
+    ghost use Rattle.stab_lines.specs.declared.operation.Operation.{Operation};
     ghost use Rattle.stab_items.specs.inner.KnownLines.{IsKnownLine};
 
-    ghost Value = { List ℕ × Kind };
+    ghost Value = { List ℕ × Operation };
 
-    ghost view = { λ l. (l.bytes.now, l.kind.value) };
+    ghost view = { λ l. (l.bytes.now, l.instruction.value) };
 
-    ghost invariant = { λ l. IsKnownLine l.bytes.now l.kind.value l.sum };
+    ghost invariant = { λ l. IsKnownLine l.bytes.now l.instruction.value };
 }
 
-/// The instruction of a known line that a text begins with, its summary, and the lines behind it, if
-/// there are any.
+/// The item of a known line that a text begins with, and the lines behind it, if there are any.
 #[derive(Drop)]
 pub(crate) struct FoundLine<'a> {
     pub(crate) item: Item,
-    pub(crate) sum: Summary,
     pub(crate) after: Option<&'a [u8]>,
 }
 
@@ -88,9 +82,8 @@ pub(crate) struct KnownLines<'a> {
 impl<'a> KnownLines<'a> {
     ghost use Rattle.std.specs.Prelude.{◌≡◌, ◌<◌, IfOk, MatchOption};
     ghost use Rattle.std.specs.Option.{option_copied};
-    ghost use Rattle.stab_items.specs.Items.{operation, next, before, done};
-    ghost use Rattle.stab_items.specs.inner.Summaries.{IsSumOf};
-    ghost use Rattle.stab_items.specs.inner.KnownLines.{IsOneLine, BeginsWithItem, Means, without_tag};
+    ghost use Rattle.stab_items.specs.Items.{operation};
+    ghost use Rattle.stab_items.specs.inner.KnownLines.{IsOneLine, BeginsWithItem, Means};
 
     /// No lines. None will be remembered where a text has no line twice, as that of one item.
     pub(crate) fn new(alloc: Global, gave_up: bool) -> KnownLines<'a> {
@@ -108,7 +101,6 @@ impl<'a> KnownLines<'a> {
     /// What is known of the line that a text begins with.
     pub(crate) fn find(&mut self, text: &'a [u8]) -> Result<Option<FoundLine<'a>>, AllocError>
         ensures front { IfOk result (λ found. MatchOption found (Unit {0}) (λ f. BeginsWithItem text.entry.now f.item (option_copied f.after))) }
-        ensures sum { IfOk result (λ found. MatchOption found (Unit {0}) (λ f. IsSumOf (before f.item done) f.sum)) }
     {
         let mut number = self.next;
         let mut found = self.at_front(number, text)?;
@@ -127,7 +119,6 @@ impl<'a> KnownLines<'a> {
     #[inline]
     fn at_front(&self, number: usize, text: &'a [u8]) -> Result<Option<FoundLine<'a>>, AllocError>
         ensures front { IfOk result (λ found. MatchOption found (Unit {0}) (λ f. BeginsWithItem text.entry.now f.item (option_copied f.after))) }
-        ensures sum { IfOk result (λ found. MatchOption found (Unit {0}) (λ f. IsSumOf (before f.item done) f.sum)) }
     {
         if number >= self.lines.len() {
             return Ok(None);
@@ -136,8 +127,7 @@ impl<'a> KnownLines<'a> {
         match behind_front(text, known.bytes) {
             None => Ok(None),
             Some(after) => Ok(Some(FoundLine {
-                item: Item::shared(known.kind.clone()?),
-                sum: known.sum,
+                item: Item::shared(known.instruction.clone()?),
                 after,
             })),
         }
@@ -155,34 +145,32 @@ impl<'a> KnownLines<'a> {
         }
     }
 
-    /// The item that is the instruction without a tag of the line that was looked for last and not
-    /// found. The line is remembered with it, unless that seems to be no use; then it takes no memory.
+    /// The item that is the instruction of the line that was looked for last and not found. The line is
+    /// remembered with it, unless that seems to be no use.
     pub(crate) fn remember(
         &mut self,
         bytes: &'a [u8],
-        kind: Kind,
-        sum: Summary,
+        instruction: Instruction,
     ) -> Result<Item, AllocError>
         requires whole { IsOneLine bytes.now }
-        requires means { Means bytes.now (without_tag kind) }
-        requires sum { IsSumOf (next (without_tag kind) done) sum }
-        ensures item { IfOk result (λ i. i ≡ operation (without_tag kind)) }
+        requires means { Means bytes.now instruction }
+        ensures item { IfOk result (λ i. i ≡ operation instruction) }
     {
         if self.misses >= PATIENCE {
             self.give_up();
-            return Ok(Item::plain(kind));
+            return Item::operation(self.alloc, instruction);
         }
         self.misses += 1;
         // Often one line alone is another, and those behind it come again.
         self.next = self.next.saturating_add(1);
         let number = self.lines.len();
         if self.gave_up || number >= MOST {
-            return Ok(Item::plain(kind));
+            return Item::operation(self.alloc, instruction);
         }
         self.take_slot(number)?;
-        let kind = Rc::new(self.alloc, kind)?;
-        let item = Item::shared(kind.clone()?);
-        self.lines.push(KnownLine { bytes, kind, sum })?;
+        let instruction = Rc::new(self.alloc, instruction)?;
+        let item = Item::shared(instruction.clone()?);
+        self.lines.push(KnownLine { bytes, instruction })?;
         Ok(item)
     }
 

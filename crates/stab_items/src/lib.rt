@@ -4,8 +4,8 @@
 //! What one line means is said by `stab_lines`; here lines are put together to items. Circuits of
 //! them, with edits and unrolled steps, are `stab_circuit`'s.
 //!
+//! - `instruction`: instructions, which keep their numbers.
 //! - `item`: instructions and blocks, which keep the numbers of one round.
-//! - `chunk`: some items of a list and their summary, so that a long list is kept in parts.
 //! - `reader`: the items of a text's lines, with the blocks that are open.
 //! - `front`: the first line of a text: where it ends, and what a look at its bytes tells.
 //! - `known_lines`: lines that were read, so that one that comes again is not read again.
@@ -25,14 +25,14 @@
 //!
 //! Proved: a text is read as exactly the items that its lines come to, one after the other, or
 //! refused with the fault of the first line that is; that these are the items that it stands for, and
-//! that fault its own, is shown in `stab_circuit`; qubits, observables, steps and records of items,
+//! that fault its own, is shown in `stab_circuit`; qubits, observables, steps, records and detectors of items,
 //! and the lookbacks before them, are those of their unrolled steps, counted up to a limit, whatever a
 //! block keeps; what is printed of items is their one text; a copy is the same item.
 #![tactic(auto)]
 
-mod chunk;
 mod copy;
 mod front;
+mod instruction;
 mod item;
 mod known_lines;
 mod marks;
@@ -42,9 +42,8 @@ mod stretches;
 mod summary;
 mod whole_text;
 
-pub use chunk::Chunk;
 pub use copy::copied_item;
 pub use item::{Item, Part, items_summary};
-pub use print::{write_all_chunks, write_one_item};
+pub use print::{write_all_items, write_one_item};
 pub use summary::{STEPS_CAP, Summary};
 pub use whole_text::read_lines;

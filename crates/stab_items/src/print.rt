@@ -4,9 +4,7 @@ ghost use Rattle.stab_io.specs.Devices.{WritesAll};
 ghost use Rattle.stab_items.specs.inner.Margins.{margin_depth};
 ghost use Rattle.stab_lines.specs.Prints.{operation_text, open_text};
 ghost use Rattle.stab_items.specs.Prints.{line_text, printed_in, printed};
-ghost use Rattle.stab_items.specs.inner.Chunks.{flattened};
 
-use crate::chunk::Chunk;
 use crate::item::{Item, Part};
 use stab_io::{Output, Refusal, write_all};
 use stab_lines::{Count, Kind, write_opening, write_operation};
@@ -70,6 +68,7 @@ fn write_item<O: Output>(out: &mut O, margin: &Margin, item: &Item) -> Result<()
     ensures writes { WritesAll (O.seen out.old) (O.seen out.new) (printed_in (margin_depth margin.now) (before item.now done)) result }
 {
     match item.part() {
+        Part::Tick => write_operation_line(out, margin, &Kind::Tick, &[]),
         Part::Operation { kind, tag } => write_operation_line(out, margin, kind, tag),
         Part::Block {
             count,
@@ -95,17 +94,14 @@ fn write_items<O: Output>(out: &mut O, margin: &Margin, items: &[Item]) -> Resul
     Ok(())
 }
 
-/// Writes the text of items in chunks: that of a circuit of these items.
+/// Writes the text of items: that of a circuit of these items.
 ///
 /// Refusal `WriteFault` where a write failed; what was written is then a prefix of the text, and
 /// nothing more is tried.
-pub fn write_all_chunks<O: Output>(out: &mut O, chunks: &[Chunk]) -> Result<(), Refusal>
-    ensures writes { WritesAll (O.seen out.old) (O.seen out.new) (printed (listed (flattened chunks.now))) result }
+pub fn write_all_items<O: Output>(out: &mut O, items: &[Item]) -> Result<(), Refusal>
+    ensures writes { WritesAll (O.seen out.old) (O.seen out.new) (printed (listed items.now)) result }
 {
-    for chunk in chunks {
-        write_items(out, &Margin::None, chunk.items())?;
-    }
-    Ok(())
+    write_items(out, &Margin::None, items)
 }
 
 /// Writes the text of one item, as `write_circuit` does that of a circuit of this item alone.

@@ -1,7 +1,7 @@
 ghost use Rattle.std.specs.Prelude.{◌≡◌};
 
-use crate::chunk::Chunk;
 use crate::front::{before_lines, behind_front};
+use crate::item::Item;
 use crate::marks::{STRETCH_SLOTS, stretch_mark};
 use std::alloc::{AllocError, Global};
 
@@ -9,18 +9,21 @@ use std::alloc::{AllocError, Global};
 /// bytes.
 const PATIENCE: u32 = 65_536;
 
-/// Stretches of so few lines are found by their place alone, since each makes a chunk.
+/// Stretches of so few lines are found by their place alone, since each is remembered again.
 const FEW: u64 = 64;
 
-/// Lines that were read, one behind the other, how many they are, and the chunk of their items.
+/// Lines that were read, one behind the other, how many they are, and the place of their first item in the
+/// outermost list and that behind the last.
 #[derive(Clone, Copy)]
 pub(crate) struct Stretch<'a> {
     pub(crate) bytes: &'a [u8],
     pub(crate) lines: u64,
-    pub(crate) chunk: usize,
+    pub(crate) first: usize,
+    pub(crate) behind: usize,
 }
 
-/// Lines that put the items behind the chunks there: the text from the first of them on, and its number.
+/// Lines that put the items there that are of no stretch: the text from the first of them on, and its
+/// number.
 #[derive(Clone, Copy)]
 pub(crate) struct Run<'a> {
     pub(crate) front: &'a [u8],
@@ -49,7 +52,8 @@ struct Newest {
 #[derive(Drop)]
 pub(crate) struct Stretches<'a> {
     alloc: Global,
-    /// The lines of the items behind the chunks, where they have neither a block nor its end among them.
+    /// The lines of the items behind the last stretch, where they have neither a block nor its end among
+    /// them.
     pub(crate) run: Option<Run<'a>>,
     all: Vec<Stretch<'a>>,
     // The number of the stretch behind the one that was found last.
@@ -83,10 +87,10 @@ impl<'a> Stretches<'a> {
     }
 
     /// The stretch that a text begins with, and the lines behind it, if there are any. One of few lines is
-    /// found only right behind the chunks.
+    /// found only right behind a stretch.
     pub(crate) fn find(
         &mut self,
-        behind_chunks: bool,
+        behind_stretch: bool,
         text: &'a [u8],
     ) -> Option<(Stretch<'a>, Option<&'a [u8]>)>
         ensures all { self.new.all.items ≡ self.old.all.items }
@@ -95,7 +99,7 @@ impl<'a> Stretches<'a> {
         ensures front { MatchOption result (Unit {0}) (λ p. IsCut text.now p.0.bytes.now (option_copied p.1)) }
     {
         let next = self.next;
-        let least = if behind_chunks { 0 } else { FEW };
+        let least = if behind_stretch { 0 } else { FEW };
         if let Some(found) = self.at_front(next, least, text) {
             self.next = next.saturating_add(1);
             return Some(found);
@@ -173,17 +177,18 @@ impl<'a> Stretches<'a> {
     }
 
     /// Remembers the run that ends before this line, with which the rest begins, and whose items are those
-    /// of the last chunk.
+    /// from a place on.
     #[tactic(auto, using(crate::proofs::StretchLemmas::one_more))]
     pub(crate) fn end_run(
         &mut self,
-        chunks: &[Chunk],
+        items: &[Item],
+        first: usize,
         line: u64,
         rest: &'a [u8],
     ) -> Result<(), AllocError>
-        requires known { AreStretches chunks.now self.old }
-        requires ended { MatchOption self.old.run (Unit {0}) (IsEnded chunks.now line rest.now) }
-        ensures known { OnOk result (AreStretches chunks.now self.new) }
+        requires known { AreStretches items.now self.old }
+        requires ended { MatchOption self.old.run (Unit {0}) (IsEnded items.now first line rest.now) }
+        ensures known { OnOk result (AreStretches items.now self.new) }
         ensures run { OnOk result (self.new.run ≡ None) }
     {
         let Some(run) = self.run else {
@@ -195,11 +200,11 @@ impl<'a> Stretches<'a> {
             return Ok(());
         }
         let bytes = before_lines(run.front, Some(rest));
-        let chunk = chunks.len().saturating_sub(1);
         self.remember(Stretch {
             bytes,
             lines,
-            chunk,
+            first,
+            behind: items.len(),
         })
     }
 }

@@ -10,12 +10,13 @@ use stab_io::Refusal;
 use stab_lines::{ControlledPair, Factor, Kind, MeasureTarget, Pair, Product, Qubit};
 
 /// What checks need to know of items: how many steps they make, up to 1,048,577, how many
-/// records, up to 16,777,215, how many records have to stand before them, how many qubits and
-/// observables they name, and how deep blocks are nested in them, up to 17.
+/// records and how many detectors, up to 16,777,215 each, how many records have to stand before them, how
+/// many qubits and observables they name, and how deep blocks are nested in them, up to 17.
 #[derive(Clone, Copy)]
 pub struct Summary {
     pub steps: u32,
     pub records: u32,
+    pub detectors: u32,
     pub reach: u32,
     pub qubits: u32,
     pub observables: u32,
@@ -28,7 +29,7 @@ const MOST_STEPS: u32 = 1_048_576;
 /// Where a count of steps stops: one more than the most.
 pub const STEPS_CAP: u32 = 1_048_577;
 
-/// Where a count of records stops: the furthest that one is looked for.
+/// Where a count of records or detectors stops: the furthest that a record is looked for.
 const MOST_RECORDS: u32 = 16_777_215;
 
 /// Where a count of nested blocks stops: one more than the most.
@@ -41,6 +42,7 @@ impl Summary {
     pub const NONE: Summary = Summary {
         steps: 0,
         records: 0,
+        detectors: 0,
         reach: 0,
         qubits: 0,
         observables: 0,
@@ -61,6 +63,7 @@ impl Summary {
     }
 
     /// The summary of these items with others after them.
+    #[inline]
     pub fn then(self, next: Summary) -> Summary
         requires first { IsSummary self }
         requires second { IsSummary next }
@@ -70,6 +73,7 @@ impl Summary {
         Summary {
             steps: (self.steps + next.steps).min(STEPS_CAP),
             records: (self.records + next.records).min(MOST_RECORDS),
+            detectors: (self.detectors + next.detectors).min(MOST_RECORDS),
             reach: self.reach.max(next.reach.saturating_sub(self.records)),
             qubits: self.qubits.max(next.qubits),
             observables: self.observables.max(next.observables),
@@ -86,6 +90,7 @@ impl Summary {
         Summary {
             steps: capped_product(count, self.steps, STEPS_CAP),
             records: capped_product(count, self.records, MOST_RECORDS),
+            detectors: capped_product(count, self.detectors, MOST_RECORDS),
             depth: (self.depth + 1).min(MOST_DEPTH),
             ..self
         }
@@ -229,7 +234,7 @@ fn past_and_reach(pairs: &[ControlledPair]) -> (u32, u32)
 /// The summary of so many steps on so many qubits that make no records.
 fn plain(steps: usize, qubits: u32) -> Summary
     requires few { qubits ≤ most_qubits }
-    ensures value { result ≡ record { steps = min steps steps_cap; records = 0; reach = 0; qubits = qubits; observables = 0; depth = 0 } }
+    ensures value { result ≡ record { steps = min steps steps_cap; records = 0; detectors = 0; reach = 0; qubits = qubits; observables = 0; depth = 0 } }
     ensures small { IsSummary result }
 {
     Summary {
@@ -239,15 +244,17 @@ fn plain(steps: usize, qubits: u32) -> Summary
     }
 }
 
-/// The summary of one step that looks back.
+/// The summary of one step that looks back, and of so many detectors.
 #[tactic(auto, using(crate::proofs::SummaryLemmas::greatest_small))]
-fn look(records: &[u32], observables: u32) -> Summary
+fn look(records: &[u32], detectors: u32, observables: u32) -> Summary
     requires each { All IsLookback records.now }
-    ensures value { result ≡ record { steps = 1; records = 0; reach = greatest_of records.now; qubits = 0; observables = observables; depth = 0 } }
+    requires few { detectors ≤ most_lookback }
+    ensures value { result ≡ record { steps = 1; records = 0; detectors = detectors; reach = greatest_of records.now; qubits = 0; observables = observables; depth = 0 } }
     ensures small { IsSummary result }
 {
     Summary {
         steps: 1,
+        detectors,
         reach: greatest(records),
         observables,
         ..Summary::NONE
@@ -256,7 +263,7 @@ fn look(records: &[u32], observables: u32) -> Summary
 
 /// The summary of the pairs of a controlled gate.
 fn controlled(pairs: &[ControlledPair]) -> Summary
-    ensures value { result ≡ record { steps = min (length pairs.now) steps_cap; records = 0; reach = furthest_of pairs.now; qubits = past_of (controlled_qubits pairs.now); observables = 0; depth = 0 } }
+    ensures value { result ≡ record { steps = min (length pairs.now) steps_cap; records = 0; detectors = 0; reach = furthest_of pairs.now; qubits = past_of (controlled_qubits pairs.now); observables = 0; depth = 0 } }
     ensures apart { All IsPairApart pairs.now }
     ensures small { IsSummary result }
 {
@@ -270,7 +277,7 @@ fn controlled(pairs: &[ControlledPair]) -> Summary
 /// The summary of so many steps on so many qubits that make a record each.
 fn measurement(steps: usize, qubits: u32) -> Summary
     requires few { qubits ≤ most_qubits }
-    ensures value { result ≡ record { steps = min steps steps_cap; records = min steps most_lookback; reach = 0; qubits = qubits; observables = 0; depth = 0 } }
+    ensures value { result ≡ record { steps = min steps steps_cap; records = min steps most_lookback; detectors = 0; reach = 0; qubits = qubits; observables = 0; depth = 0 } }
     ensures small { IsSummary result }
 {
     Summary {
@@ -300,9 +307,9 @@ pub fn kind_summary(kind: &Kind) -> Summary
                 past_products(products.as_slice()),
             )
         }
-        Kind::Detector(located) => look(located.records(), 0),
+        Kind::Detector(located) => look(located.records(), 1, 0),
         Kind::ObservableInclude(observable, records) => {
-            look(records.as_slice(), observable.number() + 1)
+            look(records.as_slice(), 0, observable.number() + 1)
         }
         Kind::QubitCoords(located) => plain(0, past(located.targets().as_slice())),
         Kind::Tick | Kind::ShiftCoords(_) => Summary::NONE,

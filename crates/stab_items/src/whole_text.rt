@@ -2,28 +2,27 @@ ghost use Rattle.std.specs.Prelude.{◌≡◌, ◌≤◌, length, IfOk};
 ghost use Rattle.stab_items.specs.Circuits.{most_bytes};
 ghost use Rattle.stab_items.specs.Items.{listed, depth};
 ghost use Rattle.stab_items.specs.inner.Readers.{ReadsItems, reading, line_fault};
-ghost use Rattle.stab_items.specs.inner.Chunks.{flattened};
 
-use crate::chunk::Chunk;
+use crate::copy::push_copies;
+use crate::item::Item;
 use crate::known_lines::KnownLines;
 use crate::reader::CircuitReader;
 use crate::stretches::{Run, Stretch, Stretches, Taken};
 use stab_io::{Fault, Refusal};
 use std::alloc::Global;
-use std::mem;
 
-/// How many items of the outermost list are put into a chunk.
+/// How many items of the outermost list make a stretch.
 const FULL: usize = 256;
 
 impl CircuitReader {
     ghost use Rattle.std.specs.Prelude.{◌≡◌, ◌≤◌, ◌<◌, ◌+◌, ◌∷◌, ◌++◌, ◌⊎◌, [], false, length, None, OnOk, IfOk, IfErr, MatchOption};
     ghost use Rattle.std.specs.Option.{option_copied};
-    ghost use Rattle.std.specs.List.{Contains, slice_index_or};
+    ghost use Rattle.std.specs.List.{Contains};
     ghost use Rattle.stab_io.specs.declared.refusal.Refusal.TheVariants.{OutOfMemory};
     ghost use Rattle.stab_items.specs.Items.{listed, join};
     ghost use Rattle.stab_items.specs.inner.KnownLines.{IsCut};
     ghost use Rattle.stab_items.specs.inner.Readers.{progress_of, IsShallowProgress};
-    ghost use Rattle.stab_items.specs.inner.Stretches.{outside, IsStretch, AreStretches, KeepsStretches, IsRun, RunsOn, TakesLines, IsShorter};
+    ghost use Rattle.stab_items.specs.inner.Stretches.{outside, items_of, IsStretch, AreStretches, KeepsStretches, IsRun, RunsOn, TakesLines, IsShorter};
 
     /// Takes the lines that a text begins with: those of a known stretch, or else the first alone.
     fn take_next<'a>(
@@ -36,13 +35,13 @@ impl CircuitReader {
     ) -> Result<Taken<'a>, Refusal>
         requires few { line + length text.now ≤ 16777217 }
         requires shallow { IsShallowProgress (progress_of self.old) }
-        requires stretches { AreStretches self.old.full.items stretches.old }
-        requires run { IsRun self.old.full.items (progress_of self.old) line text.now stretches.old.run }
+        requires stretches { AreStretches self.old.outer.items stretches.old }
+        requires run { IsRun self.old.outer.items (progress_of self.old) line text.now stretches.old.run }
         ensures gives { TakesLines single line text.entry.now (progress_of self.old) (progress_of self.new) result }
         ensures shorter { IfOk result (λ taken. IsShorter text.entry.now taken) }
         ensures shallow { OnOk result (IsShallowProgress (progress_of self.new)) }
-        ensures stretches { OnOk result (AreStretches self.new.full.items stretches.new) }
-        ensures run { IfOk result (λ taken. RunsOn self.new.full.items (progress_of self.new) (line + taken.lines) (option_copied taken.after) stretches.new.run) }
+        ensures stretches { OnOk result (AreStretches self.new.outer.items stretches.new) }
+        ensures run { IfOk result (λ taken. RunsOn self.new.outer.items (progress_of self.new) (line + taken.lines) (option_copied taken.after) stretches.new.run) }
     {
         match self.known_stretch(single, text, stretches) {
             Some((stretch, after)) => self.take_stretch(line, text, stretch, after, stretches),
@@ -68,7 +67,7 @@ impl CircuitReader {
         if single || !self.open_blocks.is_empty() {
             return None;
         }
-        stretches.find(self.items.items().is_empty(), text)
+        stretches.find(self.items.is_empty(), text)
     }
 
     /// Takes the lines of a known stretch, with which a text begins.
@@ -82,14 +81,14 @@ impl CircuitReader {
     ) -> Result<Taken<'a>, Refusal>
         requires outside { length self.old.open_blocks.items ≡ 0 }
         requires shallow { IsShallowProgress (progress_of self.old) }
-        requires known { IsStretch self.old.full.items stretch }
+        requires known { IsStretch self.old.outer.items stretch }
         requires front { IsCut text.now stretch.bytes.now (option_copied after) }
-        requires stretches { AreStretches self.old.full.items stretches.old }
-        requires run { IsRun self.old.full.items (progress_of self.old) line text.now stretches.old.run }
+        requires stretches { AreStretches self.old.outer.items stretches.old }
+        requires run { IsRun self.old.outer.items (progress_of self.old) line text.now stretches.old.run }
         ensures gives { TakesLines false line text.entry.now (progress_of self.old) (progress_of self.new) result }
         ensures shorter { IfOk result (λ taken. IsShorter text.entry.now taken) }
         ensures shallow { OnOk result (IsShallowProgress (progress_of self.new)) }
-        ensures stretches { OnOk result (AreStretches self.new.full.items stretches.new) }
+        ensures stretches { OnOk result (AreStretches self.new.outer.items stretches.new) }
         ensures run { OnOk result (stretches.new.run ≡ None) }
     {
         self.leave_items(line, text, stretches)?;
@@ -100,7 +99,7 @@ impl CircuitReader {
         })
     }
 
-    /// Sees that there are no items behind the chunks.
+    /// Sees that all items are of a stretch or of none.
     fn leave_items<'a>(
         &mut self,
         line: u64,
@@ -108,69 +107,71 @@ impl CircuitReader {
         stretches: &mut Stretches<'a>,
     ) -> Result<(), Refusal>
         requires outside { length self.old.open_blocks.items ≡ 0 }
-        requires stretches { AreStretches self.old.full.items stretches.old }
-        requires run { IsRun self.old.full.items (progress_of self.old) line rest.now stretches.old.run }
+        requires stretches { AreStretches self.old.outer.items stretches.old }
+        requires run { IsRun self.old.outer.items (progress_of self.old) line rest.now stretches.old.run }
         ensures same { OnOk result (progress_of self.new ≡ progress_of self.old) }
         ensures outside { OnOk result (length self.new.open_blocks.items ≡ 0) }
-        ensures none { OnOk result (self.new.items ≡ []) }
-        ensures kept { OnOk result (KeepsStretches self.old.full.items self.new.full.items) }
-        ensures stretches { OnOk result (AreStretches self.new.full.items stretches.new) }
+        ensures none { OnOk result (self.new.items.items ≡ []) }
+        ensures kept { OnOk result (KeepsStretches self.old.outer.items self.new.outer.items) }
+        ensures stretches { OnOk result (AreStretches self.new.outer.items stretches.new) }
         ensures fault { IfErr result (λ r. r ≡ OutOfMemory) }
     {
-        if self.items.items().is_empty() {
+        if self.items.is_empty() {
             return Ok(());
         }
         // A copy comes next, and perhaps no line is read by itself any more.
-        self.cut(0, line, rest, stretches)
+        self.cut(line, rest, stretches)
     }
 
-    /// Puts the items behind the chunks into a chunk, and remembers their lines, which end before this
-    /// line, with which the rest begins. There is room for so many items to come.
+    /// Puts the items that were read behind the first of the outermost list, and remembers their lines,
+    /// which end before this line, with which the rest begins.
     fn cut<'a>(
         &mut self,
-        room: usize,
         line: u64,
         rest: &'a [u8],
         stretches: &mut Stretches<'a>,
     ) -> Result<(), Refusal>
         requires outside { length self.old.open_blocks.items ≡ 0 }
-        requires stretches { AreStretches self.old.full.items stretches.old }
-        requires run { IsRun self.old.full.items (progress_of self.old) line rest.now stretches.old.run }
+        requires stretches { AreStretches self.old.outer.items stretches.old }
+        requires run { IsRun self.old.outer.items (progress_of self.old) line rest.now stretches.old.run }
         ensures same { OnOk result (progress_of self.new ≡ progress_of self.old) }
         ensures outside { OnOk result (length self.new.open_blocks.items ≡ 0) }
-        ensures none { OnOk result (self.new.items ≡ []) }
-        ensures kept { OnOk result (KeepsStretches self.old.full.items self.new.full.items) }
-        ensures stretches { OnOk result (AreStretches self.new.full.items stretches.new) }
+        ensures none { OnOk result (self.new.items.items ≡ []) }
+        ensures kept { OnOk result (KeepsStretches self.old.outer.items self.new.outer.items) }
+        ensures stretches { OnOk result (AreStretches self.new.outer.items stretches.new) }
         ensures run { OnOk result (stretches.new.run ≡ None) }
         ensures fault { IfErr result (λ r. r ≡ OutOfMemory) }
     {
-        let next = Chunk::new(Vec::with_capacity(self.alloc, room)?);
-        let items = mem::replace(&mut self.items, next);
-        self.full.push(items)?;
-        stretches.end_run(self.full.as_slice(), line, rest)?;
+        let first = self.outer.len();
+        self.outer.append(&mut self.items)?;
+        stretches.end_run(self.outer.as_slice(), first, line, rest)?;
         Ok(())
     }
 
-    /// Puts a copy of the chunk of a stretch behind the others, and remembers it as a stretch.
+    /// Puts copies of the items of a stretch behind the others, and remembers them as a stretch.
     fn push_copy<'a>(
         &mut self,
         stretch: Stretch<'a>,
         stretches: &mut Stretches<'a>,
     ) -> Result<(), Refusal>
         requires outside { length self.old.open_blocks.items ≡ 0 }
-        requires none { self.old.items ≡ [] }
-        requires known { IsStretch self.old.full.items stretch }
-        requires stretches { AreStretches self.old.full.items stretches.old }
-        ensures same { OnOk result (progress_of self.new ≡ outside (join (progress_of self.old).now (listed (slice_index_or self.old.full.items stretch.entry.chunk [])))) }
-        ensures stretches { OnOk result (AreStretches self.new.full.items stretches.new) }
+        requires none { self.old.items.items ≡ [] }
+        requires known { IsStretch self.old.outer.items stretch }
+        requires stretches { AreStretches self.old.outer.items stretches.old }
+        ensures same { OnOk result (progress_of self.new ≡ outside (join (progress_of self.old).now (listed (items_of stretch.entry self.old.outer.items)))) }
+        ensures stretches { OnOk result (AreStretches self.new.outer.items stretches.new) }
         ensures run { OnOk result (stretches.new.run ≡ None) }
         ensures fault { IfErr result (λ r. r ≡ OutOfMemory) }
     {
-        let copy = self.full[stretch.chunk].copy(self.alloc)?;
-        let chunk = self.full.len();
-        self.full.push(copy)?;
+        let first = self.outer.len();
+        push_copies(self.alloc, &mut self.outer, stretch.first, stretch.behind)?;
         stretches.run = None;
-        stretches.remember(Stretch { chunk, ..stretch })?;
+        let behind = self.outer.len();
+        stretches.remember(Stretch {
+            first,
+            behind,
+            ..stretch
+        })?;
         Ok(())
     }
 
@@ -185,13 +186,13 @@ impl CircuitReader {
     ) -> Result<Taken<'a>, Refusal>
         requires few { line + length text.now ≤ 16777217 }
         requires shallow { IsShallowProgress (progress_of self.old) }
-        requires stretches { AreStretches self.old.full.items stretches.old }
-        requires run { IsRun self.old.full.items (progress_of self.old) line text.now stretches.old.run }
+        requires stretches { AreStretches self.old.outer.items stretches.old }
+        requires run { IsRun self.old.outer.items (progress_of self.old) line text.now stretches.old.run }
         ensures gives { TakesLines single line text.entry.now (progress_of self.old) (progress_of self.new) result }
         ensures shorter { IfOk result (λ taken. IsShorter text.entry.now taken) }
         ensures shallow { OnOk result (IsShallowProgress (progress_of self.new)) }
-        ensures stretches { OnOk result (AreStretches self.new.full.items stretches.new) }
-        ensures run { IfOk result (λ taken. RunsOn self.new.full.items (progress_of self.new) (line + taken.lines) (option_copied taken.after) stretches.new.run) }
+        ensures stretches { OnOk result (AreStretches self.new.outer.items stretches.new) }
+        ensures run { IfOk result (λ taken. RunsOn self.new.outer.items (progress_of self.new) (line + taken.lines) (option_copied taken.after) stretches.new.run) }
     {
         let run = self.run_at(line, text, stretches);
         let after = self.take_first(single, line, text, known)?;
@@ -202,10 +203,10 @@ impl CircuitReader {
 
     /// The run that goes on or begins with this line, with which a text begins.
     fn run_at<'a>(&self, line: u64, text: &'a [u8], stretches: &Stretches<'a>) -> Option<Run<'a>>
-        requires run { IsRun self.now.full.items (progress_of self.now) line text.now stretches.now.run }
-        ensures run { IsRun self.now.full.items (progress_of self.now) line text.entry.now result }
+        requires run { IsRun self.now.outer.items (progress_of self.now) line text.now stretches.now.run }
+        ensures run { IsRun self.now.outer.items (progress_of self.now) line text.entry.now result }
     {
-        if self.items.items().is_empty() && self.open_blocks.is_empty() {
+        if self.items.is_empty() && self.open_blocks.is_empty() {
             Some(Run {
                 front: text,
                 from: line,
@@ -227,23 +228,23 @@ impl CircuitReader {
         };
     }
 
-    /// Puts the items behind the chunks into a chunk, where there are enough.
+    /// Makes a stretch of the items that were read, where there are enough.
     fn settle<'a>(
         &mut self,
         line: u64,
         after: Option<&'a [u8]>,
         stretches: &mut Stretches<'a>,
     ) -> Result<(), Refusal>
-        requires stretches { AreStretches self.old.full.items stretches.old }
-        requires run { RunsOn self.old.full.items (progress_of self.old) line (option_copied after) stretches.old.run }
+        requires stretches { AreStretches self.old.outer.items stretches.old }
+        requires run { RunsOn self.old.outer.items (progress_of self.old) line (option_copied after) stretches.old.run }
         ensures same { OnOk result (progress_of self.new ≡ progress_of self.old) }
-        ensures stretches { OnOk result (AreStretches self.new.full.items stretches.new) }
-        ensures run { OnOk result (RunsOn self.new.full.items (progress_of self.new) line (option_copied after.entry) stretches.new.run) }
+        ensures stretches { OnOk result (AreStretches self.new.outer.items stretches.new) }
+        ensures run { OnOk result (RunsOn self.new.outer.items (progress_of self.new) line (option_copied after.entry) stretches.new.run) }
         ensures fault { IfErr result (λ r. r ≡ OutOfMemory) }
     {
         match after {
-            Some(rest) if self.items.items().len() >= FULL && self.open_blocks.is_empty() => {
-                self.cut(FULL, line, rest, stretches)
+            Some(rest) if self.items.len() >= FULL && self.open_blocks.is_empty() => {
+                self.cut(line, rest, stretches)
             }
             _ => Ok(()),
         }
@@ -260,12 +261,12 @@ fn fault_at(refusal: Refusal, line: u64) -> Fault
     }
 }
 
-/// The items that a text stands for, perhaps as one item's text, in chunks of at most 256.
+/// The items that a text stands for, perhaps as one item's text.
 #[tactic(auto, using(crate::proofs::ReaderLemmas::finished_shallow))]
-pub fn read_lines(alloc: Global, single: bool, text: &[u8]) -> Result<Vec<Chunk>, Fault>
+pub fn read_lines(alloc: Global, single: bool, text: &[u8]) -> Result<Vec<Item>, Fault>
     requires small { length text.now ≤ most_bytes }
     ensures gives { ReadsItems result (reading single text.now) }
-    ensures shallow { IfOk result (λ v. depth (listed (flattened v.items)) ≤ 16) }
+    ensures shallow { IfOk result (λ v. depth (listed v.items) ≤ 16) }
 {
     let mut reader = CircuitReader::new(alloc);
     let mut known = KnownLines::new(alloc, single);

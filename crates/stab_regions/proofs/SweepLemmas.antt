@@ -1,5 +1,5 @@
 -- Sweeps: the pass goes on before one step and before several, over pieces of a circuit's steps.
-use Rattle.std.proofs.Common.{◌≡◌, ℕ, zero, suc, ◌+◌, ◌-◌, ◌<◌, ◌≤◌, sym, ap, ◌∙◌, subst, Bool, true, false, List, [], ◌∷◌, ◌++◌, map, length, get_or, take, drop, reverse, arith}
+use Rattle.std.proofs.Common.{◌≡◌, ℕ, zero, suc, ◌+◌, ◌-◌, ◌<◌, ◌≤◌, sym, ap, ◌∙◌, subst, Bool, true, false, List, [], ◌∷◌, ◌++◌, map, length, get_or, take, drop, reverse, min, arith}
 use Rattle.std.specs.Prelude.{All, if◌then◌else◌, None}
 use Rattle.std.specs.List.{flat_map}
 use Rattle.std.proofs.lemmas.List.{drop_more, drop-drop, drop-map, get_or-map, length-drop, length-map, take_more, take-append-drop}
@@ -33,15 +33,9 @@ detectors-few (x ∷ xs) = counted-one (is_detector x) (detectors_of xs) (length
 detectors-fewer : (x : Step) (xs : List Step) → detectors_of xs ≤ detectors_of (x ∷ xs)
 detectors-fewer x xs = counted-more (is_detector x) (detectors_of xs)
 
-counted-apart : (b : Bool) (d : ℕ) → (if b then 1 + 0 else 0) + d ≡ (if b then 1 + d else d)
-counted-apart true d = omega arith
-counted-apart false d = omega arith
-
--- a count so far, one more, and those behind are all
-pub detectors-fit : (items : Items) (so_far more : ℕ) (x : Step) (rest : List Step) → check_of items ≡ None → more ≡ detectors_of (x ∷ []) →
-    so_far + detectors_of (x ∷ rest) ≡ detectors_of (unroll items) → so_far + more ≤ 1048576
-detectors-fit items so_far more x rest checked is all =
-    omega (arith, check-steps items checked, detectors-few (unroll items), counted-apart (is_detector x) (detectors_of rest), is, all)
+-- so detectors are counted exactly
+pub detectors-exact : (items : Items) (n : ℕ) → check_of items ≡ None → n ≡ min (detectors_of (unroll items)) 1048577 → n ≡ detectors_of (unroll items)
+detectors-exact items n checked is = omega (arith, check-steps items checked, detectors-few (unroll items), is)
 
 -- steps that are taken one by one
 

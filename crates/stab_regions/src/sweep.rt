@@ -214,30 +214,6 @@ fn steps_between<'a>(
     Ok(steps)
 }
 
-/// Whether a step is a detector: 1 or 0.
-fn detectors_at(step: StepValue) -> usize
-    ensures value { result ≡ detectors_of (step_shown step.entry ∷ []) }
-{
-    match step {
-        StepValue::Detector(_) => 1,
-        _ => 0,
-    }
-}
-
-/// How many detectors a circuit has.
-fn count_detectors(alloc: Global, circuit: &Circuit) -> Result<usize, Refusal>
-    requires checked { check_of (circuit_items circuit.now) ≡ None }
-    ensures value { IfOk result (λ d. d ≡ detectors_of (unroll (circuit_items circuit.now))) }
-    ensures err { IfErr result (λ r. r ≡ OutOfMemory) }
-{
-    let mut detectors = 0;
-    let mut cursor = Cursor::at(alloc, circuit, 0)?;
-    'steps: while let Some(step) = cursor.next() {
-        detectors += detectors_at(step);
-    }
-    Ok(detectors)
-}
-
 /// That there are no more detectors and observables than a `u32` numbers.
 fn check_few(detectors: usize, observables: usize) -> Result<(), Refusal>
     ensures few { OnOk result (detectors + observables < 2 ^ 32) }
@@ -265,8 +241,8 @@ pub fn sweep_back(
     ensures fits { OnOk result (All (StepFits qubits) (unroll (circuit_items circuit.now))) }
     ensures err { IfErr result (λ r. r ≡ OutOfMemory) }
 {
-    let _ = circuit.len();
-    let detectors = count_detectors(alloc, circuit)?;
+    let _ = circuit.items();
+    let detectors = circuit.detectors();
     check_few(detectors, circuit.observables())?;
     let mut sweep = Sweep::at_end(alloc, qubits, detectors, circuit.observables())?;
     let mut end = circuit.steps();

@@ -76,7 +76,7 @@ fn pass_rounds<C: Coins>(
         return Ok(again);
     }
     // This tells a proof that the qubits of each pair differ.
-    let _ = circuit.len();
+    let _ = circuit.items();
     let strings = &notes.strings;
     let found = period_since(alloc, kept, tableau, string, outputs, repeat, done, strings)?;
     let Some(period) = found else {

@@ -99,7 +99,7 @@ impl<'a> Sampler<'a> {
         let string = Pauli::identity(alloc, n)?;
         let repeats = find_rounds(alloc, circuit)?;
         // This tells a proof that the qubits of each pair differ.
-        let _ = circuit.len();
+        let _ = circuit.items();
         Ok(Sampler {
             circuit,
             tableau,

@@ -85,6 +85,7 @@ fn item_gates(item: &Item) -> Option<PauliGates<'_>>
     }
     match item.part() {
         Part::Operation { kind, .. } => kind_gates(kind),
+        Part::Tick => None,
         Part::Block { .. } => None,
     }
 }

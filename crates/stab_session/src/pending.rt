@@ -52,7 +52,7 @@ fn insert(
     ensures refused { IfErr result (λ r. IsCallFault (verdict n (inserting place item) circuit.old) r.fault) }
     ensures item { IfErr result (λ r. r.item ≡ put_item (inserting place item)) }
 {
-    let _ = circuit.len();
+    let _ = circuit.items();
     match circuit.edit(n, Edit::Insert { place, item }) {
         Ok((span, _)) => Ok((Pending::Inserted(place), span)),
         Err(refused) => Err(refused),
@@ -71,7 +71,7 @@ fn replace(
     ensures refused { IfErr result (λ r. IsCallFault (verdict n (replacing place item) circuit.old) r.fault) }
     ensures item { IfErr result (λ r. r.item ≡ put_item (replacing place item)) }
 {
-    let _ = circuit.len();
+    let _ = circuit.items();
     match circuit.edit(n, Edit::Replace { place, item }) {
         Ok((span, Some(old))) => Ok((Pending::Replaced(place, old), span)),
         Ok((_, None)) => unreachable!(),
@@ -91,7 +91,7 @@ fn delete(
     ensures refused { IfErr result (λ r. IsCallFault (verdict n (deleting place) circuit.old) r.fault) }
     ensures item { IfErr result (λ r. r.item ≡ None) }
 {
-    let _ = circuit.len();
+    let _ = circuit.items();
     let item = Item::tick(alloc);
     match circuit.edit(n, Edit::Replace { place, item }) {
         Ok((span, Some(old))) => Ok((Pending::Deleted(place, old), span)),

@@ -89,7 +89,7 @@ fn count(alloc: Global, circuit: &Circuit) -> Result<Numbers, Refusal>
     let tally = count_steps(alloc, circuit)?;
     Ok(Numbers {
         qubits: circuit.qubits(),
-        items: circuit.len(),
+        items: circuit.items().len(),
         steps: circuit.steps(),
         records: circuit.records(),
         detectors: tally.detectors,

@@ -1,8 +1,9 @@
 //! Texts of circuits and of items.
 use crate::answers::assert_same;
-use stab_circuit::{Circuit, Path, Refused, read_circuit, read_item, write_circuit};
-use stab_pauli::{EndlessInput, Fault, MemoryInput, MemoryOutput, Refusal};
+use stab_circuit::{Circuit, Path, Refused, read_circuit, read_item, write_circuit, write_one_item};
+use stab_pauli::{EndlessInput, Fault, MemoryInput, MemoryOutput, Refusal, write_all};
 use std::alloc::Global;
+use std::test::Fail;
 
 /// The refusal's number and line, or zeros.
 pub(crate) fn fault_of<T: Drop>(answer: Result<T, Fault>) -> (u8, u64) {
@@ -64,6 +65,25 @@ const ITEMS: &[(&str, u8, u64, usize)] = &[
     ("", 11, 0, 0),
     (" \n# note", 11, 0, 0),
 ];
+
+/// The texts of a circuit's items, one after another.
+fn items_text(alloc: Global, circuit: &Circuit) -> Result<MemoryOutput, Refusal> {
+    let mut out = MemoryOutput::new(alloc, 2048)?;
+    for item in circuit.items() {
+        write_one_item(&mut out, item)?;
+        write_all(&mut out, b"--\n")?;
+    }
+    Ok(out)
+}
+
+#[test]
+fn items_are_lent_in_order(rt: HostRuntime) -> Result<(), Fail> {
+    let circuit = read(rt.alloc(), "X 0\nTICK[a]\nREPEAT 2 {\nM 0\n}\nX 0")?;
+    let texts = items_text(rt.alloc(), &circuit)?;
+    let expected = "X 0\n--\nTICK[a]\n--\nREPEAT 2 {\n    M 0\n}\n--\nX 0\n--\n";
+    assert_eq!(rt; texts.bytes(), expected.as_bytes());
+    Ok(())
+}
 
 #[test]
 fn an_item_is_read_alone_and_a_text_without_end_refused(rt: HostRuntime) {

@@ -89,52 +89,7 @@ impl Trial for ReadItem {
     }
 }
 
-/// Into which circuit an item is put.
-#[derive(Clone, Copy)]
-enum Place {
-    /// Into `NESTED`, at a path.
-    Nested(Path),
-    /// To the front of a circuit whose first items stand in one chunk, which is halved for it.
-    FullRun,
-}
-
-impl Place {
-    fn circuit(self, alloc: Global) -> Result<OneDrop<Circuit>, Stop> {
-        match self {
-            Place::Nested(_) => circuit_of(alloc, NESTED),
-            Place::FullRun => full_run(alloc),
-        }
-    }
-
-    fn path(self) -> Path {
-        match self {
-            Place::Nested(path) => path,
-            Place::FullRun => Path::new(&[0]),
-        }
-    }
-}
-
-/// A circuit whose first 512 items stand in one chunk: 256 of 257 that were read, which are a chunk, with
-/// as many more put before them.
-fn full_run(alloc: Global) -> Result<OneDrop<Circuit>, Stop> {
-    let text = "X 0\n".repeat(alloc, 257)?;
-    let mut circuit = circuit_of(alloc, text.as_bytes())?;
-    for _ in 0..256 {
-        put_in_front(alloc, &mut circuit.0)?;
-    }
-    Ok(circuit)
-}
-
-/// Puts `X 0` in front of a circuit.
-fn put_in_front(alloc: Global, circuit: &mut Circuit) -> Result<(), Stop> {
-    let item = read_item(alloc, b"X 0")?;
-    match circuit.insert(Path::new(&[0]), item) {
-        Ok(()) => Ok(()),
-        Err(refused) => Err(Stop(refused.fault)),
-    }
-}
-
-/// `Circuit::insert`, with the item while it is not put in.
+/// `Circuit::insert` into `NESTED`, with the item while it is not put in.
 #[derive(Drop)]
 struct Insertion {
     path: Path,
@@ -143,12 +98,12 @@ struct Insertion {
 }
 
 impl Trial for Insertion {
-    type Call = Place;
+    type Call = Path;
 
-    fn new(alloc: Global, place: Place) -> Result<Insertion, Stop> {
+    fn new(alloc: Global, path: Path) -> Result<Insertion, Stop> {
         Ok(Insertion {
-            path: place.path(),
-            circuit: place.circuit(alloc)?,
+            path,
+            circuit: circuit_of(alloc, NESTED)?,
             item: ItemSlot::new(alloc, BLOCK)?,
         })
     }
@@ -241,13 +196,7 @@ pub fn print_all<R: AllocGlobal + Print>(rt: &R) -> io::Result<()> {
     print_ending(rt, "read_circuit", try_call::<ReadCircuit>(alloc, ()))?;
     print_ending(rt, "read_item", try_call::<ReadItem>(alloc, ()))?;
     for path in [Path::new(&[1]), Path::new(&[2, 1, 4])] {
-        let place = Place::Nested(path);
-        print_ending(rt, "Circuit::insert", try_call::<Insertion>(alloc, place))?;
+        print_ending(rt, "Circuit::insert", try_call::<Insertion>(alloc, path))?;
     }
-    print_ending(
-        rt,
-        "Circuit::insert, a full chunk",
-        try_call::<Insertion>(alloc, Place::FullRun),
-    )?;
     print_ending(rt, "Cursor::at", try_cursor(alloc))
 }

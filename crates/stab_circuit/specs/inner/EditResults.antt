@@ -30,7 +30,6 @@ AreApart xs = All IsApart (unroll (listed xs))
 abbrev pub edit_result_by : Judgement → Summary → Summary → Summary → EditResult
 edit_result_by j front gone back = record {
   total = followed_by front (followed_by j.put back);
-  behind = j.behind;
   first = min (front.steps + j.within) steps_cap;
   old_end = min (front.steps + gone.steps) steps_cap;
   new_end = min (front.steps + j.put.steps) steps_cap;
@@ -40,7 +39,6 @@ edit_result_by j front gone back = record {
 pub record IsEditResult (edit : Edit) (blocks : List ℕ) (xs : List OneItem) (o : EditResult) : Type 0 where
   pub total : Ok o.total ≡ summed (edited_in edit blocks xs)
   pub small : IsSummary o.total
-  pub behind : o.behind ≡ outermost (behind_taken edit) blocks
   pub first : o.first ≡ min (length (steps_in blocks (edit_path edit).place xs)) steps_cap
   pub front : BeginsWith (steps_in blocks (edit_path edit).place xs) (unroll (listed xs))
   pub old_end : o.old_end ≡ min (length (unroll (listed (take (outermost (behind_taken edit) blocks) xs)))) steps_cap

@@ -1,6 +1,7 @@
 -- Judgements: what an edit comes to, by the summaries that items keep.
 -- Source: this project's own.
 use Rattle.std.specs.Prelude.{◌≡◌, ◌≤◌, ℕ, List, ◌++◌, Option, Some, None, Result, Ok, Err}
+use Rattle.std.specs.Borrow.{Bor}
 use Rattle.stab_io.specs.declared.refusal.Refusal.{Refusal}
 use Rattle.stab_io.specs.declared.refusal.Refusal.TheVariants.{PlaceOutOfRange, NotABlock}
 use Rattle.stab_items.specs.declared.summary.Summary.{Summary}
@@ -20,6 +21,11 @@ summed (Err r) = Err r
 abbrev pub judgement_of : ℕ → Result Splice Refusal → Result Judgement Refusal
 judgement_of within (Ok s) = Ok (record { first = s.first; behind = s.behind; put = summary_of (listed s.put); within = within })
 judgement_of within (Err r) = Err r
+
+-- the item that is lent, if there is one
+abbrev pub shown_item : Option (Bor OneItem) → Option OneItem
+shown_item None = None
+shown_item (Some x) = Some x.now
 
 -- why a number of a path leads into no block
 abbrev pub block_refusal : Option OneItem → Option Refusal

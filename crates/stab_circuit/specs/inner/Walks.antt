@@ -8,7 +8,6 @@ use Rattle.stab_circuit.specs.declared.walk.Level.{Level}
 use Rattle.stab_circuit.specs.declared.walk.Walk.{Walk}
 use Rattle.stab_items.specs.Items.{Items, OneItem, done, next, block, before, listed, depth, depth_of}
 use Rattle.stab_items.specs.Steps.{Step, steps_of, rounds, unroll}
-use Rattle.stab_items.specs.inner.Chunks.{flattened}
 use Rattle.stab_circuit.specs.Cursors.{step_shown}
 
 -- the step that a value stands for, if there is one
@@ -58,18 +57,9 @@ abbrev pub levels_weight : List Level → ℕ
 levels_weight [] = 0
 levels_weight (l ∷ ls) = level_weight l + levels_weight ls
 
--- how much of chunks there is
-abbrev pub chunks_weight : List (List OneItem) → ℕ
-chunks_weight [] = 0
-chunks_weight (c ∷ cs) = weight_at c 0 0 + chunks_weight cs
-
--- the steps of chunks
-abbrev pub chunks_left : List (List OneItem) → List Step
-chunks_left cs = unroll (listed (flattened cs))
-
 -- the steps that come after the instruction under way
 abbrev pub ahead : Walk → List Step
-ahead w = level_left w.top ++ levels_left (chunks_left w.rest.now) w.around.items
+ahead w = level_left w.top ++ levels_left [] w.around.items
 
 -- the steps that are left
 abbrev pub walk_left : Walk → List Step
@@ -77,14 +67,13 @@ walk_left w = drop w.within (kind_steps w.kind) ++ ahead w
 
 -- how much of a walk there is
 abbrev pub walk_weight : Walk → ℕ
-walk_weight w = level_weight w.top + levels_weight w.around.items + chunks_weight w.rest.now
+walk_weight w = level_weight w.top + levels_weight w.around.items
 
 -- blocks are nested at most 16 deep, and there is room for a level for each
 pub record IsWalk (w : Walk) : Type 0 where
   pub roomy : 16 ≤ vec_capacity w.around
   pub nested : IsNested 0 w.around.items
   pub shallow : depth (listed w.top.items.now) + length w.around.items ≤ 16
-  pub others : depth (listed (flattened w.rest.now)) ≤ 16
 
 -- the item at a level's place, or that there is none
 abbrev pub IsItemOf : Level → Option (Bor OneItem) → Type 0

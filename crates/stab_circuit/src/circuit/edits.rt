@@ -1,18 +1,15 @@
-ghost use Rattle.std.specs.Prelude.{◌≡◌, ◌<◌, ◌+◌, ◌^◌, length, Some, None, OnOk, OnErr, if◌then◌else◌, nat_lt};
+ghost use Rattle.std.specs.Prelude.{◌≡◌, Some, None, if◌then◌else◌, nat_lt};
 ghost use Rattle.stab_io.specs.declared.refusal.Refusal.TheVariants.{QubitOutOfRange};
-ghost use Rattle.stab_circuit.specs.Edits.{IsInsert};
 ghost use Rattle.stab_items.specs.inner.Summaries.{judged};
-ghost use Rattle.stab_items.specs.inner.Chunks.{flattened};
 
 use super::Circuit;
-use crate::chunks::{find_chunk, make_room, put_items, take_items};
+use super::stretches::renew_stretches;
 use crate::commit::commit;
 use crate::edit::{Edit, Refused, Span};
-use crate::judge::{EditResult, edit_result_by_chunks, steps_by_chunks};
+use crate::judge::{EditResult, judged_edit, steps_in};
 use crate::path::Path;
 use stab_io::{Fault, Refusal};
-use stab_items::{Chunk, Item, Summary};
-use std::alloc::AllocError;
+use stab_items::{Item, Summary};
 
 /// What refuses a whole circuit of this summary on n qubits.
 fn refusal_on(total: Summary, n: usize) -> Option<Refusal>
@@ -22,30 +19,6 @@ fn refusal_on(total: Summary, n: usize) -> Option<Refusal>
         Some(Refusal::QubitOutOfRange)
     } else {
         total.refusal()
-    }
-}
-
-/// Sees to it that there is a chunk for what an edit puts in at a place of a list of so many items, and
-/// that the list can have one more. An insertion alone may want memory for that.
-fn make_room_for(
-    edit: &Edit,
-    chunks: &mut Vec<Chunk>,
-    len: usize,
-    place: usize,
-) -> Result<(), AllocError>
-    ensures same { flattened chunks.new.items ≡ flattened chunks.old.items }
-    ensures some { OnOk result (IsInsert edit.now → 0 < length chunks.new.items) }
-    ensures room { OnOk result (IsInsert edit.now → len + 1 < 2 ^ 64) }
-    ensures memory { OnErr result (IsInsert edit.now) }
-{
-    match edit {
-        Edit::Insert { .. } => {
-            if len == usize::MAX {
-                return Err(AllocError);
-            }
-            make_room(chunks, place)
-        }
-        Edit::Replace { .. } | Edit::Delete { .. } => Ok(()),
     }
 }
 
@@ -64,7 +37,7 @@ impl Circuit {
     pub fn steps_before(&self, path: Path) -> usize
         ensures value { result ≡ min (length (steps_before path self.now)) steps_cap }
     {
-        steps_by_chunks(self.chunks(), path.blocks(), path.place()) as usize
+        steps_in(self.items(), path.blocks(), path.place()) as usize
     }
 
     /// What the circuit comes to by an edit, or what refuses that: its path, and then the depth of
@@ -75,7 +48,7 @@ impl Circuit {
         ensures allowed { OnOk result (edit_refusal edit.now self.now ≡ None) }
         ensures refused { IfErr result (λ r. edit_refusal edit.now self.now ≡ Some r) }
     {
-        let edit_result = edit_result_by_chunks(self.chunks(), self.len(), edit)?;
+        let edit_result = judged_edit(self.items(), edit)?;
         if edit_result.total.depth > 16 {
             return Err(Refusal::TooDeep);
         }
@@ -93,25 +66,14 @@ impl Circuit {
         ensures fault { IfErr result (λ r. r.fault ≡ whole OutOfMemory) }
         ensures memory { OnErr result (IsInsert edit) }
     {
-        let Ok(()) = make_room_for(&edit, &mut self.chunks, self.len, edit_result.behind) else {
-            return Err(edit.refused(Refusal::OutOfMemory));
-        };
-        let found = find_chunk(self.chunks.as_slice(), edit_result.behind);
-        let before = edit_result.behind - found.within;
-        let mut items = take_items(&mut self.chunks, found.number);
-        let others = self.len - items.len();
         let path = edit.path();
-        match commit(&mut items, before, path.blocks(), edit) {
+        match commit(&mut self.items, path.blocks(), edit) {
             Ok(taken) => {
-                self.len = others + items.len();
-                put_items(&mut self.chunks, found.number, items);
                 self.total = edit_result.total;
+                renew_stretches(&mut self.stretches, self.items.as_slice());
                 Ok(taken)
             }
-            Err(edit) => {
-                put_items(&mut self.chunks, found.number, items);
-                Err(edit.refused(Refusal::OutOfMemory))
-            }
+            Err(edit) => Err(edit.refused(Refusal::OutOfMemory)),
         }
     }
 

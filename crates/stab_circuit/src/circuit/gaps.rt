@@ -4,11 +4,10 @@ ghost use Rattle.stab_items.specs.Items.{OneItem, listed};
 ghost use Rattle.stab_items.specs.Steps.{unroll, most_steps, steps_cap};
 ghost use Rattle.stab_circuit.specs.Places.{item_in, found_inside};
 ghost use Rattle.stab_circuit.specs.Rounds.{item_steps, pieces_in};
-ghost use Rattle.stab_circuit.specs.inner.Chunks.{shown_item};
+ghost use Rattle.stab_circuit.specs.inner.Judgements.{shown_item};
 ghost use Rattle.stab_circuit.specs.inner.Gaps.{with_more as with_more_of, copies as copies_of, round_gaps, block_pieces, AreGapsIn, AreGapsInside};
 
 use super::Circuit;
-use crate::chunks::item_at;
 use crate::judge::{block_of, steps_in};
 use crate::path::Path;
 use stab_io::Refusal;
@@ -184,7 +183,7 @@ impl Circuit {
         match blocks.split_first() {
             None => Ok(Some(vec![in alloc; 0]?)),
             Some((block, others)) => {
-                gaps_inside(alloc, item_at(self.chunks(), *block), others, place)
+                gaps_inside(alloc, item_in_list(self.items(), *block), others, place)
             }
         }
     }

@@ -1,14 +1,12 @@
 ghost use Rattle.std.specs.Prelude.{◌≡◌, slice_get};
-ghost use Rattle.stab_items.specs.inner.Chunks.{flattened};
-ghost use Rattle.stab_circuit.specs.inner.Chunks.{shown_item};
+ghost use Rattle.stab_circuit.specs.inner.Judgements.{shown_item};
 ghost use Rattle.stab_circuit.specs.Places.{item_there, found_inside, item_in as item_within, FindsItem};
 
 use super::Circuit;
-use crate::chunks::item_at;
-use crate::judge::{block_at, block_of};
+use crate::judge::block_at;
 use crate::path::Path;
 use stab_io::Refusal;
-use stab_items::{Chunk, Item};
+use stab_items::Item;
 
 /// The item at a place, if there is one.
 fn item_of(found: Option<&Item>) -> Result<&Item, Refusal>
@@ -54,23 +52,6 @@ fn item_inside<'a>(
     }
 }
 
-/// The item at a place in nested blocks of a list in chunks.
-fn item_in_chunks<'a>(
-    chunks: &'a [Chunk],
-    blocks: &[usize],
-    place: usize,
-) -> Result<&'a Item, Refusal>
-    ensures value { FindsItem result (item_within blocks.now place (flattened chunks.now)) }
-{
-    match blocks.split_first() {
-        None => item_of(item_at(chunks, place)),
-        Some((block, others)) => match block_of(item_at(chunks, *block)) {
-            Err(refusal) => Err(refusal),
-            Ok(found) => item_in(found.body, others, place),
-        },
-    }
-}
-
 impl Circuit {
     ghost use Rattle.std.specs.Prelude.{◌≡◌};
     ghost use Rattle.stab_circuit.specs.Places.{item_at, FindsItem};
@@ -81,6 +62,6 @@ impl Circuit {
     pub fn item(&self, path: Path) -> Result<&Item, Refusal>
         ensures value { FindsItem result (item_at path self.now) }
     {
-        item_in_chunks(self.chunks(), path.blocks(), path.place())
+        item_in(self.items(), path.blocks(), path.place())
     }
 }

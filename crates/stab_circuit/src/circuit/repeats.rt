@@ -9,7 +9,7 @@ ghost use Rattle.stab_circuit.specs.inner.Repeats.{first_with_steps, finer, repe
 use super::Circuit;
 use super::step_items::item_steps;
 use stab_io::Refusal;
-use stab_items::{Chunk, Item, Part, Summary};
+use stab_items::{Item, Part, Summary};
 use std::alloc::Global;
 
 /// Rounds of the same steps, one behind the other, by the steps of the unrolled circuit: a block of the
@@ -106,19 +106,6 @@ fn add_repeats(repeats: &mut Vec<Repeat>, mut first: usize, items: &[Item]) -> R
     Ok(())
 }
 
-/// Adds the repeats that stand in a chunk, before which so many steps stand.
-fn add_chunk(repeats: &mut Vec<Repeat>, first: usize, chunk: &Chunk) -> Result<(), Refusal>
-    requires few { first + length (unroll (listed chunk.now)) ≤ most_steps }
-    ensures ok { OnOk result (repeats.new.items ≡ repeats.old.items ++ repeats_in first chunk.now) }
-    ensures err { IfErr result (λ r. r ≡ OutOfMemory) }
-{
-    if chunk.sum().depth == 0 {
-        return Ok(());
-    }
-    add_repeats(repeats, first, chunk.items())?;
-    Ok(())
-}
-
 impl Circuit {
     ghost use Rattle.std.specs.Prelude.{◌≡◌, None, length, IfOk, IfErr};
     ghost use Rattle.stab_io.specs.declared.refusal.Refusal.TheVariants.{OutOfMemory};
@@ -127,8 +114,8 @@ impl Circuit {
     ghost use Rattle.stab_circuit.specs.Repeats.{AreRepeats, repeated_blocks};
 
     /// The blocks of the outermost list that have a step and more than one round, by their steps, in
-    /// order: by the rounds of a block in such a block, where that has all of its steps. It looks at no step, and passes chunks
-    /// of items without a block whole.
+    /// order: by the rounds of a block in such a block, where that has all of its steps. It looks at no
+    /// step, and at no item where there is no block.
     ///
     /// Refusal `OutOfMemory` alone.
     ///
@@ -141,11 +128,10 @@ impl Circuit {
         ensures err { IfErr result (λ r. r ≡ OutOfMemory) }
     {
         let mut repeats = Vec::new(alloc);
-        let mut first = 0;
-        'chunks: for chunk in self.chunks() {
-            add_chunk(&mut repeats, first, chunk)?;
-            first += chunk.sum().steps as usize;
+        if self.total.depth == 0 {
+            return Ok(repeats);
         }
+        add_repeats(&mut repeats, 0, self.items())?;
         Ok(repeats)
     }
 }

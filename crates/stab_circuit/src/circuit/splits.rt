@@ -53,7 +53,9 @@ fn parts_of_item(alloc: Global, item: &Item, round: u64) -> Result<Vec<Item>, Fa
     ensures fault { IfErr result (λ f. IsCallFault (refused_by (parts_of round (Some item.now))) f) }
 {
     let count = match item.part() {
-        Part::Operation { .. } => return Err(Fault::whole(Refusal::NotABlock)),
+        Part::Tick | Part::Operation { .. } => {
+            return Err(Fault::whole(Refusal::NotABlock));
+        }
         Part::Block { count, .. } => count.number(),
     };
     if round >= count {
@@ -119,7 +121,7 @@ impl Circuit {
         ensures fault { IfErr result (λ f. f ≡ whole OutOfMemory) }
     {
         // That no blocks are nested too deep is what lets edits of parts as deep pass.
-        let _ = self.len();
+        let _ = self.items();
         let Some(part) = parts.pop() else {
             return Ok(());
         };
@@ -142,7 +144,7 @@ impl Circuit {
         ensures fault { IfErr result (λ f. f ≡ whole OutOfMemory) }
     {
         // That no blocks are nested too deep is what lets edits of parts as deep pass.
-        let _ = self.len();
+        let _ = self.items();
         let Some(last) = parts.pop() else {
             unreachable!()
         };
@@ -166,7 +168,7 @@ impl Circuit {
         ensures unchanged { OnErr result (self.new ≡ self.old) }
         ensures fault { IfErr result (λ f. IsCallFault (split_refusal path round self.old) f) }
     {
-        let alloc = *self.chunks.allocator();
+        let alloc = *self.items.allocator();
         let parts = match self.item(path) {
             Ok(item) => parts_of_item(alloc, item, round)?,
             Err(refusal) => return Err(Fault::whole(refusal)),

@@ -1,11 +1,10 @@
-ghost use Rattle.std.specs.Prelude.{◌≡◌, ◌≤◌, ◌<◌, length, slice_index_or};
+ghost use Rattle.std.specs.Prelude.{◌≡◌, ◌≤◌, ◌<◌, length, drop, slice_index_or};
 ghost use Rattle.stab_items.specs.Items.{before, done, listed};
 ghost use Rattle.stab_items.specs.Steps.{unroll, most_steps};
 ghost use Rattle.stab_items.specs.inner.Parts.{part_of, IsPart};
 ghost use Rattle.stab_circuit.specs.inner.StepItems.{IsFoundItem};
 
 use super::Circuit;
-use crate::chunks::skip_chunks;
 use crate::instruction::step_count;
 use crate::path::Path;
 use stab_items::{Item, Part};
@@ -31,6 +30,7 @@ pub(super) fn item_steps(item: &Item) -> u32
     ensures value { result ≡ length (unroll (before item.now done)) }
 {
     match item.part() {
+        Part::Tick => 0,
         Part::Operation { kind, .. } => step_count(kind) as u32,
         Part::Block { count, kept, .. } => (count.number() * u64::from(kept.steps)) as u32,
     }
@@ -45,14 +45,14 @@ fn part_at(items: &[Item], place: usize) -> Part<'_>
     items[place].part()
 }
 
-/// The item of a step of a list.
-fn find_item(items: &[Item], step: u32) -> FoundItem
+/// The item of a step of the items from a place on.
+fn find_item(items: &[Item], place: usize, step: u32) -> FoundItem
     requires few { length (unroll (listed items.now)) ≤ most_steps }
-    requires in_range { step < length (unroll (listed items.now)) }
-    ensures found { IsFoundItem items.now step result }
+    requires in_range { step < length (unroll (listed (drop place items.now))) }
+    ensures found { IsFoundItem items.now place step result }
 {
     let mut found = FoundItem {
-        place: 0,
+        place,
         within: step,
     };
     'items: loop {
@@ -83,17 +83,16 @@ impl Circuit {
         ensures steps { result.steps ≡ item_steps_left (circuit_items self.now) step }
         ensures path { take result.steps (drop step (paths_of (circuit_items self.now))) ≡ replicate result.steps result.path }
     {
-        let chunks = self.chunks();
-        let skipped = skip_chunks(chunks, step as u32);
-        let mut items = chunks[skipped.number].items();
-        // How many items of the list stand before these.
-        let mut before = skipped.items;
+        let mut items = self.items();
         let mut places = [0; 17];
         let mut depth = 0;
-        let mut found = find_item(items, skipped.rest);
+        let begin = self.place_before(step as u32);
+        let mut found = find_item(items, begin.place, begin.steps);
         'levels: loop {
-            places[depth] = before + found.place;
+            places[depth] = found.place;
             match part_at(items, found.place) {
+                // It has no step.
+                Part::Tick => unreachable!(),
                 Part::Operation { kind, .. } => {
                     return StepItem {
                         path: Path::new(&places[..depth + 1]),
@@ -102,9 +101,8 @@ impl Circuit {
                 }
                 Part::Block { kept, body, .. } => {
                     items = body;
-                    before = 0;
                     depth += 1;
-                    found = find_item(body, found.within % kept.steps);
+                    found = find_item(body, 0, found.within % kept.steps);
                 }
             }
         }

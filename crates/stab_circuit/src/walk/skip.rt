@@ -65,6 +65,7 @@ impl<'a> Walk<'a> {
             return if self.leave() { Some(count) } else { None };
         };
         let rest = match item.part() {
+            Part::Tick => count,
             Part::Operation { kind, .. } => self.pass_steps(kind, count),
             Part::Block {
                 count: rounds,

@@ -17,7 +17,6 @@ most_le-depth (repeat count tag body ∷ xs) = omega (arith, most_le-depth xs)
 
 -- so no child of a node is deeper than the node
 pub deep_le-depth : (n : Node) → max (deep-Node n) 0 ≤ depth_of (shown n)
-deep_le-depth (node.Plain kind) = omega arith
-deep_le-depth (node.Shared kind) = omega arith
-deep_le-depth (node.Tagged op) = omega arith
-deep_le-depth (node.Repeat head body) = omega (arith, most_le-depth body.items)
+deep_le-depth node.Tick = omega arith
+deep_le-depth (node.Instruction op) = omega arith
+deep_le-depth (node.Block b) = omega (arith, most_le-depth b.value.body.items)

@@ -3,20 +3,21 @@
 use Rattle.std.specs.Prelude.{◌≡◌, ◌≤◌, [], All}
 use Rattle.stab_items.specs.declared.item.Node.{Node}
 use Rattle.stab_items.specs.declared.item.Node.TheVariants as node
+use Rattle.stab_lines.specs.declared.operation.Kind.TheVariants as kind
 use Rattle.stab_items.specs.Items.{OneItem, operation, repeat, listed}
 use Rattle.stab_items.specs.Steps.{unroll, IsApart}
 use Rattle.stab_items.specs.inner.Summaries.{summary_of, IsSummary}
 
 -- the item that a node stands for
 abbrev pub shown : Node → OneItem
-shown (node.Plain kind) = operation (record { kind = kind; tag = [] })
-shown (node.Shared kind) = operation (record { kind = kind.value; tag = [] })
-shown (node.Tagged op) = operation op.value
-shown (node.Repeat head body) = repeat head.value.count head.value.tag (listed body.items)
+shown node.Tick = operation (record { kind = kind.Tick; tag = [] })
+shown (node.Instruction op) = operation op.value
+shown (node.Block b) = repeat b.value.head.count b.value.head.tag (listed b.value.body.items)
 
 -- a block keeps the summary of one round, has blocks nested at most 15 deep in it, and steps on different qubits
 abbrev pub IsKept : Node → Type 0
-IsKept (node.Plain kind) = Unit {0}
-IsKept (node.Shared kind) = Unit {0}
-IsKept (node.Tagged op) = Unit {0}
-IsKept (node.Repeat head body) = (head.value.kept ≡ summary_of (listed body.items)) × IsSummary head.value.kept × (head.value.kept.depth ≤ 15) × All IsApart (unroll (listed body.items))
+IsKept node.Tick = Unit {0}
+IsKept (node.Instruction op) = Unit {0}
+IsKept (node.Block b) =
+    (b.value.head.kept ≡ summary_of (listed b.value.body.items)) × IsSummary b.value.head.kept × (b.value.head.kept.depth ≤ 15)
+    × All IsApart (unroll (listed b.value.body.items))

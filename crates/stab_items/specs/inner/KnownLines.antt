@@ -9,9 +9,7 @@ use Rattle.stab_lines.specs.declared.meanings.Line.TheVariants as line
 use Rattle.stab_lines.specs.Lines.{is_byte, content_of}
 use Rattle.stab_lines.specs.Words.{pieces_after}
 use Rattle.stab_lines.specs.Meanings.{meaning_of}
-use Rattle.stab_items.specs.declared.summary.Summary.{Summary}
-use Rattle.stab_items.specs.Items.{OneItem, operation, next, done}
-use Rattle.stab_items.specs.inner.Summaries.{IsSumOf}
+use Rattle.stab_items.specs.Items.{OneItem, operation}
 
 -- no line ends in it
 abbrev pub IsOneLine : List ℕ → Type 0
@@ -42,8 +40,7 @@ abbrev pub BeginsWithItem : List ℕ → OneItem → Option (List ℕ) → Type 
 BeginsWithItem text x after =
     (first : List ℕ) × (op : Operation) × (slice_split (is_byte 10) text ≡ first ∷ pieces_after 10 after) × Means first op × (x ≡ operation op)
 
--- what is known of a line: it is whole, and means this instruction without a tag, whose summary is this
-pub record IsKnownLine (bytes : List ℕ) (kind : Kind) (total : Summary) : Type 0 where
+-- what is known of a line: it is whole, and means this instruction
+pub record IsKnownLine (bytes : List ℕ) (op : Operation) : Type 0 where
   pub whole : IsOneLine bytes
-  pub means : Means bytes (without_tag kind)
-  pub sum : IsSumOf (next (without_tag kind) done) total
+  pub means : Means bytes op

@@ -19,7 +19,6 @@ use Rattle.stab_lines.specs.Lines.{is_byte, content_of}
 use Rattle.stab_lines.specs.Words.{pieces_after}
 use Rattle.stab_lines.specs.Meanings.{meaning_of}
 use Rattle.stab_items.specs.Circuits.{Meaning, at_line, meaning_after, one_item, contents}
-use Rattle.stab_items.specs.inner.Chunks.{flattened}
 
 -- an open block, and the items before it
 pub record OpenBlock : Type 0 where
@@ -35,7 +34,7 @@ pub record Progress : Type 0 where
 
 -- an open block without pointers, where these items stand before those that it keeps
 abbrev pub open_block_of : List OneItem → StoredBlock → OpenBlock
-open_block_of xs f = record { line = f.line; count = f.count; tag = f.tag; before = listed (xs ++ f.before) }
+open_block_of xs f = record { line = f.line; count = f.count; tag = f.tag; before = listed (xs ++ f.before.items) }
 
 -- the same of open blocks, the outermost first: these items stand before those that the outermost keeps
 abbrev pub open_blocks_of : List OneItem → List StoredBlock → List OpenBlock
@@ -53,7 +52,7 @@ kept_progress xs fs ys = record { open_blocks = reverse (open_blocks_of xs fs); 
 
 -- what a reader keeps, without pointers
 abbrev pub progress_of : CircuitReader → Progress
-progress_of r = kept_progress (flattened r.full.items) r.open_blocks.items r.items
+progress_of r = kept_progress r.outer.items r.open_blocks.items r.items.items
 
 -- blocks are nested at most 16 deep in what stands before open blocks, the innermost of them first, with those around it
 abbrev pub AreShallow : List OpenBlock → Type 0
@@ -153,6 +152,6 @@ TakesFirst single n text old new result =
     × TakesLine new result (stepped n (meaning_at single old (content_of first)) old)
 
 -- the call read the items, or failed as the definition does, or for want of memory, which has no line
-abbrev pub ReadsItems : Result (Vec (List OneItem)) Fault → Result Items Fault → Type 0
-ReadsItems (Ok v) given = given ≡ Ok (listed (flattened v.items))
+abbrev pub ReadsItems : Result (Vec OneItem) Fault → Result Items Fault → Type 0
+ReadsItems (Ok v) given = given ≡ Ok (listed v.items)
 ReadsItems (Err f) given = (f ≡ whole OutOfMemory) ⊎ (given ≡ Err f)

@@ -1,7 +1,7 @@
--- Stretches: lines, one behind the other, whose items are those of a chunk.
+-- Stretches: lines, one behind the other, whose items stand one behind the other in a list.
 -- Source: this project's own.
-use Rattle.std.specs.Prelude.{◌≡◌, ◌<◌, ◌≤◌, ℕ, ◌+◌, ◌-◌, Bool, List, [], ◌∷◌, ◌++◌, All, length, map, Option, Some, Result, Ok, Err, MatchOption, ◌⊎◌}
-use Rattle.std.specs.List.{slice_split, slice_index_or}
+use Rattle.std.specs.Prelude.{◌≡◌, ◌<◌, ◌≤◌, ℕ, ◌+◌, Bool, List, [], ◌∷◌, ◌++◌, All, length, take, drop, map, Option, Some, Result, Ok, Err, MatchOption, ◌⊎◌}
+use Rattle.std.specs.List.{slice_split}
 use Rattle.std.specs.Option.{option_copied}
 use Rattle.stab_io.specs.declared.refusal.Refusal.{Refusal}
 use Rattle.stab_io.specs.declared.refusal.Refusal.TheVariants.{OutOfMemory}
@@ -14,7 +14,6 @@ use Rattle.stab_items.specs.declared.stretches.Stretches.{Stretches}
 use Rattle.stab_items.specs.declared.stretches.Taken.{Taken}
 use Rattle.stab_items.specs.Items.{Items, OneItem, join, listed, depth}
 use Rattle.stab_items.specs.Circuits.{Meaning, line_meanings, at_line}
-use Rattle.stab_items.specs.inner.Chunks.{flattened}
 use Rattle.stab_items.specs.inner.Readers.{Progress, read_on, pending}
 
 -- what is read where no block is open
@@ -26,18 +25,23 @@ pub record Reads (lines : List (List ℕ)) (items : Items) : Type 0 where
   pub on : (n : ℕ) (now : Items) (ms : List Meaning) → read_on n (outside now) (line_meanings lines ++ ms) ≡ read_on (n + length lines) (outside (join now items)) ms
   pub flat : depth items ≡ 0
 
--- what is known of a stretch: it is so many lines, which put the items of its chunk behind the others
-pub record IsStretch (chunks : List (List OneItem)) (s : Stretch) : Type 0 where
-  pub within : s.chunk < length chunks
+-- the items of a stretch, in the list in which they stand
+abbrev pub items_of : Stretch → List OneItem → List OneItem
+items_of s xs = drop s.first (take s.behind xs)
+
+-- what is known of a stretch: it is so many lines, which put its items behind the others
+pub record IsStretch (xs : List OneItem) (s : Stretch) : Type 0 where
+  pub order : s.first ≤ s.behind
+  pub within : s.behind ≤ length xs
   pub count : length (slice_split (is_byte 10) s.bytes.now) ≡ s.lines
-  pub reads : Reads (slice_split (is_byte 10) s.bytes.now) (listed (slice_index_or chunks s.chunk []))
+  pub reads : Reads (slice_split (is_byte 10) s.bytes.now) (listed (items_of s xs))
 
 -- this is known of each of the stretches
-abbrev pub AreStretches : List (List OneItem) → Stretches → Type 0
-AreStretches chunks known = All (IsStretch chunks) known.all.items
+abbrev pub AreStretches : List OneItem → Stretches → Type 0
+AreStretches xs known = All (IsStretch xs) known.all.items
 
 -- what is known of a stretch stays so
-abbrev pub KeepsStretches : List (List OneItem) → List (List OneItem) → Type 0
+abbrev pub KeepsStretches : List OneItem → List OneItem → Type 0
 KeepsStretches old new = (s : Stretch) → IsStretch old s → IsStretch new s
 
 -- a text is these lines, each with its end, and then the rest
@@ -45,26 +49,26 @@ abbrev pub Ran : List ℕ → List (List ℕ) → List ℕ → Type 0
 Ran front [] rest = front ≡ rest
 Ran front (l ∷ ls) rest = (bytes : List ℕ) × (front ≡ bytes ++ 10 ∷ rest) × (slice_split (is_byte 10) bytes ≡ l ∷ ls)
 
--- a run: its lines, which end before line n with which the rest begins, put the items behind those of the chunks
-pub record IsRunOf (chunks : List (List OneItem)) (s : Progress) (n : ℕ) (rest : List ℕ) (run : Run) : Type 0 where
+-- a run: its lines, which end before line n with which the rest begins, put the items behind these
+pub record IsRunOf (xs : List OneItem) (s : Progress) (n : ℕ) (rest : List ℕ) (run : Run) : Type 0 where
   pub lines : List (List ℕ)
   pub items : Items
   pub ran : Ran run.front.now lines rest
   pub count : run.from + length lines ≡ n
   pub reads : Reads lines items
-  pub read : s ≡ outside (join (listed (flattened chunks)) items)
+  pub read : s ≡ outside (join (listed xs) items)
 
 -- the same where there is a run
-abbrev pub IsRun : List (List OneItem) → Progress → ℕ → List ℕ → Option Run → Type 0
-IsRun chunks s n rest run = MatchOption run (Unit {0}) (IsRunOf chunks s n rest)
+abbrev pub IsRun : List OneItem → Progress → ℕ → List ℕ → Option Run → Type 0
+IsRun xs s n rest run = MatchOption run (Unit {0}) (IsRunOf xs s n rest)
 
--- a run whose items are now those of the last chunk
-pub record IsEnded (chunks : List (List OneItem)) (n : ℕ) (rest : List ℕ) (run : Run) : Type 0 where
-  pub some : 0 < length chunks
+-- a run whose items are now those of the list from a place on
+pub record IsEnded (xs : List OneItem) (first n : ℕ) (rest : List ℕ) (run : Run) : Type 0 where
+  pub within : first ≤ length xs
   pub lines : List (List ℕ)
   pub ran : Ran run.front.now lines rest
   pub count : run.from + length lines ≡ n
-  pub reads : Reads lines (listed (slice_index_or chunks (length chunks - 1) []))
+  pub reads : Reads lines (listed (drop first xs))
 
 -- what is read from line n on, where these lines are still to be read
 abbrev pub reading_on : Bool → ℕ → Progress → Option (List ℕ) → Result Items Fault
@@ -80,5 +84,5 @@ abbrev pub IsShorter : List ℕ → Taken → Type 0
 IsShorter text taken = MatchOption (option_copied taken.after) (Unit {0}) (λ rest. (length rest < length text) × (length rest + taken.lines ≤ length text))
 
 -- the run goes on at the lines behind those that were taken, if there are any
-abbrev pub RunsOn : List (List OneItem) → Progress → ℕ → Option (List ℕ) → Option Run → Type 0
-RunsOn chunks s n after run = MatchOption after (Unit {0}) (λ rest. IsRun chunks s n rest run)
+abbrev pub RunsOn : List OneItem → Progress → ℕ → Option (List ℕ) → Option Run → Type 0
+RunsOn xs s n after run = MatchOption after (Unit {0}) (λ rest. IsRun xs s n rest run)

@@ -12,7 +12,7 @@ use Rattle.stab_lines.specs.Limits.{most_lookback}
 use Rattle.stab_lines.specs.Products.{names_twice}
 use Rattle.stab_lines.specs.declared.operation.Kind.{Kind}
 use Rattle.stab_items.specs.Items.{Items, depth}
-use Rattle.stab_items.specs.Steps.{Step, IsApart, makes, records_of, lookbacks, steps_of, unroll, past, named_qubits, named_observables, qubits_of, observables_of, most_steps, steps_cap}
+use Rattle.stab_items.specs.Steps.{Step, IsApart, makes, records_of, detectors_of, lookbacks, steps_of, unroll, past, named_qubits, named_observables, qubits_of, observables_of, most_steps, steps_cap}
 
 -- the greatest number, or 0
 abbrev pub greatest : List ℕ → ℕ
@@ -34,11 +34,13 @@ abbrev pub reach : List Step → ℕ
 reach [] = 0
 reach (s ∷ ss) = max (greatest (lookbacks s)) (reach ss - makes s)
 
--- the summary of steps that name so many qubits and observables, in so many blocks: up to 1,048,577 steps, 16,777,215 records and 17 blocks
+-- the summary of steps that name so many qubits and observables, in so many blocks: up to 1,048,577 steps, 16,777,215 records and as many
+-- detectors, and 17 blocks
 abbrev pub steps_summary : List Step → ℕ → ℕ → ℕ → Summary
 steps_summary steps qubits observables deep = record {
   steps = min (length steps) steps_cap;
   records = min (records_of steps) most_lookback;
+  detectors = min (detectors_of steps) most_lookback;
   reach = reach steps;
   qubits = qubits;
   observables = observables;
@@ -70,6 +72,7 @@ IsProductApart factors = names_twice factors ≡ false
 pub record IsSummary (s : Summary) : Type 0 where
   pub steps : s.steps ≤ steps_cap
   pub records : s.records ≤ most_lookback
+  pub detectors : s.detectors ≤ most_lookback
   pub reach : s.reach ≤ most_lookback
   pub qubits : s.qubits ≤ most_qubits
   pub depth : s.depth ≤ 17
@@ -85,6 +88,7 @@ abbrev pub followed_by : Summary → Summary → Summary
 followed_by s t = record {
   steps = min (s.steps + t.steps) steps_cap;
   records = min (s.records + t.records) most_lookback;
+  detectors = min (s.detectors + t.detectors) most_lookback;
   reach = max s.reach (t.reach - s.records);
   qubits = max s.qubits t.qubits;
   observables = max s.observables t.observables;
@@ -93,7 +97,7 @@ followed_by s t = record {
 
 -- the summary of so many rounds, of which the first reaches furthest
 abbrev pub repeated : ℕ → Summary → Summary
-repeated count s = record s { steps = min (count * s.steps) steps_cap; records = min (count * s.records) most_lookback; depth = min (s.depth + 1) 17 }
+repeated count s = record s { steps = min (count * s.steps) steps_cap; records = min (count * s.records) most_lookback; detectors = min (count * s.detectors) most_lookback; depth = min (s.depth + 1) 17 }
 
 -- what refuses a whole circuit of this summary
 abbrev pub judged : Summary → Option Refusal

@@ -1,23 +1,22 @@
 use Rattle.std.proofs.Common.{arith}
 use Rattle.std.proofs.lemmas.Result.{err_from_is_err_and}
-use Rattle.stab_items.specs.inner.Chunks.{flattened}
 use Rattle.stab_circuit.proofs.TextLemmas.{circuit_refused, circuit_placed, circuit_judged, circuit_answered}
 use Rattle.stab_circuit.proofs.circuit.circuit_of_text.Goals as goal
 
-pub returns-in_err-chunks-clause-gives : goal.returns-in_err-chunks-clause-gives
-returns-in_err-chunks-clause-gives c =
+pub returns-in_err-items-clause-gives : goal.returns-in_err-items-clause-gives
+returns-in_err-items-clause-gives c =
     let p = err_from_is_err_and c.from_residual.result c.from_residual.ensures.1 in
-    rw (p.1, p.2) (circuit_refused c.args.text.now _ (omega arith) c.in_err-chunks.ensures.gives)
+    rw (p.1, p.2) (circuit_refused c.args.text.now _ (omega arith) c.in_err-items.ensures.gives)
 
-pub returns-in_err-chunks-clause-only : goal.returns-in_err-chunks-clause-only
-returns-in_err-chunks-clause-only c =
+pub returns-in_err-items-clause-only : goal.returns-in_err-items-clause-only
+returns-in_err-items-clause-only c =
     let p = err_from_is_err_and c.from_residual.result c.from_residual.ensures.1 in
-    rw (p.1, p.2) (circuit_placed c.args.text.now _ (circuit_refused c.args.text.now _ (omega arith) c.in_err-chunks.ensures.gives))
+    rw (p.1, p.2) (circuit_placed c.args.text.now _ (circuit_refused c.args.text.now _ (omega arith) c.in_err-items.ensures.gives))
 
 pub returns-clause-gives : goal.returns-clause-gives
-returns-clause-gives c = circuit_judged c.args.text.now (flattened c.in_ok-chunks.chunks.items) _ (omega arith) c.in_ok-chunks.ensures.gives c.of_chunks.ensures.value c.of_chunks.ensures.checked
+returns-clause-gives c = circuit_judged c.args.text.now c.in_ok-items.items.items _ (omega arith) c.in_ok-items.ensures.gives c.of_items.ensures.value c.of_items.ensures.checked
 
 pub returns-clause-only : goal.returns-clause-only
 returns-clause-only c =
-    circuit_answered c.args.text.now c.of_chunks.result
-    (circuit_judged c.args.text.now (flattened c.in_ok-chunks.chunks.items) _ (omega arith) c.in_ok-chunks.ensures.gives c.of_chunks.ensures.value c.of_chunks.ensures.checked)
+    circuit_answered c.args.text.now c.of_items.result
+    (circuit_judged c.args.text.now c.in_ok-items.items.items _ (omega arith) c.in_ok-items.ensures.gives c.of_items.ensures.value c.of_items.ensures.checked)

@@ -7,8 +7,8 @@ abbrev pub invariant-lines : goal.invariant-lines
 invariant-lines l = record {
   few : l.line + length l.rest ≤ 16777217;
   shallow : IsShallowProgress (progress_of l.reader);
-  stretches : AreStretches l.reader.full.items l.stretches;
-  run : IsRun l.reader.full.items (progress_of l.reader) l.line l.rest l.stretches.run;
+  stretches : AreStretches l.reader.outer.items l.stretches;
+  run : IsRun l.reader.outer.items (progress_of l.reader) l.line l.rest l.stretches.run;
   same : reading_on l.single l.line (progress_of l.reader) (Some l.rest) ≡ reading l.single l.text;
 }
 

@@ -7,13 +7,13 @@ use Rattle.stab_circuit.specs.Cursors.{step_shown}
 use Rattle.stab_run.specs.ProgramStates.{StepFits}
 use Rattle.stab_laws.proofs.FitLemmas.{check-fits, check-whole, check-steps}
 use Rattle.stab_regions.specs.inner.Sweeps.{IsSwept, MayPass}
-use Rattle.stab_regions.proofs.SweepLemmas.{piece, passes-piece}
+use Rattle.stab_regions.proofs.SweepLemmas.{detectors-exact, piece, passes-piece}
 use Rattle.stab_regions.proofs.BelowLemmas.{names-below}
 use Rattle.stab_regions.proofs.sweep.sweep_back.Goals as goal
-use Rattle.stab_regions.proofs.sweep.sweep_back.Goals.{After-len, After-steps-end, After-as_slice}
+use Rattle.stab_regions.proofs.sweep.sweep_back.Goals.{After-items, After-steps-end, After-as_slice}
 
-fits : (c : After-len) → All (StepFits c.args.qubits) (unroll (circuit_items c.args.circuit.now))
-fits c = check-fits c.args.qubits (circuit_items c.args.circuit.now) (unroll (circuit_items c.args.circuit.now)) c.requires.checked refl c.len.ensures.apart
+fits : (c : After-items) → All (StepFits c.args.qubits) (unroll (circuit_items c.args.circuit.now))
+fits c = check-fits c.args.qubits (circuit_items c.args.circuit.now) (unroll (circuit_items c.args.circuit.now)) c.requires.checked refl c.items.ensures.apart
 
 counted : (c : After-steps-end) → c.steps-end.result ≡ length (unroll (circuit_items c.args.circuit.now))
 counted c =
@@ -30,7 +30,7 @@ pieces-init c =
       swept =
           subst (λ (ys : List Step). IsSwept c.args.qubits (detectors_of xs) (observables_of (circuit_items c.args.circuit.now)) c.args.asked ys c.in_ok-sweep.sweep) (sym none)
           (subst (λ count. IsSwept c.args.qubits (detectors_of xs) count c.args.asked [] c.in_ok-sweep.sweep) c.observables-2.ensures.value
-          (subst (λ D. IsSwept c.args.qubits D c.observables-2.result c.args.asked [] c.in_ok-sweep.sweep) c.in_ok-detectors.ensures.value
+          (subst (λ D. IsSwept c.args.qubits D c.observables-2.result c.args.asked [] c.in_ok-sweep.sweep) (detectors-exact (circuit_items c.args.circuit.now) c.detectors-detectors.result (check-whole c.args.qubits (circuit_items c.args.circuit.now) c.requires.checked) c.detectors-detectors.ensures.value)
           (c.in_ok-sweep.ensures.swept c.args.asked)));
     }
 
@@ -45,7 +45,7 @@ passes c all_fit =
     let xs : List Step = unroll (circuit_items c.args.circuit.now) in
     subst (λ (ys : List Step). MayPass c.args.qubits (detectors_of xs) (observables_of (circuit_items c.args.circuit.now)) ys (drop c.pieces.end xs)) (sym (taken c))
     (passes-piece c.args.qubits (observables_of (circuit_items c.args.circuit.now)) c.saturating_sub-begin.result c.pieces.end xs (omega (arith, c.saturating_sub-begin.ensures))
-    all_fit c.len.ensures.apart (names-below (circuit_items c.args.circuit.now)))
+    all_fit c.items.ensures.apart (names-below (circuit_items c.args.circuit.now)))
 
 pub before_all-requires : goal.before_all-requires
 before_all-requires c =
@@ -58,7 +58,7 @@ before_all-requires c =
         count = observables_of (circuit_items c.args.circuit.now);
         back = drop c.pieces.end xs;
         swept = c.pieces.invariant.swept;
-        passes = passes at.After-as_slice (fits at.After-len);
+        passes = passes at.After-as_slice (fits at.After-items);
       };
     }
 
@@ -73,7 +73,7 @@ pieces-preserved c =
           subst (λ (ys : List Step). IsSwept c.args.qubits (detectors_of xs) (observables_of (circuit_items c.args.circuit.now)) c.args.asked ys c.before_all.new.self)
           (ap (λ (ys : List Step). ys ++ drop c.pieces.end xs) (taken at.After-as_slice) ∙ piece c.saturating_sub-begin.result c.pieces.end xs order)
           (c.in_ok-before_all.ensures.sweeps c.args.qubits (detectors_of xs) (observables_of (circuit_items c.args.circuit.now)) (drop c.pieces.end xs)
-          (passes at.After-as_slice (fits at.After-len)) c.pieces.invariant.swept);
+          (passes at.After-as_slice (fits at.After-items)) c.pieces.invariant.swept);
     }
 
 pub returns-clause-swept : goal.returns-clause-swept
@@ -83,4 +83,4 @@ returns-clause-swept c =
     subst (λ k. IsSwept c.args.qubits (detectors_of xs) (observables_of (circuit_items c.args.circuit.now)) c.args.asked (drop k xs) c.pieces.sweep) none c.pieces.invariant.swept
 
 pub returns-clause-fits : goal.returns-clause-fits
-returns-clause-fits c = let at = goal.at.returns-clause-fits c in fits at.After-len
+returns-clause-fits c = let at = goal.at.returns-clause-fits c in fits at.After-items

@@ -73,7 +73,7 @@ go_over_rounds-requires-clause-period g c =
     let strings = c.args.notes.now.strings.strings in
     let early = subst (λ o. IfSome o (λ e. IsEarlier n coins steps r c.args.done e)) c.in-Some.is c.requires.earlier in
     let later = subst (λ o. IfSome o (λ e. e.done < c.args.done)) c.in-Some.is c.requires.later in
-    let fits = steps-fit n (circuit_items c.args.circuit.now) steps c.requires.checked refl c.len.ensures.apart in
+    let fits = steps-fit n (circuit_items c.args.circuit.now) steps c.requires.checked refl c.items.ensures.apart in
     let begins =
     subst (λ o. IfSome o (λ p. BeginsPeriod c.args.tableau.now output r c.in-Some.kept c.args.done strings p)) c.in-Some-found.is (c.in_ok-found.ensures {u = tt}).period in
     period-begins n coins steps r c.args.done c.args.done c.in-Some.kept c.args.tableau.now output strings c.in-Some-found.period

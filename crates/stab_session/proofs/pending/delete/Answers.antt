@@ -13,7 +13,7 @@ unreachable-requires c =
 pub returns-in-Ok-default-Some-clause-begun : goal.returns-in-Ok-default-Some-clause-begun
 returns-in-Ok-default-Some-clause-begun c =
     let e = c.in-Ok-default-Some.ensures {u = tt} in
-    begun-delete c.args.n c.args.place c.args.circuit.now c.edit.new.self c.len.ensures.shallow c.requires.old_checked c.in-Ok-default-Some.span c.tick-item.result c.in-Ok-default-Some.old c.tick-item.ensures.nothing e.ok e.allowed e.steps
+    begun-delete c.args.n c.args.place c.args.circuit.now c.edit.new.self c.items.ensures.shallow c.requires.old_checked c.in-Ok-default-Some.span c.tick-item.result c.in-Ok-default-Some.old c.tick-item.ensures.nothing e.ok e.allowed e.steps
     (sym e.taken ∙ c.in-Ok-default-Some.field-0-1-is)
 
 pub returns-in-Err-clause-refused : goal.returns-in-Err-clause-refused

@@ -11,5 +11,5 @@ unreachable-requires c =
 pub returns-in-Ok-default-Some-clause-begun : goal.returns-in-Ok-default-Some-clause-begun
 returns-in-Ok-default-Some-clause-begun c =
     let e = c.in-Ok-default-Some.ensures {u = tt} in
-    begun-replace c.args.n c.args.place c.args.circuit.now c.edit.new.self c.len.ensures.shallow c.requires.old_checked c.in-Ok-default-Some.span c.args.item c.in-Ok-default-Some.old e.ok e.allowed e.steps
+    begun-replace c.args.n c.args.place c.args.circuit.now c.edit.new.self c.items.ensures.shallow c.requires.old_checked c.in-Ok-default-Some.span c.args.item c.in-Ok-default-Some.old e.ok e.allowed e.steps
     (sym e.taken ∙ c.in-Ok-default-Some.field-0-1-is)

@@ -7,7 +7,7 @@ use Rattle.stab_circuit.proofs.circuit.Circuit.+put_before.Goals as goal
 
 pub put_one-requires : goal.put_one-requires
 put_one-requires t c = record {
-  allowed = insert_let c.args.path c.args.parts.items c.pop.new.self.items c.in-Some.part c.args.self.now c.in-Some.ensures.items c.requires.deep c.len.ensures.shallow;
+  allowed = insert_let c.args.path c.args.parts.items c.pop.new.self.items c.in-Some.part c.args.self.now c.in-Some.ensures.items c.requires.deep c.items.ensures.shallow;
 }
 
 pub put_before-requires : goal.put_before-requires
@@ -21,7 +21,7 @@ pub take_one-requires : goal.take_one-requires
 take_one-requires t c = record {
   allowed =
       ap (edit_refusal (Delete c.args.path)) c.in-Err.ensures.unchanged
-      ∙ delete_let c.args.path c.in-Some.part c.args.self.now c.put_one.new.self c.in_ok-put_one.ensures.ok c.len.ensures.shallow;
+      ∙ delete_let c.args.path c.in-Some.part c.args.self.now c.put_one.new.self c.in_ok-put_one.ensures.ok c.items.ensures.shallow;
 }
 
 pub returns-in-Ok-clause-ok : goal.returns-in-Ok-clause-ok

@@ -1,81 +1,46 @@
-use Rattle.std.proofs.Common.{◌≡◌, ◌∙◌, ◌<◌, ◌+◌, ◌-◌, [], get_or, ap, sym, refl, arith, length, take, drop, subst}
+use Rattle.std.proofs.Common.{◌≡◌, ◌≤◌, ◌∙◌, ◌<◌, ◌+◌, ◌-◌, ap, sym, refl, arith, length, take, drop, subst}
 use Rattle.std.proofs.lemmas.List.{take_more_set, length-set}
 use Rattle.stab_lines.specs.declared.operation.Operation.{Operation}
 use Rattle.stab_items.specs.Items.{repeat, operation, listed, depth}
 use Rattle.stab_items.specs.Steps.{unroll}
-use Rattle.stab_items.specs.inner.Chunks.{flattened}
 use Rattle.stab_circuit.specs.Views.{circuit_items}
-use Rattle.stab_circuit.proofs.ChunkLemmas.{depth_chunk, length_more, length_most}
 use Rattle.stab_circuit.specs.StepPaths.{paths_of, item_steps_left}
 use Rattle.stab_items.proofs.ItemLemmas.{depth_at}
 use Rattle.stab_items.proofs.SummaryLemmas.{few_steps}
-use Rattle.stab_circuit.proofs.StepPathLemmas.{chunk_there, few_in_chunk, item_few, within_item, operation_steps, round_of, Reached, reached_first, reached_block, reached_operation}
-use Rattle.stab_circuit.proofs.StepsLeftLemmas.{left_chunks, left_block, left_operation}
+use Rattle.stab_circuit.proofs.StepPathLemmas.{steps_split, paths_from_place, item_few, within_item, operation_steps, round_of, Reached, reached_first, reached_block, reached_operation}
+use Rattle.stab_circuit.proofs.StepsLeftLemmas.{left_from_place, left_block, left_operation}
 use Rattle.stab_circuit.proofs.circuit.Circuit.item_of_step.Goals as goal
 
 pub overflow_cast-step : goal.overflow_cast-step
 overflow_cast-step c = omega (arith, few_steps (circuit_items c.args.self.now) c.requires.checked, c.requires.in_range)
 
-pub skip_chunks-skipped-requires : goal.skip_chunks-skipped-requires
-skip_chunks-skipped-requires c = record {
-  fits = omega (arith, c.chunks-chunks.ensures.fits, ap length c.chunks-chunks.ensures.value);
-  few = omega (arith, few_steps (circuit_items c.args.self.now) c.requires.checked, c.requires.in_range);
-}
-
-pub bounds-chunks-skipped : goal.bounds-chunks-skipped
-bounds-chunks-skipped c =
-    let cs = c.chunks-chunks.result.now in
-    let s = c.skip_chunks-skipped.result in
-    let seen = c.chunks-chunks.ensures.value in
-    let skips = c.skip_chunks-skipped.ensures.skips in
-    let below : c.args.step < length (unroll (listed (flattened cs))) = omega (arith, c.requires.in_range, ap (λ l. length (unroll (listed l))) seen) in
-    chunk_there cs c.args.step s skips below
+pub place_before-begin-requires : goal.place_before-begin-requires
+place_before-begin-requires c = record { few = omega (arith, few_steps (circuit_items c.args.self.now) c.requires.checked, c.requires.in_range) }
 
 pub find_item-found-requires-clause-few : goal.find_item-found-requires-clause-few
-find_item-found-requires-clause-few c =
-    let cs = c.chunks-chunks.result.now in
-    let s = c.skip_chunks-skipped.result in
-    let seen = c.chunks-chunks.ensures.value in
-    let skips = c.skip_chunks-skipped.ensures.skips in
-    let below : c.args.step < length (unroll (listed (flattened cs))) = omega (arith, c.requires.in_range, ap (λ l. length (unroll (listed l))) seen) in
-    let there = chunk_there cs c.args.step s skips below in
-    let x = c.items-items.result.now in
-    let is = subst (λ y. y ≡ get_or cs s.number y) (sym c.items-items.ensures.value) c.index-chunks-skipped.is in
-    omega (arith, few_in_chunk cs s.number x there is, few_steps (circuit_items c.args.self.now) c.requires.checked, ap (λ l. length (unroll (listed l))) seen)
+find_item-found-requires-clause-few c = omega (arith, few_steps (circuit_items c.args.self.now) c.requires.checked, ap (λ l. length (unroll (listed l))) c.items-items.ensures.value)
 
 pub find_item-found-requires-clause-in_range : goal.find_item-found-requires-clause-in_range
 find_item-found-requires-clause-in_range c =
-    let cs = c.chunks-chunks.result.now in
-    let s = c.skip_chunks-skipped.result in
-    let seen = c.chunks-chunks.ensures.value in
-    let skips = c.skip_chunks-skipped.ensures.skips in
-    let below : c.args.step < length (unroll (listed (flattened cs))) = omega (arith, c.requires.in_range, ap (λ l. length (unroll (listed l))) seen) in
-    let there = chunk_there cs c.args.step s skips below in
-    let x = c.items-items.result.now in
-    let is = subst (λ y. y ≡ get_or cs s.number y) (sym c.items-items.ensures.value) c.index-chunks-skipped.is in
-    skips.stops x there is
+    let p = c.place_before-begin.result.place in
+    omega (arith, c.requires.in_range, c.place_before-begin.ensures.steps, steps_split p c.args.self.now, ap (λ l. length (unroll (listed (drop p l)))) c.items-items.ensures.value)
 
 pub levels-init : goal.levels-init
 levels-init c =
-    let cs = c.chunks-chunks.result.now in
-    let s = c.skip_chunks-skipped.result in
-    let seen = c.chunks-chunks.ensures.value in
-    let skips = c.skip_chunks-skipped.ensures.skips in
-    let below : c.args.step < length (unroll (listed (flattened cs))) = omega (arith, c.requires.in_range, ap (λ l. length (unroll (listed l))) seen) in
-    let there = chunk_there cs c.args.step s skips below in
-    let x = c.items-items.result.now in
-    let is = subst (λ y. y ≡ get_or cs s.number y) (sym c.items-items.ensures.value) c.index-chunks-skipped.is in
-    let f = c.find_item-found.result in
+    let xs = c.items-items.result.now in
+    let seen = c.items-items.ensures.value in
+    let begin = c.place_before-begin.result in
     let found = c.find_item-found.ensures.found in
+    let counted : length (unroll (listed (take begin.place xs))) + begin.steps ≡ c.args.step = ap (λ l. length (unroll (listed (take begin.place l))) + begin.steps) seen ∙ c.place_before-begin.ensures.steps in
+    let inside : begin.place ≤ length xs = omega (arith, c.place_before-begin.ensures.within, ap length seen) in
     record {
-      few = omega (arith, few_in_chunk cs s.number x there is, few_steps (circuit_items c.args.self.now) c.requires.checked, ap (λ l. length (unroll (listed l))) seen);
-      shallow = omega (arith, depth_chunk cs s.number x there is, c.chunks-chunks.ensures.shallow, ap (λ l. depth (listed l)) seen);
+      few = omega (arith, few_steps (circuit_items c.args.self.now) c.requires.checked, ap (λ l. length (unroll (listed l))) seen);
+      shallow = omega (arith, c.items-items.ensures.shallow, ap (λ l. depth (listed l)) seen);
       room = refl;
       in_range = found.in_range;
       within = found.within;
-      left = found.left ∙ left_chunks cs c.args.step s x skips below there is ∙ ap (λ l. item_steps_left (listed l) c.args.step) seen;
-      fits = omega (arith, found.in_range, skips.before, length_more cs s.number x there is, length_most cs (s.number + 1), c.chunks-chunks.ensures.fits, ap length seen);
-      reached = subst (λ l. Reached (drop c.args.step (paths_of (listed l))) [] s.items x f.place f.within) seen (reached_first cs c.args.step s x f.place f.within skips below there is (found.same s.items));
+      left = found.left ∙ left_from_place xs begin.place begin.steps c.args.step counted ∙ ap (λ l. item_steps_left (listed l) c.args.step) seen;
+      reached = reached_first c.args.self.now xs c.args.step c.find_item-found.result.place c.find_item-found.result.within seen (found.same ∙ paths_from_place xs begin.place begin.steps c.args.step inside counted);
     }
 
 pub returns-in-Operation-clause-path : goal.returns-in-Operation-clause-path
@@ -84,9 +49,9 @@ returns-in-Operation-clause-path c =
     let xs = c.levels.items.now in
     let op : Operation = record { kind = c.in-Operation.kind.now; tag = c.in-Operation.tag.now } in
     let few = within_item xs c.levels.found.place c.levels.found.within (operation op) at.in_range c.in-Operation.ensures.value at.within in
-    reached_operation _ (take c.levels.depth c.levels.places) c.levels.before xs c.levels.found.place c.levels.found.within _ op (operation op) c.new.result at.reached at.in_range c.in-Operation.ensures.value refl
+    reached_operation _ (take c.levels.depth c.levels.places) xs c.levels.found.place c.levels.found.within _ op (operation op) c.new.result at.reached at.in_range c.in-Operation.ensures.value refl
     (omega (arith, few, operation_steps (operation op) op refl)) (ap (λ n. n - c.levels.found.within) c.step_count.ensures.value)
-    (c.new.ensures.value ∙ take_more_set c.levels.places c.levels.depth (c.levels.before + c.levels.found.place) (omega (arith, at.room, at.shallow)))
+    (c.new.ensures.value ∙ take_more_set c.levels.places c.levels.depth c.levels.found.place (omega (arith, at.room, at.shallow)))
 
 pub returns-in-Operation-clause-steps : goal.returns-in-Operation-clause-steps
 returns-in-Operation-clause-steps c =
@@ -147,12 +112,11 @@ levels-preserved c =
     record {
       few = round.few;
       shallow = omega (arith, at.shallow, depth_at xs p x at.in_range c.in-Block.ensures.value);
-      room = length-set c.levels.places c.levels.depth (c.levels.before + p) ∙ at.room;
+      room = length-set c.levels.places c.levels.depth p ∙ at.room;
       in_range = found.in_range;
       within = found.within;
-      fits = omega (arith, found.in_range, c.find_item-found-in-Block.type_inv);
       left = found.left ∙ left_block xs c.in-Block.body.now p c.levels.found.within c.in-Block.count c.in-Block.kept.steps c.in-Block.tag.now x at.in_range c.in-Block.ensures.value refl round ∙ at.left;
-      reached = subst (λ bs. Reached (drop c.args.step (paths_of (circuit_items c.args.self.now))) bs 0 c.in-Block.body.now c.find_item-found-in-Block.result.place c.find_item-found-in-Block.result.within) (sym (take_more_set c.levels.places c.levels.depth (c.levels.before + p) room))
-          (reached_block _ (take c.levels.depth c.levels.places) c.levels.before xs c.in-Block.body.now p c.levels.found.within c.in-Block.count _ _ c.find_item-found-in-Block.result.place c.find_item-found-in-Block.result.within c.in-Block.tag.now x at.reached at.in_range
-          c.in-Block.ensures.value refl round.at round.round (omega (arith, round.short)) (found.same 0));
+      reached = subst (λ bs. Reached (drop c.args.step (paths_of (circuit_items c.args.self.now))) bs c.in-Block.body.now c.find_item-found-in-Block.result.place c.find_item-found-in-Block.result.within) (sym (take_more_set c.levels.places c.levels.depth p room))
+          (reached_block _ (take c.levels.depth c.levels.places) xs c.in-Block.body.now p c.levels.found.within c.in-Block.count _ _ c.find_item-found-in-Block.result.place c.find_item-found-in-Block.result.within c.in-Block.tag.now x at.reached at.in_range
+          c.in-Block.ensures.value refl round.at round.round (omega (arith, round.short)) found.same);
     }

@@ -1,4 +1,4 @@
-use Rattle.std.proofs.Common.{◌≡◌, ◌<◌, ◌≤◌, ◌+◌, ◌^◌, length, take, drop}
+use Rattle.std.proofs.Common.{◌≡◌, ◌<◌, ◌≤◌, ◌+◌, length, take, drop}
 use Rattle.stab_items.specs.Items.{listed, depth}
 use Rattle.stab_items.specs.Steps.{unroll, most_steps}
 use Rattle.stab_circuit.specs.Views.{circuit_items}
@@ -14,8 +14,7 @@ invariant-levels l = record {
   in_range : l.found.place < length l.items;
   within : l.found.within + length (unroll (listed (drop (l.found.place + 1) l.items))) < length (unroll (listed (drop l.found.place l.items)));
   left : item_steps_left (listed (drop l.found.place l.items)) l.found.within ≡ item_steps_left (circuit_items l.self) l.step;
-  fits : l.before + l.found.place < 2 ^ 64;
-  reached : Reached (drop l.step (paths_of (circuit_items l.self))) (take l.depth l.places) l.before l.items l.found.place l.found.within;
+  reached : Reached (drop l.step (paths_of (circuit_items l.self))) (take l.depth l.places) l.items l.found.place l.found.within;
 }
 
 abbrev pub decreases-levels : goal.decreases-levels

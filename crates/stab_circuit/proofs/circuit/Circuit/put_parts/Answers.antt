@@ -6,7 +6,7 @@ use Rattle.stab_circuit.proofs.circuit.Circuit.put_parts.Goals as goal
 
 pub exchange-old-requires : goal.exchange-old-requires
 exchange-old-requires c = record {
-  allowed = replace_let c.args.path c.args.parts.items c.pop.new.self.items c.in-Some.last c.args.self.now c.in-Some.ensures.items c.requires.deep c.len.ensures.shallow;
+  allowed = replace_let c.args.path c.args.parts.items c.pop.new.self.items c.in-Some.last c.args.self.now c.in-Some.ensures.items c.requires.deep c.items.ensures.shallow;
 }
 
 pub put_before-requires : goal.put_before-requires
@@ -19,7 +19,7 @@ pub exchange-requires : goal.exchange-requires
 exchange-requires c = record {
   allowed =
       ap (edit_refusal (Replace c.args.path c.exchange-old.result)) c.in-Err.ensures.unchanged
-      ∙ put_back_let c.args.path c.in-Some.last c.exchange-old.result c.args.self.now c.exchange-old.new.self c.exchange-old.ensures.value c.exchange-old.ensures.taken c.len.ensures.shallow;
+      ∙ put_back_let c.args.path c.in-Some.last c.exchange-old.result c.args.self.now c.exchange-old.new.self c.exchange-old.ensures.value c.exchange-old.ensures.taken c.items.ensures.shallow;
 }
 
 pub returns-in-Ok-clause-ok : goal.returns-in-Ok-clause-ok

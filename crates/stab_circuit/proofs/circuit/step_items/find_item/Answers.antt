@@ -14,8 +14,8 @@ items-preserved c =
     let all = steps_at c.args.items.now c.items.found.place c.index-items-found.result here c.index-items-found.is in
     record {
       in_range = omega (arith, c.items.invariant.in_range, all, c.item_steps-steps.ensures.value, c.if-found-steps.false);
-      same = λ n. item_passed n c.args.items.now c.items.found.place c.items.found.within c.item_steps-steps.result c.index-items-found.result here c.index-items-found.is c.item_steps-steps.ensures.value c.if-found-steps.false
-          ∙ c.items.invariant.same n;
+      same = item_passed c.args.items.now c.items.found.place c.items.found.within c.item_steps-steps.result c.index-items-found.result here c.index-items-found.is c.item_steps-steps.ensures.value c.if-found-steps.false
+          ∙ c.items.invariant.same;
       left = left_passed c.args.items.now c.items.found.place c.items.found.within c.item_steps-steps.result c.index-items-found.result here c.index-items-found.is c.item_steps-steps.ensures.value c.if-found-steps.false
           ∙ c.items.invariant.left;
     }

@@ -1,4 +1,4 @@
-use Rattle.std.proofs.Common.{◌≡◌, ◌<◌, ◌+◌, ◌-◌, ℕ, length, drop}
+use Rattle.std.proofs.Common.{◌≡◌, ◌<◌, ◌-◌, length, drop}
 use Rattle.stab_items.specs.Items.{listed}
 use Rattle.stab_items.specs.Steps.{unroll}
 use Rattle.stab_circuit.specs.StepPaths.{paths_from, item_steps_left}
@@ -7,8 +7,8 @@ use Rattle.stab_circuit.proofs.circuit.step_items.find_item.Given as goal
 abbrev pub invariant-items : goal.invariant-items
 invariant-items l = record {
   in_range : l.found.within < length (unroll (listed (drop l.found.place l.items)));
-  same : (n : ℕ) → drop l.found.within (paths_from (n + l.found.place) (listed (drop l.found.place l.items))) ≡ drop l.step (paths_from n (listed l.items));
-  left : item_steps_left (listed (drop l.found.place l.items)) l.found.within ≡ item_steps_left (listed l.items) l.step;
+  same : drop l.found.within (paths_from l.found.place (listed (drop l.found.place l.items))) ≡ drop l.step (paths_from l.place (listed (drop l.place l.items)));
+  left : item_steps_left (listed (drop l.found.place l.items)) l.found.within ≡ item_steps_left (listed (drop l.place l.items)) l.step;
 }
 
 abbrev pub decreases-items : goal.decreases-items

@@ -5,15 +5,15 @@ use Rattle.stab_items.proofs.SummaryLemmas.{kept_summary}
 use Rattle.stab_items.proofs.StepApartLemmas.{block_apart}
 use Rattle.stab_items.proofs.item.Item.summary.Goals as goal
 
-pub returns-in-Repeat-clause-value : goal.returns-in-Repeat-clause-value
-returns-in-Repeat-clause-value c =
-    let head = c.in-Repeat.head.value in
-    let kept = subst IsKept c.in-Repeat.is c.self.invariant in
-    kept_summary c.args.self.now c.number.result head.count head.tag (listed c.in-Repeat.body.items) _ head.kept c.repeated.result c.repeated.ensures.value c.number.ensures.some
-    (c.number.ensures.value ∙ ap (λ h. h.count) c.deref-in-Repeat-2.ensures) (ap (λ h. h.kept) c.deref-in-Repeat.ensures) kept.0 (ap shown (sym c.in-Repeat.is) ∙ c.self.view_is)
+pub returns-in-Block-clause-value : goal.returns-in-Block-clause-value
+returns-in-Block-clause-value c =
+    let head = c.in-Block.block.value.head in
+    let kept = subst IsKept c.in-Block.is c.self.invariant in
+    kept_summary c.args.self.now c.number.result head.count head.tag (listed c.in-Block.block.value.body.items) _ head.kept c.repeated.result c.repeated.ensures.value c.number.ensures.some
+    (c.number.ensures.value ∙ ap (λ b. b.head.count) c.deref-in-Block-2.ensures) (ap (λ b. b.head.kept) c.deref-in-Block.ensures) kept.0 (ap shown (sym c.in-Block.is) ∙ c.self.view_is)
 
-pub returns-in-Repeat-clause-apart : goal.returns-in-Repeat-clause-apart
-returns-in-Repeat-clause-apart c =
-    let head = c.in-Repeat.head.value in
-    let kept = subst IsKept c.in-Repeat.is c.self.invariant in
-    block_apart c.args.self.now head.count head.tag (listed c.in-Repeat.body.items) (ap shown (sym c.in-Repeat.is) ∙ c.self.view_is) kept.3
+pub returns-in-Block-clause-apart : goal.returns-in-Block-clause-apart
+returns-in-Block-clause-apart c =
+    let head = c.in-Block.block.value.head in
+    let kept = subst IsKept c.in-Block.is c.self.invariant in
+    block_apart c.args.self.now head.count head.tag (listed c.in-Block.block.value.body.items) (ap shown (sym c.in-Block.is) ∙ c.self.view_is) kept.3

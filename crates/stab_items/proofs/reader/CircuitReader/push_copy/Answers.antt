@@ -1,19 +1,20 @@
-use Rattle.std.proofs.Common.{◌≡◌, refl, ◌∙◌, [], length, arith}
-use Rattle.std.specs.List.{slice_index_or}
-use Rattle.stab_items.proofs.StretchLemmas.{chunk_keeps, keeps_all, one_more, copy_stretch, copy_put, index_within}
+use Rattle.std.proofs.Common.{◌≡◌, refl, length, arith}
+use Rattle.stab_items.specs.inner.Stretches.{items_of}
+use Rattle.stab_items.proofs.StretchLemmas.{more_keeps, keeps_all, one_more, copy_stretch, copy_put}
 use Rattle.stab_items.proofs.reader.CircuitReader.push_copy.Goals as goal
 
 pub returns-clause-same : goal.returns-clause-same
 returns-clause-same c =
     let r = c.args.self.now in
-    copy_put r.full.items c.push.new.self.items c.in_ok-copy.copy (slice_index_or r.full.items c.args.stretch.chunk []) r.open_blocks.items r.items c.requires.outside c.requires.none c.in_ok-push.ensures.items (c.in_ok-copy.ensures.ok ∙ c.index.ensures ∙ index_within r.full.items c.args.stretch.chunk _ [] c.requires.known.within)
+    copy_put r.outer.items c.push_copies.new.items.items (items_of c.args.stretch r.outer.items) r.open_blocks.items r.items.items c.requires.outside c.requires.none c.in_ok-push_copies.ensures.ok
 
 pub returns-clause-stretches : goal.returns-clause-stretches
 returns-clause-stretches c =
     let r = c.args.self.now in
-    let new = c.push.new.self.items in
+    let new = c.push_copies.new.items.items in
     let known = c.args.stretches.now.all.items in
-    let behind : c.len-chunk.result ≡ length r.full.items = omega (arith, c.len-chunk.ensures, r.full.ok.0) in
+    let first : c.len-first.result ≡ length r.outer.items = omega (arith, c.len-first.ensures, r.outer.ok.0) in
+    let behind : c.len-behind.result ≡ length new = omega (arith, c.len-behind.ensures, c.push_copies.new.items.ok.0) in
     one_more new known c.remember.new.self.all.items _ c.in_ok-remember.ensures.all
-    (keeps_all r.full.items new known known refl (chunk_keeps r.full.items new c.in_ok-copy.copy c.in_ok-push.ensures.items) c.requires.stretches)
-    (copy_stretch r.full.items new c.in_ok-copy.copy c.args.stretch _ c.requires.known c.in_ok-push.ensures.items (c.in_ok-copy.ensures.ok ∙ c.index.ensures ∙ index_within r.full.items c.args.stretch.chunk _ [] c.requires.known.within) refl refl behind)
+    (keeps_all r.outer.items new known known refl (more_keeps r.outer.items new (items_of c.args.stretch r.outer.items) c.in_ok-push_copies.ensures.ok) c.requires.stretches)
+    (copy_stretch r.outer.items new c.args.stretch _ c.requires.known c.in_ok-push_copies.ensures.ok refl refl first behind)

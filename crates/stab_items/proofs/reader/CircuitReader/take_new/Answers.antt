@@ -1,21 +1,22 @@
-use Rattle.std.proofs.Common.{inl, subst, sym, ap, ◌∙◌}
+use Rattle.std.proofs.Common.{inl, subst, sym, ap, ◌∙◌, Ok}
 use Rattle.std.specs.Option.{option_copied}
 use Rattle.std.proofs.lemmas.Result.{err_from_is_err_and}
+use Rattle.stab_lines.specs.declared.meanings.Line.TheVariants as line
 use Rattle.stab_lines.specs.Lines.{content_of}
 use Rattle.stab_lines.specs.Meanings.{meaning_of}
 use Rattle.stab_items.specs.inner.KnownLines.{IsOneLine}
 use Rattle.stab_items.proofs.FrontLemmas.{one_line_first, split_cut, some_first, some_told}
 use Rattle.stab_items.proofs.reader.CircuitReader.take_new.Goals as goal
 
-pub take_plain-requires-clause-whole : goal.take_plain-requires-clause-whole
-take_plain-requires-clause-whole c =
+pub take_instruction-requires-clause-whole : goal.take_instruction-requires-clause-whole
+take_instruction-requires-clause-whole c =
     let d = some_told c.args.text.now c.in_ok-kind.field-0 (c.in-Some.kind, c.in-Some.after) c.in-Some.is c.in_ok-kind.ensures.tells in
     subst IsOneLine (sym (c.before_lines-bytes.ensures.value d.0 (split_cut c.args.text.now d.0 (option_copied c.in-Some.after) d.1))) (one_line_first c.args.text.now d.0 _ d.1)
 
-pub take_plain-requires-clause-means : goal.take_plain-requires-clause-means
-take_plain-requires-clause-means c =
+pub take_instruction-requires-clause-means : goal.take_instruction-requires-clause-means
+take_instruction-requires-clause-means c =
     let d = some_told c.args.text.now c.in_ok-kind.field-0 (c.in-Some.kind, c.in-Some.after) c.in-Some.is c.in_ok-kind.ensures.tells in
-    ap (λ b. meaning_of (content_of b)) (c.before_lines-bytes.ensures.value d.0 (split_cut c.args.text.now d.0 (option_copied c.in-Some.after) d.1)) ∙ d.2
+    ap (λ b. meaning_of (content_of b)) (c.before_lines-bytes.ensures.value d.0 (split_cut c.args.text.now d.0 (option_copied c.in-Some.after) d.1)) ∙ d.2 ∙ ap (λ o. Ok (line.Operation o)) (sym c.plain.ensures.value)
 
 pub returns-in_err-kind-clause-gives : goal.returns-in_err-kind-clause-gives
 returns-in_err-kind-clause-gives c =

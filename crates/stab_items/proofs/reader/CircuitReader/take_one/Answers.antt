@@ -18,8 +18,8 @@ settle-requires-clause-run c =
     let g = c.in_ok-after.ensures.gives in
     let s = progress_of c.args.self.now in
     let t = c.take_first.new.self in
-    runs_on t.full.items s c.args.line c.args.text.now g.0 (option_copied c.in_ok-after.after) c.run_at-run.result c.keep_run.new.stretches.run c.args.single t.open_blocks.items t.items
-    (subst (λ cs. IsRun cs s c.args.line c.args.text.now c.run_at-run.result) (sym c.in_ok-after.ensures.full) c.run_at-run.ensures.run) (g.2 ∙ ap (λ ps. g.0 ∷ ps) g.3) g.4 c.keep_run.ensures.run
+    runs_on t.outer.items s c.args.line c.args.text.now g.0 (option_copied c.in_ok-after.after) c.run_at-run.result c.keep_run.new.stretches.run c.args.single t.open_blocks.items t.items.items
+    (subst (λ xs. IsRun xs s c.args.line c.args.text.now c.run_at-run.result) (sym c.in_ok-after.ensures.outer) c.run_at-run.ensures.run) (g.2 ∙ ap (λ ps. g.0 ∷ ps) g.3) g.4 c.keep_run.ensures.run
 
 pub returns-clause-gives : goal.returns-clause-gives
 returns-clause-gives c =

@@ -1,10 +1,8 @@
-use Rattle.std.proofs.Common.{refl, ap, sym, ◌∙◌, ◌+◌, [], Some, false}
+use Rattle.std.proofs.Common.{refl, ap, sym, ◌∙◌, ◌+◌, Some, false}
 use Rattle.std.specs.Option.{option_copied}
-use Rattle.std.specs.List.{slice_index_or}
 use Rattle.stab_items.specs.Items.{join, listed}
-use Rattle.stab_items.specs.inner.Chunks.{flattened}
 use Rattle.stab_items.specs.inner.Readers.{progress_of}
-use Rattle.stab_items.specs.inner.Stretches.{outside, reading_on}
+use Rattle.stab_items.specs.inner.Stretches.{outside, items_of, reading_on}
 use Rattle.stab_items.proofs.PieceLemmas.{lines_shorter}
 use Rattle.stab_items.proofs.StretchLemmas.{kept_now, stretch_read, stretch_shallow}
 use Rattle.stab_items.proofs.reader.CircuitReader.take_stretch.Goals as goal
@@ -15,10 +13,10 @@ returns-clause-gives c =
     let s = progress_of r in
     let n = c.args.line in
     let after = option_copied c.args.after in
-    let chunks = c.leave_items.new.self.full.items in
-    let more = listed (slice_index_or chunks c.args.stretch.chunk []) in
-    ap (λ p. reading_on false n p (Some c.args.text.now)) (kept_now (flattened r.full.items) r.open_blocks.items r.items c.requires.outside)
-    ∙ stretch_read chunks c.args.stretch n c.args.text.now after s.now (c.in_ok-leave_items.ensures.kept c.args.stretch c.requires.known) c.requires.front
+    let xs = c.leave_items.new.self.outer.items in
+    let more = listed (items_of c.args.stretch xs) in
+    ap (λ p. reading_on false n p (Some c.args.text.now)) (kept_now r.outer.items r.open_blocks.items r.items.items c.requires.outside)
+    ∙ stretch_read xs c.args.stretch n c.args.text.now after s.now (c.in_ok-leave_items.ensures.kept c.args.stretch c.requires.known) c.requires.front
     ∙ ap (λ p. reading_on false (n + c.args.stretch.lines) (outside (join p.now more)) after) (sym c.in_ok-leave_items.ensures.same)
     ∙ ap (λ p. reading_on false (n + c.args.stretch.lines) p after) (sym c.in_ok-push_copy.ensures.same)
 
@@ -27,7 +25,7 @@ returns-clause-shorter c = lines_shorter c.args.text.now c.args.stretch.bytes.no
 
 pub returns-clause-shallow : goal.returns-clause-shallow
 returns-clause-shallow c =
-    let chunks = c.leave_items.new.self.full.items in
-    let d = slice_index_or chunks c.args.stretch.chunk [] in
-    stretch_shallow chunks c.args.stretch (progress_of c.args.self.now) (progress_of c.push_copy.new.self) d (c.in_ok-leave_items.ensures.kept c.args.stretch c.requires.known) refl c.requires.shallow
+    let xs = c.leave_items.new.self.outer.items in
+    let d = items_of c.args.stretch xs in
+    stretch_shallow xs c.args.stretch (progress_of c.args.self.now) (progress_of c.push_copy.new.self) d (c.in_ok-leave_items.ensures.kept c.args.stretch c.requires.known) refl c.requires.shallow
     (c.in_ok-push_copy.ensures.same ∙ ap (λ p. outside (join p.now (listed d))) c.in_ok-leave_items.ensures.same)

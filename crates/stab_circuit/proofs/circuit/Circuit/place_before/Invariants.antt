@@ -1,0 +1,12 @@
+use Rattle.std.proofs.Common.{◌≡◌, ◌≤◌, ◌+◌, length, take, drop}
+use Rattle.stab_items.specs.Items.{listed}
+use Rattle.stab_items.specs.Steps.{unroll}
+use Rattle.stab_circuit.specs.inner.Stretches.{AreStretches}
+use Rattle.stab_circuit.proofs.circuit.Circuit.place_before.Given as goal
+
+abbrev pub invariant-stretches : goal.invariant-stretches
+invariant-stretches l = record {
+  within : l.place ≤ length l.self;
+  are : AreStretches (drop l.number l.parts) (drop l.place l.self);
+  steps : length (unroll (listed (take l.place l.self))) + l.left ≡ l.step;
+}

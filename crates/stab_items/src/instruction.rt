@@ -1,0 +1,94 @@
+use crate::summary::{Summary, kind_summary};
+use stab_lines::{Kind, Operation, Sequence};
+use std::marker::Model;
+
+/// An instruction and its summary, so that items are added up without a look at targets. Contracts see
+/// the instruction.
+pub(crate) struct Instruction {
+    kind: Kind,
+    tag: Option<Sequence<u8>>,
+    sum: Summary,
+}
+
+// Written out, so that to a proof a value that is let go is one call, and not one for each of its parts.
+impl Drop for Instruction {
+    fn drop(self) {
+        let Instruction {
+            kind: _,
+            tag: _,
+            sum: _,
+        } = self;
+    }
+}
+
+impl Model for Instruction {
+    ghost use Rattle.std.specs.Prelude.{[]};
+    ghost use Rattle.std.specs.Option.{unwrap_or};
+    ghost use Rattle.stab_lines.specs.declared.operation.Operation.{Operation as OperationValue};
+    ghost use Rattle.stab_items.specs.Items.{next, done};
+    ghost use Rattle.stab_items.specs.inner.Summaries.{IsSumOf};
+
+    ghost Value = { OperationValue };
+
+    ghost view = { λ i. record { kind = i.kind; tag = unwrap_or i.tag [] } };
+
+    ghost invariant = { λ i. IsSumOf (next (record { kind = i.kind; tag = unwrap_or i.tag [] }) done) i.sum };
+}
+
+impl Instruction {
+    ghost use Rattle.std.specs.Prelude.{◌≡◌};
+    ghost use Rattle.stab_items.specs.Items.{next, done};
+    ghost use Rattle.stab_items.specs.inner.Summaries.{IsSumOf};
+    ghost use Rattle.stab_items.specs.inner.KnownLines.{without_tag};
+
+    /// The instruction of a line.
+    #[tactic(auto, using(crate::proofs::SummaryLemmas::operation_sum))]
+    pub(crate) fn new(operation: Operation) -> Instruction
+        ensures value { result ≡ operation }
+    {
+        let Operation { kind, tag } = operation;
+        let sum = kind_summary(&kind);
+        Instruction {
+            kind,
+            tag: Some(tag),
+            sum,
+        }
+    }
+
+    /// An instruction without a tag.
+    #[tactic(auto, using(crate::proofs::SummaryLemmas::operation_sum))]
+    pub(crate) fn plain(kind: Kind) -> Instruction
+        ensures value { result ≡ without_tag kind }
+    {
+        let sum = kind_summary(&kind);
+        Instruction {
+            kind,
+            tag: None,
+            sum,
+        }
+    }
+
+    pub(crate) fn kind(&self) -> &Kind
+        ensures value { result.now ≡ self.now.kind }
+    {
+        &self.kind
+    }
+
+    /// The tag, which is empty where there is none.
+    pub(crate) fn tag(&self) -> &[u8]
+        ensures value { result.now ≡ self.now.tag }
+    {
+        match &self.tag {
+            Some(tag) => tag.as_slice(),
+            None => &[],
+        }
+    }
+
+    /// The summary, without a look at targets.
+    #[inline]
+    pub(crate) fn summary(&self) -> Summary
+        ensures sum { IsSumOf (next self.now done) result }
+    {
+        self.sum
+    }
+}
