@@ -1,9 +1,9 @@
 //! The shots of a circuit, written one after another.
 //!
-//! All shots of a list of coins are the same run, which is made once. Shots of a seed are run by batches of lanes. Where there
-//! is more than one batch, the tableau goes through the circuit once, and all are led by what was noted of that run, unless
-//! this takes too much memory; else it goes once for each batch. A shot that is alone is run alone, and so are few shots, one
-//! after another, where most of each gives again what rounds before gave.
+//! All shots of a list of coins are the same run, which is made once. Shots of a seed are run by batches of lanes, led by what is
+//! noted of a run. Where there is more than one batch, all are led by the whole of that run, unless its notes take too much
+//! memory; else each batch has a run made for it, which is noted by stretches. A shot that is alone is run alone, and so are few
+//! shots, one after another, where most of each gives again what rounds before gave.
 ghost use Rattle.std.specs.Prelude.{◌≡◌, ℕ, ◌+◌, ◌<◌, ◌≤◌, None, IfOk, IfSome, IfErr};
 ghost use Rattle.stab_io.specs.Refusals.{whole};
 ghost use Rattle.stab_io.specs.declared.refusal.Refusal.TheVariants.{OutOfMemory};

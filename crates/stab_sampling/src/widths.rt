@@ -10,7 +10,8 @@ use stab_io::{Fault, Refusal};
 use std::alloc::Global;
 
 /// How many bytes the bits of shots that go at once take at most, but for the room that a growing list keeps free. On its way
-/// out a bit of all of them takes up to 25 bytes more.
+/// out a bit of all of them takes up to 25 bytes more. The run that leads them takes up to three for each of its bits, and 4 MiB
+/// for what is noted of it.
 const MOST_BYTES: usize = 12 * 1024 * 1024;
 
 /// How many steps are passed together at most: as many as stand together.

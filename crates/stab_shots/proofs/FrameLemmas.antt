@@ -1,11 +1,10 @@
 -- Frames: the strings of lanes, whose letters are changed at one place.
 use Rattle.std.proofs.Common.{◌≡◌, ℕ, zero, suc, ◌+◌, ◌-◌, ◌<◌, ◌≤◌, refl, sym, ◌∙◌, ap, Bool, true, false, List, [], ◌∷◌, length, get_or, set, take, arith}
-use Rattle.std.proofs.lemmas.List.{map-set, get_or-map, set-get_or, length-replicate, length-map}
+use Rattle.std.proofs.lemmas.List.{map-set, get_or-map, set-get_or, length-replicate}
 use Rattle.stab_letters.specs.declared.letter.Letter.{Letter}
 use Rattle.stab_letters.specs.declared.letter.Letter.TheVariants.{I, X, Y, Z}
-use Rattle.stab_letters.specs.Letters.{◌⊕◌, letter_product, letters_anticommute}
-use Rattle.stab_pauli.specs.Paulis.{single, string_product, strings_anticommute}
-use Rattle.stab_letters.proofs.ParityLemmas.{parity-false, parity-assoc}
+use Rattle.stab_letters.specs.Letters.{letter_product}
+use Rattle.stab_pauli.specs.Paulis.{single, string_product}
 use Rattle.stab_pauli.proofs.StringLemmas.{string_product-empty, string_product-blank_right}
 use Rattle.stab_letters.specs.declared.gate.Gate.{Gate}
 use Rattle.stab_letters.specs.declared.gate.PairGate.{PairGate}
@@ -30,28 +29,7 @@ pub times-more : (b : Bool) (f s : List Letter) (i : ℕ) → i < length f → i
 times-more true f s i lf ls = let e : suc i ≡ i + 1 = omega arith in product-next f s i lf ls ∙ ap (λ k. string_product f (take k s)) e
 times-more false f s i lf ls = set-get_or f i I
 
-anticommute-next : (p q : List Letter) (i : ℕ) → i < length p → i < length q
-    → strings_anticommute (take (suc i) p) (take (suc i) q) ≡ strings_anticommute (take i p) (take i q) ⊕ letters_anticommute (get_or p i I) (get_or q i I)
-anticommute-next [] q i lp lq = absurd (omega arith)
-anticommute-next (x ∷ p) [] i lp lq = absurd (omega arith)
-anticommute-next (x ∷ p) (y ∷ q) zero lp lq = parity-false (letters_anticommute x y)
-anticommute-next (x ∷ p) (y ∷ q) (suc i) lp lq =
-    ap (λ b. letters_anticommute x y ⊕ b) (anticommute-next p q i (omega arith) (omega arith))
-    ∙ sym (parity-assoc (letters_anticommute x y) (strings_anticommute (take i p) (take i q)) (letters_anticommute (get_or p i I) (get_or q i I)))
-
-pub anticommute-more : (p q : List Letter) (i : ℕ) → i < length p → i < length q
-    → strings_anticommute (take (i + 1) p) (take (i + 1) q) ≡ strings_anticommute (take i p) (take i q) ⊕ letters_anticommute (get_or p i I) (get_or q i I)
-anticommute-more p q i lp lq =
-    let e : i + 1 ≡ suc i = omega arith in
-    ap (λ k. strings_anticommute (take k p) (take k q)) e ∙ anticommute-next p q i lp lq
-
 -- letters I change nothing
-
-anticommute-I : (x : Letter) → letters_anticommute x I ≡ false
-anticommute-I I = refl
-anticommute-I X = refl
-anticommute-I Y = refl
-anticommute-I Z = refl
 
 times-I : (b : Bool) (x : Letter) → letter_times b I x ≡ x
 times-I false x = refl
@@ -59,26 +37,6 @@ times-I true I = refl
 times-I true X = refl
 times-I true Y = refl
 times-I true Z = refl
-
-anticommute-over : (p q : List Letter) (i d : ℕ) → i + d ≤ length p → i + d ≤ length q → ((k : ℕ) → i ≤ k → k < i + d → get_or q k I ≡ I)
-    → strings_anticommute (take (i + d) p) (take (i + d) q) ≡ strings_anticommute (take i p) (take i q)
-anticommute-over p q i zero lp lq blank = let e : i + 0 ≡ i = omega arith in ap (λ k. strings_anticommute (take k p) (take k q)) e
-anticommute-over p q i (suc d) lp lq blank =
-    let e : i + suc d ≡ i + d + 1 = omega arith in
-    ap (λ k. strings_anticommute (take k p) (take k q)) e
-    ∙ anticommute-more p q (i + d) (omega (arith, lp)) (omega (arith, lq))
-    ∙ ap (λ b. strings_anticommute (take (i + d) p) (take (i + d) q) ⊕ b)
-    (ap (letters_anticommute (get_or p (i + d) I)) (blank (i + d) (omega arith) (omega arith)) ∙ anticommute-I (get_or p (i + d) I))
-    ∙ parity-false (strings_anticommute (take (i + d) p) (take (i + d) q))
-    ∙ anticommute-over p q i d (omega (arith, lp)) (omega (arith, lq)) (λ k le lt. blank k le (omega (arith, lt)))
-
--- the letters up to a place, and those I behind it
-pub anticommute-blank : (p q : List Letter) (i j : ℕ) → i ≤ j → j ≤ length p → j ≤ length q → ((k : ℕ) → i ≤ k → k < j → get_or q k I ≡ I)
-    → strings_anticommute (take j p) (take j q) ≡ strings_anticommute (take i p) (take i q)
-anticommute-blank p q i j le lp lq blank =
-    let e : i + (j - i) ≡ j = omega (arith, le) in
-    ap (λ k. strings_anticommute (take k p) (take k q)) (sym e)
-    ∙ anticommute-over p q i (j - i) (omega (arith, le, lp)) (omega (arith, le, lq)) (λ k from lt. blank k from (omega (arith, le, lt)))
 
 times-over : (b : Bool) (f s : List Letter) (i d : ℕ) → i + d ≤ length f → i + d ≤ length s → ((k : ℕ) → i ≤ k → k < i + d → get_or s k I ≡ I)
     → times_where b (take (i + d) s) f ≡ times_where b (take i s) f
@@ -139,16 +97,7 @@ module _ {W : Type 0} (at : W → ℕ → Bool) (l : ℕ) (ws : List (Letters W)
       letter-put q v _ (made ∙ ap (letter_times b letter) (letter-read q w within is))
       ∙ times-set b n q letter (lane_letters at l ws) size lt
 
-  -- a letter of each lane, and of a string, at the next place
-
-  pub anticommute-put : (string : List Letter) (q : ℕ) (w : Letters W) (x : Letter) (before here now : Bool) → q < length ws → q < length string
-      → w ≡ get_or ws q w → x ≡ get_or string q I → before ≡ strings_anticommute (take q (lane_letters at l ws)) (take q string)
-      → here ≡ letters_anticommute (letter_in at l w) x → now ≡ before ⊕ here
-      → now ≡ strings_anticommute (take (q + 1) (lane_letters at l ws)) (take (q + 1) string)
-  anticommute-put string q w x before here now lt within is at_q were is_here are =
-      are
-      ∙ (λ i. were i ⊕ (is_here ∙ (λ j. letters_anticommute (letter-read q w lt is j) (at_q j))) i)
-      ∙ sym (anticommute-more (lane_letters at l ws) string q (omega (arith, length-map ws (letter_in at l), lt)) within)
+  -- a letter of a string multiplied on at the next place
 
   pub product-put : (b : Bool) (string letters : List Letter) (q : ℕ) (w v : Letters W) (x : Letter) → q < length ws → q < length string → q < length letters
       → w ≡ get_or ws q w → x ≡ get_or string q I → lane_letters at l ws ≡ times_where b (take q string) letters

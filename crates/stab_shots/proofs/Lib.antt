@@ -8,12 +8,12 @@ pub mod TransposeLemmas
 pub mod RowLemmas
 pub mod FrameLemmas
 pub mod LaneLemmas
-pub mod StepLemmas
-pub mod ShotLemmas
 pub mod PlaceLemmas
 pub mod SeedLemmas
 pub mod SeedByteLemmas
 pub mod BatchLemmas
 pub mod FollowLemmas
-pub mod ReferenceLemmas
+pub mod NoteLemmas
 pub mod NotedLemmas
+pub mod RecordingLemmas
+pub mod LaneRunLemmas

@@ -1,4 +1,4 @@
--- Differences: how a lane differs from a reference, and what steps make of that.
+-- Differences: how a lane differs from the run with all coins 0, and what steps make of that.
 -- Source: this project's own.
 use Rattle.std.specs.Prelude.{◌≡◌, ℕ, ◌+◌, Bool, false, List, [], ◌∷◌, ◌++◌, length, replicate}
 use Rattle.stab_letters.specs.declared.letter.Letter.{Letter}
@@ -8,11 +8,13 @@ use Rattle.stab_run.specs.Points.{RunOutput, joined, all_coins_of, with_addition
 use Rattle.stab_run.specs.declared.run.Shot.{Shot}
 use Rattle.stab_frames.specs.Flips.{flipped}
 use Rattle.stab_frames.specs.Frames.{Frame}
-use Rattle.stab_frames.specs.Notes.{Notes}
+use Rattle.stab_frames.specs.Notes.{Notes, changed}
+use Rattle.stab_frames.specs.Fronts.{AreFronts}
 use Rattle.stab_frames.specs.FrameSteps.{flips_outcome, letters_measured, frame_over, flips_over}
 use Rattle.stab_shots.specs.declared.lanes.Lanes.{Lanes}
 use Rattle.stab_shots.specs.declared.shots.Shots.{Shots}
 use Rattle.stab_shots.specs.Lanes.{lane_bits, lane_letters, lane_output}
+use Rattle.stab_shots.specs.Noted.{zero_coins}
 
 -- the letters of a Pauli string, and which bits of what was given so far are flipped
 pub record Difference : Type 0 where
@@ -42,6 +44,12 @@ pub record IsMeasuredBy (notes : Notes) (measured : Signed) (flip : Bool) (old n
   pub outcome : flip ≡ flips_outcome notes (next_coin old) measured old.letters
   pub letters : new.letters ≡ letters_measured notes (next_coin old) measured old.letters
   pub flips : new.flips ≡ record old.flips { free = old.flips.free ++ false ∷ [] }
+
+-- behind these steps from the first on: they give with the coins of a lane what they give with coins 0, flipped, and lead to points that
+-- differ by its frame; which outcomes are free is flipped nowhere
+pub record IsLane (n : ℕ) (coins : ℕ → Bool) (xs : List Step) (d : Difference) : Type 0 where
+  pub fronts : AreFronts n zero_coins (changed zero_coins coins) xs xs (frame_of_difference d) d.flips
+  pub still : d.flips.free ≡ replicate (all_coins_of xs) false
 
 -- there is a flip for each bit of a shot, of which there are so many observables
 pub record IsAsLong (count : ℕ) (shot : Shot) (flips : RunOutput) : Type 0 where

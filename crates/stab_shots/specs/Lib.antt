@@ -1,9 +1,10 @@
 pub mod Words
 pub mod Lanes
-pub mod LaneRules
 pub mod Shots
 pub mod Seeds
 pub mod Bytes
 pub mod Blocks
+pub mod Noted
+pub mod Recordings
 pub mod References
 pub mod Differences

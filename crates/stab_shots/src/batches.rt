@@ -13,8 +13,8 @@ ghost use Rattle.stab_shots.specs.Shots.{AreRuns, IsShot, AreShots};
 
 use crate::coins::LaneCoins;
 use crate::lanes::write_lane;
-use crate::noted::run_checked_batch;
 use crate::reference::Reference;
+use crate::run::run_checked_batch;
 use crate::seeds::SeedLanes;
 use crate::shots::Shots;
 use crate::wide::Wide;

@@ -80,21 +80,6 @@ impl<W: Word> Frames<W> {
         anticommuting
     }
 
-    /// The lanes whose string anticommutes with another.
-    pub fn anticommuting(&self, string: &Pauli) -> W
-        requires same_length { length string.now.letters ≡ length self.now.letters.items }
-        ensures value { (l : ℕ) → l < W.lanes → W.at result l ≡ strings_anticommute (lane_letters W.at l self.now.letters.items) string.now.letters }
-    {
-        let mut anticommuting = W::all(false);
-        let mut qubit = string.next_letter(0);
-        while qubit < self.letters.len() {
-            let here = self.letters[qubit].anticommuting(string.letter(qubit));
-            anticommuting = anticommuting.xor(here);
-            qubit = string.next_letter(qubit + 1);
-        }
-        anticommuting
-    }
-
     /// Multiplies the strings of the lanes whose bit is 1 by a letter on a qubit.
     pub fn multiply_letter(&mut self, letter: Letter, qubit: usize, lanes: W)
         requires in_range { qubit < length self.old.letters.items }

@@ -18,7 +18,7 @@ pub struct Sum<W> {
 }
 
 /// Shots that go through the same steps, one in each lane: the Pauli string by which each differs
-/// from the tableau, and what each has given so far. Which coins decided is the same for all.
+/// from the run that leads them, and what each has flipped so far. Which coins decided is flipped in none.
 #[derive(Drop)]
 pub struct Lanes<W> {
     pub frames: Frames<W>,
@@ -29,7 +29,7 @@ pub struct Lanes<W> {
 }
 
 impl<W: Word> Lanes<W> {
-    /// Lanes that are all as a tableau on n qubits and have given nothing, with the memory of lists for what they give.
+    /// Lanes that are all as a run on n qubits and have flipped nothing, with the memory of lists for what they flip.
     pub fn new(
         alloc: Global,
         n: usize,

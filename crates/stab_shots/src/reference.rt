@@ -1,22 +1,22 @@
-ghost use Rattle.std.specs.Prelude.{◌≡◌, ◌≤◌, ◌<◌, ◌^◌, None, [], min, nat_le, is_some, length, replicate, slice_index_or, false, IfOk, IfSome, IfErr};
+ghost use Rattle.std.specs.Prelude.{◌≡◌, ◌≤◌, ◌<◌, ◌^◌, None, min, nat_le, is_some, length, IfOk, IfSome, IfErr};
 ghost use Rattle.stab_io.specs.declared.refusal.Refusal.TheVariants.{OutOfMemory};
 ghost use Rattle.stab_io.specs.Refusals.{Refuses};
 ghost use Rattle.stab_letters.specs.Limits.{most_qubits};
-ghost use Rattle.stab_circuit.specs.Steps.{check_within, observables_of};
+ghost use Rattle.stab_circuit.specs.Steps.{check_within};
 ghost use Rattle.stab_circuit.specs.Views.{circuit_items};
 ghost use Rattle.stab_run.specs.Records.{ones};
 ghost use Rattle.stab_run.specs.Runs.{run_of};
-ghost use Rattle.stab_run.specs.Points.{with_additions};
 ghost use Rattle.stab_frames.specs.Limits.{most_strings};
-ghost use Rattle.stab_shots.specs.References.{zero_coins, most_noted as most_of, IsReference};
+ghost use Rattle.stab_shots.specs.Noted.{zero_coins, most_noted as most_of};
+ghost use Rattle.stab_shots.specs.References.{IsReference};
 
-use stab_circuit::{Circuit, Cursor};
-use stab_frames::{KeptStrings, RunNotes, run_noting};
+use crate::measure::Noted;
+use crate::recording::{Recording, shot_of};
+use stab_circuit::Circuit;
+use stab_frames::{KeptStrings, RunNotes};
 use stab_io::{Fault, Refusal};
-use stab_pauli::Pauli;
-use stab_run::{ListCoins, Outputs, Shot, observables};
-use stab_tableau::Tableau;
-use std::alloc::{AllocError, Global};
+use stab_run::Shot;
+use std::alloc::Global;
 
 /// The run of a circuit with all coins 0, and a string for each of its free outcomes that exchanges it for the other: by
 /// these, shots with other coins are led without a tableau.
@@ -26,40 +26,18 @@ pub struct Reference {
     strings: KeptStrings,
 }
 
-/// How many strings of n letters a reference has at most: those of 4 MiB, each counted as two bits a letter and 128 bytes.
-fn most_noted(n: usize) -> usize
+/// How many strings of n letters are noted at once at most: those of 4 MiB, each counted as two bits a letter and 128 bytes.
+pub fn most_noted(n: usize) -> usize
     ensures value { result ≡ most_of n }
 {
     4_194_304 / (n / 4 + 128)
 }
 
 /// More steps than any circuit has.
-fn all_steps() -> usize
+pub fn all_steps() -> usize
     ensures large { 2 ^ 63 ≤ result }
 {
     usize::MAX
-}
-
-/// What steps have given, as a shot of a circuit.
-fn shot_of(alloc: Global, circuit: &Circuit, outputs: Outputs) -> Result<Shot, AllocError>
-    ensures records { IfOk result (λ s. s.records.items ≡ outputs.records.items) }
-    ensures free { IfOk result (λ s. s.free.items ≡ outputs.free.items) }
-    ensures detectors { IfOk result (λ s. s.detectors.items ≡ outputs.detectors.items) }
-    ensures observables { IfOk result (λ s. s.observables.items ≡ with_additions outputs.additions.items (replicate (observables_of (circuit_items circuit.now)) false)) }
-{
-    let Outputs {
-        records,
-        free,
-        detectors,
-        additions,
-    } = outputs;
-    let observables = observables(alloc, circuit.observables(), additions.as_slice())?;
-    Ok(Shot {
-        records,
-        free,
-        detectors,
-        observables,
-    })
 }
 
 impl Reference {
@@ -105,28 +83,16 @@ impl Reference {
         ensures reference { IfOk result (λ r. length r.strings.strings ≡ ones (run_of n zero_coins (circuit_items circuit.now)).free → IsReference n (circuit_items circuit.now) r) }
         ensures err { IfErr result (λ r. r ≡ OutOfMemory) }
     {
-        let mut tableau = Tableau::new(alloc, n)?;
-        let mut string = Pauli::identity(alloc, n)?;
-        let mut cursor = Cursor::at(alloc, circuit, 0)?;
-        let mut coins = ListCoins::new(&[]);
-        let mut outputs = Outputs::with_capacity(alloc, circuit.records())?;
-        let mut notes = RunNotes {
-            strings: KeptStrings::new(alloc, n),
-            reach: 0,
-            string: Pauli::identity(alloc, n)?,
-        };
-        run_noting(
-            alloc,
-            &mut tableau,
-            &mut string,
-            &mut coins,
-            &mut outputs,
-            &mut cursor,
-            all_steps(),
-            &mut 0,
-            &mut notes,
-        )?;
-        let shot = shot_of(alloc, circuit, outputs)?;
+        let mut recording = Recording::new(alloc, n, circuit.records())?;
+        recording.note(alloc, circuit, 0, all_steps())?;
+        let Recording {
+            tableau: _,
+            string: _,
+            outputs,
+            notes,
+            free,
+        } = recording;
+        let shot = shot_of(alloc, circuit, outputs, free)?;
         let RunNotes {
             strings,
             reach: _,
@@ -142,19 +108,14 @@ impl Reference {
         &self.shot
     }
 
-    /// Whether the outcome of a coin number was free.
-    pub(crate) fn is_free(&self, coin: usize) -> bool
-        ensures value { result ≡ slice_index_or self.now.shot.free.items coin false }
+    /// What is noted of its outcomes.
+    pub(crate) fn noted(&self) -> Noted<'_>
+        ensures strings { result.strings.now ≡ self.now.strings }
+        ensures free { result.free.now ≡ self.now.shot.free.items }
     {
-        self.shot.free.get(coin).copied().unwrap_or(false)
-    }
-
-    /// The noted string with a number, counted from 0.
-    pub(crate) fn string(&self, number: usize) -> &Pauli
-        requires in_range { number < length self.now.strings.strings }
-        ensures letters { result.now.letters ≡ slice_index_or self.now.strings.strings number [] }
-        ensures length { length result.now.letters ≡ self.now.strings.qubits }
-    {
-        self.strings.string(number)
+        Noted {
+            strings: &self.strings,
+            free: self.shot.free.as_slice(),
+        }
     }
 }

@@ -1,39 +1,216 @@
-ghost use Rattle.std.specs.Prelude.{◌≡◌, ℕ, ◌<◌, All, length, OnOk};
-ghost use Rattle.stab_run.specs.ProgramStates.{StepFits, IsRun};
-ghost use Rattle.stab_shots.specs.LaneRules.{lane_state};
+//! All steps of a circuit, on lanes that are led by what is noted of the run with all coins 0.
+ghost use Rattle.std.specs.Prelude.{◌≡◌, ℕ, ◌+◌, ◌<◌, ◌≤◌, None, [], All, length, take, drop, IfSome, OnOk, IfErr};
+ghost use Rattle.stab_io.specs.declared.refusal.Refusal.TheVariants.{OutOfMemory};
+ghost use Rattle.stab_io.specs.Refusals.{Refuses};
+ghost use Rattle.stab_letters.specs.Limits.{most_qubits};
+ghost use Rattle.stab_circuit.specs.Steps.{unroll, check_within};
+ghost use Rattle.stab_circuit.specs.Views.{circuit_items};
+ghost use Rattle.stab_run.specs.Points.{all_coins_of};
+ghost use Rattle.stab_run.specs.ProgramStates.{StepFits};
+ghost use Rattle.stab_shots.specs.Shots.{AreRuns};
+ghost use Rattle.stab_shots.specs.Noted.{HasAll, IsCounted, lane_notes};
+ghost use Rattle.stab_shots.specs.References.{IsReference};
+ghost use Rattle.stab_shots.specs.Recordings.{IsSized, IsRecording};
+ghost use Rattle.stab_shots.specs.Differences.{lane_difference, Follows, IsLane};
+ghost use Rattle.stab_frames.specs.Limits.{most_strings};
 
-use crate::coins::LaneCoins;
+use crate::coins::{Draw, LaneCoins};
+use crate::flips::shots_of;
 use crate::lanes::Lanes;
-use crate::steps::apply_steps;
+use crate::measure::Noted;
+use crate::recording::{Recording, shot_of};
+use crate::reference::{Reference, all_steps, most_noted};
+use crate::shots::Shots;
+use crate::steps::pass_steps;
 use crate::word::Word;
-use stab_circuit::Cursor;
-use stab_pauli::Pauli;
-use stab_tableau::Tableau;
-use std::alloc::AllocError;
+use stab_circuit::{Circuit, Cursor};
+use stab_io::{Fault, Refusal};
+use std::alloc::{AllocError, Global};
 
-/// How many steps go together at most: as many as stand together.
-const MOST_TOGETHER: usize = usize::MAX;
-
-/// Carries out the steps that a cursor has left, on a tableau and all lanes. The two strings are for
-/// products and for stabilisers to be written into.
-pub fn run_steps<W: Word, C: LaneCoins<W>>(
-    tableau: &mut Tableau,
-    string: &mut Pauli,
-    exchange: &mut Pauli,
-    coins: &mut C,
+/// Leads all lanes over the steps that a cursor has left, up to so many, from the first noted string on.
+fn pass_left<W: Word, D: Draw<W>>(
+    noted: Noted,
+    draw: &mut D,
     lanes: &mut Lanes<W>,
     cursor: &mut Cursor,
+    most: usize,
 ) -> Result<(), AllocError>
-    requires string_length { length string.old.letters ≡ tableau.old.qubits }
-    requires exchange_length { length exchange.old.letters ≡ tableau.old.qubits }
-    requires frames { length lanes.old.frames.letters.items ≡ tableau.old.qubits }
-    requires fits { All (StepFits tableau.old.qubits) cursor.old.left }
-    ensures qubits { tableau.new.qubits ≡ tableau.old.qubits }
-    ensures same_coins { C.sequences coins.new ≡ C.sequences coins.old }
-    ensures run { OnOk result ((l : ℕ) → l < W.lanes → IsRun tableau.old.qubits (C.sequences coins.old l) cursor.old.left (lane_state W.at l tableau.old lanes.old) (lane_state W.at l tableau.new lanes.new)) }
+    requires all { HasAll noted }
+    requires begins { IsCounted noted 0 (length lanes.old.free.items) }
+    requires frames { length lanes.old.frames.letters.items ≡ noted.strings.now.qubits }
+    requires fits { All (StepFits noted.strings.now.qubits) cursor.old.left }
+    ensures coin { OnOk result (length lanes.new.free.items ≡ length lanes.old.free.items + all_coins_of (take most cursor.old.left)) }
+    ensures frames { length lanes.new.frames.letters.items ≡ length lanes.old.frames.letters.items }
+    ensures same_coins { D.sequences draw.new ≡ D.sequences draw.old }
+    ensures follows { OnOk result ((l : ℕ) → l < W.lanes → Follows noted.entry.strings.now.qubits (lane_notes noted.entry (D.sequences draw.old l)) (take most cursor.old.left) (lane_difference W.at l lanes.old) (lane_difference W.at l lanes.new)) }
 {
-    while let Some(steps) = cursor.next_steps(MOST_TOGETHER) {
-        apply_steps(tableau, string, exchange, coins, lanes, steps)?;
+    let mut number = 0;
+    let mut left = most;
+    while left > 0 {
+        let Some(steps) = cursor.next_steps(left) else {
+            return Ok(());
+        };
+        left -= steps.len();
+        pass_steps(noted, &mut number, draw, lanes, steps)?;
     }
     Ok(())
+}
+
+/// Leads all lanes over so many steps of a circuit that nothing refuses, from this one on, from the first noted string on.
+fn pass_part<W: Word, D: Draw<W>>(
+    alloc: Global,
+    circuit: &Circuit,
+    noted: Noted,
+    draw: &mut D,
+    lanes: &mut Lanes<W>,
+    from: usize,
+    count: usize,
+) -> Result<(), Refusal>
+    requires checked { check_within noted.strings.now.qubits (circuit_items circuit.now) ≡ None }
+    requires in_range { from ≤ length (unroll (circuit_items circuit.now)) }
+    requires all { HasAll noted }
+    requires begins { IsCounted noted 0 (length lanes.old.free.items) }
+    requires frames { length lanes.old.frames.letters.items ≡ noted.strings.now.qubits }
+    ensures coin { OnOk result (length lanes.new.free.items ≡ length lanes.old.free.items + all_coins_of (take count (drop from (unroll (circuit_items circuit.now))))) }
+    ensures frames { length lanes.new.frames.letters.items ≡ length lanes.old.frames.letters.items }
+    ensures same_coins { D.sequences draw.new ≡ D.sequences draw.old }
+    ensures follows { OnOk result ((l : ℕ) → l < W.lanes → Follows noted.entry.strings.now.qubits (lane_notes noted.entry (D.sequences draw.old l)) (take count (drop from (unroll (circuit_items circuit.now)))) (lane_difference W.at l lanes.old) (lane_difference W.at l lanes.new)) }
+    ensures fits { OnOk result (All (StepFits noted.entry.strings.now.qubits) (unroll (circuit_items circuit.now))) }
+    ensures err { IfErr result (λ r. r ≡ OutOfMemory) }
+{
+    let mut cursor = Cursor::at(alloc, circuit, from)?;
+    pass_left(noted, draw, lanes, &mut cursor, count)?;
+    Ok(())
+}
+
+/// Runs a circuit once in each lane by a reference of it, and puts what the shots give in place of what the lists had.
+fn run_noted<W: Word, C: LaneCoins<W>>(
+    alloc: Global,
+    circuit: &Circuit,
+    n: usize,
+    reference: &Reference,
+    coins: &mut C,
+    shots: &mut Shots<W>,
+) -> Result<(), Refusal>
+    requires in_range { n ≤ most_qubits }
+    requires reference { IsReference n (circuit_items circuit.now) reference.now }
+    ensures runs { OnOk result ((l : ℕ) → l < W.lanes → AreRuns W.at l n (C.sequences coins.old l) (circuit_items circuit.now) shots.new) }
+    ensures same_coins { C.sequences coins.new ≡ C.sequences coins.old }
+    ensures err { IfErr result (λ r. r ≡ OutOfMemory) }
+{
+    let noted = reference.noted();
+    let mut lanes = shots.lanes(alloc, n)?;
+    pass_part(alloc, circuit, noted, coins, &mut lanes, 0, all_steps())?;
+    *shots = shots_of(alloc, reference.shot(), lanes, circuit.observables())?;
+    Ok(())
+}
+
+/// Goes over the steps of a circuit that nothing refuses, so many at once: a run with all coins 0 notes them, and leads all lanes
+/// over them.
+fn pass_recorded<W: Word, D: Draw<W>>(
+    alloc: Global,
+    circuit: &Circuit,
+    recording: &mut Recording,
+    draw: &mut D,
+    lanes: &mut Lanes<W>,
+    most: usize,
+) -> Result<(), Refusal>
+    requires checked { check_within recording.old.tableau.qubits (circuit_items circuit.now) ≡ None }
+    requires sized { IsSized recording.old.tableau.qubits recording.old }
+    requires begins { IsRecording recording.old.tableau.qubits [] recording.old }
+    requires blank { (l : ℕ) → l < W.lanes → IsLane recording.old.tableau.qubits (D.sequences draw.old l) [] (lane_difference W.at l lanes.old) }
+    requires first { length lanes.old.free.items ≡ 0 }
+    requires frames { length lanes.old.frames.letters.items ≡ recording.old.tableau.qubits }
+    requires some { 0 < most }
+    requires few { most < most_strings recording.old.tableau.qubits }
+    ensures recorded { OnOk result (IsRecording recording.old.tableau.qubits (unroll (circuit_items circuit.now)) recording.new) }
+    ensures same_coins { D.sequences draw.new ≡ D.sequences draw.old }
+    ensures lanes { OnOk result ((l : ℕ) → l < W.lanes → IsLane recording.old.tableau.qubits (D.sequences draw.old l) (unroll (circuit_items circuit.now)) (lane_difference W.at l lanes.new)) }
+    ensures err { IfErr result (λ r. r ≡ OutOfMemory) }
+{
+    let steps = circuit.steps();
+    let mut from = 0;
+    while from < steps {
+        let count = most.min(steps - from);
+        recording.note(alloc, circuit, from, count)?;
+        pass_part(alloc, circuit, recording.noted(), draw, lanes, from, count)?;
+        from += count;
+    }
+    Ok(())
+}
+
+/// Runs a circuit that nothing refuses once in each lane, led by a run of its own of which at most 4 MiB are noted at once.
+fn run_recorded<W: Word, C: LaneCoins<W>>(
+    alloc: Global,
+    circuit: &Circuit,
+    n: usize,
+    coins: &mut C,
+    shots: &mut Shots<W>,
+) -> Result<(), Refusal>
+    requires in_range { n ≤ most_qubits }
+    requires checked { check_within n (circuit_items circuit.now) ≡ None }
+    ensures runs { OnOk result ((l : ℕ) → l < W.lanes → AreRuns W.at l n (C.sequences coins.old l) (circuit_items circuit.now) shots.new) }
+    ensures same_coins { C.sequences coins.new ≡ C.sequences coins.old }
+    ensures err { IfErr result (λ r. r ≡ OutOfMemory) }
+{
+    let mut recording = Recording::new(alloc, n, circuit.records())?;
+    let mut lanes = shots.lanes(alloc, n)?;
+    let most = most_noted(n);
+    pass_recorded(alloc, circuit, &mut recording, coins, &mut lanes, most)?;
+    let Recording {
+        tableau: _,
+        string: _,
+        outputs,
+        notes: _,
+        free,
+    } = recording;
+    let shot = shot_of(alloc, circuit, outputs, free)?;
+    *shots = shots_of(alloc, &shot, lanes, circuit.observables())?;
+    Ok(())
+}
+
+/// Runs a circuit that nothing refuses once in each lane, by a reference of it where there is one.
+pub(crate) fn run_checked_batch<W: Word, C: LaneCoins<W>>(
+    alloc: Global,
+    circuit: &Circuit,
+    n: usize,
+    reference: Option<&Reference>,
+    coins: &mut C,
+    shots: &mut Shots<W>,
+) -> Result<(), Refusal>
+    requires in_range { n ≤ most_qubits }
+    requires checked { check_within n (circuit_items circuit.now) ≡ None }
+    requires reference { IfSome reference (λ r. IsReference n (circuit_items circuit.now) r.now) }
+    ensures runs { OnOk result ((l : ℕ) → l < W.lanes → AreRuns W.at l n (C.sequences coins.old l) (circuit_items circuit.now) shots.new) }
+    ensures same_coins { C.sequences coins.new ≡ C.sequences coins.old }
+    ensures err { IfErr result (λ r. r ≡ OutOfMemory) }
+{
+    match reference {
+        Some(reference) => run_noted(alloc, circuit, n, reference, coins, shots),
+        None => run_recorded(alloc, circuit, n, coins, shots),
+    }
+}
+
+/// Runs a circuit on n qubits, at most 1,024, once in each lane, with the coins of the lane, and puts what the shots give in
+/// place of what the lists had. Their memory serves again, so that many such runs need little that is fresh.
+///
+/// Each lane is the run that `stab_run::run_once` makes with these coins. By a reference of the circuit no tableau goes through
+/// it; without one a tableau does so once, however many lanes there are, and is noted on its way. Refused as `Circuit::check` refuses, else
+/// `OutOfMemory`, always with line 0; nothing is said of the lists then.
+pub fn run_lanes<W: Word, C: LaneCoins<W>>(
+    alloc: Global,
+    circuit: &Circuit,
+    n: usize,
+    reference: Option<&Reference>,
+    coins: &mut C,
+    shots: &mut Shots<W>,
+) -> Result<(), Fault>
+    requires in_range { n ≤ most_qubits }
+    requires reference { IfSome reference (λ r. IsReference n (circuit_items circuit.now) r.now) }
+    ensures runs { OnOk result ((l : ℕ) → l < W.lanes → AreRuns W.at l n (C.sequences coins.old l) (circuit_items circuit.now) shots.new) }
+    ensures same_coins { C.sequences coins.new ≡ C.sequences coins.old }
+    ensures refused { Refuses result (check_within n (circuit_items circuit.now)) }
+{
+    circuit.check(n)?;
+    run_checked_batch(alloc, circuit, n, reference, coins, shots).map_err(Fault::whole)
 }

@@ -4,7 +4,7 @@ ghost use Rattle.stab_run.specs.Coins.{seed_coin};
 ghost use Rattle.stab_shots.specs.Words.{word_bit};
 ghost use Rattle.stab_shots.specs.Seeds.{SeededLanes, lane_coin, AreCoins};
 
-use crate::coins::LaneCoins;
+use crate::coins::{Draw, LaneCoins};
 use crate::streams::words_of_shot;
 use std::marker::Model;
 
@@ -40,17 +40,8 @@ impl Model for SeedLanes {
     ghost invariant = { λ c. ForSome c.group (λ group. AreCoins c.seed c.first group 64 c.words) };
 }
 
-impl LaneCoins<u64> for SeedLanes {
+impl Draw<u64> for SeedLanes {
     ghost sequences = { lane_coin };
-
-    fn of_seed(seed: u64, first: u64) -> SeedLanes {
-        SeedLanes {
-            seed,
-            first,
-            group: None,
-            words: [0; 64],
-        }
-    }
 
     fn coins(&mut self, t: u64) -> u64 {
         let group = t / 64;
@@ -59,6 +50,17 @@ impl LaneCoins<u64> for SeedLanes {
             self.group = Some(group);
         }
         self.words[(t % 64) as usize]
+    }
+}
+
+impl LaneCoins<u64> for SeedLanes {
+    fn of_seed(seed: u64, first: u64) -> SeedLanes {
+        SeedLanes {
+            seed,
+            first,
+            group: None,
+            words: [0; 64],
+        }
     }
 }
 

@@ -2,7 +2,7 @@ ghost use Rattle.std.specs.Prelude.{◌≡◌, ℕ, ◌*◌, ◌<◌, ◌^◌, [
 ghost use Rattle.std.specs.Option.{ForSome};
 ghost use Rattle.stab_shots.specs.Seeds.{SeededLanes, lane_coin, AreCoinsOfParts};
 
-use crate::coins::LaneCoins;
+use crate::coins::{Draw, LaneCoins};
 use crate::seeds::coins_of_group;
 use crate::wide::Wide;
 use std::marker::Model;
@@ -40,17 +40,8 @@ impl<const N: usize> Model for WideSeedLanes<N> {
     ghost invariant = { λ c. ForSome c.group (λ group. AreCoinsOfParts c.seed c.first group N c.parts) };
 }
 
-impl<const N: usize> LaneCoins<Wide<N>> for WideSeedLanes<N> {
+impl<const N: usize> Draw<Wide<N>> for WideSeedLanes<N> {
     ghost sequences = { lane_coin };
-
-    fn of_seed(seed: u64, first: u64) -> WideSeedLanes<N> {
-        WideSeedLanes {
-            seed,
-            first,
-            group: None,
-            parts: [[0; 64]; N],
-        }
-    }
 
     fn coins(&mut self, t: u64) -> Wide<N> {
         let group = t / 64;
@@ -59,6 +50,17 @@ impl<const N: usize> LaneCoins<Wide<N>> for WideSeedLanes<N> {
             self.group = Some(group);
         }
         Wide::new(coins_at(&self.parts, (t % 64) as usize))
+    }
+}
+
+impl<const N: usize> LaneCoins<Wide<N>> for WideSeedLanes<N> {
+    fn of_seed(seed: u64, first: u64) -> WideSeedLanes<N> {
+        WideSeedLanes {
+            seed,
+            first,
+            group: None,
+            parts: [[0; 64]; N],
+        }
     }
 }
 

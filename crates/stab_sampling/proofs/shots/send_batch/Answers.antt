@@ -28,7 +28,7 @@ returns-in-Records g c = record {
       let found = c.run_lanes.new.shots in
       c.send_lanes.ensures.sends first c.args.shown run
       (λ l less.
-      let runs : AreRuns g.W.Word.at l (qubits_of items) (g.C.LaneCoins.sequences c.args.coins.now l) items found = rw c.qubits.ensures.value at (c.in_ok-run_lanes.ensures.runs l (omega (arith, less, c.requires.few))) in
+      let runs : AreRuns g.W.Word.at l (qubits_of items) (g.C.Draw.sequences c.args.coins.now l) items found = rw c.qubits.ensures.value at (c.in_ok-run_lanes.ensures.runs l (omega (arith, less, c.requires.few))) in
       subst (λ s. IsShown c.args.shown s Measurements (lane_bits g.W.Word.at l c.as_slice-words.result.now)) (sym (are l less))
       (lane_is_shown g.W.Word.at l c.args.shown _ Measurements c.as_slice-words.result.now found.records.items found.detectors.items found.observables.items
       (sym (ap (λ s. shown_kinds s (length found.detectors.items)) c.in-Records.is))
@@ -44,7 +44,7 @@ returns-in-Detectors g c = record {
       let words = c.as_slice-words-in-Detectors.result.now in
       c.send_lanes-in-Detectors.ensures.sends first c.args.shown run
       (λ l less.
-      let runs : AreRuns g.W.Word.at l (qubits_of items) (g.C.LaneCoins.sequences c.args.coins.now l) items found = rw c.qubits.ensures.value at (c.in_ok-run_lanes.ensures.runs l (omega (arith, less, c.requires.few))) in
+      let runs : AreRuns g.W.Word.at l (qubits_of items) (g.C.Draw.sequences c.args.coins.now l) items found = rw c.qubits.ensures.value at (c.in_ok-run_lanes.ensures.runs l (omega (arith, less, c.requires.few))) in
       subst (λ s. IsShown c.args.shown s (Detectors c.len.result) (lane_bits g.W.Word.at l words)) (sym (are l less))
       (lane_is_shown g.W.Word.at l c.args.shown _ (Detectors c.len.result) words found.records.items found.detectors.items found.observables.items
       (ap Detectors (c.len.ensures ∙ found.detectors.ok.0) ∙ sym (ap (λ s. shown_kinds s (length found.detectors.items)) c.in-Detectors.is))
@@ -60,7 +60,7 @@ returns-in_ok-extend_from_slice-in-DetectorsAndObservables g c = record {
       let words = c.as_slice-words-in-DetectorsAndObservables.result.now in
       c.send_lanes-in-DetectorsAndObservables.ensures.sends first c.args.shown run
       (λ l less.
-      let runs : AreRuns g.W.Word.at l (qubits_of items) (g.C.LaneCoins.sequences c.args.coins.now l) items found = rw c.qubits.ensures.value at (c.in_ok-run_lanes.ensures.runs l (omega (arith, less, c.requires.few))) in
+      let runs : AreRuns g.W.Word.at l (qubits_of items) (g.C.Draw.sequences c.args.coins.now l) items found = rw c.qubits.ensures.value at (c.in_ok-run_lanes.ensures.runs l (omega (arith, less, c.requires.few))) in
       subst (λ s. IsShown c.args.shown s (Detectors c.len.result) (lane_bits g.W.Word.at l words)) (sym (are l less))
       (lane_is_shown g.W.Word.at l c.args.shown _ (Detectors c.len.result) words found.records.items found.detectors.items found.observables.items
       (ap Detectors (c.len.ensures ∙ found.detectors.ok.0) ∙ sym (ap (λ s. shown_kinds s (length found.detectors.items)) c.in-DetectorsAndObservables.is))

@@ -2,7 +2,7 @@ use Rattle.std.proofs.Common.{◌<◌, ◌≤◌, sym, ◌∙◌, subst}
 use Rattle.stab_circuit.specs.Views.{circuit_items}
 use Rattle.stab_run.specs.Records.{ones}
 use Rattle.stab_run.specs.Runs.{run_of}
-use Rattle.stab_shots.specs.References.{zero_coins, most_noted}
+use Rattle.stab_shots.specs.Noted.{zero_coins, most_noted}
 use Rattle.stab_shots.proofs.NotedLemmas.{all-kept, are-few, are-many}
 use Rattle.stab_shots.proofs.reference.Reference.of_checked.Goals as goal
 

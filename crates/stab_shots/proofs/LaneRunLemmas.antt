@@ -1,0 +1,183 @@
+-- Runs of lanes: lanes that are led over the steps of a run with all coins 0, stretch by stretch, are runs.
+use Rattle.std.proofs.Common.{◌≡◌, ℕ, zero, suc, ◌+◌, refl, sym, ◌∙◌, ap, subst, Bool, false, List, [], ◌∷◌, ◌++◌, length, replicate, set, get_or, arith}
+use Rattle.std.specs.Prelude.{All, Option}
+use Rattle.std.proofs.lemmas.List.{length-replicate, length-set, replicate-append-replicate}
+use Rattle.stab_letters.specs.declared.letter.Letter.{Letter}
+use Rattle.stab_letters.specs.declared.letter.Letter.TheVariants.{I}
+use Rattle.stab_letters.specs.Letters.{◌⊕◌}
+use Rattle.stab_letters.proofs.ParityLemmas.{parity-false}
+use Rattle.stab_circuit.specs.Items.{Items}
+use Rattle.stab_circuit.specs.Steps.{Step, one, two, controlled, collapse, product, detector, observable, unroll, observables_of}
+use Rattle.stab_steps.specs.declared.records.Addition.{Addition}
+use Rattle.stab_run.specs.declared.run.Shot.{Shot}
+use Rattle.stab_run.specs.Runs.{State, start, run, run_of}
+use Rattle.stab_run.specs.Points.{RunOutput, nothing, origin, joined, point_after, outputs, all_coins_of, with_additions, state_at}
+use Rattle.stab_run.specs.ProgramStates.{StepFits}
+use Rattle.stab_laws.proofs.StateLemmas.{run-state}
+use Rattle.stab_laws.proofs.PointLemmas.{records-are-records}
+use Rattle.stab_frames.specs.Flips.{flipped}
+use Rattle.stab_frames.specs.Frames.{Frame}
+use Rattle.stab_frames.specs.Fronts.{AreFronts}
+use Rattle.stab_frames.specs.Notes.{Notes, notes_of, changed}
+use Rattle.stab_frames.specs.StepNotes.{AreRight, AreEnough}
+use Rattle.stab_frames.specs.FrameSteps.{frame_after, frame_over, flips_over}
+use Rattle.stab_frames.proofs.NoteLemmas.{right-enough}
+use Rattle.stab_frames.proofs.OverLemmas.{coins-append, coin-after}
+use Rattle.stab_frames.proofs.StartLemmas.{framed-same}
+use Rattle.stab_frames.proofs.FrontLemmas.{fronts-outputs, fronts-matches, fronts-framed, records-flipped, flags-flipped, detectors-flipped, observables-flipped}
+use Rattle.stab_shots.specs.declared.shots.Shots.{Shots}
+use Rattle.stab_shots.specs.Shots.{AreRuns, IsShot}
+use Rattle.stab_shots.specs.Noted.{zero_coins}
+use Rattle.stab_shots.specs.Differences.{Difference, frame_of_difference, next_coin, Follows, IsLane, IsAsLong, AreFlipped}
+use Rattle.stab_shots.proofs.RecordingLemmas.{run-items}
+
+-- which outcomes are free is flipped nowhere
+
+no-more : (k : ℕ) → replicate k false ≡ replicate (0 + k) false
+no-more k = ap (λ m. replicate m false) {x = k} {y = 0 + k} (omega arith)
+
+one-more : (k : ℕ) → false ∷ replicate k false ≡ replicate (1 + k) false
+one-more k = ap (λ m. replicate m false) {x = suc k} {y = 1 + k} (omega arith)
+
+still-over : (n : ℕ) (notes : Notes) (xs : List Step) (c : ℕ) (f : Frame) → (flips_over n notes xs c f).free ≡ replicate (all_coins_of xs) false
+still-over n notes [] c f = refl
+still-over n notes (one g q ∷ xs) c f = still-over n notes xs (c + 0) (frame_after n notes (one g q) c f) ∙ no-more (all_coins_of xs)
+still-over n notes (two g p q ∷ xs) c f = still-over n notes xs (c + 0) (frame_after n notes (two g p q) c f) ∙ no-more (all_coins_of xs)
+still-over n notes (controlled l k q ∷ xs) c f = still-over n notes xs (c + 0) (frame_after n notes (controlled l k q) c f) ∙ no-more (all_coins_of xs)
+still-over n notes (collapse l q recorded inverted resets ∷ xs) c f =
+    ap (λ r. false ∷ r) (still-over n notes xs (c + 1) (frame_after n notes (collapse l q recorded inverted resets) c f)) ∙ one-more (all_coins_of xs)
+still-over n notes (product factors inverted ∷ xs) c f =
+    ap (λ r. false ∷ r) (still-over n notes xs (c + 1) (frame_after n notes (product factors inverted) c f)) ∙ one-more (all_coins_of xs)
+still-over n notes (detector ks ∷ xs) c f = still-over n notes xs (c + 0) (frame_after n notes (detector ks) c f) ∙ no-more (all_coins_of xs)
+still-over n notes (observable j ks ∷ xs) c f = still-over n notes xs (c + 0) (frame_after n notes (observable j ks) c f) ∙ no-more (all_coins_of xs)
+
+flipped-nowhere : (bits : List Bool) (k : ℕ) → flipped bits (replicate k false) ≡ bits
+flipped-nowhere [] k = refl
+flipped-nowhere (b ∷ bits) zero = refl
+flipped-nowhere (b ∷ bits) (suc k) = ap (λ r. b ∷ r) (flipped-nowhere bits k)
+
+-- a lane before the first step
+pub lane-first : (n : ℕ) (coins : ℕ → Bool) (d : Difference) → d.letters ≡ replicate n I → d.flips ≡ nothing → IsLane n coins [] d
+lane-first n coins d blank empty =
+    subst (λ x. x) (λ i. IsLane n coins [] (record { letters = sym blank i; flips = sym empty i })) (record {
+      fronts = record {
+        framed = framed-same n origin;
+        given = refl;
+        matches = record { records = refl; free = refl; detectors = refl; observables = refl };
+      };
+      still = refl;
+    })
+
+-- and behind further steps, of which notes are right
+module _ (n : ℕ) (coins : ℕ → Bool) (xs ys : List Step) (fits : All (StepFits n) xs) (later : All (StepFits n) ys) (strings : ℕ → Option (List Letter))
+    (right : AreRight n zero_coins strings ys (point_after n zero_coins xs origin)) (a b : Difference) (lane : IsLane n coins xs a)
+    (led : Follows n (notes_of strings coins) ys a b) where
+  abbrev notes : Notes
+  notes = notes_of strings coins
+
+  abbrev f : Frame
+  f = frame_of_difference a
+
+  abbrev p : ℕ
+  p = (point_after n zero_coins xs origin).coin
+
+  enough : AreEnough n zero_coins notes ys f (point_after n zero_coins xs origin)
+  enough = right-enough n zero_coins notes ys f (point_after n zero_coins xs origin) right
+
+  coin : next_coin a ≡ p
+  coin =
+      ap length lane.still
+      ∙ length-replicate (all_coins_of xs) false
+      ∙ before (all_coins_of xs)
+      ∙ sym (coin-after n zero_coins xs origin)
+    where
+      before : (k : ℕ) → k ≡ 0 + k
+      before k = omega arith
+
+  frame : frame_of_difference b ≡ frame_over n notes ys p f
+  frame = led.frame ∙ ap (λ c. frame_over n notes ys c f) coin
+
+  flips : b.flips ≡ joined a.flips (flips_over n notes ys p f)
+  flips = led.flips ∙ ap (λ c. joined a.flips (flips_over n notes ys c f)) coin
+
+  further : AreFronts n zero_coins (changed zero_coins coins) (xs ++ ys) (xs ++ ys) (frame_over n notes ys p f) (joined a.flips (flips_over n notes ys p f))
+  further = record {
+    framed = fronts-framed n zero_coins notes xs xs ys f a.flips fits later lane.fronts enough;
+    given = fronts-outputs n zero_coins notes xs xs ys f a.flips fits later lane.fronts enough;
+    matches = fronts-matches n zero_coins notes xs xs ys f a.flips fits later lane.fronts enough;
+  }
+
+  pub lane-further : IsLane n coins (xs ++ ys) b
+  lane-further = record {
+    fronts = subst (λ x. x) (λ i. AreFronts n zero_coins (changed zero_coins coins) (xs ++ ys) (xs ++ ys) (sym frame i) (sym flips i)) further;
+    still =
+        ap (λ (o : RunOutput). o.free) flips
+        ∙ (λ i. lane.still i ++ still-over n notes ys p f i)
+        ∙ replicate-append-replicate (all_coins_of xs) (all_coins_of ys) false
+        ∙ ap (λ k. replicate k false) (sym (coins-append xs ys));
+  }
+
+-- additions leave as many observables
+pub length-added : (more : List Addition) (bits : List Bool) → length (with_additions more bits) ≡ length bits
+length-added [] bits = refl
+length-added (a ∷ more) bits =
+    length-added more (set bits a.observable (a.bit ⊕ get_or bits a.observable false)) ∙ length-set bits a.observable (a.bit ⊕ get_or bits a.observable false)
+
+-- a lane behind all steps, beside the shot with all coins 0
+
+module _ (n : ℕ) (coins : ℕ → Bool) (items : Items) (shot : Shot) (is : IsShot n zero_coins items shot) (count : ℕ) (number : count ≡ observables_of items)
+    (d : Difference) (lane : IsLane n coins (unroll items) d) where
+  abbrev xs : List Step
+  xs = unroll items
+
+  same_coins : changed zero_coins coins ≡ coins
+  same_coins = λ i t. parity-false (coins t) i
+
+  lane_state : run n (changed zero_coins coins) xs (start count) ≡ run_of n coins items
+  lane_state = (λ i. run n (same_coins i) xs (start count)) ∙ run-items n coins items xs count refl number
+
+  zero_state : run n zero_coins xs (start count) ≡ run_of n zero_coins items
+  zero_state = run-items n zero_coins items xs count refl number
+
+  behind : run n zero_coins xs (start count) ≡ state_at (point_after n zero_coins xs origin) (outputs n zero_coins xs origin) (start count)
+  behind = run-state n zero_coins xs (start count)
+
+  pub as-long : IsAsLong count shot d.flips
+  as-long = record {
+    records =
+        lane.fronts.matches.records
+        ∙ ap length (records-are-records n zero_coins xs ∙ sym (ap (λ (s : State). s.records) behind) ∙ ap (λ (s : State). s.records) zero_state ∙ sym is.records);
+    detectors =
+        lane.fronts.matches.detectors
+        ∙ ap length (sym (ap (λ (s : State). s.detectors) behind) ∙ ap (λ (s : State). s.detectors) zero_state ∙ sym is.detectors);
+    observables =
+        sym (length-added (outputs n zero_coins xs origin).additions (replicate count false) ∙ length-replicate count false)
+        ∙ ap length (sym (ap (λ (s : State). s.observables) behind) ∙ ap (λ (s : State). s.observables) zero_state ∙ sym is.observables);
+  }
+
+  pub lane-runs : {W : Type 0} (at : W → ℕ → Bool) (l : ℕ) (shots : Shots W) → AreFlipped at l count shot d.flips shots → AreRuns at l n coins items shots
+  lane-runs at l shots are = record {
+    records =
+        are.records
+        ∙ ap (λ bits. flipped bits d.flips.records) (is.records ∙ sym (ap (λ (s : State). s.records) zero_state))
+        ∙ sym (records-flipped n zero_coins (changed zero_coins coins) xs xs count d.flips lane.fronts.given lane.fronts.matches)
+        ∙ ap (λ (s : State). s.records) lane_state;
+    free =
+        are.free
+        ∙ is.free
+        ∙ sym (ap (λ (s : State). s.free) zero_state)
+        ∙ sym (flipped-nowhere (run n zero_coins xs (start count)).free (all_coins_of xs))
+        ∙ ap (flipped (run n zero_coins xs (start count)).free) (sym lane.still)
+        ∙ sym (flags-flipped n zero_coins (changed zero_coins coins) xs xs count d.flips lane.fronts.given lane.fronts.matches)
+        ∙ ap (λ (s : State). s.free) lane_state;
+    detectors =
+        are.detectors
+        ∙ ap (λ bits. flipped bits d.flips.detectors) (is.detectors ∙ sym (ap (λ (s : State). s.detectors) zero_state))
+        ∙ sym (detectors-flipped n zero_coins (changed zero_coins coins) xs xs count d.flips lane.fronts.given lane.fronts.matches)
+        ∙ ap (λ (s : State). s.detectors) lane_state;
+    observables =
+        are.observables
+        ∙ ap (λ bits. flipped bits (with_additions d.flips.additions (replicate count false))) (is.observables ∙ sym (ap (λ (s : State). s.observables) zero_state))
+        ∙ sym (observables-flipped n zero_coins (changed zero_coins coins) xs xs count d.flips lane.fronts.given lane.fronts.matches)
+        ∙ ap (λ (s : State). s.observables) lane_state;
+  }

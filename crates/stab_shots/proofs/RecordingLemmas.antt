@@ -1,0 +1,141 @@
+-- Recordings: where a run goes over further steps, what it gives, and what is noted of them.
+use Rattle.std.proofs.Common.{◌≡◌, ℕ, zero, suc, ◌+◌, ◌≤◌, min, refl, sym, ◌∙◌, ap, subst, Bool, true, false, List, [], ◌++◌, append-nil, length, length-append, take, drop, replicate, arith}
+use Rattle.std.specs.Prelude.{Option, None, slice_get, if◌then◌else◌, slice_index_or}
+use Rattle.std.proofs.Math.Seq.{take-append_seam, drop-append_seam}
+use Rattle.std.proofs.lemmas.Option.{slice_get_past}
+use Rattle.stab_letters.specs.declared.letter.Letter.{Letter}
+use Rattle.stab_pauli.specs.Paulis.{Signed}
+use Rattle.stab_circuit.specs.Items.{Items}
+use Rattle.stab_circuit.specs.Steps.{Step, unroll, observables_of}
+use Rattle.stab_run.specs.declared.run.Shot.{Shot}
+use Rattle.stab_run.specs.Records.{ones}
+use Rattle.stab_run.specs.Runs.{State, start, run, run_of}
+use Rattle.stab_run.specs.Points.{Point, RunOutput, joined, origin, point_after, outputs, all_coins_of, with_additions, state_at}
+use Rattle.stab_run.specs.ProgramStates.{ProgramState, IsAt, Leads, IsRun}
+use Rattle.stab_steps.proofs.RunLemmas.{after-append, outputs-append}
+use Rattle.stab_steps.proofs.RecordLemmas.{ones-append}
+use Rattle.stab_laws.proofs.StateLemmas.{run-state}
+use Rattle.stab_laws.proofs.PointLemmas.{records-are-records}
+use Rattle.stab_frames.specs.KeptStrings.{StringsState, note_at, IsNumbered, AreTrue, KeepsTrue}
+use Rattle.stab_frames.specs.StepNotes.{AreRight}
+use Rattle.stab_frames.proofs.OverLemmas.{coins-few, coin-after}
+use Rattle.stab_frames.proofs.TrueLemmas.{true-none, true-rest}
+use Rattle.stab_frames.proofs.WalkLemmas.{ones-few}
+use Rattle.stab_shots.specs.Noted.{zero_coins}
+use Rattle.stab_shots.specs.Shots.{IsShot}
+use Rattle.stab_shots.proofs.NoteLemmas.{right-from}
+
+-- where no string is kept there is no note
+
+if-none : (b : Bool) (o : Option (List Letter)) → o ≡ None → (if b then o else None) ≡ None
+if-none true o e = e
+if-none false o e = refl
+
+no-note : (free : List Bool) (t : ℕ) → note_at [] free t ≡ None
+no-note free t = if-none (slice_index_or free t false) (slice_get [] (ones (take t free))) (slice_get_past [] (ones (take t free)) (omega arith))
+
+-- flags that are 0
+pub ones-zeros : (k : ℕ) → ones (replicate k false) ≡ 0
+ones-zeros zero = refl
+ones-zeros (suc k) = ones-zeros k
+
+-- a run that went over the steps xs, and whose flags are made 0, goes over further steps
+
+module _ (n : ℕ) (xs ys : List Step) (u : Signed → Bool) (o : RunOutput) (zeros flags : List Bool) (new : ProgramState)
+    (here : IsAt n (record { stabilised = u; output = o }) (point_after n zero_coins xs origin)) (count : length zeros ≡ length o.free) (none : ones zeros ≡ 0)
+    (is : IsRun n zero_coins ys (record { stabilised = u; output = record o { free = zeros } }) new) where
+  abbrev p : Point
+  p = point_after n zero_coins xs origin
+
+  abbrev mid : ProgramState
+  mid = record { stabilised = u; output = record o { free = zeros } }
+
+  abbrev more : RunOutput
+  more = outputs n zero_coins ys p
+
+  begun : IsAt n mid p
+  begun = record { group = here.group; coin = count ∙ here.coin; records = here.records }
+
+  led : Leads n zero_coins ys mid new p
+  led = is p begun
+
+  coin : length zeros ≡ all_coins_of xs
+  coin = let none_before : 0 + all_coins_of xs ≡ all_coins_of xs = omega arith in begun.coin ∙ coin-after n zero_coins xs origin ∙ none_before
+
+  flags-new : new.output.free ≡ zeros ++ more.free
+  flags-new = ap (λ (o : RunOutput). o.free) led.output
+
+  told-behind : drop (length zeros) new.output.free ≡ more.free
+  told-behind = ap (drop (length zeros)) flags-new ∙ drop-append_seam zeros more.free
+
+  pub arrives : IsAt n new (point_after n zero_coins (xs ++ ys) origin)
+  arrives = subst (IsAt n new) (sym (after-append n zero_coins xs ys origin)) led.shows
+
+  pub gives : (told : List Bool) → told ≡ flags ++ drop (length zeros) new.output.free → record o { free = flags } ≡ outputs n zero_coins xs origin
+      → record new.output { free = told } ≡ outputs n zero_coins (xs ++ ys) origin
+  gives told is_told gave =
+      (λ i. record (led.output i) { free = (is_told ∙ ap (λ bits. flags ++ bits) told-behind) i })
+      ∙ ap (λ (o : RunOutput). joined o more) gave
+      ∙ sym (outputs-append n zero_coins xs ys origin)
+
+  pub told-free : drop (all_coins_of xs) new.output.free ≡ more.free
+  told-free = ap (λ k. drop k new.output.free) (sym coin) ∙ told-behind
+
+  pub others-not : ones (take (all_coins_of xs) new.output.free) ≡ 0
+  others-not =
+      (λ i. ones (take (sym coin i) (flags-new i)))
+      ∙ ap ones (take-append_seam zeros more.free)
+      ∙ none
+
+  pub free-few : ones new.output.free ≤ length ys
+  free-few =
+      let parts = ap ones flags-new ∙ ones-append zeros more.free in
+      let long = ap length flags-new ∙ length-append zeros more.free in
+      omega (arith, parts, none, ones-few more.free, long, led.shows.coin, coin-after n zero_coins ys p, begun.coin, coins-few ys)
+
+  -- where the strings of other steps were let go
+
+  module _ (kept behind : StringsState) (empty : kept.strings ≡ []) (noted : KeepsTrue n zero_coins ys kept behind mid new) where
+    numbered : IsNumbered kept zeros
+    numbered = let zero = ap length empty in omega (arith, zero, none)
+
+    nothing-noted : AreTrue n zero_coins (note_at kept.strings zeros) xs origin
+    nothing-noted = true-none n zero_coins (note_at kept.strings zeros) xs origin (λ t le. ap (λ s. note_at s zeros t) empty ∙ no-note zeros t)
+
+    true-behind : IsNumbered behind new.output.free × AreTrue n zero_coins (note_at behind.strings new.output.free) (xs ++ ys) origin
+    true-behind = noted xs begun numbered nothing-noted
+
+    pub strings-numbered : length behind.strings ≡ min (ones new.output.free) behind.most
+    strings-numbered = true-behind.0
+
+    pub strings-right : length behind.strings ≡ ones new.output.free → AreRight n zero_coins (note_at behind.strings new.output.free) ys p
+    strings-right all =
+        right-from n zero_coins behind.strings new.output.free all ys p
+        (true-rest n zero_coins (note_at behind.strings new.output.free) xs ys origin true-behind.1) []
+        (ap (λ k. drop k new.output.free) (sym begun.coin) ∙ told-behind ∙ sym (append-nil more.free))
+
+-- the run of all steps of items is the run of the items
+pub run-items : (n : ℕ) (coins : ℕ → Bool) (items : Items) (xs : List Step) (count : ℕ) → xs ≡ unroll items → count ≡ observables_of items
+    → run n coins xs (start count) ≡ run_of n coins items
+unfolding run_of
+run-items n coins items xs count steps number = λ i. run n coins (steps i) (start (number i))
+
+-- what all steps gave, as a shot
+module _ (n : ℕ) (coins : ℕ → Bool) (items : Items) (o : RunOutput) (gathered : o ≡ outputs n coins (unroll items) origin) where
+  same_state : state_at (point_after n coins (unroll items) origin) (outputs n coins (unroll items) origin) (start (observables_of items)) ≡ run_of n coins items
+  same_state = sym (run-state n coins (unroll items) (start (observables_of items))) ∙ run-items n coins items (unroll items) (observables_of items) refl refl
+
+  pub flags-run : o.free ≡ (run_of n coins items).free
+  flags-run = ap (λ (o : RunOutput). o.free) gathered ∙ ap (λ (s : State). s.free) same_state
+
+  pub shot-run : (shot : Shot) → shot.records.items ≡ o.records → shot.free.items ≡ o.free → shot.detectors.items ≡ o.detectors
+      → shot.observables.items ≡ with_additions o.additions (replicate (observables_of items) false) → IsShot n coins items shot
+  shot-run shot records free detectors observables = record {
+    records = records ∙ ap (λ (o : RunOutput). o.records) gathered ∙ records-are-records n coins (unroll items) ∙ ap (λ (s : State). s.records) same_state;
+    free = free ∙ flags-run;
+    detectors = detectors ∙ ap (λ (o : RunOutput). o.detectors) gathered ∙ ap (λ (s : State). s.detectors) same_state;
+    observables =
+        observables
+        ∙ ap (λ (o : RunOutput). with_additions o.additions (replicate (observables_of items) false)) gathered
+        ∙ ap (λ (s : State). s.observables) same_state;
+  }

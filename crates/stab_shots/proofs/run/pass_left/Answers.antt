@@ -1,0 +1,68 @@
+use Rattle.std.proofs.Common.{◌-◌, arith, ap, sym, subst, ◌∙◌, refl, take}
+use Rattle.stab_circuit.specs.Cursors.{steps_shown}
+use Rattle.stab_run.specs.Points.{all_coins_of}
+use Rattle.stab_steps.proofs.RunLemmas.{fits-steps}
+use Rattle.stab_laws.proofs.StepsLeftLemmas.{take-steps, coins-append, take-none, take-empty}
+use Rattle.stab_shots.specs.Noted.{lane_notes}
+use Rattle.stab_shots.specs.Differences.{lane_difference, Follows}
+use Rattle.stab_shots.proofs.FollowLemmas.{follows-none, follows-steps}
+use Rattle.stab_shots.proofs.run.pass_left.Goals as goal
+
+pub pass_steps-requires-clause-fits : goal.pass_steps-requires-clause-fits
+pass_steps-requires-clause-fits g c =
+    let n = c.args.noted.strings.now.qubits in
+    (fits-steps n n c.loop-left.cursor.left (steps_shown c.in-Some.steps) c.next_steps.new.self.left c.in-Some.ensures.some refl c.loop-left.invariant.fits).0
+
+pub loop-left-smaller : goal.loop-left-smaller
+loop-left-smaller g c = omega (arith, c.in-Some.ensures.within, c.len-left.ensures.value)
+
+pub loop-left-preserved : goal.loop-left-preserved
+loop-left-preserved g c =
+    let inv = c.loop-left.invariant in
+    let more = c.in-Some.ensures.some in
+    let done = c.in_ok-pass_steps.ensures {u = tt} in
+    let shown = steps_shown c.in-Some.steps in
+    let left = c.loop-left.left in
+    let count = c.len-left.result in
+    let before = c.loop-left.cursor.left in
+    let behind = c.next_steps.new.self.left in
+    let front = take-steps left count before shown behind more c.len-left.ensures.value c.in-Some.ensures.within.1 in
+    let then = take (left - count) behind in
+    let asked = ap all_coins_of front ∙ coins-append shown then in
+    let noted = c.args.noted in
+    let n = noted.strings.now.qubits in
+    record {
+      fits = (fits-steps n n before shown behind more refl inv.fits).1;
+      counted = done.counted;
+      coin = omega (arith, asked, done.coin, inv.coin);
+      frames = done.frames ∙ inv.frames;
+      same_coins = done.same_coins ∙ inv.same_coins;
+      follows = λ j lt new rest.
+          let now = lane_difference g.W.Word.at j c.loop-left.lanes in
+          let next = lane_difference g.W.Word.at j c.pass_steps.new.lanes in
+          inv.follows j lt new
+          (follows-steps n (lane_notes noted (g.D.Draw.sequences c.args.draw.now j)) (take left before) shown then now next new front
+          (subst (λ s. Follows n (lane_notes noted (s j)) shown now next) inv.same_coins (done.follows j lt)) rest);
+    }
+
+pub returns-clause-coin : goal.returns-clause-coin
+returns-clause-coin g c = omega (arith, ap all_coins_of (take-none c.loop-left.left c.loop-left.cursor.left c.loop-left-test.false), c.loop-left.invariant.coin)
+
+pub returns-clause-follows : goal.returns-clause-follows
+returns-clause-follows g c = λ j lt.
+    let now = lane_difference g.W.Word.at j c.loop-left.lanes in
+    let n = c.args.noted.strings.now.qubits in
+    let notes = lane_notes c.args.noted (g.D.Draw.sequences c.args.draw.now j) in
+    c.loop-left.invariant.follows j lt now
+    (subst (λ xs. Follows n notes xs now now) (sym (take-none c.loop-left.left c.loop-left.cursor.left c.loop-left-test.false)) (follows-none n notes now))
+
+pub returns-in_default-clause-coin : goal.returns-in_default-clause-coin
+returns-in_default-clause-coin g c = omega (arith, ap all_coins_of (take-empty c.loop-left.left c.loop-left.cursor.left c.in_default.ensures.none.0), c.loop-left.invariant.coin)
+
+pub returns-in_default-clause-follows : goal.returns-in_default-clause-follows
+returns-in_default-clause-follows g c = λ j lt.
+    let now = lane_difference g.W.Word.at j c.loop-left.lanes in
+    let n = c.args.noted.strings.now.qubits in
+    let notes = lane_notes c.args.noted (g.D.Draw.sequences c.args.draw.now j) in
+    c.loop-left.invariant.follows j lt now
+    (subst (λ xs. Follows n notes xs now now) (sym (take-empty c.loop-left.left c.loop-left.cursor.left c.in_default.ensures.none.0)) (follows-none n notes now))

@@ -1,0 +1,13 @@
+use Rattle.std.proofs.Common.{◌≡◌, ℕ, ◌<◌, length, map, take}
+use Rattle.stab_circuit.specs.Steps.{one}
+use Rattle.stab_frames.specs.Notes.{Notes}
+use Rattle.stab_shots.specs.Differences.{lane_difference, Follows}
+use Rattle.stab_shots.proofs.steps.pass_gates.Given as goal
+
+abbrev pub invariant-loop-qubit : goal.invariant-loop-qubit
+invariant-loop-qubit g l = record {
+  free : l.lanes.free.items ≡ l.initial.lanes.free.items;
+  frames : length l.lanes.frames.letters.items ≡ length l.initial.lanes.frames.letters.items;
+  follows : (j : ℕ) → j < g.W.Word.lanes → (n : ℕ) (notes : Notes)
+      → Follows n notes (map (one l.gate) (take l.qubit-index l.qubits)) (lane_difference g.W.Word.at j l.initial.lanes) (lane_difference g.W.Word.at j l.lanes);
+}

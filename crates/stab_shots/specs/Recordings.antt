@@ -1,0 +1,39 @@
+-- Recordings: a run with all coins 0 on its way, and what is noted of the last steps that it went over.
+-- Source: this project's own.
+use Rattle.std.specs.Prelude.{◌≡◌, ℕ, ◌≤◌, List, length, take, drop, min}
+use Rattle.stab_circuit.specs.Steps.{Step}
+use Rattle.stab_run.specs.Records.{ones}
+use Rattle.stab_run.specs.Points.{RunOutput, origin, point_after, outputs, all_coins_of}
+use Rattle.stab_run.specs.ProgramStates.{IsAt, program_state, output_of}
+use Rattle.stab_frames.specs.Limits.{most_strings}
+use Rattle.stab_frames.specs.KeptStrings.{note_at}
+use Rattle.stab_frames.specs.StepNotes.{AreRight}
+use Rattle.stab_shots.specs.declared.recording.Recording.{Recording}
+use Rattle.stab_shots.specs.Noted.{zero_coins}
+
+-- its strings have n letters, and as many are noted as there may be
+pub record IsSized (n : ℕ) (r : Recording) : Type 0 where
+  pub qubits : r.tableau.qubits ≡ n
+  pub string : length r.string.letters ≡ n
+  pub written : length r.notes.string.letters ≡ n
+  pub strings : r.notes.strings.qubits ≡ n
+  pub most : r.notes.strings.most ≡ most_strings n
+
+-- what it gave, with the flags of all coin numbers
+abbrev pub given_by : Recording → RunOutput
+given_by r = record (output_of r.outputs) { free = r.free.items }
+
+-- it went over these steps
+pub record IsRecording (n : ℕ) (xs : List Step) (r : Recording) : Type 0 where
+  pub arrived : IsAt n (program_state r.tableau (output_of r.outputs)) (point_after n zero_coins xs origin)
+  pub gave : given_by r ≡ outputs n zero_coins xs origin
+
+-- of the steps ys, behind others, the free outcomes are told, and no other; their strings are noted as far as there may be as many,
+-- and right where all are
+pub record IsNoted (n : ℕ) (xs ys : List Step) (r : Recording) : Type 0 where
+  pub told : drop (all_coins_of xs) r.outputs.free.items ≡ (outputs n zero_coins ys (point_after n zero_coins xs origin)).free
+  pub others : ones (take (all_coins_of xs) r.outputs.free.items) ≡ 0
+  pub number : length r.notes.strings.strings ≡ min (ones r.outputs.free.items) (most_strings n)
+  pub few : ones r.outputs.free.items ≤ length ys
+  pub right : length r.notes.strings.strings ≡ ones r.outputs.free.items →
+      AreRight n zero_coins (note_at r.notes.strings.strings r.outputs.free.items) ys (point_after n zero_coins xs origin)
