@@ -25,8 +25,7 @@ use stretches::{Stretch, stretches_of};
 /// What is known of them all is kept, so that no call walks over them for it.
 pub struct Circuit {
     items: Vec<Item>,
-    /// How many steps parts of the items make, by which a step is found: as they were read, and none once
-    /// an item was edited.
+    /// How many steps parts of the items make, by which a step is found.
     stretches: Vec<Stretch>,
     total: Summary,
 }

@@ -1,4 +1,3 @@
 pub mod BitLemmas
-pub mod TakeLemmas
 mod CheckpointLemmas
 mod SameStateLemmas

@@ -77,14 +77,6 @@ module _ (n d : ℕ) (coins : ℕ → Bool) where
   after-shifted [] p = refl
   after-shifted (x ∷ xs) p = after-shifted xs (next_point n (coins_from d coins) x p) ∙ ap (point_after n coins xs) (next-shifted x p)
 
-  strings-shifted : (strings : ℕ → Option (List Letter)) (xs : List Step) (p : Point) → AreTrue n coins strings xs (with_coin (d + p.coin) p)
-      → AreTrue n (coins_from d coins) (λ t. strings (d + t)) xs p
-  strings-shifted strings [] p is = tt
-  strings-shifted strings (x ∷ xs) p is = (
-    is.0,
-    strings-shifted strings xs (next_point n (coins_from d coins) x p) (subst (AreTrue n coins strings xs) (sym (next-shifted x p)) is.1),
-  )
-
 -- from a point whose coin has the number k among these
 module _ (n d k : ℕ) (coins : ℕ → Bool) (xs : List Step) (p : Point) (at : d + k ≡ p.coin) where
   pub outputs-from : outputs n (coins_from d coins) xs (with_coin k p) ≡ outputs n coins xs p
@@ -94,15 +86,9 @@ module _ (n d k : ℕ) (coins : ℕ → Bool) (xs : List Step) (p : Point) (at :
       ≡ point_after n coins xs p
   after-from = after-shifted n d coins xs (with_coin k p) ∙ ap (λ c. point_after n coins xs (with_coin c p)) at
 
--- strings that are true of steps are so with the coins numbered from another on
-pub true-shifted : (n da k : ℕ) (coins : ℕ → Bool) (strings : ℕ → Option (List Letter)) (xs : List Step) (a : Point) → AreTrue n coins strings xs a → da + k ≡ a.coin
-    → AreTrue n (coins_from da coins) (λ t. strings (da + t)) xs (with_coin k a)
-true-shifted n da k coins strings xs a is at =
-    strings-shifted n da coins strings xs (with_coin k a) (subst (λ c. AreTrue n coins strings xs (with_coin c a)) (sym at) is)
-
 -- strings that exchange outcomes in the one state do so in the other
 
-exchanges-turned : (n : ℕ) (g : List Letter) (u v : Signed → Bool) → IsTurned n g u v → (m : Signed) (s : List Letter) → Exchanges n u m s → Exchanges n v m s
+pub exchanges-turned : (n : ℕ) (g : List Letter) (u v : Signed → Bool) → IsTurned n g u v → (m : Signed) (s : List Letter) → Exchanges n u m s → Exchanges n v m s
 exchanges-turned n g u v turned m s e =
     let p : Signed = record { negative = e.negative; letters = s } in
     record {

@@ -13,8 +13,7 @@ use Rattle.stab_frames.specs.Frames.{identity_frame}
 use Rattle.stab_frames.specs.Notes.{same_coins, changed}
 use Rattle.stab_frames.specs.FrameSteps.{frame_over, flips_over}
 use Rattle.stab_frames.specs.Fronts.{edit_frame, IsFlippedRun}
-use Rattle.stab_frames.specs.RunLaws.{FrontsFlip, FrontsGoOn, FrontsTakePaulis, PauliFronts, PauliEditsFlip, CoinsFlip}
-use Rattle.stab_frames.specs.TableauLaws.{CopiesTurn}
+use Rattle.stab_frames.specs.RunLaws.{FrontsFlip, FrontsGoOn, FrontsTakePaulis, PauliFronts, PauliEditsFlip, CoinsFlip, CopiesTurn}
 use Rattle.stab_frames.proofs.FlipLemmas.{length-flipped, length-flipped_additions}
 use Rattle.stab_frames.proofs.StartLemmas.{framed-same}
 use Rattle.stab_frames.proofs.TableauLemmas.{turned-group}

@@ -7,7 +7,7 @@ use Rattle.stab_letters.proofs.ParityLemmas.{parity-assoc, parity-mid, parity-tw
 use Rattle.stab_steps.specs.declared.records.Addition.{Addition}
 use Rattle.stab_steps.specs.Records.{looked_up, parity}
 use Rattle.stab_steps.specs.Runs.{when, added}
-use Rattle.stab_steps.specs.Points.{RunOutput, joined, with_additions}
+use Rattle.stab_steps.specs.Points.{RunOutput, nothing, joined, with_additions}
 use Rattle.stab_frames.specs.Flips.{flipped, flipped_additions, flipped_output, unflipped, Matches}
 
 pub length-flipped : (bits flips : List Bool) → length (flipped bits flips) ≡ length bits
@@ -109,6 +109,22 @@ and-parity true x y = refl
 and-parity false x y = refl
 
 -- no flips, one flip after another, and back
+
+pub flipped-empty : (bits : List Bool) → flipped bits [] ≡ bits
+flipped-empty [] = refl
+flipped-empty (bit ∷ bits) = refl
+
+pub additions-empty : (adds : List Addition) → flipped_additions adds [] ≡ adds
+additions-empty [] = refl
+additions-empty (a ∷ adds) = refl
+
+pub flipped-nothing : (o : RunOutput) → flipped_output o nothing ≡ o
+flipped-nothing o = λ i. record {
+  records = flipped-empty o.records i;
+  free = flipped-empty o.free i;
+  detectors = flipped-empty o.detectors i;
+  additions = additions-empty o.additions i;
+}
 
 pub flipped-none : (bits : List Bool) → flipped bits (replicate (length bits) false) ≡ bits
 flipped-none [] = refl

@@ -16,6 +16,7 @@ use Rattle.stab_circuit.specs.Steps.{Step, one, controlled, collapse, detector, 
 use Rattle.stab_steps.specs.Records.{looked_up, parity}
 use Rattle.stab_steps.specs.Points.{coins_of, nothing, joined}
 use Rattle.stab_steps.specs.ProgramStates.{StepFits}
+use Rattle.stab_laws.proofs.CoinLemmas.{coins-steps}
 use Rattle.stab_frames.specs.Frames.{Frame, plus, times_where}
 use Rattle.stab_frames.specs.Notes.{Notes, same_coins}
 use Rattle.stab_frames.specs.FrameSteps.{frame_over, letters_after, flips_given}
@@ -24,7 +25,6 @@ use Rattle.stab_frames.specs.Walks.{WalkState, frame_at, IsPlaced}
 use Rattle.stab_frames.specs.inner.Passes.{Passes, IsTold, AreTold, GoesOver, GoesFreely}
 use Rattle.stab_frames.proofs.PassLemmas.{over-none, over-step, over-append, told-append}
 use Rattle.stab_frames.proofs.MeasuredPassLemmas.{passes-letters, passes-flips, told-unmeasured}
-use Rattle.stab_frames.proofs.OverLemmas.{coins-few}
 
 -- over none, one step, and steps one after another
 
@@ -86,7 +86,7 @@ goes-measured n m strings free how t u l q old new is el eq same goes =
 pub coin-within : {X : Type 0} (n : ℕ) (strings : List (List Letter)) (free : List Bool) (f : X → Step) (xs : List X) (i : ℕ) (old now : WalkState)
     → GoesOver n strings free (map f (take i xs)) old now → i ≤ length xs → now.coin ≤ old.coin + i
 coin-within n strings free f xs i old now goes le =
-    omega (arith, goes.over.coin, coins-few (map f (take i xs)), length-map (take i xs) f, length-take-le i xs le)
+    omega (arith, goes.over.coin, coins-steps (map f (take i xs)), length-map (take i xs) f, length-take-le i xs le)
 
 -- a step that measures nothing and flips nothing that it gives
 pub freely-letters : (n : ℕ) (x : Step) (old new : WalkState) (letters : List Letter) → new ≡ record old { letters = letters } → length new.letters ≡ n

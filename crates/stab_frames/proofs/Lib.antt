@@ -7,7 +7,6 @@ pub mod NoteLemmas
 pub mod RunNoteLemmas
 pub mod TurnedCoinLemmas
 pub mod StartLemmas
-pub mod GateLemmas
 pub mod EndLemmas
 pub mod TableauLemmas
 pub mod FrontLemmas
@@ -29,7 +28,6 @@ pub mod KeptLemmas
 pub mod ImageLemmas
 pub mod StepsWalkedLemmas
 pub mod GoesOverLemmas
-pub mod GoneLemmas
 pub mod TouchLemmas
 pub mod StillWalkLemmas
 pub mod FlippedLemmas

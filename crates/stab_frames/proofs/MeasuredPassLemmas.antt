@@ -70,9 +70,6 @@ letters-same (Some s) change m f = refl
 
 -- the flags and kept strings tell of the next outcome
 
-pub note-none : (strings : List (List Letter)) (free : List Bool) (coin : ℕ) → get_or free coin false ≡ false → note_at strings free coin ≡ None
-note-none strings free coin e = ap (λ b. if b then slice_get strings (ones (take coin free)) else None) e
-
 pub note-some : (strings : List (List Letter)) (free : List Bool) (coin number : ℕ) → get_or free coin false ≡ true → number ≡ ones (take coin free)
     → number < length strings → note_at strings free coin ≡ Some (get_or strings number [])
 note-some strings free coin number e placed lt =
@@ -107,15 +104,6 @@ placed-next free flag old new placed e coin number =
 abbrev pub behind_coin : Bool → WalkState → WalkState
 behind_coin flag w = record w { flips = joined w.flips one_coin; coin = w.coin + 1; number = w.number + ones (flag ∷ []) }
 
-pub passed-fixed : (strings : List (List Letter)) (free : List Bool) (apart : Bool) (old new : WalkState) → get_or free old.coin false ≡ false
-    → new ≡ behind_coin false old → IsPassed (note_at strings free) apart apart old new
-passed-fixed strings free apart old new e is = record {
-  outcome = ap (λ note. flip_by note false apart) (sym (note-none strings free old.coin e));
-  letters = ap (λ (w : WalkState). w.letters) is ∙ ap (λ note. letters_for note false apart old.letters) (sym (note-none strings free old.coin e));
-  flips = ap (λ (w : WalkState). w.flips) is;
-  coin = ap (λ (w : WalkState). w.coin) is;
-}
-
 flip-alike : (note : Option (List Letter)) → false ≡ flip_by note false false
 flip-alike None = refl
 flip-alike (Some s) = refl
@@ -132,11 +120,6 @@ passed-still strings old new letters flips coin = record {
   flips = flips;
   coin = coin;
 }
-
-pub passed-alike : (strings : List (List Letter)) (free : List Bool) (old new : WalkState) → new ≡ behind_coin true old
-    → IsPassed (note_at strings free) false false old new
-passed-alike strings free old new is =
-    passed-still (note_at strings free) old new (ap (λ (w : WalkState). w.letters) is) (ap (λ (w : WalkState). w.flips) is) (ap (λ (w : WalkState). w.coin) is)
 
 pub passed-apart : (strings : List (List Letter)) (free : List Bool) (string : List Letter) (old mid new : WalkState) → get_or free old.coin false ≡ true
     → IsPlaced free old → old.number < length strings → string ≡ get_or strings old.number []

@@ -1,24 +1,23 @@
 -- Notes of coin numbers, by kept strings and flags: in parts, and with more behind them.
 use Rattle.std.proofs.Common.{◌≡◌, ℕ, zero, suc, ◌+◌, ◌-◌, ◌<◌, ◌≤◌, min, refl, sym, ◌∙◌, ap, subst, Bool, true, false, List, [], ◌∷◌, ◌++◌, length, take, get_or, arith, ◌⊎◌, inl, inr}
-use Rattle.std.specs.Prelude.{Option, None, IfSome, slice_get, nat_le, if◌then◌else◌}
+use Rattle.std.specs.Prelude.{Option, None, IfSome, slice_get, if◌then◌else◌}
 use Rattle.std.proofs.lemmas.Bool.{cases_lt}
-use Rattle.std.proofs.lemmas.List.{length-append, length-take, take-append-le, get_or_append_left, get_or-append-add}
+use Rattle.std.proofs.lemmas.List.{length-append, length-take, take-append-le, get_or_append_left}
 use Rattle.std.proofs.lemmas.Option.{slice_get_past}
 use Rattle.std.proofs.Math.Seq.{take-append-add}
 use Rattle.stab_letters.specs.declared.letter.Letter.{Letter}
 use Rattle.stab_steps.specs.Records.{ones}
 use Rattle.stab_steps.proofs.RecordLemmas.{ones-append}
-use Rattle.stab_frames.specs.Limits.{most_strings}
-use Rattle.stab_frames.specs.KeptStrings.{StringsState, note_at, IsNumbered, front_kept}
+use Rattle.stab_frames.specs.KeptStrings.{StringsState, note_at, IsNumbered}
 
 -- elements by their numbers
 
-get-append : {X : Type 0} (xs ys : List X) (i : ℕ) → i < length xs → slice_get (xs ++ ys) i ≡ slice_get xs i
+pub get-append : {X : Type 0} (xs ys : List X) (i : ℕ) → i < length xs → slice_get (xs ++ ys) i ≡ slice_get xs i
 get-append [] ys i lt = absurd (omega arith)
 get-append (x ∷ xs) ys zero lt = refl
 get-append (x ∷ xs) ys (suc i) lt = get-append xs ys i (omega arith)
 
-get-behind : {X : Type 0} (xs ys : List X) (i : ℕ) → slice_get (xs ++ ys) (length xs + i) ≡ slice_get ys i
+pub get-behind : {X : Type 0} (xs ys : List X) (i : ℕ) → slice_get (xs ++ ys) (length xs + i) ≡ slice_get ys i
 get-behind [] ys i = ap (slice_get ys) none
   where
     none : 0 + i ≡ i
@@ -59,18 +58,6 @@ note-equal strings others free flags t u flag same =
     by_flag false e =
         ap (λ c. if c then slice_get strings (ones (take t free)) else None) e
         ∙ sym (ap (λ c. if c then slice_get others (ones (take u flags)) else None) e)
-
--- where the first strings are those of all free outcomes among the first flags, the notes behind are by what is behind
-pub note-behind : (front back : List (List Letter)) (free more : List Bool) (t : ℕ) → length front ≡ ones free
-    → note_at (front ++ back) (free ++ more) (length free + t) ≡ note_at back more t
-note-behind front back free more t e =
-    note-equal (front ++ back) back (free ++ more) more (length free + t) t (get_or-append-add free more t false) (λ is. ap (slice_get (front ++ back)) index ∙ get-behind front back (ones (take t more)))
-  where
-    index : ones (take (length free + t) (free ++ more)) ≡ length front + ones (take t more)
-    index =
-        ap ones (take-append-add free more t)
-        ∙ ones-append free (take t more)
-        ∙ ap (λ k. k + ones (take t more)) (sym e)
 
 kept-get : (most : ℕ) (strings more : List (List Letter)) (count i : ℕ) → length strings ≡ min count most → i < count
     → slice_get (take most (strings ++ more)) i ≡ slice_get strings i
@@ -140,7 +127,6 @@ note-past strings free more t le few =
 
 -- strings stay numbered
 
--- where no further ones are kept, with any flags behind
 pub numbered-full : (kept : StringsState) (free more : List Bool) → length kept.strings ≡ kept.most → IsNumbered kept free → IsNumbered kept (free ++ more)
 numbered-full kept free more full e = omega (arith, full, e, ones-append free more)
 
@@ -155,27 +141,3 @@ pub numbered-free : (most : ℕ) (strings : List (List Letter)) (s : List Letter
     → length (take most (strings ++ s ∷ [])) ≡ min (ones (free ++ true ∷ [])) most
 numbered-free most strings s free e =
     omega (arith, length-take most (strings ++ s ∷ []), length-append strings (s ∷ []), ones-append free (true ∷ []), e)
-
-fewer : (k : ℕ) (bits : List Bool) → ones (take k bits) ≤ ones bits
-fewer zero bits = omega arith
-fewer (suc k) [] = omega arith
-fewer (suc k) (true ∷ bits) = let h = fewer k bits in omega (arith, h)
-fewer (suc k) (false ∷ bits) = fewer k bits
-
-pub front-numbered : (kept : StringsState) (free : List Bool) (c : ℕ) → kept.most ≤ most_strings kept.qubits → IsNumbered kept free
-    → IsNumbered (front_kept (ones (take c free)) kept) (take c free)
-front-numbered kept free c limit e = by_count (cases_lt (length kept.strings) count)
-  where
-    count : ℕ
-    count = ones (take c free)
-
-    by_count : (length kept.strings < count) ⊎ (count ≤ length kept.strings)
-        → length (take count kept.strings) ≡ min count (if nat_le count (length kept.strings) then most_strings kept.qubits else kept.most)
-    by_count (inl less) =
-        let out : nat_le count (length kept.strings) ≡ false = grind arith in
-        subst (λ b. length (take count kept.strings) ≡ min count (if b then most_strings kept.qubits else kept.most)) (sym out)
-        (omega (arith, length-take count kept.strings, e, fewer c free))
-    by_count (inr within) =
-        let in_range : nat_le count (length kept.strings) ≡ true = grind arith in
-        subst (λ b. length (take count kept.strings) ≡ min count (if b then most_strings kept.qubits else kept.most)) (sym in_range)
-        (omega (arith, length-take count kept.strings, e, limit))

@@ -13,25 +13,20 @@ use Rattle.stab_pauli.proofs.StringLemmas.{strings_anticommute-comm}
 use Rattle.stab_tableau.specs.Rules.{is_free_by}
 use Rattle.stab_tableau.specs.Traces.{member, is_free}
 use Rattle.stab_tableau.specs.Groups.{IsStabiliserGroup}
-use Rattle.stab_tableau.specs.Columns.{stabiliser_of}
-use Rattle.stab_tableau.specs.inner.InverseRows.{string_preimage}
-use Rattle.stab_tableau.specs.inner.ColumnLetters.{column}
 use Rattle.stab_tableau.specs.Exchanges.{Exchanges}
 use Rattle.stab_tableau.proofs.TestLemmas.{not_both}
-use Rattle.stab_tableau.proofs.HomomorphismLemmas.{kept-anticommute}
-use Rattle.stab_tableau.proofs.OneLetterLemmas.{one_letter-anticommute, length-one_letter}
-use Rattle.stab_tableau.proofs.ColumnLemmas.{column-preimage}
-use Rattle.stab_tableau.proofs.GeneratedLemmas.{stabiliser-length, stabiliser-member}
+use Rattle.stab_tableau.proofs.OneLetterLemmas.{length-one_letter}
 use Rattle.stab_tableau.proofs.FreeLemmas.{anticommuting-member_of_free}
 use Rattle.stab_circuit.specs.Steps.{Step, one, two, controlled, collapse, product, detector, observable}
 use Rattle.stab_steps.specs.Runs.{string_of, measured_by}
 use Rattle.stab_steps.specs.Points.{Point, given, coins_of, all_coins_of, next_point, outputs}
 use Rattle.stab_steps.specs.ProgramStates.{StepFits}
 use Rattle.stab_steps.proofs.ProductLemmas.{length-string_of}
+use Rattle.stab_laws.proofs.CoinLemmas.{coins-one}
 use Rattle.stab_frames.specs.Notes.{no_strings, IsNoteOf}
 use Rattle.stab_frames.specs.FrameSteps.{frame_after}
 use Rattle.stab_frames.specs.StepNotes.{IsRightAt, AreEnough}
-use Rattle.stab_frames.specs.NoteLaws.{RightNotesAreEnough, TurnedCoinsNeedNoStrings, NotesAreEnoughBefore, MeasurementsHaveNotes, FlagsTellNotes, ColumnsExchange}
+use Rattle.stab_frames.specs.NoteLaws.{RightNotesAreEnough, TurnedCoinsNeedNoStrings, NotesAreEnoughBefore, MeasurementsHaveNotes, FlagsTellNotes}
 use Rattle.stab_frames.proofs.MeasuredLemmas.{exchanged-free}
 use Rattle.stab_frames.proofs.StepLemmas.{group-next}
 
@@ -100,15 +95,6 @@ flags-given n coins strings (product factors inverted) a group right =
 flags-given n coins strings (detector ks) a group right = refl
 flags-given n coins strings (observable j ks) a group right = refl
 
-pub few-coins : (x : Step) → coins_of x ≤ 1
-few-coins (one g q) = omega arith
-few-coins (two g p q) = omega arith
-few-coins (controlled l k q) = omega arith
-few-coins (collapse l q recorded inverted resets) = omega arith
-few-coins (product factors inverted) = omega arith
-few-coins (detector ks) = omega arith
-few-coins (observable j ks) = omega arith
-
 -- flags of one step in front of those of others
 flag-joined : (c rest : ℕ) → c ≤ 1 → (bits : ℕ → Bool) (coin : ℕ) (later : List Bool) → ((t : ℕ) → t < rest → get_or later t false ≡ bits ((coin + c) + t))
     → (t : ℕ) → t < c + rest → get_or (replicate c (bits coin) ++ later) t false ≡ bits (coin + t)
@@ -122,18 +108,5 @@ flags-noted n coins strings [] a fits group right t lt = absurd (omega arith)
 flags-noted n coins strings (x ∷ xs) a fits group right t lt =
     let next = next_point n coins x a in
     ap (λ flags. get_or (flags ++ (outputs n coins xs next).free) t false) (flags-given n coins strings x a group right.0)
-    ∙ flag-joined (coins_of x) (all_coins_of xs) (few-coins x) (λ k. is_some (strings k)) a.coin (outputs n coins xs next).free
+    ∙ flag-joined (coins_of x) (all_coins_of xs) (coins-one x) (λ k. is_some (strings k)) a.coin (outputs n coins xs next).free
     (flags-noted n coins strings xs next (All-tail (StepFits n) x xs fits) (group-next n coins x a (All-head (StepFits n) x xs fits) group) right.1) t lt
-
--- the stabiliser of a tableau at a place where the preimage of what is measured has X or Y
-pub column-exchanges : ColumnsExchange
-column-exchanges t is onto q lq k lt e = record {
-  size = stabiliser-length t is onto k lt;
-  negative = (stabiliser_of t k).negative;
-  stabilises = stabiliser-member t is onto k lt;
-  apart =
-      sym (kept-anticommute t.qubits t.qubits (string_preimage t.qubits t.rows) is.keeps (column letter.Z k t.rows) q.letters (stabiliser-length t is onto k lt) lq)
-      ∙ ap (λ s. strings_anticommute s (string_preimage t.qubits t.rows q.letters).letters) (column-preimage t.qubits t.rows is onto letter.Z k lt)
-      ∙ one_letter-anticommute t.qubits k letter.Z (string_preimage t.qubits t.rows q.letters).letters (is.keeps.size q.letters lq) lt
-      ∙ e;
-}

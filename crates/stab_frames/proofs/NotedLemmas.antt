@@ -16,10 +16,10 @@ use Rattle.stab_steps.specs.Points.{Point, origin, given, next_point, point_afte
 use Rattle.stab_steps.specs.ProgramStates.{ProgramState, IsAt, IsRun}
 use Rattle.stab_steps.proofs.RunLemmas.{after-append}
 use Rattle.stab_steps.proofs.ProductLemmas.{length-string_of}
+use Rattle.stab_laws.proofs.CoinLemmas.{coins-are}
 use Rattle.stab_frames.specs.KeptStrings.{StringsState, note_at, IsNumbered, IsTrueAt, AreTrue, KeepsTrue}
 use Rattle.stab_frames.specs.inner.Noted.{IsAdded, IsNotedOf, IsNoted}
 use Rattle.stab_frames.proofs.RunNoteLemmas.{unmeasured}
-use Rattle.stab_frames.proofs.OverLemmas.{coin-after}
 use Rattle.stab_frames.proofs.TrueLemmas.{true-append, true-same, true-none, exchanges-same}
 use Rattle.stab_frames.proofs.NoteAtLemmas.{note-before, note-fixed, note-free, note-past, numbered-fixed, numbered-free, numbered-full}
 
@@ -31,7 +31,7 @@ module _ (n : ℕ) (coins : ℕ → Bool) (xs : List Step) (kept : StringsState)
       true-same n coins (note_at kept.strings free) (note_at (take kept.most (kept.strings ++ more)) (free ++ flags)) xs origin
       (λ t lt.
       ap (note_at kept.strings free) (none t)
-      ∙ sym (note-before kept.most kept.strings more free flags t numbered (omega (arith, count, coin-after n coins xs origin, lt)))
+      ∙ sym (note-before kept.most kept.strings more free flags t numbered (omega (arith, count, coins-are n coins xs origin, lt)))
       ∙ ap (note_at (take kept.most (kept.strings ++ more)) (free ++ flags)) (sym (none t))) is
     where
       none : (t : ℕ) → 0 + t ≡ t
@@ -58,7 +58,7 @@ pub keeps-unmeasured : (n : ℕ) (coins : ℕ → Bool) (xs : List Step) (kept b
 keeps-unmeasured n coins xs kept behind old new none same most run ys at numbered is =
     let p = point_after n coins ys origin in
     let there = run p at in
-    let count : length new.output.free ≡ length old.output.free = omega (arith, there.shows.coin, coin-after n coins xs p, none, at.coin) in
+    let count : length new.output.free ≡ length old.output.free = omega (arith, there.shows.coin, coins-are n coins xs p, none, at.coin) in
     let flags = no-more old.output.free (outputs n coins xs p).free new.output.free (ap (λ o. o.free) there.output) count in (
       subst (λ k. length behind.strings ≡ min k behind.most) (sym (ap ones flags)) (ap length same ∙ numbered ∙ ap (λ k. min (ones old.output.free) k) (sym most)),
       subst (λ s. AreTrue n coins (note_at s new.output.free) (ys ++ xs) origin) (sym same)

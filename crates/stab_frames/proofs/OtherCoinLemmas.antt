@@ -16,6 +16,7 @@ use Rattle.stab_steps.specs.Records.{ones}
 use Rattle.stab_steps.specs.Runs.{when, string_of, flip_of}
 use Rattle.stab_steps.specs.Points.{nothing, joined, coins_of, all_coins_of}
 use Rattle.stab_steps.proofs.RecordLemmas.{ones-append}
+use Rattle.stab_laws.proofs.CoinLemmas.{coins-append}
 use Rattle.stab_frames.specs.Frames.{Frame, times_where}
 use Rattle.stab_frames.specs.Notes.{Notes, notes_of, same_coins}
 use Rattle.stab_frames.specs.FrameSteps.{letters_after, flips_given, frame_after, frame_over, flips_over}
@@ -23,9 +24,8 @@ use Rattle.stab_frames.specs.KeptStrings.{note_at}
 use Rattle.stab_frames.specs.Walks.{WalkState, frame_at, IsPlaced}
 use Rattle.stab_frames.specs.inner.Passes.{PassesWith, GoesFreely, flip_by, letters_for}
 use Rattle.stab_frames.specs.inner.OtherPasses.{is_inverted, IsChangeOf, AreChanges, IsPassedToOther, GoesToOther}
-use Rattle.stab_frames.proofs.OverLemmas.{coins-append}
-use Rattle.stab_frames.proofs.PassLemmas.{over-none, over-step, over-append}
-use Rattle.stab_frames.proofs.MeasuredPassLemmas.{behind_coin, note-none, note-some, taken-next, passes-collapse, passes-product}
+use Rattle.stab_frames.proofs.PassLemmas.{over-step, over-append}
+use Rattle.stab_frames.proofs.MeasuredPassLemmas.{behind_coin, note-some, taken-next, passes-collapse, passes-product}
 
 none : (k : ℕ) → k + 0 ≡ k
 none k = omega arith
@@ -65,17 +65,6 @@ noteless-fixed strings free coin kept none = by_flag (get_or free coin false) re
         absurd (some_none (get_or strings (ones (take coin free)) []) (sym (note-some strings free coin (ones (take coin free)) e refl lt) ∙ none))
 
 -- over an outcome
-
-pub passed-fixed : (strings : List (List Letter)) (free : List Bool) (olds others : ℕ → Bool) (inverted apart : Bool) (old new : WalkState)
-    → get_or free old.coin false ≡ false → new ≡ behind_coin false old → IsPassedToOther strings free olds others inverted apart apart old new
-passed-fixed strings free olds others inverted apart old new e is = λ changes told. record {
-  outcome = ap (λ note. flip_by note (changes old.coin) apart) (sym (note-none strings free old.coin e));
-  letters =
-      ap (λ (w : WalkState). w.letters) is
-      ∙ ap (λ note. letters_for note (changes old.coin) apart old.letters) (sym (note-none strings free old.coin e));
-  flips = ap (λ (w : WalkState). w.flips) is;
-  coin = ap (λ (w : WalkState). w.coin) is;
-}
 
 pub passed-free : (strings : List (List Letter)) (free : List Bool) (olds others : ℕ → Bool) (inverted apart change : Bool) (old new : WalkState)
     → get_or free old.coin false ≡ true → IsPlaced free old → ones (take (old.coin + 1) free) ≤ length strings
@@ -171,15 +160,6 @@ to-product n strings free olds others factors inverted apart flip old mid new ea
     size
 
 -- over none, and steps one after another
-
-pub to-none : (n : ℕ) (strings : List (List Letter)) (free : List Bool) (olds others : ℕ → Bool) (w : WalkState) → IsPlaced free w → length w.letters ≡ n
-    → GoesToOther n strings free olds others [] w w
-to-none n strings free olds others w placed size = record {
-  over = λ changes told. over-none n (notes_of (note_at strings free) changes) w;
-  coin = sym (none w.coin);
-  placed = placed;
-  size = size;
-}
 
 more : (a b c : ℕ) → (a + b) + c ≡ a + (b + c)
 more a b c = omega arith

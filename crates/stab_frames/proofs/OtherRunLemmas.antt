@@ -11,6 +11,7 @@ use Rattle.stab_steps.specs.Records.{ones}
 use Rattle.stab_steps.specs.Runs.{string_of, outcome_at}
 use Rattle.stab_steps.specs.Points.{Point, coins_of, all_coins_of, given, next_point, outputs}
 use Rattle.stab_laws.proofs.StateLemmas.{free-outcome}
+use Rattle.stab_laws.proofs.CoinLemmas.{coins-append}
 use Rattle.stab_frames.specs.StepNotes.{IsRightAt, AreRight}
 use Rattle.stab_frames.specs.KeptStrings.{note_at, IsTrueAt, AreTrue}
 use Rattle.stab_frames.specs.Walks.{WalkState, frame_at, IsPlaced}
@@ -18,7 +19,6 @@ use Rattle.stab_frames.specs.OtherCoins.{notes_between, WalksToOthers}
 use Rattle.stab_frames.specs.inner.OtherPasses.{is_inverted, record_of, IsChangeOf, AreChanges, GoesToOther}
 use Rattle.stab_frames.proofs.NoteLemmas.{right-enough}
 use Rattle.stab_frames.proofs.PassLemmas.{first-flag, note-enough}
-use Rattle.stab_frames.proofs.OverLemmas.{coins-append}
 use Rattle.stab_frames.proofs.StepsWalkedLemmas.{take-over}
 use Rattle.stab_frames.proofs.OtherCoinLemmas.{ones-split, noteless-fixed, to-append, to-number}
 

@@ -1,5 +1,5 @@
 -- Over: frames, what they flip and their notes, over steps one after another.
-use Rattle.std.proofs.Common.{◌≡◌, ℕ, ◌+◌, sym, ◌∙◌, ap, Bool, List, [], ◌∷◌, ◌++◌, ◌≤◌, length, arith}
+use Rattle.std.proofs.Common.{◌≡◌, ℕ, ◌+◌, sym, ◌∙◌, ap, Bool, List, [], ◌∷◌, ◌++◌, arith}
 use Rattle.stab_circuit.specs.Steps.{Step}
 use Rattle.stab_steps.specs.Points.{Point, joined, coins_of, all_coins_of, next_point, point_after}
 use Rattle.stab_steps.proofs.RunLemmas.{joined-assoc}
@@ -7,27 +7,12 @@ use Rattle.stab_frames.specs.Frames.{Frame}
 use Rattle.stab_frames.specs.Notes.{Notes}
 use Rattle.stab_frames.specs.FrameSteps.{frame_after, frame_over, flips_given, flips_over}
 use Rattle.stab_frames.specs.StepNotes.{AreEnough}
-use Rattle.stab_frames.proofs.NoteLemmas.{few-coins}
 
 no-more : (coin : ℕ) → coin + 0 ≡ coin
 no-more coin = omega arith
 
 more : (coin a b : ℕ) → (coin + a) + b ≡ coin + (a + b)
 more coin a b = omega arith
-
--- coins
-
-pub coins-append : (xs ys : List Step) → all_coins_of (xs ++ ys) ≡ all_coins_of xs + all_coins_of ys
-coins-append [] ys = omega arith
-coins-append (x ∷ xs) ys = let e = coins-append xs ys in omega (arith, e)
-
-pub coins-few : (xs : List Step) → all_coins_of xs ≤ length xs
-coins-few [] = omega arith
-coins-few (x ∷ xs) = let h = coins-few xs in omega (arith, h, few-coins x)
-
-pub coin-after : (n : ℕ) (coins : ℕ → Bool) (xs : List Step) (a : Point) → (point_after n coins xs a).coin ≡ a.coin + all_coins_of xs
-coin-after n coins [] a = omega arith
-coin-after n coins (x ∷ xs) a = coin-after n coins xs (next_point n coins x a) ∙ more a.coin (coins_of x) (all_coins_of xs)
 
 -- frames over steps one after another
 

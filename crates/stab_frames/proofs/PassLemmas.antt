@@ -9,6 +9,7 @@ use Rattle.stab_circuit.specs.Steps.{Step, one, two, controlled, collapse, produ
 use Rattle.stab_steps.specs.Runs.{string_of}
 use Rattle.stab_steps.specs.Points.{Point, RunOutput, nothing, joined, coins_of, all_coins_of, given, next_point, outputs}
 use Rattle.stab_steps.proofs.RunLemmas.{joined-nothing, joined-assoc}
+use Rattle.stab_laws.proofs.CoinLemmas.{coins-append}
 use Rattle.stab_frames.specs.Frames.{Frame, times_where}
 use Rattle.stab_frames.specs.Notes.{Notes, same_coins, IsNoteOf}
 use Rattle.stab_frames.specs.FrameSteps.{letters_after, flips_given, frame_after, frame_over, flips_over}
@@ -17,7 +18,7 @@ use Rattle.stab_frames.specs.KeptStrings.{note_at, IsTrueAt, AreTrue}
 use Rattle.stab_frames.specs.Walks.{WalkState, frame_at, WalksWith}
 use Rattle.stab_frames.specs.inner.Passes.{PassesWith, IsTold, AreTold}
 use Rattle.stab_frames.proofs.StillLemmas.{looked_up-base, parity-base}
-use Rattle.stab_frames.proofs.OverLemmas.{coins-append, frame-append, flips-append}
+use Rattle.stab_frames.proofs.OverLemmas.{frame-append, flips-append}
 
 -- where a frame began is of no account to a step
 

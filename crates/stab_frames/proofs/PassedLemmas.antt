@@ -3,6 +3,7 @@ use Rattle.std.proofs.Common.{◌≡◌, ℕ, ◌+◌, ◌-◌, ◌≤◌, refl,
 use Rattle.std.specs.List.{list_any}
 use Rattle.std.proofs.lemmas.List.{take-append-drop, drop-map, map-append}
 use Rattle.std.proofs.lemmas.List.Elements.{All-drop}
+use Rattle.std.proofs.lemmas.Bool.{or_from}
 use Rattle.stab_letters.specs.declared.letter.Letter.{Letter}
 use Rattle.stab_letters.specs.declared.letter.Letter.TheVariants.{I}
 use Rattle.stab_letters.specs.declared.gate.Gate.{Gate}
@@ -19,7 +20,6 @@ use Rattle.stab_frames.specs.Walks.{WalkState}
 use Rattle.stab_frames.specs.inner.Passes.{GoesOver, GoesFreely}
 use Rattle.stab_frames.specs.inner.Touches.{acts, touches_qubit, touches_pair, Covers}
 use Rattle.stab_frames.proofs.ImageLemmas.{gate-image}
-use Rattle.stab_rounds.proofs.LookLemmas.{both}
 use Rattle.stab_frames.proofs.GoesOverLemmas.{goes-append, freely-none, freely-gate}
 use Rattle.stab_frames.proofs.TouchLemmas.{no-letter, set-same, freely-part}
 
@@ -33,7 +33,7 @@ pub none-less : {X : Type 0} (names touches : X → Bool) (xs : List X) → ((x 
     → list_any touches xs ≡ false
 none-less names touches [] more e = refl
 none-less names touches (x ∷ xs) more e =
-    both (touches x) (list_any touches xs) (unless (touches x) (names x) (more x) (or-left (names x) (list_any names xs) e))
+    or_from (touches x) (list_any touches xs) (unless (touches x) (names x) (more x) (or-left (names x) (list_any names xs) e))
     (none-less names touches xs more (or-right (names x) (list_any names xs) e))
 
 or-second : (c : Bool) → (c || true) ≡ true

@@ -4,21 +4,14 @@ use Rattle.std.specs.Prelude.{◌⊎◌}
 use Rattle.std.proofs.lemmas.Bool.{cases_order, cases_lt}
 use Rattle.std.proofs.lemmas.List.{length-set, get_or-set_same, get_or-set_other, ext_get_or}
 use Rattle.stab_letters.specs.declared.letter.Letter.{Letter}
-use Rattle.stab_letters.specs.declared.letter.Letter.TheVariants.{I, X, Y, Z}
+use Rattle.stab_letters.specs.declared.letter.Letter.TheVariants.{I}
 use Rattle.stab_letters.specs.Letters.{letter_product}
 use Rattle.stab_pauli.specs.Paulis.{string_product}
 use Rattle.stab_pauli.specs.Masks.{chooses}
-use Rattle.stab_pauli.proofs.MaskLemmas.{clash, none-chosen}
+use Rattle.stab_pauli.proofs.MaskLemmas.{clash}
 use Rattle.stab_pauli.proofs.StringLemmas.{length-string_product, get_or-string_product}
 use Rattle.stab_frames.specs.Walks.{WalkState}
 use Rattle.stab_frames.specs.inner.Products.{AreMultiplied}
-
--- a letter times I
-times-I : (x : Letter) → letter_product x I ≡ x
-times-I I = refl
-times-I X = refl
-times-I Y = refl
-times-I Z = refl
 
 -- letters multiplied by those of a string, but for those that are left in the rest of a mask
 pub record IsWalked (first rest : ℕ) (string old now : List Letter) : Type 0 where
@@ -29,23 +22,6 @@ pub record IsWalked (first rest : ℕ) (string old now : List Letter) : Type 0 w
   pub others : (q : ℕ) → (q < first) ⊎ (first + 64 ≤ q) → get_or now q I ≡ get_or old q I
 
 module _ (first : ℕ) (string old : List Letter) where
-  pub walk-start : (mask : ℕ) → ((k : ℕ) → k < 64 → chooses mask k ≡ true → first + k < length old)
-      → ((k : ℕ) → k < 64 → chooses mask k ≡ false → get_or string (first + k) I ≡ I) → IsWalked first mask string old old
-  walk-start mask inside blank = record {
-    size = refl;
-    inside = inside;
-    done = λ k lk none. sym (ap (letter_product (get_or old (first + k) I)) (blank k lk none) ∙ times-I (get_or old (first + k) I));
-    left = λ k lk one. refl;
-    others = λ q apart. refl;
-  }
-
-  pub walk-end : (now : List Letter) (rest : ℕ) → rest ≡ 0 → IsWalked first rest string old now → AreMultiplied first string old now
-  walk-end now rest e walked = record {
-    size = walked.size;
-    within = λ k lk. walked.done k lk (ap (λ n. chooses n k) e ∙ none-chosen k);
-    others = walked.others;
-  }
-
   -- one letter further
   module _ (now : List Letter) (rest b : ℕ) (walked : IsWalked first rest string old now) (lb : b < 64) (one : chooses rest b ≡ true) (l r : Letter)
       (el : l ≡ get_or now (first + b) I) (er : r ≡ letter_product l (get_or string (first + b) I)) (new : List Letter) (put : new ≡ set now (first + b) r)
@@ -109,9 +85,6 @@ pub record IsMultipliedTo (k : ℕ) (string old now : List Letter) : Type 0 wher
   pub size : length now ≡ length old
   pub done : (q : ℕ) → q < k → get_or now q I ≡ letter_product (get_or old q I) (get_or string q I)
   pub left : (q : ℕ) → k ≤ q → get_or now q I ≡ get_or old q I
-
-pub none-multiplied : (string old : List Letter) → IsMultipliedTo (64 * 0) string old old
-none-multiplied string old = record { size = refl; done = λ q lt. absurd (omega arith); left = λ q le. refl }
 
 -- 64 letters further
 pub multiplied-word : (w : ℕ) (string old now new : List Letter) → IsMultipliedTo (64 * w) string old now → AreMultiplied (64 * w) string now new

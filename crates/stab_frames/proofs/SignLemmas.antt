@@ -34,7 +34,7 @@ product-sign_left true p q e = product-minus_left p q e
 
 -- a letter as a gate
 
-pub letter-gate : (l x : Letter) → letter_image (inverse (gate_of l)) x ≡ record { negative = letters_anticommute l x; letter = x }
+letter-gate : (l x : Letter) → letter_image (inverse (gate_of l)) x ≡ record { negative = letters_anticommute l x; letter = x }
 letter-gate l x = grind arith
 
 pub back-letter : (n q : ℕ) (l : Letter) (s : Signed) → length s.letters ≡ n → q < n

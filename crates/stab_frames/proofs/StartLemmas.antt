@@ -1,27 +1,22 @@
--- Where frames begin: at Pauli gates that stand in one circuit alone, or at gates that differ by a letter; and frames one after another.
-use Rattle.std.proofs.Common.{◌≡◌, ℕ, ◌+◌, ◌<◌, refl, sym, ◌∙◌, ap, subst, Bool, true, false, not, List, [], ◌∷◌, ◌++◌, append-nil, add-zero, length, map, replicate}
+-- Where frames begin: at Pauli gates that stand in one circuit alone; and frames one after another.
+use Rattle.std.proofs.Common.{◌≡◌, ℕ, ◌<◌, refl, sym, ◌∙◌, ap, subst, Bool, true, false, List, [], ◌∷◌, append-nil, add-zero, length, map, replicate}
 use Rattle.std.specs.Prelude.{All}
-use Rattle.std.proofs.lemmas.List.{length-append, length-replicate}
+use Rattle.std.proofs.lemmas.List.{length-replicate}
 use Rattle.std.proofs.lemmas.List.Elements.{All-head, All-tail}
 use Rattle.stab_letters.specs.declared.letter.Letter.{Letter}
 use Rattle.stab_letters.specs.declared.letter.Letter.TheVariants as letter
-use Rattle.stab_letters.specs.Letters.{◌⊕◌}
 use Rattle.stab_pauli.specs.Paulis.{single, string_product}
-use Rattle.stab_letters.proofs.ParityLemmas.{parity-assoc}
 use Rattle.stab_pauli.proofs.StringLemmas.{length-string_product, string_product-assoc, string_product-comm}
-use Rattle.stab_letters.specs.declared.gate.Gate.{Gate}
-use Rattle.stab_tableau.specs.Traces.{applied, member}
-use Rattle.stab_tableau.specs.Turns.{IsTurned}
+use Rattle.stab_tableau.specs.Traces.{member}
 use Rattle.stab_tableau.proofs.OneLetterLemmas.{length-one_letter}
-use Rattle.stab_circuit.specs.Steps.{one, controlled, collapse}
-use Rattle.stab_steps.specs.Records.{looked_up}
+use Rattle.stab_circuit.specs.Steps.{one}
 use Rattle.stab_frames.specs.Flips.{flipped}
-use Rattle.stab_frames.specs.Frames.{Frame, PointsDifferBy, identity_frame, frame_of, frame_product, times_where}
+use Rattle.stab_frames.specs.Frames.{Frame, PointsDifferBy, identity_frame, frame_of, frame_product}
 use Rattle.stab_frames.specs.Starts.{letters_on}
-use Rattle.stab_frames.proofs.TurnedLemmas.{turned-blank, turned-over, turned-back, turned-right, turned-pauli}
-use Rattle.stab_frames.proofs.FlipLemmas.{length-flipped, flipped-none, flipped-append, flipped-twice, flipped-back, same-when}
-use Rattle.stab_steps.specs.Runs.{when, gate_of, applied_where, outcome_at}
-use Rattle.stab_steps.specs.Points.{Point, trace_after, next_point, point_after}
+use Rattle.stab_frames.proofs.TurnedLemmas.{turned-blank, turned-over, turned-back, turned-pauli}
+use Rattle.stab_frames.proofs.FlipLemmas.{length-flipped, flipped-none, flipped-twice, flipped-back}
+use Rattle.stab_steps.specs.Runs.{gate_of}
+use Rattle.stab_steps.specs.Points.{Point, next_point, point_after}
 
 -- frames one after another
 
@@ -62,10 +57,6 @@ identity_frame-flips k flips e = ap (λ m. flipped flips (replicate m false)) (s
 
 -- one Pauli gate
 
-gate-point : (n : ℕ) (coins : ℕ → Bool) (g : Gate) (q : ℕ) (a : Point)
-    → ◌≡◌ {A = Point} (next_point n coins (one g q) a) (record { trace = applied g q ∷ a.trace; coin = a.coin; records = a.records })
-gate-point n coins g q a = λ i. record { trace = applied g q ∷ a.trace; coin = add-zero a.coin i; records = append-nil a.records i }
-
 pub framed-pauli : (n : ℕ) (coins : ℕ → Bool) (l : Letter) (q : ℕ) → q < n → (a : Point)
     → PointsDifferBy n (frame_of (single n q l).letters (length a.records)) a (next_point n coins (one (gate_of l) q) a)
 framed-pauli n coins l q lt a = record {
@@ -91,10 +82,6 @@ framed-paulis n coins l (q ∷ qs) fits a =
     (framed-paulis n coins l qs (All-tail (λ q. q < n) q qs fits) next))
 
 -- some Pauli gates in the place of others
-
-length-letters_on : (n : ℕ) (l : Letter) (qs : List ℕ) → length (letters_on n l qs) ≡ n
-length-letters_on n l [] = length-replicate n letter.I
-length-letters_on n l (q ∷ qs) = length-string_product n (single n q l).letters (letters_on n l qs) (length-one_letter n q l) (length-letters_on n l qs)
 
 pub framed-exchanged : (n : ℕ) (coins : ℕ → Bool) (l m : Letter) (qs rs : List ℕ) → All (λ q. q < n) qs → All (λ q. q < n) rs → (a : Point)
     → PointsDifferBy n (frame_of (string_product (letters_on n l qs) (letters_on n m rs)) (length a.records))
@@ -143,49 +130,3 @@ framed-gates n coins others l m qs rs left right f a b apart =
         zeros [] = refl
         zeros (true ∷ bits) = ap (λ more. true ∷ more) (zeros bits)
         zeros (false ∷ bits) = ap (λ more. false ∷ more) (zeros bits)
-
--- a letter that a record controls
-
-pub framed-feedback : (n : ℕ) (coins : ℕ → Bool) (l : Letter) (k q : ℕ) → q < n → (a : Point)
-    → PointsDifferBy n (frame_of (times_where (looked_up a.records k) (single n q l).letters (replicate n letter.I)) (length a.records)) a (next_point n coins (controlled l k q) a)
-framed-feedback n coins l k q lt a = record {
-  size = size (looked_up a.records k);
-  group = group (looked_up a.records k);
-  coin = add-zero a.coin;
-  count = length-replicate (length a.records) false;
-  records = append-nil a.records ∙ sym (flipped-none a.records);
-}
-  where
-    size : (bit : Bool) → length (times_where bit (single n q l).letters (replicate n letter.I)) ≡ n
-    size true = length-string_product n (replicate n letter.I) (single n q l).letters (length-replicate n letter.I) (length-one_letter n q l)
-    size false = length-replicate n letter.I
-
-    group : (bit : Bool) → IsTurned n (times_where bit (single n q l).letters (replicate n letter.I)) (member a.trace) (member (applied_where bit l q a.trace))
-    group true = turned-right n l q lt (replicate n letter.I) (member a.trace) (member a.trace) (turned-blank n (member a.trace))
-    group false = turned-blank n (member a.trace)
-
--- a mark by which a record is inverted
-
-flipped-mark : (recorded inverted o : Bool) → when recorded (not inverted ⊕ o) ≡ flipped (when recorded (inverted ⊕ o)) (when recorded true)
-flipped-mark true inverted o = ap (λ b. b ∷ []) (parity-assoc true inverted o)
-flipped-mark false inverted o = refl
-
-pub framed-mark : (n : ℕ) (coins : ℕ → Bool) (l : Letter) (q : ℕ) (recorded inverted resets : Bool) (a : Point)
-    → PointsDifferBy n (record { letters = replicate n letter.I; flips = replicate (length a.records) false ++ when recorded true })
-    (next_point n coins (collapse l q recorded inverted resets) a) (next_point n coins (collapse l q recorded (not inverted) resets) a)
-framed-mark n coins l q recorded inverted resets a = record {
-  size = length-replicate n letter.I;
-  group = turned-blank n (member (trace_after n coins (collapse l q recorded inverted resets) a));
-  coin = refl;
-  count =
-      length-append (replicate (length a.records) false) (when recorded true)
-      ∙ (λ i. length-replicate (length a.records) false i + same-when recorded true (inverted ⊕ outcome) i)
-      ∙ sym (length-append a.records (when recorded (inverted ⊕ outcome)));
-  records =
-      (λ i. sym (flipped-none a.records) i ++ flipped-mark recorded inverted outcome i)
-      ∙ sym (flipped-append a.records (when recorded (inverted ⊕ outcome)) (replicate (length a.records) false) (when recorded true)
-      (length-replicate (length a.records) false));
-}
-  where
-    outcome : Bool
-    outcome = outcome_at coins (single n q l) a.trace a.coin

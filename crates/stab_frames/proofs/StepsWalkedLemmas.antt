@@ -1,11 +1,11 @@
 -- Steps walked: a frame's way over the first of some steps, over some more, and what it comes to.
 use Rattle.std.proofs.Common.{◌≡◌, ℕ, ◌+◌, ◌<◌, ◌≤◌, sym, ◌∙◌, ap, subst, Bool, List, [], ◌++◌, length, take, drop, All, arith}
 use Rattle.std.proofs.Math.Seq.{take-add, take-append_seam, drop-append_seam}
-use Rattle.std.proofs.lemmas.List.{take-append-drop, take-append-le, length-take, length-drop, length-append, drop-drop}
+use Rattle.std.proofs.lemmas.List.{take-append-drop, take-append-le, length-drop, length-append, drop-drop}
 use Rattle.std.proofs.lemmas.List.Elements.{All-drop, All-take}
 use Rattle.stab_letters.specs.declared.letter.Letter.{Letter}
 use Rattle.stab_circuit.specs.Steps.{Step}
-use Rattle.stab_steps.specs.Points.{Point, all_coins_of, point_after, outputs}
+use Rattle.stab_steps.specs.Points.{Point, point_after, outputs}
 use Rattle.stab_steps.specs.ProgramStates.{StepFits}
 use Rattle.stab_steps.proofs.RunLemmas.{outputs-append}
 use Rattle.stab_frames.specs.Frames.{Frame}
@@ -14,7 +14,6 @@ use Rattle.stab_frames.specs.StepNotes.{AreEnough}
 use Rattle.stab_frames.specs.KeptStrings.{note_at, AreTrue}
 use Rattle.stab_frames.specs.Walks.{WalkState}
 use Rattle.stab_frames.specs.inner.Passes.{AreTold, GoesOver}
-use Rattle.stab_frames.proofs.OverLemmas.{coins-few}
 use Rattle.stab_frames.proofs.TrueLemmas.{true-front}
 use Rattle.stab_frames.proofs.PassLemmas.{told-enough}
 use Rattle.stab_frames.proofs.GoesOverLemmas.{goes-append}
@@ -45,9 +44,6 @@ pub goes-over : (n m : ℕ) (strings : List (List Letter)) (free : List Bool) (k
 goes-over n m strings free k j xs ys rest old now new e le front same next =
     subst (λ zs. GoesOver n strings free zs old new) (sym (take-over k j xs ys rest e le))
     (goes-append n strings free (take k xs) (take j ys) old now new front (subst (λ i. GoesOver i strings free (take j ys) now new) same next))
-
-pub coin-few : (k : ℕ) (xs : List Step) → all_coins_of (take k xs) ≤ k
-coin-few k xs = omega (arith, coins-few (take k xs), length-take k xs)
 
 -- what it comes to
 

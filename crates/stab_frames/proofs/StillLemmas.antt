@@ -1,5 +1,5 @@
 -- Still: records of which the newest are not flipped, and records behind others.
-use Rattle.std.proofs.Common.{◌≡◌, ℕ, zero, suc, ◌+◌, ◌-◌, ◌<◌, ◌≤◌, refl, sym, ◌∙◌, ap, Bool, false, List, [], ◌∷◌, ◌++◌, append-nil, length, replicate, arith, ◌⊎◌, inl, inr}
+use Rattle.std.proofs.Common.{◌≡◌, ℕ, ◌+◌, ◌-◌, ◌<◌, ◌≤◌, refl, sym, ◌∙◌, Bool, false, List, [], ◌∷◌, ◌++◌, length, replicate, arith, ◌⊎◌, inl, inr}
 use Rattle.std.proofs.lemmas.Bool.{cases_lt}
 use Rattle.std.proofs.lemmas.List.{length-replicate}
 use Rattle.stab_letters.specs.Letters.{◌⊕◌}
@@ -9,7 +9,7 @@ use Rattle.stab_frames.specs.Walks.{WalkState, frame_at, IsGone}
 use Rattle.stab_frames.specs.inner.Weights.{string_weight}
 use Rattle.stab_frames.proofs.WeightLemmas.{weight-none}
 
--- records behind others that are 0, and behind none
+-- records behind others that are 0
 
 pub looked_up-base : (base : ℕ) (bits : List Bool) (k : ℕ) → looked_up (replicate base false ++ bits) k ≡ looked_up bits k
 looked_up-base base bits k = by_place (cases_lt (length bits) k)
@@ -34,20 +34,8 @@ IsStill m bits = (k : ℕ) → k ≤ m → looked_up bits k ≡ false
 pub still-none : (m : ℕ) → IsStill m []
 still-none m k le = looked_up-zeros 0 k
 
-pub looked_up-zero : (bits : List Bool) → looked_up bits 0 ≡ false
-looked_up-zero bits = sym (ap (λ b. looked_up b 0) (append-nil bits)) ∙ looked_up-near bits [] 0 (omega arith) ∙ looked_up-zeros 0 0
-
-pub still-start : (bits : List Bool) → IsStill 0 bits
-still-start bits zero le = looked_up-zero bits
-still-start bits (suc k) le = absurd (omega arith)
-
 pub still-less : (m j : ℕ) (bits : List Bool) → j ≤ m → IsStill m bits → IsStill j bits
 still-less m j bits le is k lk = is k (omega arith)
-
-pub still-more : (m j : ℕ) (bits : List Bool) → j ≤ m + 1 → IsStill m bits → IsStill j (bits ++ false ∷ [])
-still-more m j bits le is k lk =
-    looked_up-more m bits [] (false ∷ []) (λ i l. is i l ∙ sym (looked_up-zeros 0 i)) k (omega arith)
-    ∙ looked_up-zeros 1 k
 
 pub still-longer : (m k j : ℕ) (bits : List Bool) → j ≤ m + k → IsStill m bits → IsStill j (bits ++ replicate k false)
 still-longer m k j bits le is i lk =

@@ -3,6 +3,7 @@ use Rattle.std.proofs.Common.{◌≡◌, ℕ, suc, ◌+◌, ◌-◌, ◌<◌, �
 use Rattle.std.specs.List.{list_any}
 use Rattle.std.proofs.lemmas.List.{take_all, replicate-append-replicate, length-take}
 use Rattle.std.proofs.lemmas.List.Elements.{All-tail, All-head}
+use Rattle.std.proofs.Math.Seq.{take-add}
 use Rattle.stab_letters.specs.declared.letter.Letter.{Letter}
 use Rattle.stab_pauli.specs.Paulis.{single, strings_anticommute}
 use Rattle.stab_lines.specs.declared.range.MeasureTarget.{MeasureTarget}
@@ -26,7 +27,6 @@ use Rattle.stab_frames.specs.inner.Touches.{touches_target}
 use Rattle.stab_frames.proofs.FactorLemmas.{single-anticommute}
 use Rattle.stab_frames.proofs.MeasuredPassLemmas.{passed-still, passes-collapse, told-alike, told-measured}
 use Rattle.stab_frames.proofs.GoesOverLemmas.{goes-none, goes-step, goes-append, fits-mapped, all-mapped}
-use Rattle.stab_frames.proofs.TouchLemmas.{take-part}
 use Rattle.stab_frames.proofs.WalkLemmas.{ones-few}
 
 -- a walk behind so many coins and as many records, none of which it flips
@@ -136,7 +136,7 @@ still-placed : (free : List Bool) (k : ℕ) (w : WalkState) → IsPlaced free w 
 still-placed free k w placed =
     ap (λ j. j + ones (take k (drop w.coin free))) placed
     ∙ sym (ones-append (take w.coin free) (take k (drop w.coin free)))
-    ∙ ap ones (sym (take-part w.coin k free))
+    ∙ ap ones (sym (take-add w.coin k free))
 
 pub targets-fit : (n : ℕ) (how : Measurement) (targets : List MeasureTarget) → All (StepFits n) (map (measured how) targets) → All (λ t. t.qubit < n) targets
 targets-fit n how targets fits = λ i d lt. fits-mapped n n (measured how) targets i d fits lt refl

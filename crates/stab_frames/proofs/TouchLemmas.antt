@@ -1,8 +1,9 @@
 -- Touches: what a frame does not touch leaves it as it was, and steps part by part.
-use Rattle.std.proofs.Common.{◌≡◌, ℕ, ◌+◌, refl, sym, ◌∙◌, ap, subst, Bool, false, List, [], ◌∷◌, ◌++◌, ◌≤◌, length, take, drop, map, get_or, set, All, arith}
+use Rattle.std.proofs.Common.{◌≡◌, ℕ, ◌+◌, refl, sym, ◌∙◌, ap, subst, Bool, false, List, [], ◌∷◌, ◌≤◌, length, take, drop, map, get_or, set, All}
 use Rattle.std.specs.List.{list_any}
-use Rattle.std.proofs.lemmas.List.{take-append-drop, take-take, drop-take, take-map, drop-map, map-append, set-get_or}
+use Rattle.std.proofs.lemmas.List.{take-take, take-map, drop-map, map-append, set-get_or}
 use Rattle.std.proofs.lemmas.List.Elements.{All-take, All-drop}
+use Rattle.std.proofs.Math.Seq.{take-add}
 use Rattle.stab_letters.specs.declared.letter.Letter.{Letter}
 use Rattle.stab_letters.specs.declared.letter.Letter.TheVariants.{I, X, Y, Z}
 use Rattle.stab_letters.specs.declared.gate.PairGate.{PairGate}
@@ -78,16 +79,11 @@ pairs-untouched n axis (p ∷ pairs) w e size = λ strings free placed.
 
 -- steps of targets, so many more of them
 
-pub take-part : {X : Type 0} (i k : ℕ) (xs : List X) → take (i + k) xs ≡ take i xs ++ take k (drop i xs)
-take-part i k xs =
-    sym (take-append-drop i (take (i + k) xs))
-    ∙ (λ j. take-take i (i + k) xs (omega arith) j ++ drop-take i k xs j)
-
 pub goes-part : {X : Type 0} (n m : ℕ) (strings : List (List Letter)) (free : List Bool) (f : X → Step) (xs part : List X) (i k : ℕ) (old now new : WalkState)
     → GoesOver n strings free (map f (take i xs)) old now → m ≡ n → part ≡ take k (drop i xs) → GoesOver m strings free (map f part) now new
     → GoesOver n strings free (map f (take (i + k) xs)) old new
 goes-part n m strings free f xs part i k old now new front same is next =
-    subst (λ ys. GoesOver n strings free ys old new) (sym (ap (map f) (take-part i k xs) ∙ map-append f (take i xs) (take k (drop i xs))))
+    subst (λ ys. GoesOver n strings free ys old new) (sym (ap (map f) (take-add i k xs) ∙ map-append f (take i xs) (take k (drop i xs))))
     (goes-append n strings free (map f (take i xs)) (map f (take k (drop i xs))) old now new front
     (subst (λ j. GoesOver j strings free (map f (take k (drop i xs))) now new) same (subst (λ ys. GoesOver m strings free (map f ys) now new) is next)))
 

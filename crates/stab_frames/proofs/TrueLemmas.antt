@@ -1,29 +1,15 @@
 -- True strings: in parts, by the notes of their coins, and from one run to another.
-use Rattle.std.proofs.Common.{◌≡◌, ℕ, ◌+◌, ◌<◌, ◌≤◌, refl, sym, ◌∙◌, ap, subst, Bool, true, false, List, [], ◌∷◌, ◌++◌, All, arith}
+use Rattle.std.proofs.Common.{◌≡◌, ℕ, ◌+◌, ◌<◌, ◌≤◌, sym, ◌∙◌, ap, subst, Bool, List, [], ◌∷◌, ◌++◌, arith}
 use Rattle.std.specs.Prelude.{Option, Some, None, IfSome}
-use Rattle.std.proofs.lemmas.List.Elements.{All-head, All-tail}
-use Rattle.std.specs.List.{list_any}
-use Rattle.std.proofs.Common.{nat_lt}
 use Rattle.stab_letters.specs.declared.letter.Letter.{Letter}
-use Rattle.stab_letters.specs.Letters.{◌⊕◌}
-use Rattle.stab_pauli.specs.Paulis.{Signed, single, strings_anticommute}
+use Rattle.stab_pauli.specs.Paulis.{Signed, single}
 use Rattle.stab_tableau.specs.Traces.{member}
-use Rattle.stab_tableau.specs.Groups.{SameGroup, IsStabiliserGroup}
-use Rattle.stab_tableau.specs.Turns.{IsTurned}
+use Rattle.stab_tableau.specs.Groups.{SameGroup}
 use Rattle.stab_tableau.specs.Exchanges.{Exchanges}
-use Rattle.stab_circuit.specs.Steps.{Step, one, two, controlled, collapse, product, detector, observable, lookbacks, makes, looks_too_far}
+use Rattle.stab_circuit.specs.Steps.{Step, one, two, controlled, collapse, product, detector, observable}
 use Rattle.stab_steps.specs.Runs.{string_of, measured_by}
 use Rattle.stab_steps.specs.Points.{Point, coins_of, all_coins_of, next_point, point_after}
-use Rattle.stab_steps.specs.ProgramStates.{StepFits}
-use Rattle.stab_laws.specs.Ends.{AgreeBack}
-use Rattle.stab_laws.proofs.LookbackLemmas.{or-left, or-right}
-use Rattle.stab_laws.proofs.FutureBackLemmas.{next-back}
-use Rattle.stab_frames.specs.Frames.{Frame, PointsDifferBy}
-use Rattle.stab_frames.specs.Notes.{same_coins}
-use Rattle.stab_frames.specs.FrameSteps.{frame_after}
-use Rattle.stab_frames.specs.StepNotes.{AreEnough}
 use Rattle.stab_frames.specs.KeptStrings.{AreTrue}
-use Rattle.stab_frames.proofs.StepLemmas.{step-framed, group-next}
 
 -- in parts
 
@@ -88,23 +74,7 @@ true-none n coins strings (x ∷ xs) a none = (
     some-none None = tt
     some-none (Some m) = subst (λ o. IfSome o (λ s. Exchanges n (member a.trace) m s)) (sym (none a.coin (omega arith))) tt
 
--- from one run to another whose groups are turned, or the same
-
-exchanges-turned : (n : ℕ) (f : List Letter) (u v : Signed → Bool) (m : Signed) (s : List Letter) → IsTurned n f u v → Exchanges n u m s → Exchanges n v m s
-exchanges-turned n f u v m s turned is = record {
-  size = is.size;
-  negative = strings_anticommute f s ⊕ is.negative;
-  stabilises =
-      turned (record { negative = strings_anticommute f s ⊕ is.negative; letters = s }) is.size
-      ∙ ap (λ b. u (record { negative = b; letters = s })) (twice (strings_anticommute f s) is.negative)
-      ∙ is.stabilises;
-  apart = is.apart;
-}
-  where
-    twice : (a b : Bool) → a ⊕ (a ⊕ b) ≡ b
-    twice false b = refl
-    twice true false = refl
-    twice true true = refl
+-- from one run to another whose groups are the same
 
 pub exchanges-same : (n : ℕ) (u v : Signed → Bool) (m : Signed) (s : List Letter) → SameGroup n u v → Exchanges n u m s → Exchanges n v m s
 exchanges-same n u v m s same is = record {
@@ -113,39 +83,3 @@ exchanges-same n u v m s same is = record {
   stabilises = sym (same (record { negative = is.negative; letters = s }) is.size) ∙ is.stabilises;
   apart = is.apart;
 }
-
-if-some : (n : ℕ) (u v : Signed → Bool) (measured : Option Signed) (note other : Option (List Letter)) → note ≡ other
-    → ((m : Signed) (s : List Letter) → Exchanges n u m s → Exchanges n v m s)
-    → IfSome measured (λ m. IfSome note (λ s. Exchanges n u m s)) → IfSome measured (λ m. IfSome other (λ s. Exchanges n v m s))
-if-some n u v None note other e over is = tt
-if-some n u v (Some m) note other e over is = subst (λ o. IfSome o (λ s. Exchanges n v m s)) e (inner note is)
-  where
-    inner : (o : Option (List Letter)) → IfSome o (λ s. Exchanges n u m s) → IfSome o (λ s. Exchanges n v m s)
-    inner None is = tt
-    inner (Some s) is = over m s is
-
--- where points differ by a frame for which the strings are enough, they are true of the one run as of the other
-pub true-framed : (n : ℕ) (coins : ℕ → Bool) (strings : ℕ → Option (List Letter)) (xs : List Step) (f : Frame) (a b : Point) → All (StepFits n) xs
-    → IsStabiliserGroup n (member a.trace) → AreEnough n coins (same_coins strings) xs f a → PointsDifferBy n f a b
-    → AreTrue n coins strings xs a → AreTrue n coins strings xs b
-true-framed n coins strings [] f a b fits group enough apart is = tt
-true-framed n coins strings (x ∷ xs) f a b fits group enough apart is =
-    let fit = All-head (StepFits n) x xs fits in
-    let next = step-framed n coins (same_coins strings) x f a b fit group enough.0 apart in (
-      if-some n (member a.trace) (member b.trace) (measured_by n x) (strings a.coin) (strings b.coin) (ap strings (sym apart.coin))
-          (λ m s e. exchanges-turned n f.letters (member a.trace) (member b.trace) m s apart.group e) is.0,
-      true-framed n coins strings xs (frame_after n (same_coins strings) x a.coin f) (next_point n coins x a) (next_point n coins x b)
-          (All-tail (StepFits n) x xs fits) (group-next n coins x a fit group) enough.1 next.1 is.1,
-    )
-
--- and where they agree as far back as the steps look
-pub true-agree : (n : ℕ) (coins : ℕ → Bool) (strings : ℕ → Option (List Letter)) (m : ℕ) (xs : List Step) (a b : Point) → looks_too_far m xs ≡ false
-    → AgreeBack n m a b → AreTrue n coins strings xs a → AreTrue n coins strings xs b
-true-agree n coins strings m [] a b near same is = tt
-true-agree n coins strings m (x ∷ xs) a b near same is = (
-  if-some n (member a.trace) (member b.trace) (measured_by n x) (strings a.coin) (strings b.coin) (ap strings same.coin)
-      (λ q s e. exchanges-same n (member a.trace) (member b.trace) q s same.group e) is.0,
-  true-agree n coins strings (m + makes x) xs (next_point n coins x a) (next_point n coins x b)
-      (or-right (list_any (nat_lt m) (lookbacks x)) (looks_too_far (m + makes x) xs) near)
-      (next-back n m coins a b same x (or-left (list_any (nat_lt m) (lookbacks x)) (looks_too_far (m + makes x) xs) near)) is.1,
-)

@@ -4,16 +4,11 @@ use Rattle.std.proofs.lemmas.List.{take_all, length-replicate, get_or-replicate,
 use Rattle.stab_letters.specs.declared.letter.Letter.{Letter}
 use Rattle.stab_letters.specs.declared.letter.Letter.TheVariants.{I, X, Y, Z}
 use Rattle.stab_letters.specs.Letters.{letter_product}
+use Rattle.stab_letters.proofs.LetterLemmas.{letter_product-I}
 use Rattle.stab_pauli.specs.Paulis.{Signed, single, string_product}
 use Rattle.stab_pauli.proofs.StringLemmas.{string_product-blank_right}
 use Rattle.stab_tableau.specs.Turns.{IsTurned}
 use Rattle.stab_frames.proofs.TurnedLemmas.{turned-blank, turned-over}
-
-product-right : (l : Letter) → letter_product l I ≡ l
-product-right I = refl
-product-right X = refl
-product-right Y = refl
-product-right Z = refl
 
 product-left : (l : Letter) → letter_product I l ≡ l
 product-left I = refl
@@ -29,7 +24,7 @@ partial-next (suc q) m [] size = absurd (omega (arith, size))
 partial-next zero m (l ∷ letters) size =
     (λ i. product-left l i ∷ string_product-blank_right (length letters) (replicate m I) (length-replicate m I ∙ omega (arith, size)) i)
 partial-next (suc q) m (l ∷ letters) size =
-    (λ i. product-right l i ∷ partial-next q m letters (omega (arith, size)) i)
+    (λ i. letter_product-I l i ∷ partial-next q m letters (omega (arith, size)) i)
 
 pub turned-next : (n q : ℕ) (letters : List Letter) (u v w : Signed → Bool) → length letters ≡ n → q < n
     → IsTurned n (take q letters ++ replicate (n - q) I) u v → IsTurned n (single n q (get_or letters q I)).letters v w

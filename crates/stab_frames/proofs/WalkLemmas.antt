@@ -1,20 +1,15 @@
 -- Walks: what loops over lists have done so far, one element more.
 use Rattle.std.proofs.Common.{◌≡◌, ℕ, zero, suc, ◌+◌, ◌<◌, ◌≤◌, refl, sym, ◌∙◌, ap, Bool, true, false, List, [], ◌∷◌, ◌++◌, append_assoc, length, take, drop, get_or, set, replicate, arith}
 use Rattle.std.proofs.lemmas.List.{length-replicate, set-get_or, get_or_default}
-use Rattle.std.proofs.Math.Seq.{drop-cons}
 use Rattle.stab_letters.specs.declared.letter.Letter.{Letter}
 use Rattle.stab_letters.specs.declared.letter.Letter.TheVariants.{I}
-use Rattle.stab_letters.specs.Letters.{◌⊕◌, letters_anticommute, letter_product}
+use Rattle.stab_letters.specs.Letters.{◌⊕◌, letter_product}
 use Rattle.stab_pauli.specs.Paulis.{string_product}
 use Rattle.stab_pauli.proofs.StringLemmas.{string_product-blank_right}
 use Rattle.stab_tableau.proofs.PlaceLemmas.{string_product-set}
-use Rattle.stab_lines.specs.declared.product.Factor.{Factor}
-use Rattle.stab_lines.specs.Axes.{letter_of}
-use Rattle.stab_tableau.specs.Gates.{letter_at}
 use Rattle.stab_steps.specs.Records.{ones}
 use Rattle.stab_frames.specs.Flips.{flipped}
 use Rattle.stab_frames.specs.Walks.{WalkState}
-use Rattle.stab_frames.specs.inner.Passes.{factors_anticommute}
 
 -- a letter that was read
 pub read-letter : (letters : List Letter) (q : ℕ) (l : Letter) → q < length letters → l ≡ get_or letters q l → l ≡ get_or letters q I
@@ -68,16 +63,3 @@ pub ones-few : (bits : List Bool) → ones bits ≤ length bits
 ones-few [] = omega arith
 ones-few (true ∷ bits) = let h = ones-few bits in omega (arith, h)
 ones-few (false ∷ bits) = let h = ones-few bits in omega (arith, h)
-
-pub ones-next : (i : ℕ) (bits : List Bool) → i < length bits → ones (drop i bits) ≡ ones (get_or bits i false ∷ []) + ones (drop (suc i) bits)
-ones-next i bits lt = ap ones (drop-cons bits i false lt) ∙ split (get_or bits i false) (drop (suc i) bits)
-  where
-    split : (b : Bool) (rest : List Bool) → ones (b ∷ rest) ≡ ones (b ∷ []) + ones rest
-    split true rest = omega arith
-    split false rest = omega arith
-
--- factors one after another
-pub factors-next : (f : List Letter) (i : ℕ) (factors : List Factor) (d : Factor) → i < length factors
-    → factors_anticommute f (drop i factors)
-    ≡ letters_anticommute (letter_at f (get_or factors i d).qubit) (letter_of (get_or factors i d).letter) ⊕ factors_anticommute f (drop (suc i) factors)
-factors-next f i factors d lt = ap (factors_anticommute f) (drop-cons factors i d lt)

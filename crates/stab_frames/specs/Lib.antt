@@ -16,9 +16,5 @@ pub mod TurnedTableaus
 pub mod StepLaws
 pub mod AgainLaws
 pub mod NoteLaws
-pub mod StartLaws
-pub mod GateLaws
-pub mod EndLaws
 pub mod RunLaws
-pub mod TableauLaws
 pub mod inner

@@ -1,17 +1,10 @@
 -- Laws of notes: which notes serve which frames, and where notes come from.
 -- Source: this project's own, after the two cases of a measurement in Aaronson and Gottesman 2004, section III.
-use Rattle.std.specs.Prelude.{◌≡◌, ℕ, ◌+◌, ◌<◌, Bool, true, false, List, All, Option, is_some, length, take, slice_index_or}
+use Rattle.std.specs.Prelude.{◌≡◌, ℕ, ◌+◌, ◌<◌, Bool, false, List, All, Option, is_some, length, take, slice_index_or}
 use Rattle.stab_letters.specs.declared.letter.Letter.{Letter}
-use Rattle.stab_letters.specs.declared.letter.Letter.TheVariants.{Z}
-use Rattle.stab_letters.specs.Letters.{letters_anticommute}
 use Rattle.stab_pauli.specs.Paulis.{Signed}
-use Rattle.stab_tableau.specs.Gates.{letter_at}
 use Rattle.stab_tableau.specs.Traces.{Event, member, Fits, IsSound}
 use Rattle.stab_tableau.specs.Groups.{IsStabiliserGroup}
-use Rattle.stab_tableau.specs.Tableaus.{TableauState, stabilises}
-use Rattle.stab_tableau.specs.inner.InverseRows.{string_preimage, IsTable, IsOnto}
-use Rattle.stab_tableau.specs.inner.ColumnLetters.{column}
-use Rattle.stab_tableau.specs.Exchanges.{Exchanges}
 use Rattle.stab_circuit.specs.Steps.{Step}
 use Rattle.stab_steps.specs.Points.{Point, origin, all_coins_of, outputs}
 use Rattle.stab_steps.specs.ProgramStates.{StepFits}
@@ -58,11 +51,3 @@ FlagsTellNotes =
     (n : ℕ) (coins : ℕ → Bool) (strings : ℕ → Option (List Letter)) (xs : List Step) (a : Point) →
     All (StepFits n) xs → IsStabiliserGroup n (member a.trace) → AreRight n coins strings xs a →
     (t : ℕ) → t < all_coins_of xs → slice_index_or (outputs n coins xs a).free t false ≡ is_some (strings (a.coin + t))
-
--- a tableau's stabiliser number k exchanges the outcomes of a string whose preimage has X or Y at place k
-abbrev pub ColumnsExchange : Type 0
-ColumnsExchange =
-    (t : TableauState) → IsTable t.qubits t.rows → IsOnto t.qubits t.rows →
-    (measured : Signed) → length measured.letters ≡ t.qubits → (k : ℕ) → k < t.qubits →
-    letters_anticommute Z (letter_at (string_preimage t.qubits t.rows measured.letters).letters k) ≡ true →
-    Exchanges t.qubits (stabilises t) measured (column Z k t.rows)

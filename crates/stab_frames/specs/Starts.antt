@@ -1,21 +1,11 @@
 -- Starts: what a circuit has in the place of something else, for a frame to begin behind it.
 -- Source: this project's own.
-use Rattle.std.specs.Prelude.{◌≡◌, ℕ, List, [], ◌∷◌, replicate}
+use Rattle.std.specs.Prelude.{ℕ, List, [], ◌∷◌, replicate}
 use Rattle.stab_letters.specs.declared.letter.Letter.{Letter}
 use Rattle.stab_letters.specs.declared.letter.Letter.TheVariants.{I}
-use Rattle.stab_letters.specs.Letters.{◌⊕◌, letters_anticommute}
 use Rattle.stab_pauli.specs.Paulis.{single, string_product}
-use Rattle.stab_letters.specs.declared.gate.Gate.{Gate}
-use Rattle.stab_tableau.specs.Gates.{SignedLetter, letter_image, inverse}
 
 -- one letter on each of some qubits; on one that is named twice it cancels
 abbrev pub letters_on : ℕ → Letter → List ℕ → List Letter
 letters_on n l [] = replicate n I
 letters_on n l (q ∷ qs) = string_product (single n q l).letters (letters_on n l qs)
-
--- the gate h is the gate g with a letter applied behind it
-abbrev pub GatesDifferBy : Gate → Gate → Letter → Type 0
-GatesDifferBy g h l =
-    (m : Letter) →
-    ◌≡◌ {A = SignedLetter} (letter_image (inverse h) m)
-    (record { negative = letters_anticommute l m ⊕ (letter_image (inverse g) m).negative; letter = (letter_image (inverse g) m).letter })

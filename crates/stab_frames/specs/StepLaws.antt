@@ -1,13 +1,15 @@
 -- Laws of steps: steps keep points apart by a frame, and frames multiply.
 -- Source: C. Gidney, Stim (2021), for frames that follow the steps of a circuit; that they are exact, given notes, is this project's own.
-use Rattle.std.specs.Prelude.{◌≡◌, ℕ, Bool, List, All, Option, Some, length}
+use Rattle.std.specs.Prelude.{◌≡◌, ℕ, Bool, false, List, ◌++◌, All, Option, Some, length, replicate}
 use Rattle.stab_letters.specs.declared.letter.Letter.{Letter}
 use Rattle.stab_letters.specs.Letters.{◌⊕◌}
 use Rattle.stab_tableau.specs.Traces.{member}
 use Rattle.stab_tableau.specs.Groups.{IsStabiliserGroup}
+use Rattle.stab_tableau.specs.Turns.{IsTurned}
 use Rattle.stab_circuit.specs.Steps.{Step}
 use Rattle.stab_steps.specs.Points.{Point, origin, given, next_point, point_after, outputs}
 use Rattle.stab_steps.specs.ProgramStates.{StepFits}
+use Rattle.stab_laws.specs.Ends.{AgreeBack}
 use Rattle.stab_frames.specs.Flips.{flipped_output}
 use Rattle.stab_frames.specs.Frames.{Frame, PointsDifferBy, identity_frame, frame_product}
 use Rattle.stab_frames.specs.Notes.{Notes, notes_of, changed}
@@ -55,3 +57,9 @@ FramesAdd =
     ≡ flipped_output (flips_over n (notes_of strings x) xs coin f) (flips_over n (notes_of strings y) xs coin g))
     × (frame_over n (notes_of strings (λ t. x t ⊕ y t)) xs coin (frame_product f g)
     ≡ frame_product (frame_over n (notes_of strings x) xs coin f) (frame_over n (notes_of strings y) xs coin g))
+
+-- where a frame turns nothing and its last m flips are 0, both points agree as far back as rec[-m]
+abbrev pub FramesEnd : Type 0
+FramesEnd =
+    (n m : ℕ) (f : Frame) (early : List Bool) (a b : Point) → PointsDifferBy n f a b → IsTurned n f.letters (member a.trace) (member a.trace) →
+    f.flips ≡ early ++ replicate m false → AgreeBack n m a b

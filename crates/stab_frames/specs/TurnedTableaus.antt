@@ -1,13 +1,12 @@
 -- Turned tableaus: what a frame makes of a tableau is signs of its rows.
 -- Source: this project's own, for the tableau of Aaronson and Gottesman 2004, section III, kept as rows of the inverse.
-use Rattle.std.specs.Prelude.{List, [], ◌∷◌, length}
+use Rattle.std.specs.Prelude.{List, [], ◌∷◌}
 use Rattle.stab_letters.specs.declared.letter.Letter.{Letter}
 use Rattle.stab_letters.specs.declared.letter.Letter.TheVariants.{X, Z}
 use Rattle.stab_letters.specs.Letters.{letters_anticommute}
-use Rattle.stab_pauli.specs.Paulis.{Signed, with_sign}
+use Rattle.stab_pauli.specs.Paulis.{with_sign}
 use Rattle.stab_tableau.specs.Tableaus.{TableauState}
 use Rattle.stab_tableau.specs.inner.InverseRows.{InverseRows}
-use Rattle.stab_tableau.specs.inner.Pairs.{paired}
 
 -- the preimage of X on a qubit with its sign turned where the letter there anticommutes with X, and that of Z likewise
 abbrev pub turned_rows : List Letter → List InverseRows → List InverseRows
@@ -19,14 +18,3 @@ turned_rows (l ∷ f) (r ∷ rows) =
 -- a tableau with such rows
 abbrev pub turned_tableau : List Letter → TableauState → TableauState
 turned_tableau f t = record { qubits = t.qubits; rows = turned_rows f t.rows }
-
--- the tableau whose rows lie two by two, as programs keep them
-abbrev pub tableau_of_pairs : List Signed → TableauState
-tableau_of_pairs rows = record { qubits = length (paired rows); rows = paired rows }
-
--- such rows, where they lie two by two: the signs of rows 2q and 2q + 1
-abbrev pub turned_pairs : List Letter → List Signed → List Signed
-turned_pairs [] rows = rows
-turned_pairs (l ∷ f) [] = []
-turned_pairs (l ∷ f) (x ∷ []) = x ∷ []
-turned_pairs (l ∷ f) (x ∷ z ∷ rows) = with_sign (letters_anticommute l X) x ∷ with_sign (letters_anticommute l Z) z ∷ turned_pairs f rows

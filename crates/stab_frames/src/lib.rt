@@ -7,13 +7,11 @@
 //!
 //! The laws stand in this order; each function of these modules does nothing, and its contract is a law:
 //!
-//! - `step_laws`: steps keep two points apart by a frame; frames multiply, and what they flip adds.
+//! - `step_laws`: steps keep two points apart by a frame; frames multiply, what they flip adds, and when
+//!   a frame is none.
 //! - `note_laws`: which notes are enough for a frame, that each run has right ones, and what tells them.
-//! - `start_laws`: Pauli gates, feedback, inverted records and pairs of gates that begin a frame.
-//! - `end_laws`: when a frame is none, and how far back it may have flipped records by then.
-//! - `run_laws`: whole runs, after an edit by Pauli gates or with other coins, are old ones, flipped.
-//! - `tableau_laws`: a tableau of one run is one of the other, once signs of its rows are turned, and
-//!   what signs tell of a frame.
+//! - `run_laws`: whole runs, after an edit by Pauli gates or with other coins, are old ones, flipped; and
+//!   a tableau of the one is one of the other, once signs of its rows are turned.
 //!
 //! And the calls that keep frames, in the order in which data flows:
 //!
@@ -48,7 +46,6 @@
 #![tactic(auto)]
 
 mod bits;
-pub mod end_laws;
 mod flipped;
 mod keys;
 mod letters;
@@ -61,11 +58,9 @@ mod pass_lists;
 mod pass_steps;
 mod pass_targets;
 pub mod run_laws;
-pub mod start_laws;
 pub mod step_laws;
 mod steps;
 mod strings;
-pub mod tableau_laws;
 mod turned_states;
 mod walk;
 

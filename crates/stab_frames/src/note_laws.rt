@@ -1,6 +1,6 @@
 //! Laws of notes: what has to be known of a run's measurements for a frame to follow it.
 
-ghost use Rattle.stab_frames.specs.NoteLaws.{ColumnsExchange, FlagsTellNotes, FramesHaveCoins, MeasurementsHaveNotes, NotesAreEnoughBefore, RightNotesAreEnough, RunsHaveNotes, TurnedCoinsNeedNoStrings};
+ghost use Rattle.stab_frames.specs.NoteLaws.{FlagsTellNotes, FramesHaveCoins, RightNotesAreEnough, RunsHaveNotes, TurnedCoinsNeedNoStrings};
 
 /// Notes that are right of each measurement of a run are enough for every frame.
 pub fn right_notes_are_enough()
@@ -17,18 +17,7 @@ pub fn frames_have_coins()
     ensures law { FramesHaveCoins }
 {}
 
-/// Notes that are enough for steps are enough for the first of them.
-pub fn notes_are_enough_before()
-    ensures law { NotesAreEnoughBefore }
-{}
-
-/// Of each measurement in a sound trace there is a note: none, for its outcome is fixed, or a string
-/// that exchanges its outcomes.
-pub fn measurements_have_notes()
-    ensures law { MeasurementsHaveNotes }
-{}
-
-/// So there are right notes of each run, and what the laws of steps and runs ask of notes can be met.
+/// There are right notes of each run, so what the laws of steps and runs ask of notes can be met.
 pub fn runs_have_notes()
     ensures law { RunsHaveNotes }
 {}
@@ -36,10 +25,4 @@ pub fn runs_have_notes()
 /// Right notes have a string just where the flags of the run say that the coin decided.
 pub fn flags_tell_notes()
     ensures law { FlagsTellNotes }
-{}
-
-/// A stabiliser of a tableau exchanges the outcomes of each string whose preimage has X or Y at its
-/// place.
-pub fn columns_exchange()
-    ensures law { ColumnsExchange }
 {}

@@ -1,6 +1,6 @@
 //! Laws of whole runs: what an edit by Pauli gates, or other coins, make of a run.
 
-ghost use Rattle.stab_frames.specs.RunLaws.{CoinsFlip, FrontsFlip, FrontsGoOn, FrontsTakePaulis, PauliEditsFlip, PauliFronts};
+ghost use Rattle.stab_frames.specs.RunLaws.{CoinsFlip, CopiesTurn, FrontsFlip, FrontsGoOn, FrontsTakePaulis, PauliEditsFlip};
 
 /// Behind fronts that differ by a frame the same steps make the one run the other, flipped: its
 /// records, flags, detectors and observables.
@@ -19,9 +19,10 @@ pub fn fronts_take_paulis()
     ensures law { FrontsTakePaulis }
 {}
 
-/// Pauli gates in the place of others, behind the same steps, make such fronts.
-pub fn pauli_fronts()
-    ensures law { PauliFronts }
+/// A copy of the state in one of two such runs is one of the other, turned by the frame there: the signs
+/// of its rows are turned by the letters.
+pub fn copies_turn()
+    ensures law { CopiesTurn }
 {}
 
 /// So an edit that puts Pauli gates in the place of others, puts some in or takes some out, makes of

@@ -1,6 +1,6 @@
 //! Laws of steps: what becomes of a frame on the way.
 
-ghost use Rattle.stab_frames.specs.StepLaws.{FramesAdd, FramesCompose, PointsHaveGroups, RunsKeepFrames, StepsKeepFrames};
+ghost use Rattle.stab_frames.specs.StepLaws.{FramesAdd, FramesCompose, FramesEnd, PointsHaveGroups, RunsKeepFrames, StepsKeepFrames};
 ghost use Rattle.stab_frames.specs.AgainLaws.{StepsComeTurned};
 
 /// From two points that differ by a frame a step leads to two that differ by the frame behind it, and
@@ -28,6 +28,12 @@ pub fn frames_compose()
 /// What the product of two frames flips is what each flips, added.
 pub fn frames_add()
     ensures law { FramesAdd }
+{}
+
+/// A frame that turns nothing, and has flipped none of the newest m records, leaves two points that
+/// agree as far back as these.
+pub fn frames_end()
+    ensures law { FramesEnd }
 {}
 
 /// Where a run comes to a point that is as an earlier one but for a frame, as far back as its steps look, steps give there what

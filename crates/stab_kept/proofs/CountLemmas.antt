@@ -1,5 +1,5 @@
 -- Counts: how many steps a replay of an edited circuit carries out, from where it begins to where it ends.
-use Rattle.std.proofs.Common.{◌≡◌, ℕ, zero, suc, ◌+◌, ◌-◌, ◌*◌, ◌^◌, ◌<◌, ◌≤◌, max, false, refl, sym, ◌∙◌, ap, subst, Bool, ◌⊎◌, inl, inr, List, [], ◌∷◌, ◌++◌, length, take, drop, All, Option, Some, None, arith}
+use Rattle.std.proofs.Common.{◌≡◌, ℕ, zero, suc, ◌+◌, ◌-◌, ◌*◌, ◌^◌, ◌<◌, ◌≤◌, max, false, refl, sym, ◌∙◌, ap, subst, Bool, ◌⊎◌, inl, inr, List, [], ◌∷◌, length, take, drop, All, Option, Some, None, arith}
 use Rattle.std.specs.Prelude.{IfSome, IsSomeAnd, MatchOption, option_map, slice_get, if◌then◌else◌}
 use Rattle.std.proofs.lemmas.Bool.{cases_lt}
 use Rattle.std.proofs.lemmas.Bool.Decides.{leb_tells}
@@ -29,6 +29,7 @@ use Rattle.stab_kept.specs.KeptRuns.{IsKeptRun, IsSpan, AgreeBehindSpan, AgreeBa
 use Rattle.stab_replay.specs.Replays.{IsEnd, Misses, EndsSoon, step_among_new}
 use Rattle.stab_copies.specs.Meets.{Meets}
 use Rattle.stab_laws.proofs.PointLemmas.{front-output}
+use Rattle.stab_laws.proofs.CoinLemmas.{coins-append}
 use Rattle.stab_replay.proofs.PointLemmas.{meets-agree, agree-later}
 use Rattle.stab_kept.proofs.SpacingLemmas.{IsBefore, IsNearCopy, near-copy, behind-near, all-behind, moved-within}
 use Rattle.stab_kept.proofs.FollowLemmas.{at-get, some-at, if-some, some-and, from-drop, same-rest, all-next, front-spaced}
@@ -256,10 +257,6 @@ module _ (n : ℕ) (coins : ℕ → Bool) (K : ℕ) (xs : List Step) (count : �
         record { end = end; count = omega (arith, here, last, counted); ends = ends; none_before = none }
 
 -- coins of some of the steps
-
-coins-append : (xs ys : List Step) → all_coins_of (xs ++ ys) ≡ all_coins_of xs + all_coins_of ys
-coins-append [] ys = omega arith
-coins-append (x ∷ xs) ys = omega (arith, coins-append xs ys)
 
 pub coins-behind : (i : ℕ) (xs : List Step) → all_coins_of (drop i xs) ≤ all_coins_of xs
 coins-behind i xs = omega (arith, ap all_coins_of (take-append-drop i xs), coins-append (take i xs) (drop i xs))

@@ -12,6 +12,7 @@ use Rattle.stab_replay.specs.declared.replay.End.{End}
 use Rattle.stab_replay.specs.declared.replay.End.TheVariants.{Last, Joined}
 use Rattle.stab_kept.specs.declared.kept.KeptRun.{KeptRun}
 use Rattle.stab_circuit.specs.declared.edit.Span.{Span}
+use Rattle.stab_laws.proofs.CoinLemmas.{coins-steps}
 use Rattle.stab_kept.specs.declared.kept.Prepared.{Prepared}
 use Rattle.stab_kept.specs.declared.kept.Rest.{Rest}
 use Rattle.stab_run.specs.Records.{ones}
@@ -27,7 +28,6 @@ use Rattle.stab_replay.specs.NotedStrings.{IsNoted}
 use Rattle.stab_replay.specs.Replays.{IsReplay, Ascending, IsEnd, EndsSoon, step_among_new}
 use Rattle.stab_copies.specs.Meets.{Meets}
 use Rattle.stab_kept.specs.inner.Prepared.{IsCount, Begins, HasCopy, IsRest, IsOldRest, IsPrepared, IsCommitted, copies_behind, meeting_of}
-use Rattle.stab_replay.proofs.ReplayLemmas.{coins-steps}
 use Rattle.stab_kept.proofs.SpacingLemmas.{IsBefore}
 use Rattle.stab_kept.proofs.FollowLemmas.{are-moved, some-at, some-and, prepared-same, committed-same, before-first, begun, same-records, next-behind, all-ascending, all-qubits, kept-end, end-flags}
 use Rattle.stab_kept.proofs.CountLemmas.{applied-within, few-steps, ends-at, none-before, is-counted}

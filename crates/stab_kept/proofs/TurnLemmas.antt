@@ -5,6 +5,7 @@ use Rattle.std.proofs.lemmas.Bool.{cases_lt}
 use Rattle.std.proofs.lemmas.List.{drop-drop}
 use Rattle.std.proofs.lemmas.List.Elements.{All-append, All-drop, All-head, All-nil, All-weaker}
 use Rattle.std.proofs.lemmas.Option.{slice_get-map, slice_get_within}
+use Rattle.std.proofs.Math.Seq.{take-add}
 use Rattle.stab_pauli.specs.Paulis.{with_sign, strings_anticommute}
 use Rattle.stab_tableau.specs.Traces.{member}
 use Rattle.stab_tableau.specs.Tableaus.{TableauState, stabilises}
@@ -26,12 +27,12 @@ use Rattle.stab_frames.specs.Walks.{WalkState}
 use Rattle.stab_copies.specs.declared.checkpoint.Checkpoint.{Checkpoint}
 use Rattle.stab_copies.specs.Checkpoints.{IsCheckpoint, checkpoint_steps}
 use Rattle.stab_copies.specs.LaidCopies.{moved}
-use Rattle.stab_copies.proofs.TakeLemmas.{take-more}
 use Rattle.stab_copies.specs.Spacing.{IsSpaced, Near, last_of}
 use Rattle.stab_replay.specs.declared.replay.Plan.{Plan}
 use Rattle.stab_replay.specs.NotedStrings.{IsNoted}
 use Rattle.stab_replay.specs.Replays.{Misses, EndsSoon, step_among_new}
 use Rattle.stab_replay.proofs.NotedLemmas.{near-enough}
+use Rattle.stab_replay.proofs.CutLemmas.{get-drop}
 use Rattle.stab_kept.specs.declared.kept.KeptRun.{KeptRun}
 use Rattle.stab_kept.specs.declared.kept.Followed.{Followed}
 use Rattle.stab_kept.specs.declared.turning.Turning.{Turning}
@@ -89,17 +90,6 @@ kept-records n coins K xs count r kept c is =
     (λ i. take (is.lengths i).records (kept.run.output i).records)
     ∙ ap (λ (o : RunOutput). o.records) (front-output n coins xs c.step)
 
-none-more : (k : ℕ) → k ≡ 0 + k
-none-more k = omega arith
-
-one-more : (m k : ℕ) → suc (m + k) ≡ suc m + k
-one-more m k = omega arith
-
-get-dropped : {X : Type 0} (m k : ℕ) (xs : List X) → slice_get (drop m xs) k ≡ slice_get xs (m + k)
-get-dropped zero k xs = ap (slice_get xs) (none-more k)
-get-dropped (suc m) k [] = refl
-get-dropped (suc m) k (x ∷ xs) = get-dropped m k xs ∙ ap (slice_get (x ∷ xs)) (one-more m k)
-
 -- so many copies stand before a step behind another one, and those from there up to another count before the end of a span
 pub record AreInside (s : Span) (copies : List Checkpoint) (m k : ℕ) : Type 0 where
   pub order : m ≤ k
@@ -127,7 +117,7 @@ before-end s copies m k inside counted =
     all-before : m < k → All (λ c. c.step < s.old_end) (take k copies)
     all-before lt =
         subst (All (λ c. c.step < s.old_end))
-        (sym (take-more m (k - m) copies) ∙ ap (λ i. take i copies) {x = m + (k - m)} {y = k} (omega (arith, lt)))
+        (sym (take-add m (k - m) copies) ∙ ap (λ i. take i copies) {x = m + (k - m)} {y = k} (omega (arith, lt)))
         (All-append (λ c. c.step < s.old_end) (take m copies) (take (k - m) (drop m copies))
         (All-weaker (λ c. c.step < s.first + 1) (λ c. c.step < s.old_end)
         (λ c before. let there : s.first + 1 < s.old_end =
@@ -215,7 +205,7 @@ module _ {n : ℕ} {coins : ℕ → Bool} {K : ℕ} {xs ys : List Step} {s : Spa
         → Misses n coins plan ys old.outputs.records.items c
     missed k c from before here zs also records agree =
         tells.apart (k - j) c (omega (arith, from, before))
-        (get-dropped j (k - j) old.checkpoints.items ∙ ap (slice_get old.checkpoints.items) (omega (arith, from)) ∙ here)
+        (get-drop j (k - j) old.checkpoints.items ∙ ap (slice_get old.checkpoints.items) (omega (arith, from)) ∙ here)
         (agree-trans n (point_after n coins (take c.step xs) origin) (point_after n coins (take c.step zs) origin)
         (point_after n coins (take (s.new_end + (c.step - s.old_end)) ys) origin)
         (copy-agrees n coins xs zs c old.outputs.records.items (is-copy k c here) also (kept-records n coins K xs count old kept c (is-copy k c here)) records)
@@ -303,7 +293,7 @@ module _ {n : ℕ} {coins : ℕ → Bool} {K : ℕ} {xs ys : List Step} {s : Spa
               ∙ drop-drop (d.step - s.old_end) s.new_end ys in
               let agreed : AgreeBack n old.reach (point_after n coins (take (s.old_end + (d.step - s.old_end)) zs) origin) (point_after n coins (take (s.new_end + (d.step - s.old_end)) ys) origin) =
               subst (λ k. AgreeBack n old.reach (point_after n coins (take k zs) origin) (point_after n coins (take (s.new_end + (d.step - s.old_end)) ys) origin)) (omega (arith, after))
-              (agrees-back (j + length t.turned.items) d is (tells.agree d (get-dropped j (length t.turned.items) old.checkpoints.items ∙ is))) in
+              (agrees-back (j + length t.turned.items) d is (tells.agree d (get-drop j (length t.turned.items) old.checkpoints.items ∙ is))) in
               let agree : AgreeBackBehindSpan n coins zs ys s (d.step - s.old_end) = (
                 inl agreed.coin,
                 old.reach,

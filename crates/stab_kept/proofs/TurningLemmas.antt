@@ -4,6 +4,7 @@ use Rattle.std.specs.Prelude.{IfSome, slice_get}
 use Rattle.std.proofs.lemmas.List.{length-append, length-drop, length-take, drop-take}
 use Rattle.std.proofs.lemmas.List.Elements.{All-drop}
 use Rattle.std.proofs.lemmas.Option.{get_or_from_slice_get}
+use Rattle.std.proofs.Math.Seq.{take-add}
 use Rattle.stab_letters.specs.declared.letter.Letter.{Letter}
 use Rattle.stab_tableau.specs.Tableaus.{TableauState}
 use Rattle.stab_circuit.specs.Steps.{Step}
@@ -14,7 +15,6 @@ use Rattle.stab_run.specs.Cuts.{lengths_of}
 use Rattle.stab_laws.proofs.PointLemmas.{HasAtMost, outputs-short, cut}
 use Rattle.stab_copies.specs.declared.checkpoint.Checkpoint.{Checkpoint}
 use Rattle.stab_copies.specs.Checkpoints.{IsCheckpoint}
-use Rattle.stab_copies.proofs.TakeLemmas.{take-more}
 use Rattle.stab_steps.proofs.RunLemmas.{outputs-append}
 use Rattle.stab_turns.specs.LongerLists.{longer, AreBelow}
 use Rattle.stab_frames.specs.Walks.{WalkState}
@@ -53,9 +53,6 @@ module _ {n : ℕ} {coins : ℕ → Bool} {K : ℕ} {xs ys : List Step} {s : Spa
     (few : length ys ≤ 1048576) (counted : IsCount (s.first + 1) old.checkpoints.items m) where
   abbrev pub before : IsBefore K (length xs) s.first m old.checkpoints.items
   before = before-first n coins K xs count old kept ys s span m counted.within counted.before counted.behind
-
-  pub some-copies : 1 ≤ m
-  some-copies = let o = before.some in omega arith
 
   pub copy-is : (c : Checkpoint) → c ≡ get_or old.checkpoints.items (m - 1) c → slice_get old.checkpoints.items (m - 1) ≡ Some c
   copy-is c e = before.here ∙ ap (λ d. Some d) (sym (e ∙ get_or_from_slice_get old.checkpoints.items (m - 1) before.copy c before.here))
@@ -98,7 +95,7 @@ module _ {n : ℕ} {coins : ℕ → Bool} {K : ℕ} {xs ys : List Step} {s : Spa
         ∙ lengths-longer (outputs n coins (take c.step xs) origin) (outputs n coins (take (s.first - c.step) (drop c.step xs)) (point_after n coins (take c.step xs) origin))
         (outputs n coins (take s.first xs) origin)
         (ap (λ zs. outputs n coins zs origin)
-        (ap (λ k. take k xs) (omega (arith, copy-before)) ∙ take-more c.step (s.first - c.step) xs)
+        (ap (λ k. take k xs) (omega (arith, copy-before)) ∙ take-add c.step (s.first - c.step) xs)
         ∙ outputs-append n coins (take c.step xs) (take (s.first - c.step) (drop c.step xs)) origin)
       where
         between : take (s.first - c.step) (drop c.step ys) ≡ take (s.first - c.step) (drop c.step xs)

@@ -108,10 +108,10 @@ within-rounds : (n count : ℕ) (xs : List Step) → All (IsWithin n) xs → All
 within-rounds n zero xs w = All-nil (IsWithin n)
 within-rounds n (suc count) xs w = All-append (IsWithin n) xs (rounds count xs) w (within-rounds n count xs w)
 
-max-left : (a b n : ℕ) → max a b ≤ n → a ≤ n
+pub max-left : (a b n : ℕ) → max a b ≤ n → a ≤ n
 max-left a b n le = omega arith
 
-max-right : (a b n : ℕ) → max a b ≤ n → b ≤ n
+pub max-right : (a b n : ℕ) → max a b ≤ n → b ≤ n
 max-right a b n le = omega arith
 
 within-items : (n : ℕ) (items : Items) → qubits_of items ≤ n → All (IsWithin n) (unroll items)

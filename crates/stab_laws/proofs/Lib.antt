@@ -7,4 +7,5 @@ pub mod RoundLemmas
 pub mod PointLemmas
 pub mod FitLemmas
 pub mod SoundLemmas
+pub mod CoinLemmas
 pub mod StepsLeftLemmas

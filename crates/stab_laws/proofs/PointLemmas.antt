@@ -8,7 +8,7 @@ use Rattle.stab_steps.proofs.RunLemmas.{outputs-append}
 
 -- the flags and records behind some steps
 
-flags-given : (n : ℕ) (coins : ℕ → Bool) (x : Step) (p : Point) → length (given n coins x p).free ≡ coins_of x
+pub flags-given : (n : ℕ) (coins : ℕ → Bool) (x : Step) (p : Point) → length (given n coins x p).free ≡ coins_of x
 flags-given n coins (one g q) p = refl
 flags-given n coins (two g a b) p = refl
 flags-given n coins (controlled l k q) p = refl

@@ -23,11 +23,11 @@ pub record IsGood (n : ℕ) (trace : List Event) : Type 0 where
   pub fits : Fits n trace
   pub sound : IsSound trace
 
-good-applied : (n : ℕ) (bit : Bool) (l : Letter) (q : ℕ) (t : List Event) → q < n → IsGood n t → IsGood n (applied_where bit l q t)
+pub good-applied : (n : ℕ) (bit : Bool) (l : Letter) (q : ℕ) (t : List Event) → q < n → IsGood n t → IsGood n (applied_where bit l q t)
 good-applied n true l q t lt good = record { fits = (lt, good.fits); sound = good.sound }
 good-applied n false l q t lt good = good
 
-good-projected : (n : ℕ) (p : Signed) (t : List Event) (coin : Bool) → length p.letters ≡ n → IsGood n t → IsGood n (projected p (outcome t p coin) ∷ t)
+pub good-projected : (n : ℕ) (p : Signed) (t : List Event) (coin : Bool) → length p.letters ≡ n → IsGood n t → IsGood n (projected p (outcome t p coin) ∷ t)
 good-projected n p t coin size good = record { fits = (size, good.fits); sound = IsSound-outcome n t good.fits good.sound p size coin }
 
 good-effect : (n : ℕ) (coins : ℕ → Bool) (x : Step) (s : State) → StepFits n x → IsGood n s.trace → IsGood n (effect n coins x s).trace

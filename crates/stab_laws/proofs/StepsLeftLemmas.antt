@@ -18,11 +18,6 @@ drop-steps k m xs ys rest e count l = ap (drop k) e ∙ ap (λ t. drop t (ys ++ 
     whole : k ≡ length ys + (k - m)
     whole = omega arith
 
--- the coin numbers that steps use up, and then others
-pub coins-append : (xs ys : List Step) → all_coins_of (xs ++ ys) ≡ all_coins_of xs + all_coins_of ys
-coins-append [] ys = omega arith
-coins-append (x ∷ xs) ys = let e = coins-append xs ys in omega (arith, e)
-
 -- where none are to be carried out, or none are left
 
 pub take-none : (k : ℕ) (xs : List Step) → k ≤ 0 → take k xs ≡ []

@@ -22,6 +22,7 @@ use Rattle.stab_lines.proofs.FrontTargetLemmas.{starts_same, closing_is}
 use Rattle.stab_lines.proofs.CoordinateLemmas.{each_coordinate, no_coordinate}
 use Rattle.stab_lines.proofs.ShapeLemmas.{each_all, brackets_again, no_brackets, shaped_again, spaced_apart, brace_free}
 use Rattle.stab_lines.proofs.MeaningLemmas.{kind_name_again, letter_means}
+use Rattle.std.proofs.lemmas.Bool.{not-true}
 
 -- the bytes in front that pass, pass
 all_cut : (p : ℕ → Bool) (x : ℕ) (xs : List ℕ) (b : Bool) → p x ≡ b → list_all p (take (prefix_len p xs) xs) ≡ true → list_all p (take (if b then 1 + prefix_len p xs else 0) (x ∷ xs)) ≡ true
@@ -44,17 +45,13 @@ detector_cut content bytes inside rest behind n s b m i r c d w = (
   w,
 )
 
-not_true : (b : Bool) → not b ≡ true → b ≡ false
-not_true true e = cc
-not_true false e = refl
-
 inner_unclosed : (xs : List ℕ) → list_all is_inner xs ≡ true → Free (is_byte 41) xs
 inner_unclosed xs h =
-    each_weaker (λ b. is_inner b ≡ true) (λ b. is_byte 41 b ≡ false) xs (λ b e. not_true (b == 41) (and_right (not (is_brace b)) (not (b == 41)) e)) (each_all is_inner xs h)
+    each_weaker (λ b. is_inner b ≡ true) (λ b. is_byte 41 b ≡ false) xs (λ b e. not-true (b == 41) (and_right (not (is_brace b)) (not (b == 41)) e)) (each_all is_inner xs h)
 
 inner_unbraced : (xs : List ℕ) → list_all is_inner xs ≡ true → Free is_brace xs
 inner_unbraced xs h =
-    each_weaker (λ b. is_inner b ≡ true) (λ b. is_brace b ≡ false) xs (λ b e. not_true (is_brace b) (and_left (not (is_brace b)) (not (b == 41)) e)) (each_all is_inner xs h)
+    each_weaker (λ b. is_inner b ≡ true) (λ b. is_brace b ≡ false) xs (λ b e. not-true (is_brace b) (and_left (not (is_brace b)) (not (b == 41)) e)) (each_all is_inner xs h)
 
 end_apart : (bs : List ℕ) → is_word_end bs ≡ true → is_apart bs ≡ true
 unfolding is_apart

@@ -1,9 +1,8 @@
 -- The line of a detector that is read off the front of a text.
-use Rattle.std.proofs.Common.{◌≡◌, ◌<◌, ℕ, ◌+◌, suc, Bool, true, false, ◌&&◌, ◌||◌, ◌==◌, List, [], ◌∷◌, ◌++◌, length, take, drop, get_or, map, All, codes, Option, None, Some, MatchOption, Ok, refl, sym, ap, subst, ◌∙◌, arith, drop-cons, append_assoc, append-nil, if◌then◌else◌, ◌⊎◌, inl, inr, nat_eq, length-drop}
+use Rattle.std.proofs.Common.{◌≡◌, ◌<◌, ℕ, ◌+◌, suc, Bool, true, false, ◌&&◌, ◌||◌, ◌==◌, List, [], ◌∷◌, ◌++◌, length, take, drop, get_or, map, codes, Option, None, Some, MatchOption, Ok, refl, sym, ap, subst, ◌∙◌, arith, drop-cons, append_assoc, append-nil, if◌then◌else◌, ◌⊎◌, inl, inr, nat_eq, length-drop}
 use Rattle.std.specs.List.{list_all, list_any, slice_split, onto_first, prefix_len, starts_with}
 use Rattle.std.proofs.lemmas.Bool.Decides.{nat_tests}
 use Rattle.std.proofs.lemmas.List.{length-append, take-append-drop}
-use Rattle.std.proofs.lemmas.List.Elements.{All-nil, All-cons}
 use Rattle.std.proofs.lemmas.List.Splits.{slice_split-cons_yes, slice_split-cons_no}
 use Rattle.stab_lines.specs.declared.operation.Kind.TheVariants as kind
 use Rattle.stab_lines.specs.declared.meanings.Line.TheVariants as line
@@ -159,11 +158,6 @@ listed_coordinates bs h = blank (is_blank bs)
     blank : (b : Bool) → list_all is_coordinate (if b then [] else map trimmed (slice_split comma bs)) ≡ true
     blank true = refl
     blank false = pieces_coordinates (slice_split comma bs) (listed_pieces false bs h)
-
--- records are in range
-pub spaced_in_range : (bs : List ℕ) (ks : List ℕ) (rest : List ℕ) → AreSpacedRecords bs ks rest → All IsLookback ks
-spaced_in_range bs [] rest h = All-nil IsLookback
-spaced_in_range bs (k ∷ ks) rest h = All-cons IsLookback k ks h.1.4 (spaced_in_range h.0 ks rest h.2)
 
 -- records as they are printed, one behind the other
 pub record AreRecords (ks text : List ℕ) : Type 0 where

@@ -5,6 +5,7 @@ use Rattle.std.proofs.lemmas.List.{length-append, reverse-append}
 use Rattle.std.proofs.lemmas.List.Splits.{slice_split-cons_yes, slice_split-cons_no}
 use Rattle.stab_lines.specs.Lines.{is_byte, is_digit, has_byte, starts_with_byte, ends_with_byte}
 use Rattle.stab_lines.proofs.BoolLemmas.{and_left, and_right}
+use Rattle.std.proofs.lemmas.Bool.{or_parts}
 
 -- each element has P
 abbrev pub Each : {A : Type 0} → (A → Type 0) → List A → Type 0
@@ -126,13 +127,9 @@ pub any_free : (p : ℕ → Bool) (xs : List ℕ) → Free p xs → list_any p x
 any_free p [] f = refl
 any_free p (x ∷ xs) f = ap (λ b. b || list_any p xs) f.0 ∙ any_free p xs f.1
 
-neither : (a b : Bool) → (a || b) ≡ false → (a ≡ false) × (b ≡ false)
-neither true b e = cc
-neither false b e = (refl, e)
-
 pub free_any : (p : ℕ → Bool) (xs : List ℕ) → list_any p xs ≡ false → Free p xs
 free_any p [] e = tt
-free_any p (x ∷ xs) e = let both = neither (p x) (list_any p xs) e in (both.0, free_any p xs both.1)
+free_any p (x ∷ xs) e = let both = or_parts (p x) (list_any p xs) e in (both.0, free_any p xs both.1)
 
 free_reverse : (p : ℕ → Bool) (xs : List ℕ) → Free p xs → Free p (reverse xs)
 free_reverse p [] f = tt

@@ -6,11 +6,11 @@ use Rattle.std.proofs.lemmas.List.{get_or-take}
 use Rattle.std.proofs.lemmas.List.Sums.{position_or_len_is}
 use Rattle.std.proofs.lemmas.List.Folds.{list_all_at}
 use Rattle.stab_lines.specs.Lines.{is_spacing, is_digit, trimmed_front}
-use Rattle.stab_lines.specs.Words.{words, is_some_word, value}
+use Rattle.stab_lines.specs.Words.{is_some_word, value}
 use Rattle.stab_lines.specs.inner.Numbers.{is_word_end, BeginsWithNumber, IsBehindWord}
 use Rattle.stab_lines.proofs.BoolLemmas.{both, and_left}
 use Rattle.stab_lines.proofs.FreeLemmas.{prefix_no}
-use Rattle.stab_lines.proofs.PieceLemmas.{one_word, rest_shorter, words_spacing}
+use Rattle.stab_lines.proofs.PieceLemmas.{one_word, rest_shorter}
 
 -- a digit is no spacing
 pub digit_solid : (b : ℕ) → is_digit b ≡ true → is_spacing b ≡ false
@@ -51,10 +51,6 @@ pub number_ends : (bs front rest : List ℕ) (n : ℕ) → front ≡ trimmed_fro
 number_ends bs front rest n e some within digits behind =
     let shorter = rest_shorter bs front n e (omega (arith, some, within)) (number_place front n within digits behind.0) in
     omega (arith, shorter, behind.2)
-
--- spacing that ends a word makes none
-pub spacing_behind : (b : ℕ) (bs : List ℕ) → is_spacing b ≡ true → words bs ≡ words (b ∷ bs)
-spacing_behind b bs e = sym (words_spacing b bs e)
 
 -- there is no spacing before digits
 pub digits_front : (bs : List ℕ) (n : ℕ) → 0 < n → n ≤ length bs → list_all is_digit (take n bs) ≡ true → bs ≡ trimmed_front bs

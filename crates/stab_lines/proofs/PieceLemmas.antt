@@ -7,6 +7,7 @@ use Rattle.std.proofs.lemmas.List.Sums.{prefix_len_stops, prefix_len-le-length, 
 use Rattle.stab_lines.specs.Lines.{is_spacing, trimmed_front}
 use Rattle.stab_lines.specs.Words.{words, is_some_word, is_blank}
 use Rattle.stab_lines.proofs.BoolLemmas.{and_left, and_right}
+use Rattle.std.proofs.lemmas.Bool.{not-false}
 
 -- spacing in front makes no word
 pub words_spacing : (x : ℕ) (xs : List ℕ) → is_spacing x ≡ true → words (x ∷ xs) ≡ words xs
@@ -60,17 +61,13 @@ some_kept (b ∷ bs) ws h = grind arith
 position_solid : (x : ℕ) (xs : List ℕ) → is_spacing x ≡ false → 0 < position_or_len is_spacing (x ∷ xs)
 position_solid x xs e = let one = ap (λ b. if not b then 1 + position_or_len is_spacing xs else 0) e in omega (arith, one)
 
-not_not : (b : Bool) → not b ≡ false → b ≡ true
-not_not true e = refl
-not_not false e = cc
-
 -- where spacing follows, the rest begins after it
 rest_spacing : (bs : List ℕ) (n : ℕ) → n ≡ position_or_len is_spacing bs → n < length bs → words (drop n bs) ≡ words (drop (n + 1) bs)
 rest_spacing bs n e h =
     let here : position_or_len is_spacing bs < length bs = omega (arith, e, h) in
     let stop : not (is_spacing (get_or bs n 0)) ≡ false = ap (λ m. not (is_spacing (get_or bs m 0))) e ∙ prefix_len_stops (λ x. not (is_spacing x)) bs 0 here in
     let one : suc n ≡ n + 1 = omega arith in
-    ap words (drop-cons bs n 0 h) ∙ words_spacing (get_or bs n 0) (drop (suc n) bs) (not_not (is_spacing (get_or bs n 0)) stop) ∙ ap (λ m. words (drop m bs)) one
+    ap words (drop-cons bs n 0 h) ∙ words_spacing (get_or bs n 0) (drop (suc n) bs) (not-false (is_spacing (get_or bs n 0)) stop) ∙ ap (λ m. words (drop m bs)) one
 
 -- the first word, and those after it
 pub words_first : (bs : List ℕ) (x : ℕ) (xs : List ℕ) (n : ℕ) → bs ≡ x ∷ xs → is_spacing x ≡ false → n ≡ position_or_len is_spacing bs

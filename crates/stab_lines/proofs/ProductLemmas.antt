@@ -1,7 +1,8 @@
 -- Products: whether a qubit stands twice.
-use Rattle.std.proofs.Common.{◌≡◌, ◌<◌, ℕ, ◌+◌, zero, suc, Bool, true, false, ◌||◌, List, [], ◌∷◌, length, drop, get_or, refl, ap, ◌∙◌, arith, drop-cons}
+use Rattle.std.proofs.Common.{◌≡◌, ◌<◌, ℕ, ◌+◌, zero, suc, true, ◌||◌, List, [], ◌∷◌, length, drop, get_or, ap, ◌∙◌, arith, drop-cons}
 use Rattle.stab_lines.specs.declared.product.Factor.{Factor}
 use Rattle.stab_lines.specs.Products.{is_on, names_twice}
+use Rattle.std.proofs.lemmas.Bool.{or_right, or_left}
 
 -- from a place on: that factor's qubit among the later ones, or one of these
 pub twice_from : (fs : List Factor) (i : ℕ) (d : Factor) → i < length fs → names_twice (drop i fs) ≡ (is_on (get_or fs i d).qubit (drop (i + 1) fs) || names_twice (drop (i + 1) fs))
@@ -9,19 +10,12 @@ twice_from fs i d h =
     let next' : suc i ≡ i + 1 = omega arith in
     ap names_twice (drop-cons fs i d h) ∙ ap (λ n. is_on (get_or fs i d).qubit (drop n fs) || names_twice (drop n fs)) next'
 
-or_right : (a b : Bool) → b ≡ true → (a || b) ≡ true
-or_right true b e = refl
-or_right false b e = e
-
 -- what stands twice from a place on stands twice
 pub twice_before : (i : ℕ) (fs : List Factor) → names_twice (drop i fs) ≡ true → names_twice fs ≡ true
 twice_before zero [] e = e
 twice_before zero (f ∷ fs) e = e
 twice_before (suc i) [] e = e
 twice_before (suc i) (f ∷ fs) e = or_right (is_on f.qubit fs) (names_twice fs) (twice_before i fs e)
-
-or_left : (a b : Bool) → a ≡ true → (a || b) ≡ true
-or_left a b e = ap (λ c. c || b) e
 
 -- a qubit that stands again behind its factor
 pub twice_found : (fs : List Factor) (i : ℕ) (d : Factor) → i < length fs → is_on (get_or fs i d).qubit (drop (i + 1) fs) ≡ true → names_twice fs ≡ true

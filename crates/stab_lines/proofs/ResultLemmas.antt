@@ -17,12 +17,3 @@ behind_more front x (Err e) = refl
 -- one element more
 pub behind_next : {A X E : Type 0} (f : A → Result X E) (front : List X) (a : A) (more : List A) (x : X) → f a ≡ Ok x → behind front (each f (a ∷ more)) ≡ behind (front ++ x ∷ []) (each f more)
 behind_next f front a more x e = ap (λ r. behind front (r >>= λ first. each f more >>= λ rest. Ok (first ∷ rest))) e ∙ behind_more front x (each f more)
-
--- an element that is refused
-pub behind_refused : {A X E : Type 0} (f : A → Result X E) (front : List X) (a : A) (more : List A) (r : E) → f a ≡ Err r → behind front (each f (a ∷ more)) ≡ Err r
-behind_refused f front a more r e = ap (λ given. behind front (given >>= λ first. each f more >>= λ rest. Ok (first ∷ rest))) e
-
--- nothing in front
-pub behind-nil : {X E : Type 0} (given : Result (List X) E) → behind [] given ≡ given
-behind-nil (Ok xs) = refl
-behind-nil (Err e) = refl

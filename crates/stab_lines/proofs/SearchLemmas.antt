@@ -1,10 +1,11 @@
 -- Searches for a byte that pass over runs of other bytes.
-use Rattle.std.proofs.Common.{◌≡◌, ◌≤◌, ℕ, ◌+◌, Bool, true, false, ◌||◌, not, List, [], ◌∷◌, ◌++◌, length, take, drop, refl, sym, ap, ◌∙◌, arith, length-take, if◌then◌else◌}
+use Rattle.std.proofs.Common.{◌≡◌, ◌≤◌, ℕ, ◌+◌, Bool, false, ◌||◌, not, List, [], ◌∷◌, ◌++◌, length, take, drop, sym, ap, ◌∙◌, arith, length-take, if◌then◌else◌}
 use Rattle.std.specs.List.{position_or_len, list_any}
 use Rattle.std.proofs.Math.Seq.{take-append-add}
 use Rattle.std.proofs.lemmas.List.{take-append-drop}
 use Rattle.std.proofs.lemmas.List.Folds.{list_any-append}
 use Rattle.stab_lines.specs.Lines.{is_byte}
+use Rattle.std.proofs.lemmas.Bool.{or_parts}
 
 taken : (n m : ℕ) (xs : List ℕ) → n ≤ length xs → take (n + m) xs ≡ take n xs ++ take m (drop n xs)
 taken n m xs within =
@@ -25,14 +26,10 @@ others_more bs byte n m within h k =
 pub any_split : (p : ℕ → Bool) (bs : List ℕ) (n : ℕ) → list_any p bs ≡ (list_any p (take n bs) || list_any p (drop n bs))
 any_split p bs n = ap (list_any p) (sym (take-append-drop n bs)) ∙ list_any-append p (take n bs) (drop n bs)
 
-either : (a b : Bool) → (a || b) ≡ false → (a ≡ false) × (b ≡ false)
-either true b h = cc
-either false b h = (refl, h)
-
 position_behind : (p : ℕ → Bool) (xs ys : List ℕ) → list_any p xs ≡ false → position_or_len p (xs ++ ys) ≡ length xs + position_or_len p ys
 position_behind p [] ys h = omega arith
 position_behind p (x ∷ xs) ys h =
-    let parts = either (p x) (list_any p xs) h in
+    let parts = or_parts (p x) (list_any p xs) h in
     let more = position_behind p xs ys parts.1 in
     let one : position_or_len p (x ∷ (xs ++ ys)) ≡ 1 + position_or_len p (xs ++ ys) = ap (λ b. if not b then 1 + position_or_len p (xs ++ ys) else 0) parts.0 in
     omega (arith, more, one)

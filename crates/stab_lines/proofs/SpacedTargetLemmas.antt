@@ -1,5 +1,5 @@
 -- Targets that are written as numbers, each behind a space.
-use Rattle.std.proofs.Common.{Bor, Option, Some, None, MatchOption, ◌≡◌, ◌≢◌, ◌<◌, ◌≤◌, ℕ, true, false, ◌==◌, List, [], ◌∷◌, ◌++◌, length, take, drop, Result, Ok, Err, refl, sym, ap, ◌∙◌, arith, append_assoc, append-nil, length-drop}
+use Rattle.std.proofs.Common.{Bor, Option, Some, None, MatchOption, ◌≡◌, ◌≢◌, ◌<◌, ◌≤◌, ℕ, true, false, ◌==◌, List, [], ◌∷◌, ◌++◌, length, take, drop, Result, Ok, Err, refl, sym, ap, ◌∙◌, append_assoc, append-nil}
 use Rattle.std.specs.List.{list_all}
 use Rattle.std.proofs.lemmas.List.Folds.{list_all-append}
 use Rattle.std.proofs.lemmas.List.{take-append-drop}
@@ -17,7 +17,6 @@ use Rattle.stab_lines.specs.Controls.{by_turns, pair_of, paired, controlled_of}
 use Rattle.stab_lines.specs.inner.FrontTargets.{follows}
 use Rattle.stab_lines.specs.inner.PlainLines.{paired_words, IsSpacedQubit, IsSpacedPair, spaced_words, AreNumbers, AreSpacedTargets}
 use Rattle.stab_lines.proofs.BoolLemmas.{both, passed}
-use Rattle.stab_lines.proofs.ResultLemmas.{behind-nil}
 use Rattle.stab_lines.proofs.NumberLemmas.{some_taken}
 use Rattle.stab_lines.proofs.TargetLemmas.{different}
 use Rattle.stab_lines.proofs.FrontTargetLemmas.{number_qubit, qubit_measured, closing_is}
@@ -33,10 +32,6 @@ qubit_spaced bs digits n number q s d some within all same small e =
       word,
       number_qubit (take n digits) number word (sym same) small ∙ ap Ok (sym e),
     )
-
--- what follows it is shorter
-pub qubit_shorter : (bs digits : List ℕ) (n : ℕ) → starts_with_byte bs 32 ≡ true → digits ≡ drop 1 bs → length (drop n digits) < length bs
-qubit_shorter bs digits n s d = omega (arith, ap length d, ap length (closing_is bs 32 s), length-drop n digits)
 
 number_one : (w : List ℕ) → is_number w ≡ true → list_all is_number (w ∷ []) ≡ true
 number_one w h = both (is_number w) true h refl
@@ -109,10 +104,6 @@ controlled_target bs rest p c h e = (
 spaced_append : (xs ys : List (List ℕ)) → spaced_words (xs ++ ys) ≡ spaced_words xs ++ spaced_words ys
 spaced_append [] ys = refl
 spaced_append (x ∷ xs) ys = ap (λ l. 32 ∷ (x ++ l)) (spaced_append xs ys) ∙ ap (λ l. 32 ∷ l) (sym (append_assoc x (spaced_words xs) (spaced_words ys)))
-
--- nothing yet
-pub no_target : {X : Type 0} (meaning : List (List ℕ) → Result (List X) Refusal) (bs : List ℕ) → AreSpacedTargets meaning bs [] bs
-no_target meaning bs = ([], (refl, refl), λ more. sym (behind-nil (meaning more)))
 
 follows_twice : {X : Type 0} (xs ys : List X) (given : Result (List X) Refusal) → follows xs (follows ys given) ≡ follows (xs ++ ys) given
 follows_twice xs ys (Ok more) = ap Ok (sym (append_assoc xs ys more))

@@ -1,9 +1,9 @@
 -- Writes one after another.
-use Rattle.std.proofs.Common.{◌≡◌, ℕ, List, [], ◌++◌, Result, Ok, Err, refl, sym, ap, ◌∙◌, subst, append_assoc, append-nil}
+use Rattle.std.proofs.Common.{◌≡◌, ℕ, List, ◌++◌, Result, Ok, Err, sym, ap, ◌∙◌, subst, append_assoc}
 use Rattle.stab_io.specs.declared.refusal.Refusal.{Refusal}
 use Rattle.stab_io.specs.declared.refusal.Refusal.TheVariants.{WriteFault}
 use Rattle.stab_io.specs.Devices.{OutputView, Took, TookAndFailed, WritesAll}
-use Rattle.stab_io.proofs.DeviceLemmas.{took_none, took_more, took_and_failed, failed_within}
+use Rattle.stab_io.proofs.DeviceLemmas.{took_more, took_and_failed, failed_within}
 
 -- a write that fails ends the writing, and its failure is handed on
 failed_case : {a b : OutputView} {r e : Refusal} (q : Result (Unit {0}) Refusal) (front back : List ℕ)
@@ -34,9 +34,6 @@ took_as {a} {b} e s = subst (λ l. Took a b l) e s
 abbrev pub HasWritten : OutputView → OutputView → List ℕ → List ℕ → Type 0
 HasWritten a b whole left = (front : List ℕ) × Took a b front × (whole ≡ front ++ left)
 
-pub written_none : (a : OutputView) (whole : List ℕ) → HasWritten a a whole whole
-written_none a whole = ([], took_none a, refl)
-
 pub written_more : {a b c : OutputView} (whole left piece rest : List ℕ) → HasWritten a b whole left → left ≡ piece ++ rest → Took b c piece → HasWritten a c whole rest
 written_more whole left piece rest h e t = (h.0 ++ piece, took_more h.0 piece h.1 t, h.2 ∙ ap (λ l. h.0 ++ l) e ∙ sym (append_assoc h.0 piece rest))
 
@@ -44,6 +41,3 @@ pub written_failed : {a b c : OutputView} {r e : Refusal} {q : Result (Unit {0})
     → q ≡ Err e → e ≡ r → (r ≡ WriteFault) × TookAndFailed b c piece → WritesAll a c whole q
 written_failed {a} {b} {c} {r} {e} {q} whole left piece rest h same p k s =
     writes_as a c q (sym (h.2 ∙ ap (λ l. h.0 ++ l) same)) (writes_then c q (piece ++ rest) h.1 (writes_failed rest p k s))
-
-pub written_all : {a b : OutputView} (whole left : List ℕ) → HasWritten a b whole left → left ≡ [] → Took a b whole
-written_all whole left h e = took_as (sym (h.2 ∙ ap (λ l. h.0 ++ l) e ∙ append-nil h.0)) h.1

@@ -1,13 +1,12 @@
--- Laws: what holds of all lines.
+-- Laws: what printed lines say.
 -- Source: this project's own.
-use Rattle.std.specs.Prelude.{◌≡◌, ◌↔◌, ℕ, false, IsTrue, List, [], ◌++◌, replicate, codes, Ok, Err}
+use Rattle.std.specs.Prelude.{◌≡◌, ℕ, false, List, [], ◌++◌, replicate, codes, Ok}
 use Rattle.std.specs.List.{list_any}
-use Rattle.stab_io.specs.declared.refusal.Refusal.{Refusal}
 use Rattle.stab_lines.specs.declared.meanings.Line.{Line}
 use Rattle.stab_lines.specs.declared.meanings.Line.TheVariants.{Blank, Close, Open}
 use Rattle.stab_lines.specs.declared.meanings.Line.TheVariants as line
 use Rattle.stab_lines.specs.Lines.{is_byte, content_of}
-use Rattle.stab_lines.specs.Meanings.{meaning_of, is_of_line}
+use Rattle.stab_lines.specs.Meanings.{meaning_of}
 use Rattle.stab_lines.specs.Prints.{open_text, operation_text}
 
 -- a line of a text has no line feed in it
@@ -26,15 +25,3 @@ pub record Says (content : List ℕ) (meaning : Line) : Type 0 where
   pub one_line : IsLine content
   pub left : (spaces : ℕ) → content_of (replicate spaces 32 ++ content) ≡ content
   pub means : meaning_of content ≡ Ok meaning
-
--- what is printed of a line that some line means, says just that
-abbrev pub PrintedLinesAreReadBack : Type 0
-PrintedLinesAreReadBack = (line : List ℕ) (meaning : Line) → IsLine line → meaning_of (content_of line) ≡ Ok meaning → Says (line_printed meaning) meaning
-
--- the blank lines are those of which nothing is left
-abbrev pub BlankLinesAreEmpty : Type 0
-BlankLinesAreEmpty = (content : List ℕ) → (meaning_of content ≡ Ok Blank) ↔ (content ≡ [])
-
--- a line is refused by the numbers of lines alone
-abbrev pub RefusalsAreOfLines : Type 0
-RefusalsAreOfLines = (content : List ℕ) (refusal : Refusal) → meaning_of content ≡ Err refusal → IsTrue (is_of_line refusal)

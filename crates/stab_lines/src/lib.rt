@@ -21,14 +21,12 @@
 //! - `factor`, `control`: the targets that are products, and those of controlled gates.
 //! - `meanings`: what a line means, or why it is refused.
 //! - `print`: the one text of an instruction, and of the opening of a block.
-//! - `laws`: what holds of all lines.
 //!
 //! `specs/` says what a content means (`meaning_of`) and what is printed of it; `specs/inner` has
 //! what private contracts alone speak of.
 //!
 //! Proved: a content is read as exactly what it means, or refused as exactly what refuses it first;
-//! what is printed of an instruction or an opening is its one text; that text fits on one line and
-//! means what it was printed of, whatever line that was read from.
+//! what is printed of an instruction or an opening is its one text.
 #![tactic(auto)]
 
 mod argument;
@@ -39,7 +37,6 @@ mod detector;
 mod detector_content;
 mod detector_line;
 mod factor;
-pub mod laws;
 mod line;
 mod located;
 mod meanings;

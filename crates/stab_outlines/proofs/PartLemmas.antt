@@ -1,16 +1,8 @@
 -- Lists that stand one behind the other in one.
 use Rattle.std.proofs.Common.{◌≡◌, ◌≤◌, ◌<◌, refl, sym, ap, ◌∙◌, ℕ, zero, suc, ◌+◌, List, [], ◌∷◌, ◌++◌, length, take, drop, get_or, append_assoc, arith}
 use Rattle.std.proofs.lemmas.List.{take_all, take_more, take-append-le}
+use Rattle.std.proofs.Math.Seq.{drop-append_seam}
 use Rattle.stab_outlines.specs.inner.Parts.{parts, AreEnds}
-
--- what a list has in front and behind, where a part of it is taken from what is behind
-pub taken_front : {X : Type 0} (xs ys : List X) → take (length xs) (xs ++ ys) ≡ xs
-taken_front [] ys = refl
-taken_front (x ∷ xs) ys = ap (λ l. x ∷ l) (taken_front xs ys)
-
-pub dropped_front : {X : Type 0} (xs ys : List X) → drop (length xs) (xs ++ ys) ≡ ys
-dropped_front [] ys = refl
-dropped_front (x ∷ xs) ys = dropped_front xs ys
 
 pub length-parts : (place : ℕ) (ends xs : List ℕ) → length (parts place ends xs) ≡ length ends
 length-parts place [] xs = refl
@@ -44,7 +36,7 @@ pub parts_push : (place : ℕ) (ends xs ys : List ℕ) → AreEnds place ends (l
 parts_push place [] xs ys h =
     ap (λ l. drop place l ∷ []) (take_all (length (xs ++ ys)) (xs ++ ys) (omega arith))
     ∙ ap (λ n. drop n (xs ++ ys) ∷ []) h
-    ∙ ap (λ l. l ∷ []) (dropped_front xs ys)
+    ∙ ap (λ l. l ∷ []) (drop-append_seam xs ys)
 parts_push place (end ∷ ends) xs ys h =
     let le : end ≤ length xs = first_within end ends (length xs) h.1 in
     ap (λ l. drop place l ∷ parts end (ends ++ length (xs ++ ys) ∷ []) (xs ++ ys)) (take-append-le end xs ys le)

@@ -4,16 +4,13 @@ use Rattle.std.proofs.lemmas.Bool.Decides.{nat_tests, Decides-eqb}
 use Rattle.std.proofs.lemmas.List.{length-take, get_or-take, get_or-drop}
 use Rattle.std.proofs.lemmas.List.Elements.{at_read}
 use Rattle.std.proofs.lemmas.List.Folds.{list_any_none, list_any_more}
+use Rattle.std.proofs.lemmas.Bool.{or_from}
 use Rattle.std.specs.List.{list_any}
 use Rattle.stab_lines.specs.declared.control.ControlledPair.{ControlledPair}
 use Rattle.stab_lines.specs.declared.control.ControlledPair.TheVariants as pair
 use Rattle.stab_lines.specs.declared.range.MeasureTarget.{MeasureTarget}
 use Rattle.stab_outlines.specs.Names.{is_key, names_pair, names_target, names_lookback, between, PassesBy}
 use Rattle.stab_outlines.specs.inner.Places.{place_of, is_between, stands_between, stands_at, pair_stands_at, target_stands_at, lookbacks_stand_at, AllStand}
-
-neither : (a b : Bool) → a ≡ false → b ≡ false → (a || b) ≡ false
-neither false b e f = f
-neither true b e f = absurd (cc)
 
 neither_first : (a b : Bool) → (a || b) ≡ false → a ≡ false
 neither_first false b e = refl
@@ -38,7 +35,7 @@ nearer from to end place le e = grind (arith, nat_tests)
 all_nearer : (table : List ℕ) (from to end : ℕ) (keys : List ℕ) → to ≤ end → list_any (stands_between table from end) keys ≡ false → list_any (stands_between table from to) keys ≡ false
 all_nearer table from to end [] le e = refl
 all_nearer table from to end (key ∷ keys) le e =
-    neither (stands_between table from to key) (list_any (stands_between table from to) keys)
+    or_from (stands_between table from to key) (list_any (stands_between table from to) keys)
     (nearer from to end (place_of table key) le (neither_first (stands_between table from end key) (list_any (stands_between table from end) keys) e))
     (all_nearer table from to end keys le (neither_second (stands_between table from end key) (list_any (stands_between table from end) keys) e))
 
@@ -47,7 +44,7 @@ pub passes_more : (table : List ℕ) (from to end : ℕ) (keys : List ℕ) (i : 
     → is_between from to (place_of table (get_or keys i 0)) ≡ false → i < length keys → list_any (stands_between table from to) (take (i + 1) keys) ≡ false
 passes_more table from to end keys i e le here lt =
     list_any_more (stands_between table from to) keys i 0 lt
-    ∙ neither (list_any (stands_between table from to) (take i keys)) (stands_between table from to (get_or keys i 0)) (all_nearer table from to end (take i keys) le e) here
+    ∙ or_from (list_any (stands_between table from to) (take i keys)) (stands_between table from to (get_or keys i 0)) (all_nearer table from to end (take i keys) le e) here
 
 -- a key that is named between both places is none of those that are not
 apart : (f : ℕ → ℕ) (from to key k : ℕ) → is_between from to (f key) ≡ false → from ≤ f k → f k < to → (key == k) ≡ false
@@ -66,7 +63,7 @@ apart f from to key k e a b = by_test (key == k) refl
 no_key : (table : List ℕ) (from to : ℕ) (keys : List ℕ) (k : ℕ) → list_any (stands_between table from to) keys ≡ false → from ≤ place_of table k → place_of table k < to → is_key keys k ≡ false
 no_key table from to [] k e a b = refl
 no_key table from to (key ∷ keys) k e a b =
-    neither (key == k) (is_key keys k)
+    or_from (key == k) (is_key keys k)
     (apart (place_of table) from to key k (neither_first (stands_between table from to key) (list_any (stands_between table from to) keys) e) a b)
     (no_key table from to keys k (neither_second (stands_between table from to key) (list_any (stands_between table from to) keys) e) a b)
 
@@ -79,14 +76,14 @@ no_lookback_at : (table : List ℕ) (from to : ℕ) (keys : List ℕ) (i : ℕ) 
     → lookbacks_stand_at table i ks ≡ true → names_lookback keys ks ≡ false
 no_lookback_at table from to keys i [] e a b s = refl
 no_lookback_at table from to keys i (k ∷ ks) e a b s =
-    neither (is_key keys k) (names_lookback keys ks)
+    or_from (is_key keys k) (names_lookback keys ks)
     (no_key_at table from to keys i k e a b (both_first (stands_at table i k) (lookbacks_stand_at table i ks) s))
     (no_lookback_at table from to keys i ks e a b (both_second (stands_at table i k) (lookbacks_stand_at table i ks) s))
 
 no_pair_at : (table : List ℕ) (from to : ℕ) (keys : List ℕ) (i : ℕ) (p : ControlledPair) → list_any (stands_between table from to) keys ≡ false → from ≤ i → i < to
     → pair_stands_at table i p ≡ true → names_pair keys p ≡ false
 no_pair_at table from to keys i (pair.Qubits p) e a b s =
-    neither (is_key keys p.0) (is_key keys p.1)
+    or_from (is_key keys p.0) (is_key keys p.1)
     (no_key_at table from to keys i p.0 e a b (both_first (stands_at table i p.0) (stands_at table i p.1) s))
     (no_key_at table from to keys i p.1 e a b (both_second (stands_at table i p.0) (stands_at table i p.1) s))
 no_pair_at table from to keys i (pair.Record q k) e a b s = absurd (cc)
@@ -127,6 +124,3 @@ detectors_pass table keys lists from to e all within =
 pub stands_more : {X : Type 0} (stands : ℕ → X → Bool) (xs : List X) (n : ℕ) (x : X) → AllStand stands n xs → n < length xs → x ≡ get_or xs n x → stands n x ≡ true → AllStand stands (n + 1) xs
 stands_more {X} stands xs n x all lt is here i d h =
     below_more (λ j. (d : X) → stands j (get_or xs j d) ≡ true) n (λ j less d. all j d less) (at_read xs (λ y. stands n y ≡ true) n x lt is here) i h d
-
-pub none_stand : {X : Type 0} (stands : ℕ → X → Bool) (xs : List X) → AllStand stands 0 xs
-none_stand stands xs i d h = absurd (omega arith)

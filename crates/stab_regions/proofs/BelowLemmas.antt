@@ -1,5 +1,5 @@
 -- Observables that steps name: those of a circuit's items are some of so many.
-use Rattle.std.proofs.Common.{ℕ, zero, suc, ◌≤◌, max, false, true, List, [], ◌∷◌, map, get_or, arith}
+use Rattle.std.proofs.Common.{ℕ, zero, suc, ◌≤◌, false, true, List, [], ◌∷◌, map, get_or, arith}
 use Rattle.std.specs.Prelude.{All}
 use Rattle.std.proofs.lemmas.List.Elements.{All-nil, All-cons, All-append, All-map}
 use Rattle.stab_letters.specs.declared.gate.PairGate.TheVariants as gate
@@ -11,6 +11,7 @@ use Rattle.stab_lines.specs.declared.operation.Kind.TheVariants as kind
 use Rattle.stab_circuit.specs.Items.{Items, done, next, block}
 use Rattle.stab_lines.specs.Axes.{letter_of}
 use Rattle.stab_circuit.specs.Steps.{Step, one, two, collapse, detector, observable, measured, measured_product, controlled_step, steps_of, rounds, unroll, past, named_observables, observables_of}
+use Rattle.stab_laws.proofs.FitLemmas.{max-left, max-right}
 use Rattle.stab_regions.specs.inner.Sweeps.{NamesBelow}
 
 each : {A : Type 0} (m : ℕ) (f : A → Step) → ((x : A) → NamesBelow m (f x)) → (xs : List A) → All (NamesBelow m) (map f xs)
@@ -39,12 +40,6 @@ kind-below m (kind.ShiftCoords coordinates) le = All-nil (NamesBelow m)
 rounds-below : (m count : ℕ) (xs : List Step) → All (NamesBelow m) xs → All (NamesBelow m) (rounds count xs)
 rounds-below m zero xs below = All-nil (NamesBelow m)
 rounds-below m (suc count) xs below = All-append (NamesBelow m) xs (rounds count xs) below (rounds-below m count xs below)
-
-max-left : (a b n : ℕ) → max a b ≤ n → a ≤ n
-max-left a b n le = omega arith
-
-max-right : (a b n : ℕ) → max a b ≤ n → b ≤ n
-max-right a b n le = omega arith
 
 items-below : (m : ℕ) (items : Items) → observables_of items ≤ m → All (NamesBelow m) (unroll items)
 items-below m done le = All-nil (NamesBelow m)

@@ -1,7 +1,6 @@
 -- Detectors among steps: how many there are, the steps before each, its region in the table, and the bit that a run gives it.
-use Rattle.std.proofs.Common.{◌≡◌, ℕ, zero, suc, ◌+◌, ◌<◌, refl, sym, ◌∙◌, ap, subst, arith, Bool, true, false, List, [], ◌∷◌, ◌++◌, length, map, All}
+use Rattle.std.proofs.Common.{◌≡◌, ℕ, zero, suc, ◌+◌, ◌<◌, refl, sym, ◌∙◌, ap, subst, arith, Bool, true, false, List, [], ◌∷◌, ◌++◌, length, All}
 use Rattle.std.specs.Prelude.{if◌then◌else◌, slice_index_or}
-use Rattle.std.proofs.lemmas.List.{get_or-map, length-map}
 use Rattle.std.proofs.lemmas.List.Elements.{All-nil, All-cons, All-head, All-tail}
 use Rattle.stab_circuit.specs.Steps.{Step, one, two, controlled, collapse, product, detector, observable, is_detector, detectors_of}
 use Rattle.stab_run.specs.Records.{parity}
@@ -9,10 +8,10 @@ use Rattle.stab_run.specs.Runs.{State, start, run, when}
 use Rattle.stab_run.specs.Points.{Point, origin, given, next_point, outputs}
 use Rattle.stab_run.specs.ProgramStates.{StepFits}
 use Rattle.stab_run.specs.Laws.{RunsArePointsWithOutputs}
-use Rattle.stab_regions.specs.Regions.{region_of, region_through, keep_region, asks_nothing}
+use Rattle.stab_regions.specs.Regions.{asks_nothing}
 use Rattle.stab_regions.specs.Laws.{bit_asked}
-use Rattle.stab_regions.specs.Tables.{Tracked, tracked_before, begun_at, tracked_at, named, steps_before_detector, named_by}
-use Rattle.stab_regions.specs.TableLaws.{detector_bit, TablesAreRegions}
+use Rattle.stab_regions.specs.Tables.{named, steps_before_detector, named_by}
+use Rattle.stab_regions.specs.TableLaws.{detector_bit}
 
 -- the first step, where it is a detector and where it is not: how many there are, the steps before detector d, and what it names
 
@@ -78,74 +77,6 @@ fits-before n d xs fits =
 -- there is no such number
 pub none : (d : ℕ) → d < 0 → ⊥
 none d lt = omega arith
-
--- the table
-
--- a row begins where a detector stands
-begun-detector : (n : ℕ) (x : Step) → is_detector x ≡ true → begun_at n x ≡ record { region = region_of n (named x); kept = true } ∷ []
-begun-detector n x e = ap (λ b. if b then record { region = region_of n (named x); kept = true } ∷ [] else []) e
-
--- and nowhere else
-begun-other : (n : ℕ) (x : Step) → is_detector x ≡ false → begun_at n x ≡ []
-begun-other n x e = ap (λ b. if b then record { region = region_of n (named x); kept = true } ∷ [] else []) e
-
--- there is a row for each detector
-pub length-tracked : (n : ℕ) (xs : List Step) → length (tracked_at n xs) ≡ detectors_of xs
-length-tracked n [] = refl
-length-tracked n (x ∷ xs) = by_kind (is_detector x) refl (length-map (tracked_at n xs) (tracked_before n x) ∙ length-tracked n xs)
-  where
-    by_kind : (b : Bool) → is_detector x ≡ b → length (map (tracked_before n x) (tracked_at n xs)) ≡ detectors_of xs
-        → length (tracked_at n (x ∷ xs)) ≡ detectors_of (x ∷ xs)
-    by_kind true e later =
-        ap (λ ts. length (ts ++ map (tracked_before n x) (tracked_at n xs))) (begun-detector n x e) ∙ omega (arith, later) ∙ sym (count-detector x xs e)
-    by_kind false e later = ap (λ ts. length (ts ++ map (tracked_before n x) (tracked_at n xs))) (begun-other n x e) ∙ later ∙ sym (count-other x xs e)
-
--- the row of a detector whose steps before it and lookbacks are these
-abbrev row : ℕ → List Step → List ℕ → Tracked
-row n ys ks = record { region = region_through n asks_nothing ys (region_of n ks); kept = keep_region n asks_nothing ys (region_of n ks) }
-
--- the table has each detector's row
-abbrev HasRows : ℕ → List Step → Type 0
-HasRows n xs = (d : ℕ) (other : Tracked) → d < detectors_of xs → slice_index_or (tracked_at n xs) d other ≡ row n (steps_before_detector d xs) (named_by d xs)
-
-module _ (n : ℕ) (x : Step) (xs : List Step) (later : HasRows n xs) where
-  -- a row behind the first step
-  row-behind : (d : ℕ) (other : Tracked) → d < detectors_of xs
-      → slice_index_or (map (tracked_before n x) (tracked_at n xs)) d other ≡ row n (x ∷ steps_before_detector d xs) (named_by d xs)
-  row-behind d other lt =
-      get_or-map (tracked_before n x) (tracked_at n xs) d other other (omega (arith, lt, length-tracked n xs))
-      ∙ ap (tracked_before n x) (later d other lt)
-
-  -- the rows where the first step is no detector
-  rows-other : is_detector x ≡ false → HasRows n (x ∷ xs)
-  rows-other e d other lt =
-      ap (λ ts. slice_index_or (ts ++ map (tracked_before n x) (tracked_at n xs)) d other) (begun-other n x e)
-      ∙ row-behind d other (omega (arith, lt, count-other x xs e))
-      ∙ (λ i. row n (sym (before-other x xs d e) i) (sym (named-other x xs d e) i))
-
-  -- and where it is one
-  rows-detector : is_detector x ≡ true → HasRows n (x ∷ xs)
-  rows-detector e zero other lt =
-      ap (λ ts. slice_index_or (ts ++ map (tracked_before n x) (tracked_at n xs)) zero other) (begun-detector n x e)
-      ∙ (λ i. row n (sym (before-first x xs e) i) (sym (named-first x xs e) i))
-  rows-detector e (suc d) other lt =
-      ap (λ ts. slice_index_or (ts ++ map (tracked_before n x) (tracked_at n xs)) (suc d) other) (begun-detector n x e)
-      ∙ row-behind d other (omega (arith, lt, count-detector x xs e))
-      ∙ (λ i. row n (sym (before-next x xs d e) i) (sym (named-next x xs d e) i))
-
-  -- so whichever it is
-  rows-next : (b : Bool) → is_detector x ≡ b → HasRows n (x ∷ xs)
-  rows-next true e = rows-detector e
-  rows-next false e = rows-other e
-
--- by induction on the steps
-has-rows : (n : ℕ) (xs : List Step) → HasRows n xs
-has-rows n [] d other lt = absurd (none d lt)
-has-rows n (x ∷ xs) d other lt = rows-next n x xs (has-rows n xs) (is_detector x) refl d other lt
-
--- the law
-pub tables-are-regions : TablesAreRegions
-tables-are-regions n xs d other lt = has-rows n xs d other lt
 
 -- the bits of a run
 

@@ -1,7 +1,6 @@
 -- Factors: the string of a product, one factor after another, and what it flips and is multiplied by.
 use Rattle.std.proofs.Common.{◌≡◌, ℕ, zero, suc, ◌+◌, ◌<◌, refl, sym, ◌∙◌, ap, subst, arith, Bool, true, false, ◌||◌, List, [], ◌∷◌, ◌++◌, length, take, drop, drop-cons, get_or, set}
 use Rattle.std.specs.Prelude.{replicate, ◌==◌}
-use Rattle.std.proofs.Math.Seq.{take-suc}
 use Rattle.std.proofs.lemmas.List.{get_or-set_other, take-append-drop}
 use Rattle.std.proofs.lemmas.Bool.{eqb-false}
 use Rattle.stab_letters.specs.declared.letter.Letter.{Letter}
@@ -15,25 +14,19 @@ use Rattle.stab_lines.specs.declared.product.Factor.{Factor}
 use Rattle.stab_lines.specs.Axes.{letter_of}
 use Rattle.stab_lines.specs.Products.{is_on, names_twice}
 use Rattle.stab_circuit.specs.Steps.{product as measured_product}
+use Rattle.stab_steps.proofs.ProductLemmas.{length-string_of}
+use Rattle.stab_laws.proofs.LookbackLemmas.{or-left, or-right}
 use Rattle.stab_run.specs.Runs.{with_factors, string_of}
 use Rattle.stab_regions.specs.Regions.{names_newest, times_where}
 use Rattle.stab_regions.specs.Rows.{odd, row, ShowsLetters, MovesLetters, multiplied, MovesRegion}
-use Rattle.stab_regions.proofs.ReadLemmas.{length-string_of, length-times}
+use Rattle.stab_regions.proofs.ReadLemmas.{length-times}
 use Rattle.stab_regions.proofs.ShowLemmas.{newest-odd, earlier-shows}
-
-or_left : (a b : Bool) → (a || b) ≡ false → a ≡ false
-or_left false b e = refl
-or_left true b e = e
-
-or_right : (a b : Bool) → (a || b) ≡ false → b ≡ false
-or_right false b e = e
-or_right true b e = absurd cc
 
 -- a factor that follows on another qubit
 
 on-middle : (q : ℕ) (gs : List Factor) (f : Factor) (rest : List Factor) → is_on q (gs ++ f ∷ rest) ≡ false → (f.qubit == q) ≡ false
-on-middle q [] f rest e = or_left (f.qubit == q) (is_on q rest) e
-on-middle q (g ∷ gs) f rest e = on-middle q gs f rest (or_right (g.qubit == q) (is_on q (gs ++ f ∷ rest)) e)
+on-middle q [] f rest e = or-left (f.qubit == q) (is_on q rest) e
+on-middle q (g ∷ gs) f rest e = on-middle q gs f rest (or-right (g.qubit == q) (is_on q (gs ++ f ∷ rest)) e)
 
 equal-turned : (a b : ℕ) → (a == b) ≡ false → (b == a) ≡ false
 equal-turned a b e = grind arith
@@ -42,8 +35,8 @@ front-apart : (fs : List Factor) (f : Factor) (rest : List Factor) → names_twi
 front-apart [] f rest e = refl
 front-apart (g ∷ gs) f rest e =
     ap (λ b. b || is_on f.qubit gs)
-    (equal-turned f.qubit g.qubit (on-middle g.qubit gs f rest (or_left (is_on g.qubit (gs ++ f ∷ rest)) (names_twice (gs ++ f ∷ rest)) e)))
-    ∙ front-apart gs f rest (or_right (is_on g.qubit (gs ++ f ∷ rest)) (names_twice (gs ++ f ∷ rest)) e)
+    (equal-turned f.qubit g.qubit (on-middle g.qubit gs f rest (or-left (is_on g.qubit (gs ++ f ∷ rest)) (names_twice (gs ++ f ∷ rest)) e)))
+    ∙ front-apart gs f rest (or-right (is_on g.qubit (gs ++ f ∷ rest)) (names_twice (gs ++ f ∷ rest)) e)
 
 -- its letter is put in last
 
@@ -54,8 +47,8 @@ with-last (g ∷ gs) f letters = with-last gs f (set letters g.qubit (letter_of 
 letter-off : (q : ℕ) (fs : List Factor) (letters : List Letter) → is_on q fs ≡ false → letter_at (with_factors fs letters) q ≡ letter_at letters q
 letter-off q [] letters e = refl
 letter-off q (f ∷ fs) letters e =
-    letter-off q fs (set letters f.qubit (letter_of f.letter)) (or_right (f.qubit == q) (is_on q fs) e)
-    ∙ get_or-set_other letters f.qubit q (letter_of f.letter) I (λ same. eqb-false f.qubit q (or_left (f.qubit == q) (is_on q fs) e) (sym same))
+    letter-off q fs (set letters f.qubit (letter_of f.letter)) (or-right (f.qubit == q) (is_on q fs) e)
+    ∙ get_or-set_other letters f.qubit q (letter_of f.letter) I (λ same. eqb-false f.qubit q (or-left (f.qubit == q) (is_on q fs) e) (sym same))
 
 pub blank-at : (n q : ℕ) → letter_at (replicate n I) q ≡ I
 blank-at zero q = refl
@@ -150,11 +143,6 @@ flips-more n fs f s apart =
     ∙ ap (λ ls. strings_anticommute ls s.letters) (sym (string-last n fs f apart))
 
 -- one more factor, which is on none of the qubits of those before it
-
-pub take-more : {A : Type 0} (xs : List A) (k : ℕ) (d : A) → k < length xs → take (k + 1) xs ≡ take k xs ++ get_or xs k d ∷ []
-take-more xs k d lt =
-    let next : k + 1 ≡ suc k = omega arith in
-    ap (λ j. take j xs) next ∙ take-suc xs k d lt
 
 pub place-apart : (fs : List Factor) (k : ℕ) (d : Factor) → k < length fs → names_twice fs ≡ false → is_on (get_or fs k d).qubit (take k fs) ≡ false
 place-apart fs k d lt e =

@@ -8,12 +8,12 @@ use Rattle.stab_circuit.specs.Steps.{Step, unroll, observables_of, detectors_of}
 use Rattle.stab_run.specs.Laws.{RunsArePointsWithOutputs}
 use Rattle.stab_run.specs.ProgramStates.{StepFits}
 use Rattle.stab_regions.specs.Regions.{asks_observable, is_sure}
-use Rattle.stab_regions.specs.Laws.{with_fault, flips_asked, turned_with}
+use Rattle.stab_regions.specs.Laws.{with_fault, flips_asked}
 use Rattle.stab_regions.specs.Tables.{is_sure_detector, flips_detector}
 use Rattle.stab_regions.specs.TableLaws.{detector_bit, observable_bit}
 use Rattle.stab_regions.specs.Parities.{parity_sure, parity_flips}
 use Rattle.stab_regions.specs.Faults.{bit}
-use Rattle.stab_regions.specs.FaultLaws.{SureParities, FaultsFlipSureParities, PlacesFlipSureParities, FaultsFlipParitiesWithTheirCoins}
+use Rattle.stab_regions.specs.FaultLaws.{SureParities, FaultsFlipSureParities, PlacesFlipSureParities}
 use Rattle.stab_regions.proofs.DetectorLemmas.{fits-front, fits-back}
 use Rattle.stab_regions.proofs.FaultLemmas.{count-fault}
 use Rattle.stab_regions.proofs.TableLemmas.{same-of, sure-detectors, sure-observables, faults-flip-detectors, faults-flip-observables}
@@ -95,17 +95,6 @@ module _ (law : RunsArePointsWithOutputs) (n count : ℕ) where
               ((faults-flip-observables law n front back l q count (i - D) lt_q ff fb (omega (arith, lt, more))).sure
               (sym (sure-observable n i (front ++ back) more) ∙ sure) coins others)
 
-      -- and any with the coins that are turned
-      pub any-flips : (coins : ℕ → Bool) → Flips coins (turned_with n front l q back coins)
-      any-flips coins = by_place (cases_lt i D)
-        where
-          by_place : (i < D) ⊎ (D ≤ i) → Flips coins (turned_with n front l q back coins)
-          by_place (inl less) =
-              detector-flips coins (turned_with n front l q back coins) less ((faults-flip-detectors law n front back l q count i lt_q ff fb less).any coins)
-          by_place (inr more) =
-              observable-flips coins (turned_with n front l q back coins) more
-              ((faults-flip-observables law n front back l q count (i - D) lt_q ff fb (omega (arith, lt, more))).any coins)
-
   module _ (front : List Step) (l : Letter) (q : ℕ) (back : List Step) (i : ℕ) where
     -- whether a letter in steps flips the bit as the pass says
     abbrev Turns : (coins others : ℕ → Bool) → List Step → Type 0
@@ -118,13 +107,6 @@ module _ (law : RunsArePointsWithOutputs) (n count : ℕ) where
         subst (Turns coins others) (sym e)
         (sure-flips front l q back i (subst (λ ys. i < detectors_of ys + count) e lt) lt_q (fits-front n front back whole) (fits-back n front back whole)
         (subst (λ ys. parity_sure n (detectors_of ys) i ys ≡ true) e sure) coins others)
-
-    pub any-turns : (xs : List Step) → xs ≡ front ++ back → All (StepFits n) xs → i < detectors_of xs + count → q < n → (coins : ℕ → Bool)
-        → Turns coins (turned_with n front l q back coins) xs
-    any-turns xs e fits lt lt_q coins =
-        let whole : All (StepFits n) (front ++ back) = subst (All (StepFits n)) e fits in
-        subst (Turns coins (turned_with n front l q back coins)) (sym e)
-        (any-flips front l q back i (subst (λ ys. i < detectors_of ys + count) e lt) lt_q (fits-front n front back whole) (fits-back n front back whole) coins)
 
 -- the laws
 
@@ -139,7 +121,3 @@ pub places-flip-sure-parities : RunsArePointsWithOutputs → PlacesFlipSureParit
 places-flip-sure-parities law n items i f fits lt lt_q sure coins =
     let xs : List Step = unroll items in
     sure-turns law n (observables_of items) (take f.before xs) f.letter f.qubit (drop f.before xs) i xs (sym (take-append-drop f.before xs)) fits lt lt_q sure coins coins
-
-pub faults-flip-parities-with-their-coins : RunsArePointsWithOutputs → FaultsFlipParitiesWithTheirCoins
-faults-flip-parities-with-their-coins law n items i front back l q fits lt parts lt_q coins =
-    any-turns law n (observables_of items) front l q back i (unroll items) parts fits lt lt_q coins

@@ -98,9 +98,6 @@ on_ok (Err e) P Q f p = tt
 
 -- what each gate does to the rows
 
-pub mixes-nothing : (q : ℕ) (x z : List (List ℕ)) → Mixes q (λ a b. a) (λ a b. b) x z x z
-mixes-nothing q x z = record { x_here = λ i. refl; z_here = λ i. refl; x_elsewhere = λ k ne. refl; z_elsewhere = λ k ne. refl }
-
 pub mixes-x : (q : ℕ) (x z new_x : List (List ℕ)) → Toggles x new_x q (row z q) → Mixes q (λ a b. a ⊕ b) (λ a b. b) x z new_x z
 mixes-x q x z new_x t = record { x_here = t.here; z_here = λ i. refl; x_elsewhere = t.elsewhere; z_elsewhere = λ k ne. refl }
 

@@ -1,23 +1,10 @@
 -- Rows of records: rows that are added, the one that leaves, and one that is toggled.
-use Rattle.std.proofs.Common.{◌≡◌, ◌≢◌, ℕ, zero, suc, ◌+◌, ◌<◌, refl, sym, ◌∙◌, ap, arith, Bool, true, false, List, [], ◌∷◌, ◌++◌, length, take, get_or, ne_eqb}
+use Rattle.std.proofs.Common.{◌≡◌, ◌≢◌, ℕ, suc, ◌+◌, ◌<◌, sym, ◌∙◌, ap, arith, Bool, true, false, List, [], ◌∷◌, ◌++◌, length, take, get_or, ne_eqb}
 use Rattle.std.specs.Prelude.{◌==◌}
 use Rattle.std.proofs.Math.Seq.{take-suc}
 use Rattle.stab_letters.specs.Letters.{◌⊕◌}
-use Rattle.stab_regions.specs.Rows.{odd, row, Toggles, SameRows, ShowsLooks}
+use Rattle.stab_regions.specs.Rows.{odd, ShowsLooks}
 use Rattle.stab_regions.proofs.RowLemmas.{odd-append}
-
--- an empty row behind the others
-pub row-added : (rows : List (List ℕ)) (k : ℕ) → row (rows ++ [] ∷ []) k ≡ row rows k
-row-added [] zero = refl
-row-added [] (suc k) = refl
-row-added (r ∷ rows) zero = refl
-row-added (r ∷ rows) (suc k) = row-added rows k
-
-pub toggles_same : (old mid new : List (List ℕ)) (place : ℕ) (numbers : List ℕ) → SameRows old mid → Toggles mid new place numbers → Toggles old new place numbers
-toggles_same old mid new place numbers same t = record {
-  here = λ i. t.here i ∙ ap (λ r. odd i r ⊕ odd i numbers) (same place);
-  elsewhere = λ k ne. t.elsewhere k ne ∙ same k;
-}
 
 -- one parity alone
 

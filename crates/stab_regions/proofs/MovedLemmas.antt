@@ -17,16 +17,18 @@ use Rattle.stab_tableau.proofs.SymmetryLemmas.{IsSymmetry-image, IsSymmetry-pair
 use Rattle.stab_tableau.proofs.GroupLemmas.{anticommute-product_right}
 use Rattle.stab_tableau.proofs.TraceLemmas.{group-member}
 use Rattle.stab_circuit.specs.Steps.{Step, one, two, controlled, collapse, product, detector, observable}
+use Rattle.stab_steps.proofs.ProductLemmas.{length-string_of}
+use Rattle.stab_laws.proofs.SoundLemmas.{IsGood}
+use Rattle.stab_frames.proofs.SignLemmas.{sign-sign}
 use Rattle.stab_run.specs.Records.{looked_up}
 use Rattle.stab_run.specs.Runs.{when, string_of, flip_of, applied_where, outcome_at}
 use Rattle.stab_run.specs.Points.{Point, next_point}
 use Rattle.stab_run.specs.ProgramStates.{StepFits}
 use Rattle.stab_regions.specs.Regions.{times_where}
 use Rattle.stab_regions.specs.Frames.{Frame, frame_after, IsMoved}
-use Rattle.stab_regions.proofs.SignLemmas.{sign-sign, image-sign, pair-sign, product-signs, member-where}
+use Rattle.stab_regions.proofs.SignLemmas.{image-sign, pair-sign, product-signs, member-where}
 use Rattle.stab_regions.proofs.LookLemmas.{look-flipped}
-use Rattle.stab_regions.proofs.ReadLemmas.{length-string_of, length-times}
-use Rattle.stab_regions.proofs.SureLemmas.{IsGood}
+use Rattle.stab_regions.proofs.ReadLemmas.{length-times}
 
 -- what a string anticommutes with behind a gate
 

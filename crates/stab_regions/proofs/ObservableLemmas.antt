@@ -6,9 +6,8 @@ use Rattle.stab_letters.specs.Letters.{◌⊕◌}
 use Rattle.stab_letters.proofs.ParityLemmas.{parity-assoc, parity-comm, parity-false}
 use Rattle.stab_tableau.proofs.TestLemmas.{not_both}
 use Rattle.stab_circuit.specs.Steps.{Step, one, two, controlled, collapse, product, detector, observable}
-use Rattle.stab_steps.specs.declared.records.Addition.{Addition}
 use Rattle.stab_run.specs.Records.{parity}
-use Rattle.stab_run.specs.Runs.{State, start, run, added}
+use Rattle.stab_run.specs.Runs.{State, start, added}
 use Rattle.stab_run.specs.Points.{Point, origin, next_point, outputs, with_additions}
 use Rattle.stab_run.specs.Laws.{RunsArePointsWithOutputs}
 use Rattle.stab_regions.specs.Regions.{asks_observable}
@@ -57,17 +56,3 @@ observable-bit law n coins xs count j lt =
     ap (λ (s : State). slice_index_or s.observables j false) (law n coins xs (start count))
     ∙ added-asked n coins j xs origin (replicate count false) (omega (arith, lt, length-replicate count false))
     ∙ ap (λ b. b ⊕ bit_asked n coins (asks_observable j) xs [] origin) (get_or-replicate count j false false lt)
-
--- additions leave as many observables as there were
-length-added : (more : List Addition) (bits : List Bool) → length (with_additions more bits) ≡ length bits
-length-added [] bits = refl
-length-added (a ∷ more) bits =
-    length-added more (added a.observable a.bit bits) ∙ length-set bits a.observable (a.bit ⊕ slice_index_or bits a.observable false)
-
--- so a run has as many as it started with
-pub count-observables : RunsArePointsWithOutputs → (n : ℕ) (coins : ℕ → Bool) (xs : List Step) (count : ℕ)
-    → length (run n coins xs (start count)).observables ≡ count
-count-observables law n coins xs count =
-    ap (λ (s : State). length s.observables) (law n coins xs (start count))
-    ∙ length-added (outputs n coins xs origin).additions (replicate count false)
-    ∙ length-replicate count false

@@ -1,10 +1,8 @@
 -- Reading: at a point a region reads a bit where its string stabilises with the sign that makes it so; steps that keep the region
 -- lead to a point where the region behind them reads the same bit.
-use Rattle.std.proofs.Common.{◌≡◌, ℕ, ◌<◌, refl, sym, ◌∙◌, ap, arith, Bool, true, false, not, ◌&&◌, List, [], ◌∷◌, ◌++◌, append-nil, length, set}
+use Rattle.std.proofs.Common.{◌≡◌, ℕ, ◌<◌, refl, sym, ◌∙◌, ap, arith, Bool, true, false, not, ◌&&◌, List, [], ◌∷◌, ◌++◌, append-nil, length}
 use Rattle.std.specs.Prelude.{if◌then◌else◌}
-use Rattle.std.proofs.lemmas.List.{length-replicate, length-set}
 use Rattle.stab_letters.specs.declared.letter.Letter.{Letter}
-use Rattle.stab_letters.specs.declared.letter.Letter.TheVariants.{I}
 use Rattle.stab_letters.specs.Letters.{◌⊕◌}
 use Rattle.stab_pauli.specs.Paulis.{Signed, single, with_sign, anticommute}
 use Rattle.stab_pauli.specs.Paulis.{product as times}
@@ -16,24 +14,17 @@ use Rattle.stab_tableau.proofs.OneLetterLemmas.{length-one_letter}
 use Rattle.stab_tableau.proofs.SymmetryLemmas.{image-length, pair-length}
 use Rattle.stab_tableau.proofs.TestLemmas.{test_left, test_right}
 use Rattle.stab_circuit.specs.Steps.{Step, one, two, controlled, collapse, product, detector, observable}
-use Rattle.stab_lines.specs.declared.product.Factor.{Factor}
-use Rattle.stab_lines.specs.Axes.{letter_of}
+use Rattle.stab_steps.proofs.ProductLemmas.{length-string_of}
+use Rattle.stab_frames.proofs.SignLemmas.{sign-sign, product-sign_right}
 use Rattle.stab_run.specs.Records.{looked_up, parity}
-use Rattle.stab_run.specs.Runs.{when, string_of, with_factors, flip_of, applied_where, outcome_at}
+use Rattle.stab_run.specs.Runs.{when, string_of, flip_of, applied_where, outcome_at}
 use Rattle.stab_run.specs.Points.{Point, next_point}
 use Rattle.stab_run.specs.ProgramStates.{StepFits}
 use Rattle.stab_regions.specs.Regions.{Region, names_newest, earlier, times_where, before_measured, region_before, region_through, keeps_region}
-use Rattle.stab_regions.proofs.SignLemmas.{sign-sign, image-sign, pair-sign, product-sign_right, product-signs, member-where}
+use Rattle.stab_regions.proofs.SignLemmas.{image-sign, pair-sign, product-signs, member-where}
 use Rattle.stab_regions.proofs.LookLemmas.{parity-where, parity-when}
 
 -- sizes
-
-length-with_factors : (factors : List Factor) (letters : List Letter) → length (with_factors factors letters) ≡ length letters
-length-with_factors [] letters = refl
-length-with_factors (f ∷ fs) letters = length-with_factors fs (set letters f.qubit (letter_of f.letter)) ∙ length-set letters f.qubit (letter_of f.letter)
-
-pub length-string_of : (n : ℕ) (factors : List Factor) → length (string_of n factors).letters ≡ n
-length-string_of n factors = length-with_factors factors _ ∙ length-replicate n I
 
 pub length-times : (n : ℕ) (bit : Bool) (m p : Signed) → length m.letters ≡ n → length p.letters ≡ n → length (times_where bit m p).letters ≡ n
 length-times n true m p lm lp = length-product n m p lm lp

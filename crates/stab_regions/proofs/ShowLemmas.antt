@@ -1,7 +1,6 @@
 -- What rows show of a region: its letters flip, and its lookbacks are named.
-use Rattle.std.proofs.Common.{◌≡◌, ◌≢◌, ℕ, zero, suc, ◌+◌, ◌-◌, ◌<◌, refl, sym, ◌∙◌, ap, arith, Bool, true, false, ◌&&◌, ◌⊎◌, inl, inr, List, [], ◌∷◌, length}
+use Rattle.std.proofs.Common.{◌≡◌, ℕ, zero, suc, ◌+◌, ◌-◌, ◌<◌, refl, sym, ◌∙◌, ap, arith, Bool, true, false, ◌&&◌, List, [], ◌∷◌, length}
 use Rattle.std.specs.Prelude.{◌==◌, if◌then◌else◌}
-use Rattle.std.proofs.lemmas.Bool.{cases_eq}
 use Rattle.stab_letters.specs.declared.letter.Letter.{Letter}
 use Rattle.stab_letters.specs.declared.letter.Letter.TheVariants.{I, X, Y, Z}
 use Rattle.stab_letters.specs.Letters.{◌⊕◌, letters_anticommute}
@@ -11,7 +10,7 @@ use Rattle.stab_tableau.proofs.OneLetterLemmas.{one_letter-anticommute}
 use Rattle.stab_circuit.specs.Steps.{controlled, collapse}
 use Rattle.stab_run.specs.Runs.{flip_of}
 use Rattle.stab_regions.specs.Regions.{names_newest, earlier, look_where, times_where}
-use Rattle.stab_regions.specs.Rows.{odd, row, Toggles, bits_at, ShowsLetters, MovesLetters, multiplied, ShowsLooks, MovesRegion}
+use Rattle.stab_regions.specs.Rows.{odd, row, bits_at, ShowsLetters, MovesLetters, multiplied, ShowsLooks, MovesRegion}
 
 -- what a letter flips
 
@@ -30,50 +29,6 @@ bits-anticommute i n q l by_x by_z s lt long shows =
     bits-letter i l (letter_at s.letters q) (row by_x q) (row by_z q) (shows.x q) (shows.z q) ∙ sym (one_letter-anticommute n q l s.letters long lt)
 
 -- lookbacks
-
-equal : (k : ℕ) → (k == k) ≡ true
-equal k = grind arith
-
-unequal : (a b : ℕ) → a ≢ b → (a == b) ≡ false
-unequal a b ne = grind arith
-
--- one more lookback
-looked : (b c : Bool) (k j : ℕ) (looks : List ℕ) → ((k == j) && b) ≡ c → odd j (look_where b k looks) ≡ odd j looks ⊕ c
-looked true c k j looks e = added (odd j looks) (k == j) c e
-  where
-    added : (a b c : Bool) → (b && true) ≡ c → b ⊕ a ≡ a ⊕ c
-    added a b c e = grind arith
-looked false c k j looks e = kept (odd j looks) (k == j) c e
-  where
-    kept : (a b c : Bool) → (b && false) ≡ c → a ≡ a ⊕ c
-    kept a b c e = grind arith
-
-same-and : (k j : ℕ) (b : Bool) → k ≡ j → ((k == j) && b) ≡ b
-same-and k j b e = grind arith
-
-other-and : (k j : ℕ) (b : Bool) → k ≢ j → ((k == j) && b) ≡ false
-other-and k j b e = grind arith
-
-plain : (a : Bool) → a ⊕ false ≡ a
-plain a = grind arith
-
-pub look-shows : (i k place : ℕ) (old new : List (List ℕ)) (looks numbers : List ℕ) → k ≡ place + 1 → ShowsLooks i old looks → Toggles old new place numbers
-    → ShowsLooks i new (look_where (odd i numbers) k looks)
-look-shows i k place old new looks numbers is shows t j = at (cases_eq j place)
-  where
-    at : (j ≡ place) ⊎ (j ≡ place → ⊥) → odd i (row new j) ≡ odd (j + 1) (look_where (odd i numbers) k looks)
-    at (inl e) =
-        ap (λ m. odd i (row new m)) e ∙ t.here i
-        ∙ ap (λ m. odd i (row old m) ⊕ odd i numbers) (sym e)
-        ∙ ap (λ b. b ⊕ odd i numbers) (shows j)
-        ∙ sym (looked (odd i numbers) (odd i numbers) k (j + 1) looks (same-and k (j + 1) (odd i numbers) (is ∙ ap (λ m. m + 1) (sym e))))
-    at (inr ne) =
-        ap (odd i) (t.elsewhere j ne) ∙ shows j ∙ sym (plain (odd (j + 1) looks))
-        ∙ sym (looked (odd i numbers) false k (j + 1) looks (other-and k (j + 1) (odd i numbers) (λ e. ne (omega arith))))
-
-pub look-none : (i k : ℕ) (b : Bool) (rows : List (List ℕ)) (looks : List ℕ) → k ≡ 0 → ShowsLooks i rows looks → ShowsLooks i rows (look_where b k looks)
-look-none i k b rows looks is shows j =
-    shows j ∙ sym (plain (odd (j + 1) looks)) ∙ sym (looked b false k (j + 1) looks (other-and k (j + 1) b (λ e. omega arith)))
 
 pub newest-odd : (looks : List ℕ) → names_newest looks ≡ odd 1 looks
 newest-odd [] = refl

@@ -6,47 +6,23 @@ use Rattle.std.proofs.lemmas.List.Elements.{All-head, All-tail}
 use Rattle.stab_letters.specs.declared.letter.Letter.{Letter}
 use Rattle.stab_letters.specs.declared.letter.Letter.TheVariants.{I}
 use Rattle.stab_letters.specs.Letters.{◌⊕◌}
-use Rattle.stab_pauli.specs.Paulis.{Signed, identity, single, with_sign, anticommute}
+use Rattle.stab_pauli.specs.Paulis.{identity, single, with_sign, anticommute}
 use Rattle.stab_letters.proofs.ParityLemmas.{parity-assoc}
-use Rattle.stab_tableau.specs.Traces.{Event, projected, diagonal, member, outcome, Fits, IsSound}
+use Rattle.stab_tableau.specs.Traces.{Event, diagonal, member}
 use Rattle.stab_tableau.specs.Groups.{IsStabiliserGroup}
-use Rattle.stab_tableau.proofs.OneLetterLemmas.{length-one_letter}
-use Rattle.stab_tableau.proofs.TraceLemmas.{group-member, IsSound-outcome}
+use Rattle.stab_tableau.proofs.TraceLemmas.{group-member}
 use Rattle.stab_tableau.proofs.TestLemmas.{and-left, and-right, not_both}
-use Rattle.stab_circuit.specs.Steps.{Step, one, two, controlled, collapse, product, detector, observable}
+use Rattle.stab_circuit.specs.Steps.{Step, one}
+use Rattle.stab_laws.proofs.SoundLemmas.{good-next, IsGood}
+use Rattle.stab_frames.proofs.SignLemmas.{sign-sign, back-letter}
 use Rattle.stab_run.specs.Records.{parity}
-use Rattle.stab_run.specs.Runs.{string_of, gate_of, flip_of, applied_where}
-use Rattle.stab_run.specs.Points.{Point, origin, trace_after, next_point}
+use Rattle.stab_run.specs.Runs.{gate_of}
+use Rattle.stab_run.specs.Points.{Point, origin, next_point}
 use Rattle.stab_run.specs.ProgramStates.{StepFits}
 use Rattle.stab_regions.specs.Regions.{Region, region_of, region_before, with_looks, region_through, keep_region, sure_bit}
 use Rattle.stab_regions.specs.Laws.{bit_asked, with_fault, flips_asked, SureBits, FaultsFlip}
-use Rattle.stab_regions.proofs.SignLemmas.{sign-sign, back-letter}
 use Rattle.stab_regions.proofs.LookLemmas.{parity-append, parity-none}
-use Rattle.stab_regions.proofs.ReadLemmas.{length-string_of, size-through, Reads, reads-next}
-
--- a trace is on n qubits and sound
-
-pub record IsGood (n : ℕ) (trace : List Event) : Type 0 where
-  pub fits : Fits n trace
-  pub sound : IsSound trace
-
-good-where : (n : ℕ) (bit : Bool) (l : Letter) (q : ℕ) (t : List Event) → q < n → IsGood n t → IsGood n (applied_where bit l q t)
-good-where n true l q t lt good = record { fits = (lt, good.fits); sound = good.sound }
-good-where n false l q t lt good = good
-
-good-projected : (n : ℕ) (p : Signed) (t : List Event) (coin : Bool) → length p.letters ≡ n → IsGood n t → IsGood n (projected p (outcome t p coin) ∷ t)
-good-projected n p t coin size good = record { fits = (size, good.fits); sound = IsSound-outcome n t good.fits good.sound p size coin }
-
-pub good-next : (n : ℕ) (coins : ℕ → Bool) (x : Step) (p : Point) → StepFits n x → IsGood n p.trace → IsGood n (trace_after n coins x p)
-good-next n coins (one g q) p fits good = record { fits = (fits, good.fits); sound = good.sound }
-good-next n coins (two g a b) p fits good = record { fits = (fits, good.fits); sound = good.sound }
-good-next n coins (controlled l k q) p fits good = good-where n _ l q _ fits good
-good-next n coins (collapse l q recorded inverted resets) p fits good =
-    good-where n _ (flip_of l) q _ fits (good-projected n (single n q l) p.trace (coins p.coin) (length-one_letter n q l) good)
-good-next n coins (product factors inverted) p fits good =
-    good-projected n (string_of n factors) p.trace (coins p.coin) (length-string_of n factors) good
-good-next n coins (detector ks) p fits good = good
-good-next n coins (observable j ks) p fits good = good
+use Rattle.stab_regions.proofs.ReadLemmas.{size-through, Reads, reads-next}
 
 -- the end: of the identity only the sign + stabilises
 

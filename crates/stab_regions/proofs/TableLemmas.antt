@@ -8,6 +8,7 @@ use Rattle.stab_letters.specs.Letters.{◌⊕◌}
 use Rattle.stab_pauli.specs.Paulis.{single, anticommute}
 use Rattle.stab_letters.proofs.ParityLemmas.{parity-false}
 use Rattle.stab_circuit.specs.Steps.{Step, one, detectors_of}
+use Rattle.stab_laws.proofs.CoinLemmas.{coins-append}
 use Rattle.stab_run.specs.Runs.{gate_of}
 use Rattle.stab_run.specs.Points.{origin, all_coins_of}
 use Rattle.stab_run.specs.Laws.{RunsArePointsWithOutputs}
@@ -15,21 +16,13 @@ use Rattle.stab_run.specs.ProgramStates.{StepFits}
 use Rattle.stab_regions.specs.Regions.{asks_nothing, asks_observable, is_sure}
 use Rattle.stab_regions.specs.Laws.{bit_asked, with_fault, flips_asked, turned_with}
 use Rattle.stab_regions.specs.Tables.{steps_before_detector, named_by, region_of_detector, is_sure_detector, flips_detector}
-use Rattle.stab_regions.specs.TableLaws.{detector_bit, observable_bit, TablesAreWhole, SureDetectors, SureObservables, FlipsDetector, FaultsFlipDetectors, FaultsFlipObservables}
+use Rattle.stab_regions.specs.TableLaws.{detector_bit, observable_bit, SureDetectors, SureObservables, FlipsDetector, FaultsFlipDetectors, FaultsFlipObservables}
 use Rattle.stab_regions.proofs.SureLemmas.{sure-bits, faults-flip}
 use Rattle.stab_regions.proofs.TouchLemmas.{turned-before}
 use Rattle.stab_regions.proofs.UnsureLemmas.{sure-where-the-same, faults-flip-with-their-coins}
-use Rattle.stab_regions.proofs.DetectorLemmas.{count-other, before-other, named-other, before-front, fits-before, length-tracked, detector-bit, count-detectors}
-use Rattle.stab_regions.proofs.FaultLemmas.{count-append, stands-first, stands-behind, bit-same, coins-append, turned-with, coins-before}
-use Rattle.stab_regions.proofs.ObservableLemmas.{observable-bit, count-observables}
-
--- the law of how many there are
-pub tables-are-whole : RunsArePointsWithOutputs → TablesAreWhole
-tables-are-whole law n coins xs count = record {
-  rows = length-tracked n xs;
-  detectors = count-detectors law n coins xs count;
-  observables = count-observables law n coins xs count;
-}
+use Rattle.stab_regions.proofs.DetectorLemmas.{count-other, before-other, named-other, before-front, fits-before, detector-bit}
+use Rattle.stab_regions.proofs.FaultLemmas.{count-append, stands-first, stands-behind, bit-same, turned-with, coins-before}
+use Rattle.stab_regions.proofs.ObservableLemmas.{observable-bit}
 
 -- what is the same of bits is the same of bits that equal them
 pub same-of : (bit asked : (ℕ → Bool) → Bool) → ((coins : ℕ → Bool) → bit coins ≡ asked coins) → (sure : Bool)

@@ -11,6 +11,7 @@ use Rattle.stab_letters.proofs.ParityLemmas.{parity-false, parity-mid}
 use Rattle.stab_pauli.proofs.StringLemmas.{strings_anticommute-blank_right}
 use Rattle.stab_pauli.proofs.SignedLemmas.{anticommute-comm}
 use Rattle.stab_circuit.specs.Steps.{Step, one, two, controlled, collapse, product, detector, observable}
+use Rattle.stab_laws.proofs.SoundLemmas.{good-next, IsGood}
 use Rattle.stab_run.specs.Records.{looked_up, parity}
 use Rattle.stab_run.specs.Runs.{string_of, flip_of}
 use Rattle.stab_run.specs.Points.{Point, coins_of, next_point}
@@ -20,7 +21,6 @@ use Rattle.stab_regions.specs.Frames.{Frame, frame_after, turned_by, all_turned_
 use Rattle.stab_regions.specs.Laws.{bit_asked}
 use Rattle.stab_regions.proofs.LookLemmas.{parity-append, parity-where, parity-when, parity-flipped}
 use Rattle.stab_regions.proofs.ReadLemmas.{size-through}
-use Rattle.stab_regions.proofs.SureLemmas.{IsGood, good-next}
 use Rattle.stab_regions.proofs.MovedLemmas.{moved-gate, moved-pair, anticommute-times, anticommute-times_right, size-after, TurnsCoin, moved-next}
 
 -- a step

@@ -2,6 +2,7 @@
 use Rattle.std.proofs.Common.{◌≡◌, ℕ, ◌+◌, ◌<◌, refl, sym, ◌∙◌, ap, subst, arith, Bool, true, false, not, ◌&&◌, List, [], ◌∷◌, ◌++◌, append-nil, length, All, add-zero}
 use Rattle.std.proofs.lemmas.List.{length-replicate}
 use Rattle.std.proofs.lemmas.List.Elements.{All-head, All-tail}
+use Rattle.std.proofs.lemmas.Bool.{not-false}
 use Rattle.stab_letters.specs.declared.letter.Letter.{Letter}
 use Rattle.stab_letters.specs.declared.letter.Letter.TheVariants.{I}
 use Rattle.stab_letters.specs.Letters.{◌⊕◌}
@@ -16,6 +17,9 @@ use Rattle.stab_tableau.proofs.TraceLemmas.{group-member}
 use Rattle.stab_tableau.proofs.FreeLemmas.{anticommuting-member}
 use Rattle.stab_tableau.proofs.TestLemmas.{not-true, not_both, test_right}
 use Rattle.stab_circuit.specs.Steps.{Step, one, two, controlled, collapse, product, detector, observable}
+use Rattle.stab_steps.proofs.ProductLemmas.{length-string_of}
+use Rattle.stab_laws.proofs.SoundLemmas.{good-next, IsGood}
+use Rattle.stab_frames.proofs.SignLemmas.{sign-sign, back-letter}
 use Rattle.stab_run.specs.Records.{looked_up, parity}
 use Rattle.stab_run.specs.Runs.{when, string_of, gate_of, flip_of, collapsed, outcome_at}
 use Rattle.stab_run.specs.Points.{Point, origin, trace_after, coins_of, all_coins_of, next_point}
@@ -23,10 +27,10 @@ use Rattle.stab_run.specs.ProgramStates.{StepFits}
 use Rattle.stab_regions.specs.Regions.{Region, region_of, region_through, keeps_region, keep_region, is_sure}
 use Rattle.stab_regions.specs.Frames.{Frame, all_turned_by, turned, touches, IsMoved}
 use Rattle.stab_regions.specs.Laws.{bit_asked, with_fault, flips_asked, turned_with, UnsureBits, SureWhereTheSame, FaultsFlipWithTheirCoins}
-use Rattle.stab_regions.proofs.SignLemmas.{sign-sign, back-letter, member-where}
+use Rattle.stab_regions.proofs.SignLemmas.{member-where}
 use Rattle.stab_regions.proofs.LookLemmas.{look-nothing, parity-none}
-use Rattle.stab_regions.proofs.ReadLemmas.{length-string_of, size-through}
-use Rattle.stab_regions.proofs.SureLemmas.{IsGood, good-next, good-origin, sure-bits}
+use Rattle.stab_regions.proofs.ReadLemmas.{size-through}
+use Rattle.stab_regions.proofs.SureLemmas.{good-origin, sure-bits}
 use Rattle.stab_regions.proofs.TouchLemmas.{Turns, turned-turns, turned-before, touched-bit}
 
 -- the frame of a string alone
@@ -64,9 +68,6 @@ own-product n m t o good lm =
 abbrev Behind : ℕ → (ℕ → Bool) → Step → Point → Region → Type 0
 Behind n coins x p r = (q : Signed) × (length q.letters ≡ n) × (member (trace_after n coins x p) q ≡ true) × (anticommute q r.string ≡ true)
 
-lost : (a : Bool) → not a ≡ false → a ≡ true
-lost a e = grind arith
-
 behind : (n : ℕ) (coins : ℕ → Bool) (x : Step) (p : Point) (r : Region) → StepFits n x → IsGood n p.trace → keeps_region n x r ≡ false → Behind n coins x p r
 behind n coins (one g q) p r fits good e = absurd (not_both true e refl)
 behind n coins (two g a b) p r fits good e = absurd (not_both true e refl)
@@ -77,7 +78,7 @@ behind n coins (collapse l q recorded inverted resets) p r fits good e = (
   member-where n q (flip_of l) (resets && o) (projected m o ∷ p.trace) _ lm fits
       ∙ ap (member (projected m o ∷ p.trace)) (sign-sign turn (turn ⊕ o) m ∙ ap (λ b. with_sign b m) (parity-twice turn o))
       ∙ own-product n m p.trace o good lm,
-  lost _ e,
+  not-false _ e,
 )
   where
     m : Signed
@@ -95,7 +96,7 @@ behind n coins (product factors inverted) p r fits good e = (
   with_sign (outcome_at coins (string_of n factors) p.trace p.coin) (string_of n factors),
   length-string_of n factors,
   own-product n (string_of n factors) p.trace (outcome_at coins (string_of n factors) p.trace p.coin) good (length-string_of n factors),
-  lost _ e,
+  not-false _ e,
 )
 behind n coins (detector ks) p r fits good e = absurd (not_both true e refl)
 behind n coins (observable j ks) p r fits good e = absurd (not_both true e refl)

@@ -5,7 +5,7 @@ use Rattle.stab_letters.specs.Letters.{◌⊕◌}
 use Rattle.stab_circuit.specs.Items.{Items}
 use Rattle.stab_circuit.specs.Steps.{Step, unroll, observables_of, detectors_of}
 use Rattle.stab_run.specs.ProgramStates.{StepFits}
-use Rattle.stab_regions.specs.Laws.{with_fault, turned_with}
+use Rattle.stab_regions.specs.Laws.{with_fault}
 use Rattle.stab_regions.specs.Parities.{parity_sure, parity_flips}
 use Rattle.stab_regions.specs.Faults.{FaultPlace, with_gates, bit, bits_in, IsSure, flips}
 
@@ -29,15 +29,6 @@ PlacesFlipSureParities =
     (n : ℕ) (items : Items) (i : ℕ) (f : FaultPlace) → All (StepFits n) (unroll items) → i < bits_in items → f.qubit < n →
     parity_sure n (detectors_of (unroll items)) i (unroll items) ≡ true → (coins : ℕ → Bool) →
     flips n items coins f i ≡ parity_flips n (detectors_of (unroll items)) i f.letter f.qubit (drop f.before (unroll items))
-
--- a letter that is inserted flips any bit, sure or not, exactly where the pass says so, where the coins are turned with it; and which
--- coins these are is the same for all bits
-abbrev pub FaultsFlipParitiesWithTheirCoins : Type 0
-FaultsFlipParitiesWithTheirCoins =
-    (n : ℕ) (items : Items) (i : ℕ) (front back : List Step) (l : Letter) (q : ℕ) → All (StepFits n) (unroll items) → i < bits_in items →
-    unroll items ≡ front ++ back → q < n → (coins : ℕ → Bool) →
-    bit n (observables_of items) (turned_with n front l q back coins) (with_fault front l q back) i ⊕ bit n (observables_of items) coins (unroll items) i
-    ≡ parity_flips n (detectors_of (unroll items)) i l q back
 
 -- a fault is on one of n qubits, with no more steps in front of it than there are
 pub record FaultFits (n : ℕ) (xs : List Step) (f : FaultPlace) : Type 0 where

@@ -1,14 +1,14 @@
 -- Laws of tables: what the regions of detectors and observables say of the bits that runs give.
 -- Source: this project's own.
-use Rattle.std.specs.Prelude.{◌≡◌, ℕ, ◌<◌, Bool, true, false, List, [], ◌++◌, length, All, ◌↔◌, slice_index_or}
+use Rattle.std.specs.Prelude.{◌≡◌, ℕ, ◌<◌, Bool, true, false, List, [], ◌++◌, All, ◌↔◌, slice_index_or}
 use Rattle.stab_letters.specs.declared.letter.Letter.{Letter}
 use Rattle.stab_letters.specs.Letters.{◌⊕◌}
 use Rattle.stab_circuit.specs.Steps.{Step, detectors_of}
 use Rattle.stab_run.specs.Runs.{start, run}
 use Rattle.stab_run.specs.ProgramStates.{StepFits}
-use Rattle.stab_regions.specs.Regions.{region_of, keep_region, asks_nothing, asks_observable, is_sure, sure_bit}
+use Rattle.stab_regions.specs.Regions.{asks_observable, is_sure, sure_bit}
 use Rattle.stab_regions.specs.Laws.{with_fault, flips_asked, turned_with}
-use Rattle.stab_regions.specs.Tables.{Tracked, tracked_at, steps_before_detector, named_by, region_of_detector, is_sure_detector, sure_detector_bit, flips_detector}
+use Rattle.stab_regions.specs.Tables.{is_sure_detector, sure_detector_bit, flips_detector}
 
 -- a detector and an observable of the run of steps, with so many observables
 abbrev pub detector_bit : ℕ → (ℕ → Bool) → List Step → ℕ → ℕ → Bool
@@ -16,22 +16,6 @@ detector_bit n coins xs count d = slice_index_or (run n coins xs (start count)).
 
 abbrev pub observable_bit : ℕ → (ℕ → Bool) → List Step → ℕ → ℕ → Bool
 observable_bit n coins xs count j = slice_index_or (run n coins xs (start count)).observables j false
-
--- the table has a row for each detector that a run gives, and no more; and a run gives so many observables
-pub record IsWhole (n : ℕ) (coins : ℕ → Bool) (xs : List Step) (count : ℕ) : Type 0 where
-  pub rows : length (tracked_at n xs) ≡ detectors_of xs
-  pub detectors : length (run n coins xs (start count)).detectors ≡ detectors_of xs
-  pub observables : length (run n coins xs (start count)).observables ≡ count
-
-abbrev pub TablesAreWhole : Type 0
-TablesAreWhole = (n : ℕ) (coins : ℕ → Bool) (xs : List Step) (count : ℕ) → IsWhole n coins xs count
-
--- one pass over all detectors gives each its own region
-abbrev pub TablesAreRegions : Type 0
-TablesAreRegions =
-    (n : ℕ) (xs : List Step) (d : ℕ) (other : Tracked) → d < detectors_of xs →
-    slice_index_or (tracked_at n xs) d other
-    ≡ record { region = region_of_detector n d xs; kept = keep_region n asks_nothing (steps_before_detector d xs) (region_of n (named_by d xs)) }
 
 -- a detector that is found sure is this bit, whatever the coins, and no other is the same whatever the coins
 pub record IsSureDetector (n : ℕ) (xs : List Step) (count d : ℕ) : Type 0 where

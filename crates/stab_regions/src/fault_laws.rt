@@ -1,6 +1,6 @@
 //! Laws of faults. Each function does nothing: its contract is the law, and the check proves it.
 
-ghost use Rattle.stab_regions.specs.FaultLaws.{SureParities, FaultsFlipSureParities, PlacesFlipSureParities, FaultsFlipParitiesWithTheirCoins, FaultsAdd};
+ghost use Rattle.stab_regions.specs.FaultLaws.{SureParities, FaultsFlipSureParities, PlacesFlipSureParities, FaultsAdd};
 
 use stab_run::laws::runs_are_points_with_outputs;
 
@@ -17,14 +17,6 @@ pub fn sure_parities()
 pub fn faults_flip_sure_parities()
     ensures law { FaultsFlipSureParities }
     ensures places { PlacesFlipSureParities }
-{
-    runs_are_points_with_outputs();
-}
-
-/// An inserted letter flips any bit, sure or not, exactly where the pass says so, once the coins of
-/// the outcomes that it flips are turned with it. Which coins these are is the same for all bits.
-pub fn faults_flip_parities_with_their_coins()
-    ensures law { FaultsFlipParitiesWithTheirCoins }
 {
     runs_are_points_with_outputs();
 }

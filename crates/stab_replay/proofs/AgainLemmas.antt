@@ -1,6 +1,6 @@
 -- Runs that come again: where a run stands as it stood before, and no coin decided since, the same steps give the same again.
 use Rattle.std.proofs.Common.{◌≡◌, ℕ, zero, suc, ◌+◌, ◌-◌, ◌*◌, ◌<◌, ◌≤◌, refl, sym, ◌∙◌, ap, subst, Bool, false, inl, inr, List, [], ◌∷◌, ◌++◌, length, take, drop, get_or, arith}
-use Rattle.std.proofs.Math.Seq.{drop-drop, length-take-le}
+use Rattle.std.proofs.Math.Seq.{drop-drop, length-take-le, take-add}
 use Rattle.std.proofs.Math.Nat.{add-mul, mul-le-mul_right}
 use Rattle.std.proofs.lemmas.Bool.{cases_lt}
 use Rattle.std.proofs.lemmas.List.{length-drop, take-append-drop, take-take, drop_at}
@@ -16,7 +16,6 @@ use Rattle.stab_laws.proofs.FixedLemmas.{fixed-future}
 use Rattle.stab_laws.proofs.FutureBackLemmas.{same-future-back}
 use Rattle.stab_laws.proofs.PointLemmas.{front-output, rest-joined}
 use Rattle.stab_laws.proofs.RoundLemmas.{rounds-append, length-rounds}
-use Rattle.stab_copies.proofs.TakeLemmas.{take-more}
 use Rattle.stab_replay.specs.FramedReplays.{between}
 use Rattle.stab_replay.proofs.CutLemmas.{ones-take}
 use Rattle.stab_replay.proofs.SeenLemmas.{seen-later}
@@ -119,10 +118,10 @@ module _ (n : ℕ) (coins : ℕ → Bool) (ys : List Step) (i j k reach : ℕ) (
   now = point_after n coins (take k ys) origin
 
   pub first-steps : take j ys ≡ take i ys ++ part
-  first-steps = ap (λ l. take l ys) {x = j} {y = i + (j - i)} (omega (arith, order)) ∙ take-more i (j - i) ys
+  first-steps = ap (λ l. take l ys) {x = j} {y = i + (j - i)} (omega (arith, order)) ∙ take-add i (j - i) ys
 
   pub later-steps : take (k + (j - i)) ys ≡ take k ys ++ part
-  later-steps = take-more k (j - i) ys ∙ ap (λ l. take k ys ++ l) (sym same)
+  later-steps = take-add k (j - i) ys ∙ ap (λ l. take k ys ++ l) (sym same)
 
   pub first-point : point_after n coins (take j ys) origin ≡ point_after n coins part then
   first-point = ap (λ xs. point_after n coins xs origin) first-steps ∙ after-append n coins (take i ys) part origin

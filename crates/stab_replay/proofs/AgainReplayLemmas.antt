@@ -4,10 +4,9 @@ use Rattle.std.specs.Option.{option_map}
 use Rattle.std.proofs.lemmas.List.{length-take, take-take, take_at, drop-take}
 use Rattle.std.proofs.lemmas.List.Elements.{All-take, All-drop}
 use Rattle.std.proofs.lemmas.Option.{none-some, same_Some, slice_get_within}
-use Rattle.std.proofs.Math.Seq.{drop-drop}
-use Rattle.stab_copies.proofs.TakeLemmas.{take-more}
-use Rattle.stab_replay.proofs.CutLemmas.{ones-take, get-left}
-use Rattle.stab_tableau.specs.Tableaus.{TableauState, stabilises}
+use Rattle.std.proofs.Math.Seq.{drop-drop, take-add}
+use Rattle.stab_replay.proofs.CutLemmas.{ones-take}
+use Rattle.stab_tableau.specs.Tableaus.{stabilises}
 use Rattle.stab_circuit.specs.Steps.{Step, looks_too_far}
 use Rattle.stab_circuit.specs.declared.circuit.repeats.Repeat.{Repeat}
 use Rattle.stab_circuit.specs.Repeats.{IsRepeat}
@@ -20,6 +19,7 @@ use Rattle.stab_run.specs.Ends.{AgreeBack, with_coin}
 use Rattle.stab_laws.proofs.PointLemmas.{records-are-records}
 use Rattle.stab_steps.proofs.RecordLemmas.{ones-append}
 use Rattle.stab_frames.specs.Lookbacks.{LooksWithin}
+use Rattle.stab_frames.proofs.NoteAtLemmas.{get-append}
 use Rattle.stab_copies.specs.declared.checkpoint.Checkpoint.{Checkpoint}
 use Rattle.stab_copies.specs.Checkpoints.{IsRunFromStart, IsCheckpoint, checkpoint_steps}
 use Rattle.stab_copies.specs.Spacing.{Near}
@@ -31,7 +31,7 @@ use Rattle.stab_replay.specs.Replays.{IsAtStep, IsAtStop, IsOnWay, step_among_ne
 use Rattle.stab_replay.specs.inner.AgainReplays.{StandsAgain, HasGivenAgain, IsEndIn}
 use Rattle.stab_replay.specs.inner.LedReplays.{last_state, with_state, with_cursor}
 use Rattle.stab_replay.proofs.AgainLemmas.{same-later, front-at, ones-part, part-is, gives-again, agrees-again}
-use Rattle.stab_replay.proofs.LedLemmas.{at-number}
+use Rattle.stab_replay.proofs.LedLemmas.{at-number, last-pushed}
 use Rattle.stab_replay.proofs.LedWayLemmas.{some-of}
 use Rattle.stab_replay.proofs.NotedLemmas.{near-enough, noted-fixed}
 use Rattle.stab_replay.proofs.ReplayLemmas.{on-stop, with-laid}
@@ -51,11 +51,6 @@ near-neighbours K a e zero (b ∷ f ∷ cs) c d near here there =
     no-later : (x : ℕ) (xs : List ℕ) → Near K (x ∷ xs ++ e ∷ []) → x ≤ e
     no-later x [] h = h.0
     no-later x (y ∷ xs) h = let first = h.0 in let rest = no-later y xs h.2 in omega (arith, first, rest)
-
--- the state of the last copy
-pub last-pushed : (t : TableauState) (cs : List Checkpoint) (c : Checkpoint) → last_state t (cs ++ c ∷ []) ≡ c.tableau
-last-pushed t [] c = refl
-last-pushed t (b ∷ cs) c = last-pushed b.tableau cs c
 
 pub place-known : (P : ℕ → Type 0) (o : Option Checkpoint) (place : Checkpoint → ℕ) (q : Option ℕ) → q ≡ option_map place o → IfSome q P → IfSome o (λ c. P (place c))
 place-known P None place q is h = tt
@@ -172,7 +167,7 @@ module _ (n : ℕ) (coins : ℕ → Bool) (begin : ℕ) (p : Plan) (ys : List St
     steps_now : take r.step ys ++ part ≡ take new.step ys
     steps_now =
         ap (λ xs. take r.step ys ++ xs) same_steps
-        ∙ sym (take-more r.step (d.step - c.step) ys)
+        ∙ sym (take-add r.step (d.step - c.step) ys)
         ∙ ap (λ k. take k ys) (sym step)
 
     at_step : IsAtStep n coins ys arrived
@@ -325,7 +320,7 @@ module _ (n : ℕ) (coins : ℕ → Bool) (begin : ℕ) (p : Plan) (ys : List St
           })
 
       still : slice_get s.laid.items (number + 1) ≡ Some d
-      still = ap (λ l. slice_get l (number + 1)) g.laid ∙ get-left r.laid.items _ (number + 1) (slice_get_within r.laid.items (number + 1) d second.1) ∙ second.1
+      still = ap (λ l. slice_get l (number + 1)) g.laid ∙ get-append r.laid.items _ (number + 1) (slice_get_within r.laid.items (number + 1) d second.1) ∙ second.1
 
 -- the same number of qubits and the same steps, by a replay's own names and by others
 

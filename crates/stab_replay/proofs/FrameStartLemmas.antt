@@ -13,6 +13,7 @@ use Rattle.stab_steps.specs.declared.records.Lengths.{Lengths}
 use Rattle.stab_run.specs.Records.{looked_up, ones}
 use Rattle.stab_run.specs.Points.{Point, RunOutput, nothing, origin, point_after, outputs}
 use Rattle.stab_run.specs.ProgramStates.{StepFits, program_state}
+use Rattle.stab_run.proofs.PeriodStartLemmas.{apart-behind}
 use Rattle.stab_laws.proofs.PointLemmas.{flags-are-coins, records-are-records, front-output}
 use Rattle.stab_laws.proofs.LookbackLemmas.{looked_up-near}
 use Rattle.stab_frames.specs.Flips.{flipped}
@@ -23,20 +24,6 @@ use Rattle.stab_frames.proofs.FlipLemmas.{length-flipped, flipped-apart}
 use Rattle.stab_copies.specs.declared.checkpoint.Checkpoint.{Checkpoint}
 use Rattle.stab_copies.specs.Checkpoints.{IsRunFromStart, IsCheckpoint}
 use Rattle.stab_replay.specs.FramedReplays.{HaveMoved, AreCompared, IsFrameFrom, IsFramedAt}
-
--- where two lists are the same at first, nothing differs
-
-same-bit : (a b : Bool) → a ≡ b → false ≡ (b ⊕ a)
-same-bit a b e = grind arith
-
-pub apart-behind : (base : ℕ) (bits others : List Bool) → length others ≡ length bits → base ≤ length bits → take base bits ≡ take base others
-    → replicate base false ++ flipped (drop base bits) (drop base others) ≡ flipped bits others
-apart-behind zero bits others size le same = refl
-apart-behind (suc base) [] others size le same = absurd (omega arith)
-apart-behind (suc base) (a ∷ bits) [] size le same = absurd (omega (arith, size))
-apart-behind (suc base) (a ∷ bits) (b ∷ others) size le same =
-    λ i. same-bit a b (ap (λ l. get_or l 0 false) same) i
-    ∷ apart-behind base bits others (omega (arith, size)) (omega arith) (ap (drop 1) same) i
 
 -- the frame found from an old copy
 pub frame-found : (t : TableauState) (o old : RunOutput) (base reach n m : ℕ) (c : Checkpoint) (string : Signed) (bits others : List Bool) (v u w : WalkState) → n ≡ t.qubits

@@ -1,66 +1,38 @@
 -- Framed runs: behind a point where it differs by a frame from another, a run gives what the other gives, flipped, as far as the frame
 -- goes, and then the same.
-use Rattle.std.proofs.Common.{◌≡◌, ℕ, zero, suc, ◌+◌, ◌-◌, ◌<◌, ◌≤◌, min, refl, sym, ◌∙◌, ap, subst, Bool, false, ◌||◌, inl, inr, List, [], ◌∷◌, ◌++◌, length, take, drop, All, replicate, nat_lt, Option, arith}
-use Rattle.std.specs.Prelude.{IfSome}
-use Rattle.std.specs.List.{list_any}
+use Rattle.std.proofs.Common.{◌≡◌, ℕ, ◌-◌, ◌<◌, ◌≤◌, min, sym, ◌∙◌, ap, subst, Bool, false, inl, inr, List, [], ◌++◌, length, take, drop, All, replicate, Option, arith}
 use Rattle.std.proofs.lemmas.Bool.{cases_lt}
 use Rattle.std.proofs.lemmas.List.{take-append-drop, take-take, take_all}
 use Rattle.std.proofs.lemmas.List.Elements.{All-take}
-use Rattle.std.proofs.lemmas.Option.{IfSome_then}
+use Rattle.std.proofs.Math.Seq.{take-add}
 use Rattle.stab_letters.specs.declared.letter.Letter.{Letter}
 use Rattle.stab_letters.specs.declared.letter.Letter.TheVariants.{I}
 use Rattle.stab_letters.specs.Letters.{◌⊕◌}
-use Rattle.stab_pauli.specs.Paulis.{Signed, with_sign, strings_anticommute}
 use Rattle.stab_tableau.specs.Traces.{member}
 use Rattle.stab_tableau.specs.Groups.{SameGroup, IsStabiliserGroup}
-use Rattle.stab_tableau.specs.Exchanges.{Exchanges}
 use Rattle.stab_tableau.specs.Turns.{IsTurned}
-use Rattle.stab_circuit.specs.Steps.{Step, makes, lookbacks, looks_too_far}
-use Rattle.stab_steps.specs.declared.records.Addition.{Addition}
+use Rattle.stab_circuit.specs.Steps.{Step, looks_too_far}
 use Rattle.stab_run.specs.Records.{looked_up, ones}
-use Rattle.stab_run.specs.Runs.{measured_by}
-use Rattle.stab_run.specs.Points.{Point, RunOutput, nothing, joined, coins_of, next_point, point_after, outputs}
+use Rattle.stab_run.specs.Points.{Point, nothing, joined, point_after, outputs}
 use Rattle.stab_run.specs.ProgramStates.{StepFits}
 use Rattle.stab_run.specs.Ends.{AgreeBack, with_coin}
-use Rattle.stab_laws.proofs.LookbackLemmas.{or-left, or-right}
 use Rattle.stab_laws.proofs.FutureBackLemmas.{same-future-back}
 use Rattle.stab_laws.proofs.FixedLemmas.{fixed-future, fixed-front}
 use Rattle.stab_steps.proofs.RunLemmas.{after-append, outputs-append, joined-nothing}
-use Rattle.stab_frames.specs.Flips.{flipped, flipped_additions, flipped_output}
+use Rattle.stab_frames.specs.Flips.{flipped_output}
 use Rattle.stab_frames.specs.Frames.{Frame, PointsDifferBy}
 use Rattle.stab_frames.specs.Notes.{same_coins}
 use Rattle.stab_frames.specs.FrameSteps.{frame_over, flips_over}
 use Rattle.stab_frames.specs.StepNotes.{AreEnough}
-use Rattle.stab_frames.specs.KeptStrings.{IsTrueAt, AreTrue}
 use Rattle.stab_frames.specs.Walks.{IsGone}
 use Rattle.stab_frames.specs.Ends.{MayHaveCoin}
 use Rattle.stab_replay.specs.FramedReplays.{HaveSameFuture}
-use Rattle.stab_copies.proofs.TakeLemmas.{take-more}
-use Rattle.stab_frames.proofs.SignLemmas.{sign-twice}
 use Rattle.stab_frames.proofs.TurnedLemmas.{turned-blank}
-use Rattle.stab_frames.proofs.FlipLemmas.{looked_up-flipped, flipped-joined}
+use Rattle.stab_frames.proofs.FlipLemmas.{looked_up-flipped, flipped-joined, flipped-nothing}
 use Rattle.stab_frames.proofs.StepLemmas.{over-framed, outputs-matches}
 use Rattle.stab_frames.specs.AgainLaws.{AreTurnedOver}
 use Rattle.stab_frames.proofs.NoteLemmas.{enough-before}
 use Rattle.stab_frames.proofs.AgainLemmas.{looks-front}
-
--- no output is flipped by nothing
-
-pub flipped-empty : (bits : List Bool) → flipped bits [] ≡ bits
-flipped-empty [] = refl
-flipped-empty (bit ∷ bits) = refl
-
-additions-empty : (additions : List Addition) → flipped_additions additions [] ≡ additions
-additions-empty [] = refl
-additions-empty (a ∷ more) = refl
-
-flipped-nothing : (o : RunOutput) → flipped_output o nothing ≡ o
-flipped-nothing o = λ i. record {
-  records = flipped-empty o.records i;
-  free = flipped-empty o.free i;
-  detectors = flipped-empty o.detectors i;
-  additions = additions-empty o.additions i;
-}
 
 -- points that agree as far back as steps look have the same future by these
 pub future-back : (n reach : ℕ) (coins : ℕ → Bool) (back : List Step) (a b : Point) → looks_too_far reach back ≡ false → AgreeBack n reach a b → HaveSameFuture n coins back a b
@@ -88,9 +60,8 @@ future-turned n coins back a b future m = (
   (λ p size. sym ((future m).1 p size) ∙ turned-blank n (member (point_after n coins (take m back) a).trace) p size),
 )
 
--- a run behind a point that differs by a frame, which went over so many steps and then was gone, or over all
-
--- so many steps on the one run differs from the other by letters, and gave what the other gave, flipped
+-- from points that differ by a frame, which goes over the first steps: so many steps on the one run differs from the other by letters,
+-- and gave what the other gave, flipped
 pub record IsFramedBehind (n : ℕ) (coins : ℕ → Bool) (strings : ℕ → Option (List Letter)) (count : ℕ) (back : List Step) (f : Frame) (a b : Point) (m : ℕ) : Type 0 where
   pub group : IsTurned n (frame_over n (same_coins strings) (take (min m count) back) a.coin f).letters
       (member (point_after n coins (take m back) a).trace) (member (point_after n coins (take m back) b).trace)
@@ -120,12 +91,6 @@ module _ (n : ℕ) (coins : ℕ → Bool) (strings : ℕ → Option (List Letter
 
   module _ (reach : ℕ) (gone : IsGone n reach (frame_over n (same_coins strings) (take count back) a.coin f))
       (near : looks_too_far reach (drop count back) ≡ false) where
-    here : Point
-    here = point_after n coins (take count back) a
-
-    there : Point
-    there = point_after n coins (take count back) b
-
     last : PointsDifferBy n (frame_over n (same_coins strings) (take count back) a.coin f) (point_after n coins (take count back) a) (point_after n coins (take count back) b)
     last = (over count (omega arith)).1
 
@@ -153,7 +118,7 @@ module _ (n : ℕ) (coins : ℕ → Bool) (strings : ℕ → Option (List Letter
         (both.0, both.1.group)
 
     cut-at : (m : ℕ) → count ≤ m → take m back ≡ take count back ++ take (m - count) (drop count back)
-    cut-at m le = ap (λ k. take k back) (omega arith) ∙ take-more count (m - count) back
+    cut-at m le = ap (λ k. take k back) (omega arith) ∙ take-add count (m - count) back
 
     at-count : (m : ℕ) → count ≤ m → (c : Point) → point_after n coins (take m back) c ≡ point_after n coins (take (m - count) (drop count back)) (point_after n coins (take count back) c)
     at-count m le c = ap (λ xs. point_after n coins xs c) (cut-at m le) ∙ after-append n coins (take count back) (take (m - count) (drop count back)) c

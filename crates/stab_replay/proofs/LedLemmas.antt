@@ -1,5 +1,5 @@
 -- Led replays: a replay that a frame led to the place of the next old copy is there, and differs still where the frame is not gone.
-use Rattle.std.proofs.Common.{◌≡◌, ◌≢◌, ℕ, ◌+◌, ◌-◌, ◌^◌, ◌<◌, ◌≤◌, refl, sym, ◌∙◌, ap, subst, Bool, true, ◌⊎◌, inl, inr, List, [], ◌∷◌, ◌++◌, All, Option, None, Some, slice_get, IsSomeAnd, length, take, drop, arith}
+use Rattle.std.proofs.Common.{◌≡◌, ◌≢◌, ℕ, ◌+◌, ◌-◌, ◌^◌, ◌<◌, ◌≤◌, refl, sym, ◌∙◌, ap, subst, Bool, true, ◌⊎◌, inl, inr, List, [], ◌∷◌, ◌++◌, All, Some, slice_get, IsSomeAnd, length, take, drop, arith}
 use Rattle.std.proofs.lemmas.List.{length-drop, length-append, drop-drop, take_at}
 use Rattle.std.proofs.lemmas.List.Elements.{All-get_or}
 use Rattle.std.proofs.lemmas.Option.{slice_get_within, get_or_from_slice_get}
@@ -14,6 +14,7 @@ use Rattle.stab_run.specs.Points.{RunOutput, origin, joined, point_after, output
 use Rattle.stab_run.specs.ProgramStates.{output_of}
 use Rattle.stab_steps.proofs.RecordLemmas.{ones-append}
 use Rattle.stab_laws.proofs.PointLemmas.{cut, front-output, flags-are-coins, records-are-records}
+use Rattle.stab_laws.proofs.CoinLemmas.{coins-few, coins-are}
 use Rattle.stab_frames.specs.declared.noting.RunNotes.{RunNotes}
 use Rattle.stab_frames.specs.declared.steps.Stop.{Stop}
 use Rattle.stab_frames.specs.declared.steps.Stop.TheVariants.{Behind, NoString}
@@ -28,8 +29,7 @@ use Rattle.stab_copies.specs.Checkpoints.{IsCheckpoint}
 use Rattle.stab_replay.specs.Replays.{IsAtStep, Misses, step_among_new, copy_of}
 use Rattle.stab_replay.specs.FramedReplays.{HaveMoved, IsFramedAt, IsFramedOver, IsContinued, IsFrameFrom, WentOver, between, flips_since}
 use Rattle.stab_replay.specs.inner.LedReplays.{IsBeside, IsAtCopy, IsLed, IsPassed, WentTo, last_state, state_of, with_state, with_cursor}
-use Rattle.stab_replay.proofs.NotedLemmas.{coins-are, noted-more}
-use Rattle.stab_replay.proofs.ReplayLemmas.{coins-few}
+use Rattle.stab_replay.proofs.NotedLemmas.{noted-more}
 use Rattle.stab_replay.proofs.FrameStartLemmas.{frame-begins, flips-differ}
 use Rattle.stab_replay.proofs.OverCopyLemmas.{over, there, coins-apart, at-copy}
 
@@ -136,9 +136,9 @@ went-from n p c d o s r q t w v stop went = record {
 }
 
 -- the last of some copies is the one that was laid last
-last-laid : (t : TableauState) (cs : List Checkpoint) (c : Checkpoint) → last_state t (cs ++ c ∷ []) ≡ c.tableau
-last-laid t [] c = refl
-last-laid t (b ∷ cs) c = last-laid b.tableau cs c
+pub last-pushed : (t : TableauState) (cs : List Checkpoint) (c : Checkpoint) → last_state t (cs ++ c ∷ []) ≡ c.tableau
+last-pushed t [] c = refl
+last-pushed t (b ∷ cs) c = last-pushed b.tableau cs c
 
 module _ {n : ℕ} {coins : ℕ → Bool} {p : Plan} {ys : List Step} {copies : List Checkpoint} {o : RunOutput} {s : StringsState} {last : ℕ} {c : Checkpoint} {w : WalkState}
     (number : ℕ) (d : Checkpoint) (from : slice_get copies last ≡ Some c) (to : slice_get copies number ≡ Some d) (few : length ys ≤ most_steps) (r : Replay) (passed : Bool)
@@ -303,7 +303,7 @@ module _ {n : ℕ} {coins : ℕ → Bool} {p : Plan} {ys : List Step} {copies : 
       )
         where
           state : state_of true t ≡ kept
-          state = ap (last_state t.tableau) laid ∙ last-laid t.tableau r.laid.items (copy_of (record t { tableau = kept }))
+          state = ap (last_state t.tableau) laid ∙ last-pushed t.tableau r.laid.items (copy_of (record t { tableau = kept }))
 
           there-now : WentTo n coins p ys r (with_state true t) d
           there-now =

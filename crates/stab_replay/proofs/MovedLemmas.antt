@@ -1,6 +1,6 @@
 -- Replays apart: where a replay's next coin has another number than the old run's, or its records are others, the two agree at no later
 -- old copy.
-use Rattle.std.proofs.Common.{◌≡◌, ◌≢◌, ℕ, suc, zero, ◌+◌, ◌-◌, ◌<◌, ◌≤◌, refl, sym, ◌∙◌, ap, subst, Bool, ◌⊎◌, inl, inr, List, [], ◌∷◌, ◌++◌, All, Option, Some, None, length, take, drop, slice_get, arith}
+use Rattle.std.proofs.Common.{◌≡◌, ◌≢◌, ℕ, suc, zero, ◌+◌, ◌-◌, ◌<◌, ◌≤◌, refl, sym, ◌∙◌, ap, subst, Bool, ◌⊎◌, inl, inr, List, [], ◌∷◌, ◌++◌, Option, Some, None, length, take, drop, slice_get, arith}
 use Rattle.std.specs.Prelude.{IfSome, IsSomeAnd}
 use Rattle.std.proofs.lemmas.Bool.{cases_lt}
 use Rattle.std.proofs.lemmas.List.{length-append, length-drop, take_at}
@@ -11,9 +11,9 @@ use Rattle.stab_copies.specs.Checkpoints.{IsCheckpoint}
 use Rattle.stab_run.specs.Records.{ones}
 use Rattle.stab_run.specs.Points.{Point, RunOutput, origin, point_after, outputs, all_coins_of}
 use Rattle.stab_frames.specs.KeptStrings.{StringsState}
-use Rattle.stab_frames.proofs.OverLemmas.{coin-after}
 use Rattle.stab_laws.proofs.PointLemmas.{flags-are-coins, records-are-records, records-gathered, front-output}
 use Rattle.stab_laws.proofs.FutureBackLemmas.{records-made}
+use Rattle.stab_laws.proofs.CoinLemmas.{coins-are}
 use Rattle.stab_replay.specs.declared.replay.Plan.{Plan}
 use Rattle.stab_replay.specs.declared.replay.Replay.{Replay}
 use Rattle.stab_replay.specs.Replays.{IsAtStep, Ascending, Misses, IsOnWay, step_among_new}
@@ -44,7 +44,7 @@ same-fronts a b x y same ends =
 -- so many steps on it is greater by as much in both runs, whose steps are the same there
 
 more-coins : (n : ℕ) (coins : ℕ → Bool) (xs : List Step) (a b : Point) → a ≡ point_after n coins xs b → a.coin ≡ b.coin + all_coins_of xs
-more-coins n coins xs a b same = ap (λ (q : Point). q.coin) same ∙ coin-after n coins xs b
+more-coins n coins xs a b same = ap (λ (q : Point). q.coin) same ∙ coins-are n coins xs b
 
 module _ (n : ℕ) (coins : ℕ → Bool) (p : Plan) (ys : List Step) (copies : List Checkpoint) (o : RunOutput) (s : StringsState) (old : IsOldRun n coins p ys copies o s)
     (few : length ys ≤ 1048576) (b c : Checkpoint) (from : IsCheckpoint n coins old.steps b) (to : IsCheckpoint n coins old.steps c) (behind : p.old_end ≤ b.step)

@@ -1,45 +1,43 @@
 -- Noted strings: those that exchange the free outcomes of a run, cut and put together where runs are.
-use Rattle.std.proofs.Common.{◌≡◌, ℕ, zero, suc, ◌+◌, ◌-◌, ◌<◌, ◌≤◌, min, refl, sym, ◌∙◌, ap, subst, Bool, true, false, ◌||◌, ◌⊎◌, inl, inr, List, [], ◌∷◌, ◌++◌, length, take, drop, All, slice_get, get_or, nat_lt, nat_le, Option, None, Some, arith}
+use Rattle.std.proofs.Common.{◌≡◌, ℕ, zero, suc, ◌+◌, ◌-◌, ◌<◌, ◌≤◌, min, refl, sym, ◌∙◌, ap, subst, Bool, true, false, ◌⊎◌, inl, inr, List, [], ◌∷◌, ◌++◌, length, take, drop, All, slice_get, get_or, nat_lt, nat_le, Option, None, arith}
 use Rattle.std.specs.Prelude.{IfSome, if◌then◌else◌}
 use Rattle.std.specs.List.{list_any}
-use Rattle.std.proofs.lemmas.Bool.{cases_lt}
+use Rattle.std.proofs.lemmas.Bool.{cases_lt, or_from}
 use Rattle.std.proofs.lemmas.Bool.Decides.{leb_tells}
-use Rattle.std.proofs.lemmas.List.{length-append, length-drop, take-append-drop}
+use Rattle.std.proofs.lemmas.List.{length-append, length-drop, take-append-drop, get_or-take, get_or_append_left, take-append-le, get_or-append-add, get_or-drop, take-take}
 use Rattle.std.proofs.lemmas.List.Elements.{All-head, All-tail, All-append, All-drop, All-take, All-nil, All-weaker}
+use Rattle.std.proofs.Math.Seq.{take-append-add}
 use Rattle.stab_letters.specs.declared.letter.Letter.{Letter}
-use Rattle.stab_pauli.specs.Paulis.{Signed}
-use Rattle.stab_tableau.specs.Traces.{member}
-use Rattle.stab_tableau.specs.Exchanges.{Exchanges}
 use Rattle.stab_circuit.specs.Steps.{Step, one, two, controlled, collapse, product, detector, observable, makes, lookbacks, looks_too_far}
 use Rattle.stab_run.specs.Records.{ones}
-use Rattle.stab_run.specs.Runs.{measured_by}
 use Rattle.stab_run.specs.Points.{Point, RunOutput, origin, coins_of, all_coins_of, next_point, point_after, outputs}
 use Rattle.stab_run.specs.ProgramStates.{ProgramState, IsAt}
 use Rattle.stab_steps.proofs.RecordLemmas.{ones-append}
 use Rattle.stab_laws.proofs.PointLemmas.{flags-are-coins, front-output, rest-output}
 use Rattle.stab_laws.proofs.LookbackLemmas.{or-left, or-right}
+use Rattle.stab_laws.proofs.CoinLemmas.{coins-are}
 use Rattle.stab_frames.specs.Limits.{most_strings}
 use Rattle.stab_frames.specs.KeptStrings.{StringsState, IsNumbered, IsTrueAt, AreTrue, KeepsTrue, note_at, front_kept}
 use Rattle.stab_frames.specs.Lookbacks.{LooksWithin}
 use Rattle.stab_frames.specs.Ends.{MayHaveCoin}
 use Rattle.stab_copies.proofs.BitLemmas.{counted}
 use Rattle.stab_replay.specs.NotedStrings.{IsNoted, IsSpliced}
-use Rattle.stab_replay.proofs.CutLemmas.{get-take, get-beyond, get-left, get-right, get-drop, bit-take, bit-left, bit-right, bit-drop, take-left, take-right, take-again, take-on, ones-take}
+use Rattle.stab_replay.proofs.CutLemmas.{get-take, get-beyond, get-drop, ones-take}
 use Rattle.stab_frames.specs.AgainLaws.{AreTurnedOver}
 use Rattle.stab_frames.proofs.AgainLemmas.{true-turned}
+use Rattle.stab_frames.proofs.TrueLemmas.{true-append, true-front, true-rest, true-none}
+use Rattle.stab_frames.proofs.OtherCoinLemmas.{ones-split}
+use Rattle.stab_frames.proofs.NoteAtLemmas.{get-append, get-behind}
 
 -- how far back steps look
 
 below-more : (m r k : ℕ) → m ≤ r → nat_lt m k ≡ false → nat_lt r k ≡ false
 below-more m r k le e = grind arith
 
-both-false : (a b : Bool) → a ≡ false → b ≡ false → (a || b) ≡ false
-both-false a b e f = grind arith
-
 any-more : (m r : ℕ) (ks : List ℕ) → m ≤ r → list_any (nat_lt m) ks ≡ false → list_any (nat_lt r) ks ≡ false
 any-more m r [] le e = refl
 any-more m r (k ∷ ks) le e =
-    both-false (nat_lt r k) (list_any (nat_lt r) ks) (below-more m r k le (or-left (nat_lt m k) (list_any (nat_lt m) ks) e))
+    or_from (nat_lt r k) (list_any (nat_lt r) ks) (below-more m r k le (or-left (nat_lt m k) (list_any (nat_lt m) ks) e))
     (any-more m r ks le (or-right (nat_lt m k) (list_any (nat_lt m) ks) e))
 
 pub within-more : (m r : ℕ) (xs : List Step) → m ≤ r → All (LooksWithin m) xs → All (LooksWithin r) xs
@@ -48,7 +46,7 @@ within-more m r xs le all = All-weaker (LooksWithin m) (LooksWithin r) (λ x nea
 pub near-enough : (m r : ℕ) (xs : List Step) → m ≤ r → All (LooksWithin m) xs → looks_too_far r xs ≡ false
 near-enough m r [] le all = refl
 near-enough m r (x ∷ xs) le all =
-    both-false (list_any (nat_lt r) (lookbacks x)) (looks_too_far (r + makes x) xs)
+    or_from (list_any (nat_lt r) (lookbacks x)) (looks_too_far (r + makes x) xs)
     (any-more m r (lookbacks x) le (All-head (LooksWithin m) x xs all))
     (near-enough m (r + makes x) xs (omega arith) (All-tail (LooksWithin m) x xs all))
 
@@ -79,27 +77,6 @@ true-changed n coins strings others (x ∷ xs) a h is = (
   true-changed n coins strings others xs (next_point n coins x a) (λ t le lt. h t (omega (arith, le)) (omega (arith, lt))) is.1,
 )
 
--- strings of steps one after another
-
-pub true-append : (n : ℕ) (coins : ℕ → Bool) (strings : ℕ → Option (List Letter)) (xs ys : List Step) (a : Point)
-    → AreTrue n coins strings xs a → AreTrue n coins strings ys (point_after n coins xs a) → AreTrue n coins strings (xs ++ ys) a
-true-append n coins strings [] ys a here later = later
-true-append n coins strings (x ∷ xs) ys a here later = (here.0, true-append n coins strings xs ys (next_point n coins x a) here.1 later)
-
-pub true-front : (n : ℕ) (coins : ℕ → Bool) (strings : ℕ → Option (List Letter)) (xs ys : List Step) (a : Point)
-    → AreTrue n coins strings (xs ++ ys) a → AreTrue n coins strings xs a
-true-front n coins strings [] ys a is = tt
-true-front n coins strings (x ∷ xs) ys a is = (is.0, true-front n coins strings xs ys (next_point n coins x a) is.1)
-
-pub true-back : (n : ℕ) (coins : ℕ → Bool) (strings : ℕ → Option (List Letter)) (xs ys : List Step) (a : Point)
-    → AreTrue n coins strings (xs ++ ys) a → AreTrue n coins strings ys (point_after n coins xs a)
-true-back n coins strings [] ys a is = is
-true-back n coins strings (x ∷ xs) ys a is = true-back n coins strings xs ys (next_point n coins x a) is.1
-
-pub coins-are : (n : ℕ) (coins : ℕ → Bool) (xs : List Step) (a : Point) → (point_after n coins xs a).coin ≡ a.coin + all_coins_of xs
-coins-are n coins [] a = omega arith
-coins-are n coins (x ∷ xs) a = omega (arith, coins-are n coins xs (next_point n coins x a))
-
 -- a note where strings and flags are cut
 
 choose : (b c : Bool) (o p : Option (List Letter)) → b ≡ c → (c ≡ true → IsNoneOr o p) → IsNoneOr (if b then o else None) (if c then p else None)
@@ -109,8 +86,8 @@ choose b false o p e h = inl (ap (λ d. if d then o else None) e)
 pub note-front : (strings : List (List Letter)) (free : List Bool) (k m t : ℕ) → t < m → IsNoneOr (note_at (take k strings) (take m free) t) (note_at strings free t)
 note-front strings free k m t lt =
     choose (get_or (take m free) t false) (get_or free t false) (slice_get (take k strings) (ones (take t (take m free)))) (slice_get strings (ones (take t free)))
-    (bit-take m t free lt)
-    (λ is. subst (λ bits. IsNoneOr (slice_get (take k strings) (ones bits)) (slice_get strings (ones (take t free)))) (sym (take-again m t free lt))
+    (get_or-take m free t false lt)
+    (λ is. subst (λ bits. IsNoneOr (slice_get (take k strings) (ones bits)) (slice_get strings (ones (take t free)))) (sym (take-take t m free (omega (arith, lt))))
     (get-take k (ones (take t free)) strings))
 
 -- and where others are put behind them
@@ -119,8 +96,8 @@ module _ (s : StringsState) (flags : List Bool) (numbered : IsNumbered s flags) 
   pub note-left : (t : ℕ) → t < length flags → IsNoneOr (note_at (take s.most (s.strings ++ others)) (flags ++ more) t) (note_at s.strings flags t)
   note-left t lt =
       choose (get_or (flags ++ more) t false) (get_or flags t false) (slice_get (take s.most (s.strings ++ others)) (ones (take t (flags ++ more))))
-      (slice_get s.strings (ones (take t flags))) (bit-left flags more t lt)
-      (λ is. subst (λ bits. IsNoneOr (slice_get (take s.most (s.strings ++ others)) (ones bits)) (slice_get s.strings (ones (take t flags)))) (sym (take-left flags more t lt))
+      (slice_get s.strings (ones (take t flags))) (get_or_append_left flags more false t lt)
+      (λ is. subst (λ bits. IsNoneOr (slice_get (take s.most (s.strings ++ others)) (ones bits)) (slice_get s.strings (ones (take t flags)))) (sym (take-append-le t flags more (omega (arith, lt))))
       (by_place (counted t flags is) (cases_lt (ones (take t flags)) (length s.strings))))
     where
       by_place : ones (take t flags) < ones flags → (ones (take t flags) < length s.strings) ⊎ (length s.strings ≤ ones (take t flags))
@@ -128,7 +105,7 @@ module _ (s : StringsState) (flags : List Bool) (numbered : IsNumbered s flags) 
       by_place counted (inl there) =
           elim (get-take s.most (ones (take t flags)) (s.strings ++ others)) [
             | inl e ↦ inl e
-            | inr e ↦ inr (e ∙ get-left s.strings others (ones (take t flags)) there)
+            | inr e ↦ inr (e ∙ get-append s.strings others (ones (take t flags)) there)
           ]
       by_place counted (inr beyond) = inl (get-beyond s.most (ones (take t flags)) (s.strings ++ others) (omega (arith, numbered, counted, beyond)))
 
@@ -139,15 +116,15 @@ module _ (s : StringsState) (flags : List Bool) (numbered : IsNumbered s flags) 
       choose (get_or (flags ++ drop c free) (length flags + u) false) (get_or free (c + u) false)
       (slice_get (take s.most (s.strings ++ drop (ones (take c free)) strings)) (ones (take (length flags + u) (flags ++ drop c free))))
       (slice_get strings (ones (take (c + u) free)))
-      (bit-right flags (drop c free) u ∙ bit-drop c u free)
+      (get_or-append-add flags (drop c free) u false ∙ get_or-drop c free u false)
       (λ is. subst (λ k. IsNoneOr (slice_get (take s.most (s.strings ++ drop (ones (take c free)) strings)) k) (slice_get strings (ones (take (c + u) free)))) (sym place)
       (subst (λ k. IsNoneOr (slice_get (take s.most (s.strings ++ drop (ones (take c free)) strings)) (ones flags + ones (take u (drop c free)))) (slice_get strings k))
-      (sym (take-on c u free))
+      (sym (ones-split c u free))
       (by_place (cases_lt (length s.strings) (ones flags)))))
     where
       place : ones (take (length flags + u) (flags ++ drop c free)) ≡ ones flags + ones (take u (drop c free))
       place =
-          ap ones (take-right flags (drop c free) u)
+          ap ones (take-append-add flags (drop c free) u)
           ∙ ones-append flags (take u (drop c free))
 
       by_place : (length s.strings < ones flags) ⊎ (ones flags ≤ length s.strings)
@@ -160,7 +137,7 @@ module _ (s : StringsState) (flags : List Bool) (numbered : IsNumbered s flags) 
             | inr e ↦ inr (
                 e
                 ∙ ap (λ k. slice_get (s.strings ++ drop (ones (take c free)) strings) (k + ones (take u (drop c free)))) (omega (arith, numbered, all))
-                ∙ get-right s.strings (drop (ones (take c free)) strings) (ones (take u (drop c free)))
+                ∙ get-behind s.strings (drop (ones (take c free)) strings) (ones (take u (drop c free)))
                 ∙ get-drop (ones (take c free)) (ones (take u (drop c free))) strings
                 )
           ]
@@ -278,17 +255,6 @@ none-one (false ∷ bits) (suc t) none = none-one bits t none
 pub unnoted : (strings : List (List Letter)) (free : List Bool) (t : ℕ) → get_or free t false ≡ false → note_at strings free t ≡ None
 unnoted strings free t off = ap (λ b. if b then slice_get strings (ones (take t free)) else None) off
 
-true-none : (n : ℕ) (coins : ℕ → Bool) (strings : ℕ → Option (List Letter)) (xs : List Step) (a : Point) → ((t : ℕ) → a.coin ≤ t → strings t ≡ None) → AreTrue n coins strings xs a
-true-none n coins strings [] a none = tt
-true-none n coins strings (x ∷ xs) a none = (
-  IfSome_then-none (measured_by n x),
-  true-none n coins strings xs (next_point n coins x a) (λ t le. none t (omega (arith, le))),
-)
-  where
-    IfSome_then-none : (m : Option Signed) → IfSome m (λ m. IfSome (strings a.coin) (λ s. Exchanges n (member a.trace) m s))
-    IfSome_then-none None = tt
-    IfSome_then-none (Some m) = subst (λ o. IfSome o (λ s. Exchanges n (member a.trace) m s)) (sym (none a.coin (omega arith))) tt
-
 -- a run that goes on by steps which no coin decides notes no more
 pub noted-fixed : (n : ℕ) (coins : ℕ → Bool) (xs zs : List Step) (s : StringsState) (flags more : List Bool) (reach : ℕ) → IsNoted n coins xs s flags reach
     → flags ≡ (outputs n coins xs origin).free → ones more ≡ 0 → All (LooksWithin reach) zs → IsNoted n coins (xs ++ zs) s (flags ++ more) reach
@@ -309,12 +275,12 @@ noted-fixed n coins xs zs s flags more reach noted is none near = record {
     count = ap length is ∙ flags-are-coins n coins xs
 
     left : (t : ℕ) → t < length flags → note_at s.strings (flags ++ more) t ≡ note_at s.strings flags t
-    left t lt = λ i. if bit-left flags more t lt i then slice_get s.strings (ones (take-left flags more t lt i)) else None
+    left t lt = λ i. if get_or_append_left flags more false t lt i then slice_get s.strings (ones (take-append-le t flags more (omega (arith, lt)) i)) else None
 
     off : (t : ℕ) → length flags ≤ t → get_or (flags ++ more) t false ≡ false
     off t le =
         ap (λ k. get_or (flags ++ more) k false) {x = t} {y = length flags + (t - length flags)} (omega (arith, le))
-        ∙ bit-right flags more (t - length flags)
+        ∙ get_or-append-add flags more (t - length flags) false
         ∙ none-one more (t - length flags) none
 
 -- a run with the rest of another behind it, from points on that differ by letters alone, and in the number of the next coin where none
@@ -364,14 +330,14 @@ noted-spliced n coins xs ys i k same coin turned s t u free flags all c old_reac
         off : (m : ℕ) → length flags ≤ m → get_or (flags ++ drop c free) m false ≡ false
         off m le =
             ap (λ k. get_or (flags ++ drop c free) k false) {x = m} {y = length flags + (m - length flags)} (omega (arith, le))
-            ∙ bit-right flags (drop c free) (m - length flags)
+            ∙ get_or-append-add flags (drop c free) (m - length flags) false
             ∙ none-one (drop c free) (m - length flags) (ap ones rest ∙ none)
     true_behind (inl same_coin) =
         true-changed n coins (note_at s.strings free) (note_at u.strings all) (drop i xs) (point_after n coins (take k ys) origin)
         (λ m le lt. subst (λ x. x) (λ j. IsNoneOr (note_at (sym spliced.strings j) (sym is j) m) (note_at s.strings free m))
         (note-right t flags noted.numbered s.strings free c (count ∙ sym same_coin ∙ sym at) m (omega (arith, le, same_coin, at))))
         (true-turned n coins (note_at s.strings free) (drop i xs) (point_after n coins (take i xs) origin) (point_after n coins (take k ys) origin) (sym same_coin) turned
-        (true-back n coins (note_at s.strings free) (take i xs) (drop i xs) origin
+        (true-rest n coins (note_at s.strings free) (take i xs) (drop i xs) origin
         (subst (λ zs. AreTrue n coins (note_at s.strings free) zs origin) (sym (take-append-drop i xs)) old.are_true)))
 
     long : length u.strings ≤ length t.strings + (length s.strings - ones (take c free))

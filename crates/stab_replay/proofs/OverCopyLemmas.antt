@@ -1,6 +1,7 @@
 -- Over copies: a replay that went by a frame to the place of the next copy of an older run is the run of the steps behind it there.
 use Rattle.std.proofs.Common.{◌≡◌, ◌≢◌, ℕ, ◌+◌, ◌-◌, ◌^◌, ◌<◌, ◌≤◌, sym, ◌∙◌, ap, subst, Bool, inl, inr, List, ◌++◌, length, take, drop, arith}
 use Rattle.std.proofs.lemmas.List.{length-drop, drop-drop, take-take}
+use Rattle.std.proofs.Math.Seq.{take-add}
 use Rattle.stab_tableau.specs.Tableaus.{stabilises}
 use Rattle.stab_tableau.specs.Turns.{IsTurned}
 use Rattle.stab_circuit.specs.Steps.{Step}
@@ -10,12 +11,14 @@ use Rattle.stab_run.specs.Points.{Point, RunOutput, origin, all_coins_of, point_
 use Rattle.stab_run.specs.ProgramStates.{program_state, output_of}
 use Rattle.stab_steps.proofs.RunLemmas.{after-append}
 use Rattle.stab_laws.proofs.PointLemmas.{flags-are-coins}
+use Rattle.stab_laws.proofs.CoinLemmas.{coins-are}
 use Rattle.stab_frames.specs.declared.steps.Stop.{Stop}
 use Rattle.stab_frames.specs.declared.steps.Stop.TheVariants.{NoString}
 use Rattle.stab_frames.specs.KeptStrings.{StringsState, note_at}
 use Rattle.stab_frames.specs.Walks.{WalkState, WalksOver}
 use Rattle.stab_frames.specs.Stops.{IsStop}
 use Rattle.stab_frames.specs.Ends.{MayHaveCoin}
+use Rattle.stab_frames.proofs.FlipLemmas.{flipped-empty}
 use Rattle.stab_copies.specs.declared.checkpoint.Checkpoint.{Checkpoint}
 use Rattle.stab_replay.specs.declared.replay.Plan.{Plan}
 use Rattle.stab_replay.specs.declared.replay.Replay.{Replay}
@@ -23,10 +26,8 @@ use Rattle.stab_copies.specs.Checkpoints.{IsRunFromStart, IsCheckpoint}
 use Rattle.stab_replay.specs.NotedStrings.{IsNoted}
 use Rattle.stab_replay.specs.Replays.{IsAtStep, step_among_new}
 use Rattle.stab_replay.specs.FramedReplays.{IsOldRun, IsFramedAt, IsFramedOver, IsContinued, AreEnoughBy, WentOver}
-use Rattle.stab_copies.proofs.TakeLemmas.{take-more}
-use Rattle.stab_replay.proofs.FramedLemmas.{flipped-empty}
 use Rattle.stab_replay.proofs.CutLemmas.{ones-take}
-use Rattle.stab_replay.proofs.NotedLemmas.{coins-are, unnoted}
+use Rattle.stab_replay.proofs.NotedLemmas.{unnoted}
 use Rattle.stab_replay.proofs.SegmentLemmas.{over-segment}
 use Rattle.stab_replay.proofs.FramedStepLemmas.{segment-output, framed-run}
 use Rattle.stab_replay.proofs.NotedSegmentLemmas.{noted-segment}
@@ -35,9 +36,6 @@ module _ (n : ℕ) (coins : ℕ → Bool) (p : Plan) (ys : List Step) (copies : 
     (c d : Checkpoint) (is : IsCheckpoint n coins old.steps c) (also : IsCheckpoint n coins old.steps d) (behind : p.old_end ≤ c.step) (order : c.step ≤ d.step) (few : length ys < 2 ^ 64)
     (r : Replay) (place : step_among_new p c ≡ r.step) (base : ℕ) (w v : WalkState) (at : IsFramedAt n coins old.steps ys c.step r.step o.free base p.reach w)
     (at_step : IsAtStep n coins ys r) (q : Replay) (stop : Stop) (went : WentOver n p c d o s r q w v stop) (told : stop ≢ NoString) where
-  len : ℕ
-  len = d.step - c.step
-
   same-rest : length old.steps - p.old_end ≡ length ys - p.new_end
   same-rest = omega (arith, ap length old.behind, length-drop p.old_end old.steps, length-drop p.new_end ys)
 
@@ -83,8 +81,8 @@ module _ (n : ℕ) (coins : ℕ → Bool) (p : Plan) (ys : List Step) (copies : 
         own-coin,
         ap (λ m. (point_after n coins (take m old.steps) origin).coin) further,
         ap (λ m. (point_after n coins (take m ys) origin).coin) at_k,
-        ap (λ zs. (point_after n coins zs origin).coin) (take-more c.step (d.step - c.step) old.steps),
-        ap (λ zs. (point_after n coins zs origin).coin) (take-more r.step (d.step - c.step) ys),
+        ap (λ zs. (point_after n coins zs origin).coin) (take-add c.step (d.step - c.step) old.steps),
+        ap (λ zs. (point_after n coins zs origin).coin) (take-add r.step (d.step - c.step) ys),
         ap (λ (b : Point). b.coin) (after-append n coins (take c.step old.steps) (take (d.step - c.step) (drop c.step old.steps)) origin),
         ap (λ (b : Point). b.coin) (after-append n coins (take r.step ys) (take (d.step - c.step) (drop r.step ys)) origin),
         coins-are n coins (take (d.step - c.step) (drop c.step old.steps)) (point_after n coins (take c.step old.steps) origin),
@@ -113,7 +111,7 @@ module _ (n : ℕ) (coins : ℕ → Bool) (p : Plan) (ys : List Step) (copies : 
         arith,
         coin-here,
         coin-there,
-        ap (λ zs. (point_after n coins zs origin).coin) (take-more c.step (d.step - c.step) old.steps),
+        ap (λ zs. (point_after n coins zs origin).coin) (take-add c.step (d.step - c.step) old.steps),
         ap (λ (b : Point). b.coin) (after-append n coins (take c.step old.steps) (take (d.step - c.step) (drop c.step old.steps)) origin),
         coins-are n coins (take (d.step - c.step) (drop c.step old.steps)) (point_after n coins (take c.step old.steps) origin),
       )

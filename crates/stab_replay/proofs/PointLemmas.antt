@@ -2,6 +2,7 @@
 use Rattle.std.proofs.Common.{◌≡◌, ℕ, ◌+◌, ◌-◌, ◌^◌, ◌<◌, ◌≤◌, refl, sym, ◌∙◌, ap, subst, Bool, ◌⊎◌, inl, inr, List, ◌++◌, length, take, drop, arith}
 use Rattle.std.proofs.lemmas.Bool.{cases_lt}
 use Rattle.std.proofs.lemmas.List.{length-append, length-take-le, length-drop, take-append-drop, take-take, take_all}
+use Rattle.std.proofs.Math.Seq.{take-add}
 use Rattle.stab_tableau.specs.Traces.{member}
 use Rattle.stab_tableau.specs.Groups.{SameGroup}
 use Rattle.stab_tableau.specs.Tableaus.{TableauState, stabilises}
@@ -20,7 +21,6 @@ use Rattle.stab_copies.specs.Checkpoints.{IsRunFromStart, IsCheckpoint}
 use Rattle.stab_copies.specs.LaidCopies.{moved, moved_lengths, moved_copy}
 use Rattle.stab_copies.specs.Meets.{Meets}
 use Rattle.stab_replay.specs.FramedReplays.{HaveSameFuture}
-use Rattle.stab_copies.proofs.TakeLemmas.{take-more}
 use Rattle.stab_steps.proofs.RunLemmas.{after-append, outputs-append}
 use Rattle.stab_laws.proofs.FutureLemmas.{same-future}
 use Rattle.stab_laws.proofs.PointLemmas.{flags-are-coins, records-are-records, cut, front-output, rest-output, HasAtMost, outputs-short}
@@ -150,11 +150,11 @@ meets-agree n reach coins xs zs c t o records free h kept flags run meets = (
 
 module _ (n : ℕ) (coins : ℕ → Bool) (xs ys : List Step) (i k : ℕ) (same : drop i xs ≡ drop k ys) where
   pub old_later : (m : ℕ) → point_after n coins (take (i + m) xs) origin ≡ point_after n coins (take m (drop i xs)) (point_after n coins (take i xs) origin)
-  old_later m = ap (λ zs. point_after n coins zs origin) (take-more i m xs) ∙ after-append n coins (take i xs) (take m (drop i xs)) origin
+  old_later m = ap (λ zs. point_after n coins zs origin) (take-add i m xs) ∙ after-append n coins (take i xs) (take m (drop i xs)) origin
 
   pub new_later : (m : ℕ) → point_after n coins (take (k + m) ys) origin ≡ point_after n coins (take m (drop i xs)) (point_after n coins (take k ys) origin)
   new_later m =
-      ap (λ zs. point_after n coins zs origin) (take-more k m ys ∙ ap (λ zs. take k ys ++ take m zs) (sym same))
+      ap (λ zs. point_after n coins zs origin) (take-add k m ys ∙ ap (λ zs. take k ys ++ take m zs) (sym same))
       ∙ after-append n coins (take k ys) (take m (drop i xs)) origin
 
   -- where they agree there, they agree so many steps on
@@ -167,13 +167,13 @@ module _ (n : ℕ) (coins : ℕ → Bool) (xs ys : List Step) (i k : ℕ) (same 
 
   old_outputs : (m : ℕ) → outputs n coins (take (i + m) xs) origin
       ≡ joined (outputs n coins (take i xs) origin) (outputs n coins (take m (drop i xs)) (point_after n coins (take i xs) origin))
-  old_outputs m = ap (λ zs. outputs n coins zs origin) (take-more i m xs) ∙ outputs-append n coins (take i xs) (take m (drop i xs)) origin
+  old_outputs m = ap (λ zs. outputs n coins zs origin) (take-add i m xs) ∙ outputs-append n coins (take i xs) (take m (drop i xs)) origin
 
   module _ (future : HaveSameFuture n coins (drop i xs) (point_after n coins (take i xs) origin) (point_after n coins (take k ys) origin)) where
     new_outputs : (m : ℕ) → outputs n coins (take (k + m) ys) origin
         ≡ joined (outputs n coins (take k ys) origin) (outputs n coins (take m (drop i xs)) (point_after n coins (take i xs) origin))
     new_outputs m =
-        ap (λ zs. outputs n coins zs origin) (take-more k m ys ∙ ap (λ zs. take k ys ++ take m zs) (sym same))
+        ap (λ zs. outputs n coins zs origin) (take-add k m ys ∙ ap (λ zs. take k ys ++ take m zs) (sym same))
         ∙ outputs-append n coins (take k ys) (take m (drop i xs)) origin
         ∙ ap (joined (outputs n coins (take k ys) origin)) (sym (future m).0)
 

@@ -5,14 +5,15 @@ use Rattle.std.proofs.lemmas.List.{length-take, take-append-drop, take_at, take-
 use Rattle.std.proofs.lemmas.List.Elements.{All-push}
 use Rattle.std.proofs.lemmas.Bool.{cases_lt}
 use Rattle.std.proofs.lemmas.Option.{IfSome_then}
+use Rattle.std.proofs.Math.Seq.{take-add}
 use Rattle.stab_tableau.specs.Tableaus.{TableauState}
-use Rattle.stab_circuit.specs.Steps.{Step, one, two, controlled, collapse, product, detector, observable}
+use Rattle.stab_circuit.specs.Steps.{Step, one}
 use Rattle.stab_steps.specs.declared.records.Lengths.{Lengths}
 use Rattle.stab_copies.specs.declared.checkpoint.Checkpoint.{Checkpoint}
 use Rattle.stab_replay.specs.declared.replay.Replay.{Replay}
 use Rattle.stab_replay.specs.declared.replay.Plan.{Plan}
 use Rattle.stab_replay.specs.declared.replay.Arrival.TheVariants.{Between}
-use Rattle.stab_run.specs.Points.{RunOutput, origin, coins_of, all_coins_of, point_after, outputs}
+use Rattle.stab_run.specs.Points.{RunOutput, origin, all_coins_of, point_after, outputs}
 use Rattle.stab_run.specs.Laws.{AgreeAt}
 use Rattle.stab_run.specs.ProgramStates.{ProgramState, IsAt, IsRun, program_state, output_of}
 use Rattle.stab_copies.specs.Spacing.{Near, last_of}
@@ -25,34 +26,11 @@ use Rattle.stab_replay.specs.Replays.{IsAtStep, Ascending, MeetsAt, IsPlacedAt, 
 use Rattle.stab_replay.specs.inner.Arrivals.{IsArrival}
 use Rattle.stab_copies.specs.Meets.{Meets}
 use Rattle.stab_laws.proofs.PointLemmas.{flags-are-coins, records-are-records}
+use Rattle.stab_laws.proofs.CoinLemmas.{coins-append}
 use Rattle.stab_replay.proofs.NotedLemmas.{noted-on}
 use Rattle.stab_replay.proofs.PointLemmas.{resumed, shows-from-start}
-use Rattle.stab_copies.proofs.TakeLemmas.{take-more}
 
--- the coins that steps use up
-
-coins-one : (x : Step) → coins_of x ≤ 1
-coins-one (one g q) = omega arith
-coins-one (two g a b) = omega arith
-coins-one (controlled l k q) = omega arith
-coins-one (collapse l q recorded inverted resets) = omega arith
-coins-one (product factors inverted) = omega arith
-coins-one (detector ks) = omega arith
-coins-one (observable j ks) = omega arith
-
-pub coins-steps : (xs : List Step) → all_coins_of xs ≤ length xs
-coins-steps [] = omega arith
-coins-steps (x ∷ xs) = omega (arith, coins-one x, coins-steps xs)
-
-coins-append : (xs ys : List Step) → all_coins_of (xs ++ ys) ≡ all_coins_of xs + all_coins_of ys
-coins-append [] ys = omega arith
-coins-append (x ∷ xs) ys = omega (arith, coins-append xs ys)
-
--- those from one step to another are no more than the steps
-pub coins-few : (k : ℕ) (xs : List Step) → all_coins_of (take k xs) ≤ k
-coins-few k xs = omega (arith, coins-steps (take k xs), length-take k xs)
-
--- and with those behind the other they are all behind the one
+-- the coins that steps use up from one step to another are, with those behind the other, all behind the one
 pub coins-cut : (i j : ℕ) (ys xs : List Step) → i ≤ j → xs ≡ drop i ys
     → all_coins_of (take (j - i) xs) + all_coins_of (drop j ys) ≡ all_coins_of (drop i ys)
 coins-cut i j ys xs le left =
@@ -92,12 +70,12 @@ run-on n coins ys old new h order within qubits string all left run scratch size
   left = left ∙ ap (drop (new.step - old.step)) h.left ∙ drop-drop (new.step - old.step) old.step ys ∙ ap (λ k. drop k ys) further;
   within = within;
   run =
-      subst (λ xs. IsRunFromStart n coins xs now) (sym (take-more old.step (new.step - old.step) ys) ∙ ap (λ k. take k ys) further)
+      subst (λ xs. IsRunFromStart n coins xs now) (sym (take-add old.step (new.step - old.step) ys) ∙ ap (λ k. take k ys) further)
       (resumed n coins (take old.step ys) (take (new.step - old.step) (drop old.step ys)) before now h.run
       (subst (λ xs. IsRun n coins (take (new.step - old.step) xs) before now) h.left run));
   scratch = scratch;
   noted =
-      subst (λ xs. IsNoted n coins xs new.notes.strings new.outputs.free.items new.notes.reach) (sym (take-more old.step (new.step - old.step) ys) ∙ ap (λ k. take k ys) further)
+      subst (λ xs. IsNoted n coins xs new.notes.strings new.outputs.free.items new.notes.reach) (sym (take-add old.step (new.step - old.step) ys) ∙ ap (λ k. take k ys) further)
       (noted-on n coins (take old.step ys) (take (new.step - old.step) (drop old.step ys)) old.notes.strings new.notes.strings before now old.notes.reach new.notes.reach h.noted
       (shows-from-start n coins (take old.step ys) before h.run) size most raised
       (subst (λ xs. All (LooksWithin new.notes.reach) (take (new.step - old.step) xs)) h.left near)

@@ -64,13 +64,6 @@ behind-sections xs ys old_end new_end same sections are = λ i d lt le.
     let is : IsSection xs (get_or sections i d) = are i d lt in
     is.steps ∙ ap (take (length (get_or sections i d).outline)) (steps-behind xs ys old_end new_end same (get_or sections i d).first le)
 
--- a section of no steps
-pub no-section : (ys : List Step) (a : Section) → a.outline ≡ [] → a.first ≤ length ys → IsSection ys a
-no-section ys a none first = record {
-  within = omega (arith, first, ap length none);
-  steps = none ∙ ap (λ k. take k (drop a.first ys)) (sym (ap length none));
-}
-
 -- one section of a list was made another, as it should be, and so were those before it
 
 pub one-more : (xs ys : List Step) (now : List Section) (place : ℕ) (a d : Section) → place < length now → IsSection ys a

@@ -1,5 +1,5 @@
 -- Seen frames: frames from points of an old run with other numbers of its records and coins.
-use Rattle.std.proofs.Common.{◌≡◌, ℕ, zero, suc, ◌+◌, ◌<◌, ◌≤◌, refl, sym, ◌∙◌, ap, Bool, true, false, ◌&&◌, inl, inr, List, [], ◌∷◌, ◌++◌, take, Option, None, arith}
+use Rattle.std.proofs.Common.{◌≡◌, ℕ, ◌+◌, ◌<◌, ◌≤◌, refl, sym, ◌∙◌, ap, Bool, true, false, ◌&&◌, inl, inr, List, [], ◌∷◌, ◌++◌, Option, None, arith}
 use Rattle.stab_letters.specs.declared.letter.Letter.{Letter}
 use Rattle.stab_pauli.specs.Paulis.{single}
 use Rattle.stab_tableau.specs.Traces.{member}
@@ -81,12 +81,6 @@ flips-same n strings others (x ∷ xs) c d f same =
     (flips-same n strings others xs (c + coins_of x) (d + coins_of x) (frame_after n (same_coins strings) x c f) (same-later strings others c d (coins_of x) (all_coins_of xs) same) i))
     ∙ ap (λ g. joined (flips_given n (same_coins others) x d f) (flips_over n (same_coins others) xs (d + coins_of x) g))
     (after-same n strings others c d f x here)
-
--- the first of some steps use up no more coins
-pub coins-first : (m : ℕ) (xs : List Step) → all_coins_of (take m xs) ≤ all_coins_of xs
-coins-first zero xs = omega arith
-coins-first (suc m) [] = omega arith
-coins-first (suc m) (x ∷ xs) = let le = coins-first m xs in omega (arith, le)
 
 -- no note is needed where no coin decides
 

@@ -1,28 +1,32 @@
 -- Segments: a frame that went over the steps from one copy of a run to the next.
 use Rattle.std.proofs.Common.{◌≡◌, ℕ, zero, suc, ◌+◌, ◌≤◌, min, refl, sym, ◌∙◌, ap, subst, Bool, false, ◌⊎◌, inl, inr, List, [], ◌∷◌, ◌++◌, ◌<◌, All, Option, None, length, take, drop, get_or, replicate, arith}
 use Rattle.std.specs.Prelude.{◌≢◌}
-use Rattle.std.proofs.lemmas.List.{length-append, length-take-le, length-drop, take-append-drop, take-take, take_all, drop_at}
+use Rattle.std.proofs.lemmas.List.{length-append, length-take-le, length-drop, take-append-drop, take-take, take_all, drop_at, get_or_append_left, get_or-drop}
 use Rattle.std.proofs.lemmas.List.Elements.{All-take, All-drop}
+use Rattle.std.proofs.Math.Seq.{take-add}
 use Rattle.stab_letters.specs.declared.letter.Letter.{Letter}
 use Rattle.stab_pauli.specs.Paulis.{Signed, with_sign, strings_anticommute}
 use Rattle.stab_tableau.specs.Traces.{member}
 use Rattle.stab_tableau.specs.Groups.{SameGroup}
 use Rattle.stab_tableau.specs.Turns.{IsTurned}
-use Rattle.stab_circuit.specs.Steps.{Step, one, two, controlled, collapse, product, detector, observable, records_of, looks_too_far}
+use Rattle.stab_circuit.specs.Steps.{Step, records_of, looks_too_far}
 use Rattle.stab_run.specs.Records.{ones}
 use Rattle.stab_run.specs.Points.{Point, RunOutput, origin, joined, point_after, outputs, all_coins_of}
 use Rattle.stab_run.specs.ProgramStates.{StepFits}
 use Rattle.stab_run.specs.Ends.{AgreeBack, with_coin}
+use Rattle.stab_run.proofs.FramedLemmas.{flips-free}
+use Rattle.stab_run.proofs.LedLemmas.{coins-all}
 use Rattle.stab_steps.proofs.RunLemmas.{after-append, outputs-append}
 use Rattle.stab_laws.proofs.PointLemmas.{flags-are-coins, flags-counted, records-gathered, rest-output}
 use Rattle.stab_laws.proofs.FutureBackLemmas.{records-made}
 use Rattle.stab_laws.proofs.FixedLemmas.{fixed-front}
+use Rattle.stab_laws.proofs.CoinLemmas.{coins-are}
 use Rattle.stab_frames.specs.declared.steps.Stop.{Stop}
 use Rattle.stab_frames.specs.declared.steps.Stop.TheVariants.{Behind, Gone, NoString}
 use Rattle.stab_frames.specs.Flips.{flipped, flipped_additions, flipped_output}
 use Rattle.stab_frames.specs.Frames.{Frame, PointsDifferBy}
-use Rattle.stab_frames.specs.Notes.{Notes, same_coins}
-use Rattle.stab_frames.specs.FrameSteps.{frame_after, frame_over, flips_over}
+use Rattle.stab_frames.specs.Notes.{same_coins}
+use Rattle.stab_frames.specs.FrameSteps.{frame_over, flips_over}
 use Rattle.stab_frames.specs.StepNotes.{AreEnough}
 use Rattle.stab_frames.specs.KeptStrings.{AreTrue}
 use Rattle.stab_frames.specs.Lookbacks.{LooksWithin}
@@ -32,27 +36,14 @@ use Rattle.stab_frames.specs.Walks.{WalkState, frame_at, WalksOver, IsGone}
 use Rattle.stab_frames.proofs.FrontLemmas.{group-after}
 use Rattle.stab_frames.proofs.StepLemmas.{over-framed}
 use Rattle.stab_replay.specs.FramedReplays.{HaveSameFuture, HaveMoved, IsFramedAt, IsFramedOver, AreEnoughBy, flips_since}
-use Rattle.stab_copies.proofs.TakeLemmas.{take-more}
-use Rattle.stab_replay.proofs.CutLemmas.{bit-drop, bit-left}
-use Rattle.stab_replay.proofs.NotedLemmas.{true-back, near-enough, coins-are, none-one}
+use Rattle.stab_replay.proofs.NotedLemmas.{near-enough, none-one}
 use Rattle.stab_frames.proofs.AgainLemmas.{true-turned}
-use Rattle.stab_replay.proofs.FramedLemmas.{IsFramedBehind, flipped-empty, future-moved, future-turned, framed-gone, framed-all}
-use Rattle.stab_replay.proofs.SeenLemmas.{AreSameFor, same-fewer, over-same, flips-same, coins-first, enough-fixed, seen-later}
+use Rattle.stab_frames.proofs.FlipLemmas.{flipped-empty}
+use Rattle.stab_frames.proofs.TrueLemmas.{true-rest}
+use Rattle.stab_replay.proofs.FramedLemmas.{IsFramedBehind, future-moved, future-turned, framed-gone, framed-all}
+use Rattle.stab_replay.proofs.SeenLemmas.{AreSameFor, same-fewer, over-same, flips-same, enough-fixed, seen-later}
 
 -- no flag is flipped
-pub flips-free : (n : ℕ) (notes : Notes) (xs : List Step) (coin : ℕ) (f : Frame) → (flips_over n notes xs coin f).free ≡ replicate (all_coins_of xs) false
-flips-free n notes [] coin f = refl
-flips-free n notes (one g q ∷ xs) coin f = flips-free n notes xs (coin + 0) (frame_after n notes (one g q) coin f) ∙ ap (λ m. replicate m false) (omega arith)
-flips-free n notes (two g x y ∷ xs) coin f = flips-free n notes xs (coin + 0) (frame_after n notes (two g x y) coin f) ∙ ap (λ m. replicate m false) (omega arith)
-flips-free n notes (controlled l j q ∷ xs) coin f = flips-free n notes xs (coin + 0) (frame_after n notes (controlled l j q) coin f) ∙ ap (λ m. replicate m false) (omega arith)
-flips-free n notes (collapse l q recorded inverted resets ∷ xs) coin f =
-    ap (λ bits. false ∷ bits) (flips-free n notes xs (coin + 1) (frame_after n notes (collapse l q recorded inverted resets) coin f))
-    ∙ ap (λ m. replicate m false) {x = suc (all_coins_of xs)} (omega arith)
-flips-free n notes (product factors inverted ∷ xs) coin f =
-    ap (λ bits. false ∷ bits) (flips-free n notes xs (coin + 1) (frame_after n notes (product factors inverted) coin f))
-    ∙ ap (λ m. replicate m false) {x = suc (all_coins_of xs)} (omega arith)
-flips-free n notes (detector js ∷ xs) coin f = flips-free n notes xs (coin + 0) (frame_after n notes (detector js) coin f) ∙ ap (λ m. replicate m false) (omega arith)
-flips-free n notes (observable j js ∷ xs) coin f = flips-free n notes xs (coin + 0) (frame_after n notes (observable j js) coin f) ∙ ap (λ m. replicate m false) (omega arith)
 
 pub flipped-zeros : (bits : List Bool) (m : ℕ) → flipped bits (replicate m false) ≡ flipped bits []
 flipped-zeros [] m = refl
@@ -133,7 +124,7 @@ module _ (n : ℕ) (coins : ℕ → Bool) (xs ys : List Step) (i k len : ℕ) (s
   true_here : AreTrue n coins strings (drop k ys) (point_after n coins (take i xs) origin)
   true_here =
       subst (λ zs. AreTrue n coins strings zs (point_after n coins (take i xs) origin)) same
-      (true-back n coins strings (take i xs) (drop i xs) origin
+      (true-rest n coins strings (take i xs) (drop i xs) origin
       (subst (λ zs. AreTrue n coins strings zs origin) (sym (take-append-drop i xs)) are_true))
 
   flags_here : (outputs n coins (drop k ys) (point_after n coins (take i xs) origin)).free ≡ drop old.coin free
@@ -175,12 +166,12 @@ module _ (n : ℕ) (coins : ℕ → Bool) (xs ys : List Step) (i k len : ℕ) (s
   flag_here : (t : ℕ) → t < all_coins_of (take len (drop i xs)) → ones (outputs n coins (take len (drop i xs)) (point_after n coins (take i xs) origin)).free ≡ 0
       → get_or free (old.coin + t) false ≡ false
   flag_here t lt none =
-      sym (bit-drop old.coin t free)
+      sym (get_or-drop old.coin free t false)
       ∙ ap (λ bits. get_or bits t false)
       (sym flags_here
       ∙ ap (λ zs. (outputs n coins zs (point_after n coins (take i xs) origin)).free) (sym same ∙ sym (take-append-drop len (drop i xs)))
       ∙ ap (λ (o : RunOutput). o.free) (outputs-append n coins (take len (drop i xs)) (drop len (drop i xs)) (point_after n coins (take i xs) origin)))
-      ∙ bit-left (outputs n coins (take len (drop i xs)) (point_after n coins (take i xs) origin)).free _ t
+      ∙ get_or_append_left (outputs n coins (take len (drop i xs)) (point_after n coins (take i xs) origin)).free _ false t
       (omega (arith, lt, flags-counted n coins (take len (drop i xs)) (point_after n coins (take i xs) origin), coins-are n coins (take len (drop i xs)) (point_after n coins (take i xs) origin)))
       ∙ none-one (outputs n coins (take len (drop i xs)) (point_after n coins (take i xs) origin)).free t none
 
@@ -217,7 +208,7 @@ module _ (n : ℕ) (coins : ℕ → Bool) (xs ys : List Step) (i k len : ℕ) (s
   same-first-steps : (m : ℕ) → AreSameFor (noted may_have) strings at.seen.coin old.coin (all_coins_of (take m (take len (drop i xs))))
   same-first-steps m =
       same-fewer (noted may_have) strings at.seen.coin old.coin (all_coins_of (take len (drop i xs))) (all_coins_of (take m (take len (drop i xs))))
-      (coins-first m (take len (drop i xs))) (noted-same may_have)
+      (coins-all m (take len (drop i xs))) (noted-same may_have)
 
   frames-are : (m : ℕ) → frame_over n (same_coins (noted may_have)) (take m (take len (drop i xs))) at.seen.coin (frame_at base old)
       ≡ frame_over n (same_coins strings) (take m (take len (drop i xs))) old.coin (frame_at base old)
@@ -239,10 +230,10 @@ module _ (n : ℕ) (coins : ℕ → Bool) (xs ys : List Step) (i k len : ℕ) (s
       (flips-free n (same_coins strings) (take steps (drop k ys)) old.coin (frame_at base old)) (walked.flips base)
 
   old_later : point_after n coins (take (i + len) xs) origin ≡ point_after n coins (take len (drop i xs)) (point_after n coins (take i xs) origin)
-  old_later = ap (λ zs. point_after n coins zs origin) (take-more i len xs) ∙ after-append n coins (take i xs) (take len (drop i xs)) origin
+  old_later = ap (λ zs. point_after n coins zs origin) (take-add i len xs) ∙ after-append n coins (take i xs) (take len (drop i xs)) origin
 
   new_steps : take (k + len) ys ≡ take k ys ++ take len (drop i xs)
-  new_steps = take-more k len ys ∙ ap (λ zs. take k ys ++ take len zs) (sym same)
+  new_steps = take-add k len ys ∙ ap (λ zs. take k ys ++ take len zs) (sym same)
 
   new_later : point_after n coins (take (k + len) ys) origin ≡ point_after n coins (take len (drop i xs)) (point_after n coins (take k ys) origin)
   new_later = ap (λ zs. point_after n coins zs origin) new_steps ∙ after-append n coins (take k ys) (take len (drop i xs)) origin

@@ -9,13 +9,15 @@ use Rattle.stab_run.specs.Points.{Point, origin, coins_of, all_coins_of, next_po
 use Rattle.stab_run.specs.Ends.{with_coin}
 use Rattle.stab_steps.proofs.RecordLemmas.{ones-append}
 use Rattle.stab_laws.proofs.PointLemmas.{flags-are-coins}
+use Rattle.stab_laws.proofs.CoinLemmas.{coins-are}
 use Rattle.stab_frames.specs.KeptStrings.{StringsState, AreTrue, note_at, kept_with}
 use Rattle.stab_frames.specs.Lookbacks.{LooksWithin}
 use Rattle.stab_frames.specs.AgainLaws.{AreTurnedOver}
 use Rattle.stab_replay.specs.NotedStrings.{IsNoted}
 use Rattle.stab_replay.proofs.CutLemmas.{ones-take}
 use Rattle.stab_frames.proofs.AgainLemmas.{true-turned-at}
-use Rattle.stab_replay.proofs.NotedLemmas.{IsNoneOr, at-changed, true-changed, true-append, coins-are, note-front, note-left, note-beyond}
+use Rattle.stab_frames.proofs.TrueLemmas.{true-append}
+use Rattle.stab_replay.proofs.NotedLemmas.{IsNoneOr, at-changed, true-changed, note-front, note-left, note-beyond}
 
 none-or-both : (o p q : Option (List Letter)) → IsNoneOr o p → IsNoneOr p q → IsNoneOr o q
 none-or-both o p q (inl e) h = inl e

@@ -19,8 +19,10 @@ use Rattle.stab_run.specs.Points.{Point, RunOutput, origin, joined, point_after,
 use Rattle.stab_run.specs.ProgramStates.{StepFits, output_of, program_state}
 use Rattle.stab_run.specs.Cuts.{lengths_of}
 use Rattle.stab_run.specs.Ends.{with_coin}
+use Rattle.stab_run.proofs.FramedLemmas.{flips-free}
 use Rattle.stab_steps.proofs.RunLemmas.{outputs-append}
 use Rattle.stab_laws.proofs.PointLemmas.{flags-are-coins}
+use Rattle.stab_laws.proofs.CoinLemmas.{coins-are}
 use Rattle.stab_frames.specs.Flips.{flipped_output}
 use Rattle.stab_frames.specs.KeptStrings.{AreTrue, note_at, kept_with}
 use Rattle.stab_frames.specs.Limits.{most_strings}
@@ -43,12 +45,13 @@ use Rattle.stab_replay.specs.inner.TurnedReplays.{StandsTurned, MayComeAgain, Ha
 use Rattle.stab_replay.proofs.AgainLemmas.{same-later, first-steps, later-steps, first-point, later-point, part-is}
 use Rattle.stab_replay.proofs.AgainReplayLemmas.{near-neighbours, place-before}
 use Rattle.stab_replay.proofs.CutLemmas.{ones-take}
-use Rattle.stab_replay.proofs.FramedLemmas.{flipped-empty}
 use Rattle.stab_replay.proofs.LedLemmas.{at-number, lengths-within}
-use Rattle.stab_replay.proofs.NotedLemmas.{near-enough, coins-are, true-front, true-back}
+use Rattle.stab_replay.proofs.NotedLemmas.{near-enough}
 use Rattle.stab_replay.proofs.ReplayLemmas.{on-stop, with-laid}
-use Rattle.stab_replay.proofs.SegmentLemmas.{flips-free, since-joined, turned-from}
+use Rattle.stab_replay.proofs.SegmentLemmas.{since-joined, turned-from}
 use Rattle.stab_frames.proofs.AgainLemmas.{come-turned, gone-over-seen}
+use Rattle.stab_frames.proofs.FlipLemmas.{flipped-empty}
+use Rattle.stab_frames.proofs.TrueLemmas.{true-front, true-rest}
 use Rattle.stab_replay.proofs.TurnedNoteLemmas.{noted-turned}
 
 -- no copy stands behind where a replay is
@@ -177,7 +180,7 @@ module _ (n : ℕ) (coins : ℕ → Bool) (begin : ℕ) (p : Plan) (ys : List St
 
     true_then : AreTrue n coins strings part then
     true_then =
-        true-back n coins strings (take c.step ys) part origin
+        true-rest n coins strings (take c.step ys) part origin
         (subst (λ zs. AreTrue n coins strings zs origin) (first-steps n coins ys c.step d.step r.step reach order before same_steps)
         (subst (λ zs. AreTrue n coins strings zs origin) (take-take d.step r.step ys before)
         (true-front n coins strings (take d.step (take r.step ys)) (drop d.step (take r.step ys)) origin

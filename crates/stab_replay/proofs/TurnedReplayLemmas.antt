@@ -10,6 +10,7 @@ use Rattle.stab_run.specs.Records.{ones}
 use Rattle.stab_run.specs.Points.{origin, point_after, all_coins_of}
 use Rattle.stab_run.specs.ProgramStates.{StepFits, output_of}
 use Rattle.stab_frames.specs.Walks.{WalkState, IsPlaced}
+use Rattle.stab_frames.proofs.NoteAtLemmas.{get-append}
 use Rattle.stab_copies.specs.declared.checkpoint.Checkpoint.{Checkpoint}
 use Rattle.stab_replay.specs.declared.replay.Plan.{Plan}
 use Rattle.stab_replay.specs.declared.replay.Replay.{Replay}
@@ -19,15 +20,14 @@ use Rattle.stab_run.specs.Ends.{AgreeBack, with_coin}
 use Rattle.stab_replay.specs.FramedReplays.{IsFramedAt}
 use Rattle.stab_replay.specs.Replays.{IsAtStep, IsOnWay}
 use Rattle.stab_replay.specs.inner.LedReplays.{last_state, with_state}
-use Rattle.stab_replay.proofs.ReplayLemmas.{coins-few, coins-cut}
-use Rattle.stab_replay.proofs.NotedLemmas.{coins-are}
-use Rattle.stab_replay.proofs.AgainReplayLemmas.{last-pushed}
+use Rattle.stab_replay.proofs.ReplayLemmas.{coins-cut}
 use Rattle.stab_replay.proofs.FrameStartLemmas.{frame-begins}
-use Rattle.stab_replay.proofs.LedLemmas.{at-number, lengths-within}
+use Rattle.stab_replay.proofs.LedLemmas.{at-number, lengths-within, last-pushed}
 use Rattle.stab_replay.proofs.LedWayLemmas.{some-of}
 use Rattle.stab_replay.proofs.TurnedOverLemmas.{near-at, copy-before, copy_behind, coin_now, last, shorter, part_left, arrived, goes-on, stands-on}
-use Rattle.stab_replay.proofs.CutLemmas.{ones-take, get-left}
+use Rattle.stab_replay.proofs.CutLemmas.{ones-take}
 use Rattle.std.proofs.lemmas.List.{take-take, drop-take}
+use Rattle.stab_laws.proofs.CoinLemmas.{coins-few, coins-are}
 use Rattle.stab_replay.specs.inner.TurnedReplays.{IsOfOwn, IsRoundsBehind, IsFrameAgain, DiffersAt, StandsTurned, MayComeAgain, IsTurning, HasGivenTurned}
 
 pub own-copies : (n : ℕ) (coins : ℕ → Bool) (begin : ℕ) (p : Plan) (ys : List Step) (copies : List Checkpoint) (old : List Bool) (next : ℕ) (r : Replay)
@@ -307,7 +307,7 @@ turned-on n coins begin p ys copies old next block spacing end passed r s number
         })
 
     still : slice_get s.laid.items (number + 1) ≡ Some d
-    still = ap (λ l. slice_get l (number + 1)) g.laid ∙ get-left r.laid.items _ (number + 1) (slice_get_within r.laid.items (number + 1) d second.1) ∙ second.1
+    still = ap (λ l. slice_get l (number + 1)) g.laid ∙ get-append r.laid.items _ (number + 1) (slice_get_within r.laid.items (number + 1) d second.1) ∙ second.1
 
 -- behind a later step there are no more coins
 pub coins-behind : (i j : ℕ) (ys : List Step) → i ≤ j → all_coins_of (drop j ys) ≤ all_coins_of (drop i ys)

@@ -12,28 +12,11 @@ use Rattle.stab_circuit.specs.Places.{item_at}
 use Rattle.stab_circuit.specs.Edits.{steps_before}
 use Rattle.stab_circuit.proofs.EditLemmas.{entries-listed}
 use Rattle.stab_laws.proofs.FitLemmas.{check-whole}
-use Rattle.stab_tables.proofs.CheckLaws.{detectors_more, few_steps}
+use Rattle.stab_tables.proofs.CheckLaws.{few_steps}
 use Rattle.stab_replies.specs.declared.reply.StepCounts.{StepCounts}
-use Rattle.stab_replies.specs.inner.StepCounts.{counted_with, added}
 use Rattle.stab_replies.specs.Replies.{ReplyBytes}
 use Rattle.stab_replies.specs.FramedAnswers.{GivesText}
 use Rattle.stab_replies.specs.PlaceCounts.{counts_of, place_behind, steps_up_to, steps_at, place_line, place_shown}
-
-abbrev counts_with : (s r d c : ℕ) → StepCounts
-counts_with s r d c = record { steps = s; records = r; detectors = d; coins = c }
-
--- counts are the same where each number is
-same_counts : {s t r q d e c b : ℕ} → s ≡ t → r ≡ q → d ≡ e → c ≡ b → counts_with s r d c ≡ counts_with t q e b
-same_counts {s} {t} {r} {q} {d} {e} {c} {b} x y z w =
-    ap (λ k. counts_with k r d c) x ∙ ap (λ k. counts_with t k d c) y ∙ ap (λ k. counts_with t q k c) z ∙ ap (λ k. counts_with t q e k) w
-
--- before the first step nothing is counted
-pub nothing_counted : (c d : StepCounts) → c.steps ≡ 0 → c.records ≡ 0 → c.detectors ≡ 0 → c.coins ≡ 0 → added c d ≡ d
-nothing_counted c d s r e k = same_counts (omega (arith, s)) (omega (arith, r)) (omega (arith, e)) (omega (arith, k))
-
--- no more steps count no more
-pub none_more : (c : StepCounts) → added c (counts_of []) ≡ c
-none_more c = same_counts (omega arith) (omega arith) (omega arith) (omega arith)
 
 none_taken : (k : ℕ) → take {A = Step} k [] ≡ []
 none_taken zero = refl
@@ -42,27 +25,6 @@ none_taken (suc k) = refl
 none_dropped : (k : ℕ) → drop {A = Step} k [] ≡ []
 none_dropped zero = refl
 none_dropped (suc k) = refl
-
--- where no step is left, all are counted
-pub all_counted : (c : StepCounts) (k : ℕ) (xs : List Step) → xs ≡ [] → added c (counts_of (take k xs)) ≡ c
-all_counted c k xs none = ap (λ l. added c (counts_of (take k l))) none ∙ ap (λ l. added c (counts_of l)) (none_taken k) ∙ none_more c
-
-pub all_left : (k : ℕ) (xs ys : List Step) → xs ≡ [] → ys ≡ [] → ys ≡ drop k xs
-all_left k xs ys none nothing = nothing ∙ sym (ap (drop k) none ∙ none_dropped k)
-
--- one step more is counted
-one_counted : (c : StepCounts) (x : Step) (xs : List Step) → added c (counts_of (x ∷ xs)) ≡ added (counted_with c x) (counts_of xs)
-one_counted c x xs = same_counts (omega arith) (omega arith) (omega (arith, detectors_more x xs)) (omega arith)
-
-taken_more : (left k : ℕ) (x : Step) (xs : List Step) → left ≡ suc k → take left (x ∷ xs) ≡ x ∷ take k xs
-taken_more left k x xs is = ap (λ n. take n (x ∷ xs)) is
-
-pub step_counted : (c : StepCounts) (left k : ℕ) (x : Step) (xs ys : List Step) → left ≡ suc k → xs ≡ x ∷ ys → added c (counts_of (take left xs)) ≡ added (counted_with c x) (counts_of (take k ys))
-step_counted c left k x xs ys is same =
-    ap (λ l. added c (counts_of (take left l))) same ∙ (ap (λ l. added c (counts_of l)) (taken_more left k x ys is) ∙ one_counted c x (take k ys))
-
-pub step_passed : (left k : ℕ) (x : Step) (xs ys : List Step) → left ≡ suc k → xs ≡ x ∷ ys → drop left xs ≡ drop k ys
-step_passed left k x xs ys is same = ap (drop left) same ∙ ap (λ n. drop n (x ∷ ys)) is
 
 -- a cut number of steps is that of all where no more are cut off than there are
 taken_capped : (n c : ℕ) (xs : List Step) → length xs ≤ c → take (min n c) xs ≡ take n xs

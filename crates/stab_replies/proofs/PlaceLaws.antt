@@ -1,11 +1,10 @@
 -- Laws of places: their numbers are met one after another.
-use Rattle.std.proofs.Common.{◌≡◌, ◌≤◌, ◌<◌, ℕ, ◌+◌, Bool, true, false, ◌&&◌, List, [], ◌∷◌, ◌++◌, length, take, slice_set, slice_index_or, ◌-◌, map, refl, sym, ap, ◌∙◌, arith, Option, Some, None, nat_le, append_assoc, length-append, if◌then◌else◌}
-use Rattle.std.proofs.lemmas.List.{append-nil, take_more_set}
-use Rattle.std.proofs.Math.Seq.{take-append_seam, get_or-append_seam}
+use Rattle.std.proofs.Common.{◌≡◌, ◌<◌, ℕ, ◌+◌, Bool, true, false, ◌&&◌, List, [], ◌∷◌, ◌++◌, length, take, slice_set, map, refl, sym, ap, ◌∙◌, arith, Option, Some, None, nat_le, append_assoc, length-append, if◌then◌else◌}
+use Rattle.std.proofs.lemmas.List.{take_more_set}
 use Rattle.std.specs.List.{list_all}
 use Rattle.stab_lines.specs.Words.{value}
-use Rattle.stab_circuit.specs.Paths.{Path, numbers}
-use Rattle.stab_replies.specs.ScriptWords.{is_place_number, most_numbers, numbers_behind, path_of}
+use Rattle.stab_circuit.specs.Paths.{numbers}
+use Rattle.stab_replies.specs.ScriptWords.{is_place_number, most_numbers, numbers_behind}
 
 -- the numbers, where nothing forbids them and they are not too many
 abbrev chosen : Bool → ℕ → List ℕ → Option (List ℕ)
@@ -36,13 +35,6 @@ too_many numbers w ws full =
     let counted : length numbers + length (w ∷ ws) ≡ length numbers + (1 + length ws) = omega arith in
     chosen_over (list_all is_place_number (w ∷ ws)) (length numbers + length (w ∷ ws)) (numbers ++ map value (w ∷ ws)) (ap (λ n. nat_le n most_numbers) counted ∙ over_most (length numbers) (length ws) full)
 
-within_most : (n : ℕ) → n ≤ most_numbers → nat_le (n + 0) most_numbers ≡ true
-within_most n few = grind arith
-
--- no word is left
-pub all_numbers : (numbers : List ℕ) → length numbers ≤ most_numbers → numbers_behind numbers [] ≡ Some numbers
-all_numbers numbers few = ap (λ b. if b then Some (numbers ++ []) else None) (within_most (length numbers) few) ∙ ap Some (append-nil numbers)
-
 -- how much is left
 abbrev pub bytes_left : Option (List ℕ) → ℕ
 bytes_left None = 0
@@ -56,18 +48,3 @@ keeps_number numbers count rest part after v pieces is same few =
     ap (λ ws. numbers_behind (take count numbers) ws) pieces
     ∙ one_number (take count numbers) part after is
     ∙ ap (λ l. numbers_behind l after) (ap (λ x. take count numbers ++ x ∷ []) (sym same) ∙ sym (take_more_set numbers count v few))
-
-abbrev path : List ℕ → ℕ → Path
-path blocks place = record { blocks = blocks; place = place }
-
-same_path : (bs cs : List ℕ) (x y : ℕ) → bs ≡ cs → x ≡ y → path bs x ≡ path cs y
-same_path bs cs x y e f = ap (λ l. path l x) e ∙ ap (λ n. path cs n) f
-
--- the path of numbers is the one that has them
-pub path_with : (p : Path) (ns : List ℕ) → numbers p ≡ ns → p ≡ path_of ns
-path_with p ns e =
-    let whole : p.blocks ++ p.place ∷ [] ≡ ns = e in
-    let border : length ns - 1 ≡ length p.blocks = omega (arith, length-append p.blocks (p.place ∷ []), ap length whole) in
-    let front : take (length ns - 1) ns ≡ p.blocks = ap (λ n. take n ns) border ∙ ap (take (length p.blocks)) (sym whole) ∙ take-append_seam p.blocks (p.place ∷ []) in
-    let last : slice_index_or ns (length ns - 1) 0 ≡ p.place = ap (λ n. slice_index_or ns n 0) border ∙ ap (λ l. slice_index_or l (length p.blocks) 0) (sym whole) ∙ get_or-append_seam p.blocks p.place [] 0 in
-    same_path p.blocks (take (length ns - 1) ns) p.place (slice_index_or ns (length ns - 1) 0) (sym front) (sym last)

@@ -3,7 +3,7 @@ use Rattle.std.proofs.Common.{◌≡◌, ℕ, Bool, true, false, ◌||◌, List,
 use Rattle.std.proofs.lemmas.List.{append-nil}
 use Rattle.std.specs.Result.{IsErrAnd}
 use Rattle.stab_io.specs.Devices.{OutputView, Took, TookAndFailed, CutOff}
-use Rattle.stab_io.specs.declared.refusal.Refusal.TheVariants.{OutOfMemory, WriteFault}
+use Rattle.stab_io.specs.declared.refusal.Refusal.TheVariants.{WriteFault}
 use Rattle.stab_io.specs.declared.refusal.Refusal.{Refusal}
 use Rattle.stab_io.specs.declared.refusal.Fault.{Fault}
 use Rattle.stab_io.specs.Refusals.{whole}
@@ -122,17 +122,6 @@ told_some_within {a} xs ys f some = record {
   answer = some.answer;
   answers = some.answers;
   cut = some.cut;
-}
-
--- memory was refused before anything was told
-pub told_nothing : (old : Sitting) (requests : List Request) (o : OutputView) (f : Fault) → f ≡ whole OutOfMemory → ToldSome old requests o o f
-told_nothing old requests o f e = record {
-  first = [];
-  rest = requests;
-  split = refl;
-  answer = replying old.held [];
-  answers = refl;
-  cut = inr (e, record { front = []; rest = []; split = refl; took = took_none o });
 }
 
 -- a fault that is handed on

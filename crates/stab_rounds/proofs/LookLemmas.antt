@@ -1,35 +1,28 @@
 -- How far back steps look: the greatest of numbers, and steps one after another.
-use Rattle.std.proofs.Common.{◌≡◌, ℕ, ◌+◌, ◌<◌, ◌≤◌, suc, zero, refl, sym, ◌∙◌, ap, subst, Bool, true, false, ◌||◌, nat_lt, List, [], ◌∷◌, ◌++◌, All, length, map, take, get_or, arith}
+use Rattle.std.proofs.Common.{◌≡◌, ℕ, ◌+◌, ◌<◌, ◌≤◌, suc, zero, refl, sym, ◌∙◌, ap, subst, false, nat_lt, List, [], ◌∷◌, ◌++◌, All, length, map, take, get_or, arith}
 use Rattle.std.specs.List.{list_any}
 use Rattle.std.proofs.lemmas.List.{map_more}
 use Rattle.std.proofs.lemmas.List.Elements.{All-nil, All-cons, All-head, All-tail, All-append}
+use Rattle.std.proofs.lemmas.Bool.{or_parts, or_from}
 use Rattle.stab_letters.specs.declared.gate.Gate.{Gate}
 use Rattle.stab_lines.specs.declared.operation.Measurement.{Measurement}
 use Rattle.stab_lines.specs.declared.range.MeasureTarget.{MeasureTarget}
 use Rattle.stab_circuit.specs.Steps.{Step, one, measured, makes, lookbacks, looks_too_far}
 use Rattle.stab_rounds.specs.Lookbacks.{LooksWithin}
 
-neither : (a b : Bool) → (a || b) ≡ false → (a ≡ false) × (b ≡ false)
-neither false b e = (refl, e)
-neither true b e = absurd (cc)
-
-pub both : (a b : Bool) → a ≡ false → b ≡ false → (a || b) ≡ false
-both false b ea eb = eb
-both true b ea eb = cc
-
 pub near-more : (m k : ℕ) → m ≤ k → (ks : List ℕ) → list_any (nat_lt m) ks ≡ false → list_any (nat_lt k) ks ≡ false
 near-more m k le [] e = refl
 near-more m k le (x ∷ ks) e =
-    let no = neither (nat_lt m x) (list_any (nat_lt m) ks) e in
-    both (nat_lt k x) (list_any (nat_lt k) ks) (grind (arith, no.0, le)) (near-more m k le ks no.1)
+    let no = or_parts (nat_lt m x) (list_any (nat_lt m) ks) e in
+    or_from (nat_lt k x) (list_any (nat_lt k) ks) (grind (arith, no.0, le)) (near-more m k le ks no.1)
 
 pub near-next : (i m k : ℕ) (ks : List ℕ) → i < length ks → list_any (nat_lt m) (take i ks) ≡ false → m ≤ k → get_or ks i 0 ≤ k
     → list_any (nat_lt k) (take (suc i) ks) ≡ false
 near-next i m k [] lt e le lx = absurd (omega arith)
-near-next zero m k (y ∷ ks) lt e le lx = both (nat_lt k y) false (grind (arith, lx)) refl
+near-next zero m k (y ∷ ks) lt e le lx = or_from (nat_lt k y) false (grind (arith, lx)) refl
 near-next (suc i) m k (y ∷ ks) lt e le lx =
-    let no = neither (nat_lt m y) (list_any (nat_lt m) (take i ks)) e in
-    both (nat_lt k y) (list_any (nat_lt k) (take (suc i) ks)) (grind (arith, no.0, le)) (near-next i m k ks (omega arith) no.1 le lx)
+    let no = or_parts (nat_lt m y) (list_any (nat_lt m) (take i ks)) e in
+    or_from (nat_lt k y) (list_any (nat_lt k) (take (suc i) ks)) (grind (arith, no.0, le)) (near-next i m k ks (omega arith) no.1 le lx)
 
 -- how far back steps look, where they may look further
 pub within-more : (m k : ℕ) (xs : List Step) → m ≤ k → All (LooksWithin m) xs → All (LooksWithin k) xs
@@ -62,5 +55,5 @@ near-targets reach m (t ∷ targets) = All-cons (LooksWithin reach) (measured m 
 pub looks-within : (m : ℕ) (xs : List Step) → All (LooksWithin m) xs → looks_too_far m xs ≡ false
 looks-within m [] all = refl
 looks-within m (x ∷ xs) all =
-    both (list_any (nat_lt m) (lookbacks x)) (looks_too_far (m + makes x) xs) (All-head (LooksWithin m) x xs all)
+    or_from (list_any (nat_lt m) (lookbacks x)) (looks_too_far (m + makes x) xs) (All-head (LooksWithin m) x xs all)
     (looks-within (m + makes x) xs (within-more m (m + makes x) xs (omega arith) (All-tail (LooksWithin m) x xs all)))

@@ -27,11 +27,6 @@ use Rattle.stab_laws.proofs.RoundLemmas.{rounds-append, rounds-rounds, rounds-wi
 pub behind-more : (r : Repeat) (k : ℕ) → behind_rounds r k + r.length ≡ behind_rounds r (k + 1)
 behind-more r k = omega (arith, add-mul k 1 r.length)
 
--- the end of the rounds that are left
-pub behind-rest : (r : Repeat) (k : ℕ) → k ≤ r.rounds → behind_rounds r k + (r.rounds - k) * r.length ≡ behind_rounds r r.rounds
-behind-rest r k le =
-    omega (arith, add-mul k (r.rounds - k) r.length, ap (λ n. n * r.length) {x = k + (r.rounds - k)} {y = r.rounds} (omega arith))
-
 -- it is no later than that behind more rounds
 pub behind-later : (r : Repeat) (j k : ℕ) → j ≤ k → behind_rounds r j ≤ behind_rounds r k
 behind-later r j k le = let more = mul-le-mul_right r.length le in omega arith

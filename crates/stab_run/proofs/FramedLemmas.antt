@@ -1,18 +1,12 @@
 -- Framed outputs: what a frame flips of what steps gave.
-use Rattle.std.proofs.Common.{◌≡◌, ℕ, zero, suc, ◌+◌, ◌≤◌, ◌<◌, ◌⊎◌, inl, inr, min, refl, sym, ◌∙◌, ap, Bool, true, false, List, [], ◌∷◌, length, take, drop, replicate, arith}
-use Rattle.std.proofs.lemmas.Bool.{cases_lt}
-use Rattle.std.proofs.lemmas.List.{drop_all}
+use Rattle.std.proofs.Common.{◌≡◌, ℕ, zero, suc, ◌+◌, ◌≤◌, refl, ◌∙◌, ap, Bool, true, false, List, [], ◌∷◌, take, replicate, arith}
 use Rattle.stab_circuit.specs.Steps.{Step, one, two, controlled, collapse, product, detector, observable}
 use Rattle.stab_steps.specs.Records.{ones}
-use Rattle.stab_steps.specs.Points.{coins_of, all_coins_of}
+use Rattle.stab_steps.specs.Points.{all_coins_of}
 use Rattle.stab_frames.specs.Flips.{flipped}
 use Rattle.stab_frames.specs.Frames.{Frame}
 use Rattle.stab_frames.specs.Notes.{Notes}
 use Rattle.stab_frames.specs.FrameSteps.{frame_after, flips_over}
-
-pub flipped-empty : (bits : List Bool) → flipped bits [] ≡ bits
-flipped-empty [] = refl
-flipped-empty (bit ∷ bits) = refl
 
 pub flipped-zeros : (bits : List Bool) (m : ℕ) → flipped bits (replicate m false) ≡ bits
 flipped-zeros [] m = refl
@@ -41,30 +35,3 @@ ones-first zero bits = omega arith
 ones-first (suc k) [] = omega arith
 ones-first (suc k) (true ∷ bits) = let h = ones-first k bits in omega (arith, h)
 ones-first (suc k) (false ∷ bits) = ones-first k bits
-
-pub ones-few : (k : ℕ) (bits : List Bool) → ones (take k bits) ≤ k
-ones-few zero bits = omega arith
-ones-few (suc k) [] = omega arith
-ones-few (suc k) (true ∷ bits) = let h = ones-few k bits in omega (arith, h)
-ones-few (suc k) (false ∷ bits) = let h = ones-few k bits in omega (arith, h)
-
-coins-one : (x : Step) → coins_of x ≤ 1
-coins-one (one g q) = omega arith
-coins-one (two g a b) = omega arith
-coins-one (controlled l j q) = omega arith
-coins-one (collapse l q recorded inverted resets) = omega arith
-coins-one (product factors inverted) = omega arith
-coins-one (detector js) = omega arith
-coins-one (observable j js) = omega arith
-
-pub coins-steps : (xs : List Step) → all_coins_of xs ≤ length xs
-coins-steps [] = omega arith
-coins-steps (x ∷ xs) = omega (arith, coins-one x, coins-steps xs)
-
--- what stands behind a place, or behind all
-pub drop-within : {X : Type 0} (k : ℕ) (xs : List X) → drop (min k (length xs)) xs ≡ drop k xs
-drop-within k xs = by_place (cases_lt k (length xs))
-  where
-    by_place : (k < length xs) ⊎ (length xs ≤ k) → drop (min k (length xs)) xs ≡ drop k xs
-    by_place (inl lt) = ap (λ j. drop j xs) {x = min k (length xs)} {y = k} (omega (arith, lt))
-    by_place (inr le) = drop_all (min k (length xs)) xs (omega (arith, le)) ∙ sym (drop_all k xs le)

@@ -6,8 +6,8 @@ use Rattle.stab_circuit.specs.Steps.{Step}
 use Rattle.stab_steps.specs.Points.{origin, joined, all_coins_of, point_after, outputs}
 use Rattle.stab_steps.specs.ProgramStates.{ProgramState, IsAt, IsRun}
 use Rattle.stab_steps.proofs.RunLemmas.{after-append, outputs-append}
+use Rattle.stab_laws.proofs.CoinLemmas.{coins-append}
 use Rattle.stab_run.specs.inner.Led.{IsLed}
-use Rattle.stab_laws.proofs.StepsLeftLemmas.{coins-append}
 
 pub led-append : (n : ℕ) (coins : ℕ → Bool) (xs ys : List Step) (a b : ProgramState) → IsLed n coins xs a → IsRun n coins ys a b → IsLed n coins (xs ++ ys) b
 led-append n coins xs ys a b led run =

@@ -3,8 +3,8 @@ pub mod LedLemmas
 pub mod AgainLemmas
 mod CopyLemmas
 mod NotedLemmas
-mod FramedLemmas
+pub mod FramedLemmas
 mod OverLemmas
 mod PeriodLemmas
-mod PeriodStartLemmas
+pub mod PeriodStartLemmas
 mod TogetherLemmas

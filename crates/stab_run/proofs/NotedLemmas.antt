@@ -1,5 +1,5 @@
 -- Noted runs: strings that are kept of free outcomes, where a run goes on.
-use Rattle.std.proofs.Common.{◌≡◌, ℕ, ◌+◌, ◌-◌, ◌<◌, ◌≤◌, refl, sym, ◌∙◌, ap, subst, Bool, false, List, [], ◌++◌, length, take, drop, arith}
+use Rattle.std.proofs.Common.{◌≡◌, ℕ, ◌+◌, ◌-◌, ◌<◌, ◌≤◌, refl, sym, ◌∙◌, ap, subst, Bool, false, List, ◌++◌, length, take, drop, arith}
 use Rattle.std.specs.Prelude.{slice_get}
 use Rattle.std.proofs.Math.Seq.{take-add}
 use Rattle.std.proofs.lemmas.List.{take-append-le, get_or_append_left}
@@ -12,27 +12,17 @@ use Rattle.stab_steps.specs.ProgramStates.{ProgramState}
 use Rattle.stab_steps.proofs.RecordLemmas.{ones-append}
 use Rattle.stab_steps.proofs.RunLemmas.{outputs-append}
 use Rattle.stab_laws.proofs.PointLemmas.{flags-are-coins}
+use Rattle.stab_laws.proofs.CoinLemmas.{coins-are}
 use Rattle.stab_frames.specs.KeptStrings.{StringsState, IsNumbered, AreTrue, KeepsTrue, note_at}
 use Rattle.stab_frames.proofs.NoteAtLemmas.{note-equal, note-past}
 use Rattle.stab_frames.proofs.TrueLemmas.{true-append, true-same, true-none}
 use Rattle.stab_frames.specs.declared.noting.RunNotes.{RunNotes}
 use Rattle.stab_run.specs.inner.Led.{IsLed}
 use Rattle.stab_run.specs.inner.Noted.{IsNoted}
-use Rattle.stab_run.proofs.OverLemmas.{coins-are}
 
 -- the same number of qubits and the same coins
 pub noted-same : (n m : ℕ) (c d : ℕ → Bool) (xs : List Step) (notes : RunNotes) (free : List Bool) → m ≡ n → d ≡ c → IsNoted m d xs notes free → IsNoted n c xs notes free
 noted-same n m c d xs notes free size same is = subst (λ k. IsNoted k c xs notes free) size (subst (λ coins. IsNoted m coins xs notes free) same is)
-
--- before the first step
-pub noted-nothing : (n : ℕ) (coins : ℕ → Bool) (notes : RunNotes) (free : List Bool) → length notes.string.letters ≡ n → notes.strings.qubits ≡ n → notes.strings.strings ≡ [] → free ≡ []
-    → IsNoted n coins [] notes free
-noted-nothing n coins notes free scratch size none empty = record {
-  scratch = scratch;
-  qubits = size;
-  numbered = omega (arith, ap length none, ap ones empty);
-  are_true = tt;
-}
 
 -- a run that goes on, and notes its strings
 pub noted-on : (n : ℕ) (coins : ℕ → Bool) (steps : List Step) (from count : ℕ) (old_notes new_notes : RunNotes) (old new : ProgramState) → IsLed n coins (take from steps) old

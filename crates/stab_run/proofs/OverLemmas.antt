@@ -1,41 +1,26 @@
 -- Strings turned over: those that exchange outcomes at one point of a run do so at another, whose groups are turned step by step.
-use Rattle.std.proofs.Common.{◌≡◌, ℕ, suc, ◌+◌, refl, sym, ◌∙◌, ap, subst, Bool, true, false, List, [], ◌∷◌, ◌++◌, arith}
+use Rattle.std.proofs.Common.{◌≡◌, ℕ, suc, ◌+◌, refl, sym, ap, subst, Bool, List, [], ◌∷◌, ◌++◌, arith}
 use Rattle.std.specs.Prelude.{Option, None, Some, IfSome}
 use Rattle.stab_letters.specs.declared.letter.Letter.{Letter}
 use Rattle.stab_letters.specs.Letters.{◌⊕◌}
-use Rattle.stab_pauli.specs.Paulis.{Signed, single, strings_anticommute}
+use Rattle.stab_pauli.specs.Paulis.{Signed, single}
 use Rattle.stab_tableau.specs.Traces.{member, outcome, projected}
 use Rattle.stab_tableau.specs.Turns.{IsTurned}
 use Rattle.stab_tableau.specs.Exchanges.{Exchanges}
 use Rattle.stab_circuit.specs.Steps.{Step, one, two, controlled, collapse, product, detector, observable}
 use Rattle.stab_steps.specs.Runs.{string_of, measured_by, when, collapsed}
-use Rattle.stab_steps.specs.Points.{Point, coins_of, all_coins_of, next_point, point_after}
+use Rattle.stab_steps.specs.Points.{Point, coins_of, next_point}
 use Rattle.stab_laws.specs.Ends.{with_coin}
 use Rattle.stab_frames.specs.KeptStrings.{AreTrue}
 use Rattle.stab_frames.specs.OtherCoins.{coins_from}
 use Rattle.stab_frames.specs.AgainLaws.{AreTurnedOver}
-
-twice : (a b : Bool) → a ⊕ (a ⊕ b) ≡ b
-twice false b = refl
-twice true false = refl
-twice true true = refl
-
-exchanges-turned : (n : ℕ) (f : List Letter) (u v : Signed → Bool) (m : Signed) (s : List Letter) → IsTurned n f u v → Exchanges n u m s → Exchanges n v m s
-exchanges-turned n f u v m s turned is = record {
-  size = is.size;
-  negative = strings_anticommute f s ⊕ is.negative;
-  stabilises =
-      turned (record { negative = strings_anticommute f s ⊕ is.negative; letters = s }) is.size
-      ∙ ap (λ b. u (record { negative = b; letters = s })) (twice (strings_anticommute f s) is.negative)
-      ∙ is.stabilises;
-  apart = is.apart;
-}
+use Rattle.stab_frames.proofs.AgainLemmas.{exchanges-turned}
 
 if-some : (n : ℕ) (f : List Letter) (u v : Signed → Bool) (measured : Option Signed) (string : Option (List Letter)) → IsTurned n f u v
     → IfSome measured (λ m. IfSome string (λ s. Exchanges n u m s)) → IfSome measured (λ m. IfSome string (λ s. Exchanges n v m s))
 if-some n f u v None string turned is = tt
 if-some n f u v (Some m) None turned is = tt
-if-some n f u v (Some m) (Some s) turned is = exchanges-turned n f u v m s turned is
+if-some n f u v (Some m) (Some s) turned is = exchanges-turned n f u v turned m s is
 
 -- a step with its coins numbered from another one on
 next-shift : (n d k : ℕ) (coins : ℕ → Bool) (x : Step) (a : Point) → d + k ≡ a.coin
@@ -67,9 +52,3 @@ true-over n da db k coins strings (x ∷ xs) a b ea eb turned is = (
       (true-over n da db (k + coins_of x) coins strings xs (next_point n coins x a) (next_point n coins x b) (omega (arith, ea)) (omega (arith, eb)) (λ m. turned (suc m))
       (subst (AreTrue n (coins_from da coins) strings xs) (next-shift n da k coins x a ea) is.1)),
 )
-
--- coins are used up
-
-pub coins-are : (n : ℕ) (coins : ℕ → Bool) (xs : List Step) (a : Point) → (point_after n coins xs a).coin ≡ a.coin + all_coins_of xs
-coins-are n coins [] a = omega arith
-coins-are n coins (x ∷ xs) a = omega (arith, coins-are n coins xs (next_point n coins x a))

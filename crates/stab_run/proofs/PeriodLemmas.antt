@@ -23,6 +23,7 @@ use Rattle.stab_laws.specs.Ends.{with_coin}
 use Rattle.stab_laws.proofs.FitLemmas.{check-fits}
 use Rattle.stab_laws.proofs.PointLemmas.{flags-are-coins, records-are-records}
 use Rattle.stab_laws.proofs.RoundLemmas.{rounds-within}
+use Rattle.stab_laws.proofs.CoinLemmas.{coins-are}
 use Rattle.stab_frames.specs.Flips.{flipped, flipped_additions, flipped_output}
 use Rattle.stab_frames.specs.FrameSteps.{frame_over, flips_over}
 use Rattle.stab_frames.specs.Notes.{Notes}
@@ -31,14 +32,14 @@ use Rattle.stab_frames.specs.KeptStrings.{note_at}
 use Rattle.stab_frames.specs.Walks.{WalkState, WalksWith, frame_at}
 use Rattle.stab_frames.specs.OtherCoins.{coins_from, notes_between, HasGoneOver, WalksToOthers}
 use Rattle.stab_frames.specs.AgainLaws.{DiffersBack, AreTurnedOver}
-use Rattle.stab_frames.proofs.FlipLemmas.{length-flipped}
+use Rattle.stab_frames.proofs.FlipLemmas.{length-flipped, flipped-empty}
 use Rattle.stab_run.specs.inner.Led.{IsLed, behind_rounds}
 use Rattle.stab_run.specs.declared.turned.Period.{Period}
 use Rattle.stab_run.specs.inner.Turned.{point_behind, IsPeriod}
 use Rattle.stab_run.proofs.AgainLemmas.{more-rounds, behind-more, behind-later}
 use Rattle.stab_run.proofs.LedLemmas.{coins-on, coins-more}
-use Rattle.stab_run.proofs.FramedLemmas.{flipped-empty, flipped-zeros, flips-free}
-use Rattle.stab_run.proofs.OverLemmas.{true-over, coins-are}
+use Rattle.stab_run.proofs.FramedLemmas.{flipped-zeros, flips-free}
+use Rattle.stab_run.proofs.OverLemmas.{true-over}
 use Rattle.stab_frames.proofs.AgainLemmas.{come-turned, gone-over-seen}
 
 -- where rounds lead

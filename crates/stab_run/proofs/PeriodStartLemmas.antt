@@ -20,6 +20,7 @@ use Rattle.stab_steps.proofs.RunLemmas.{outputs-append}
 use Rattle.stab_laws.specs.Ends.{with_coin}
 use Rattle.stab_laws.proofs.PointLemmas.{flags-are-coins, flags-counted, records-are-records, rest-joined}
 use Rattle.stab_laws.proofs.LookbackLemmas.{looked_up-near}
+use Rattle.stab_laws.proofs.CoinLemmas.{coins-are}
 use Rattle.stab_frames.specs.Flips.{flipped}
 use Rattle.stab_frames.specs.KeptStrings.{AreTrue, note_at}
 use Rattle.stab_frames.specs.Walks.{WalkState, IsPlaced, frame_at}
@@ -33,14 +34,13 @@ use Rattle.stab_run.specs.declared.earlier.Earlier.{Earlier}
 use Rattle.stab_run.specs.declared.turned.Period.{Period}
 use Rattle.stab_run.specs.inner.Turned.{point_behind, IsPeriod, BeginsFrame, BeginsPeriod}
 use Rattle.stab_run.proofs.AgainLemmas.{more-rounds}
-use Rattle.stab_run.proofs.OverLemmas.{coins-are}
 
 -- where two lists are the same at first, nothing differs
 
-same-bit : (a b : Bool) → a ≡ b → false ≡ (b ⊕ a)
+pub same-bit : (a b : Bool) → a ≡ b → false ≡ (b ⊕ a)
 same-bit a b e = grind arith
 
-apart-behind : (base : ℕ) (bits others : List Bool) → length others ≡ length bits → base ≤ length bits → take base bits ≡ take base others
+pub apart-behind : (base : ℕ) (bits others : List Bool) → length others ≡ length bits → base ≤ length bits → take base bits ≡ take base others
     → replicate base false ++ flipped (drop base bits) (drop base others) ≡ flipped bits others
 apart-behind zero bits others size le same = refl
 apart-behind (suc base) [] others size le same = absurd (omega arith)
@@ -231,9 +231,3 @@ frame-begun letters o l reach n bits others v u w long begun times bits_are othe
   where
     coin : w.coin ≡ l.free
     coin = ap (λ (x : WalkState). x.coin) flips ∙ ap (λ (x : WalkState). x.coin) times ∙ ap (λ (x : WalkState). x.coin) begun
-
--- the same number of qubits and the same coins
-pub period-same : (n m : ℕ) (c d : ℕ → Bool) (steps : List Step) (r : Repeat) (strings : List (List Letter)) (done : ℕ) (o : RunOutput) (p : Period) → m ≡ n → d ≡ c
-    → IsPeriod m d steps r strings done o p → IsPeriod n c steps r strings done o p
-period-same n m c d steps r strings done o p size same is =
-    subst (λ k. IsPeriod k c steps r strings done o p) size (subst (λ coins. IsPeriod m coins steps r strings done o p) same is)

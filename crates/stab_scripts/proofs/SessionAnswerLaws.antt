@@ -5,7 +5,7 @@ use Rattle.std.specs.Result.{IsErrAnd}
 use Rattle.stab_io.specs.declared.refusal.Refusal.{Refusal}
 use Rattle.stab_io.specs.declared.refusal.Refusal.TheVariants.{OutOfMemory}
 use Rattle.stab_io.specs.declared.refusal.Fault.{Fault}
-use Rattle.stab_io.specs.Refusals.{whole, IsCallFault}
+use Rattle.stab_io.specs.Refusals.{IsCallFault}
 use Rattle.stab_circuit.specs.Items.{Items, OneItem, before, done, listed, entries}
 use Rattle.stab_circuit.specs.Paths.{Path}
 use Rattle.stab_circuit.specs.Places.{item_at}
@@ -16,9 +16,7 @@ use Rattle.stab_circuit.proofs.EditLemmas.{listed-entries, entries-listed}
 use Rattle.stab_session.specs.Sessions.{SessionState}
 use Rattle.stab_session.specs.SessionEdits.{IsEditedBy, IsAsBefore}
 use Rattle.stab_circuit.specs.Steps.{unroll, steps_cap, check_within}
-use Rattle.stab_circuit.specs.Readings.{ReadsItem}
-use Rattle.stab_run.specs.Runs.{State, run_of}
-use Rattle.stab_replies.specs.declared.reply.SessionNumbers.{SessionNumbers}
+use Rattle.stab_run.specs.Runs.{State}
 use Rattle.stab_replies.specs.FramedRequests.{FramedRequest}
 use Rattle.stab_laws.proofs.FitLemmas.{check-whole}
 use Rattle.stab_tables.proofs.CheckLaws.{steps_counted}
@@ -30,10 +28,10 @@ use Rattle.stab_scripts.proofs.SignAnswerLaws.{told_sign}
 use Rattle.stab_replies.specs.Signs.{sign_line}
 use Rattle.stab_replies.specs.Replies.{ReplyBytes}
 use Rattle.stab_replies.specs.FramedAnswers.{GivesText}
-use Rattle.stab_replies.specs.Scripts.{Setting, Held, first_mark, opened, unless, judged, decided, refusing, IsPut, item_shown, sign_shown, framed_shown, held_behind, shown_or_refused, framed_answer}
-use Rattle.stab_scripts.specs.inner.SessionAnswers.{session_setting, held_of, answered}
+use Rattle.stab_replies.specs.Scripts.{Held, unless, judged, decided, refusing, item_shown, sign_shown, framed_shown, held_behind, shown_or_refused, framed_answer}
+use Rattle.stab_scripts.specs.inner.SessionAnswers.{held_of, answered}
 use Rattle.stab_replies.specs.Changes.{Mark}
-use Rattle.stab_replies.specs.FramedReplies.{made_text, reply_text, session_numbers}
+use Rattle.stab_replies.specs.FramedReplies.{made_text, reply_text}
 use Rattle.stab_replies.specs.declared.changes.MarkedBits.{MarkedBits}
 
 -- items and a mark
@@ -62,22 +60,6 @@ pub refused_answer : (kept : Bool) (n : ℕ) (r : Result (List OneItem) Refusal)
     → refusing held f.refusal ≡ decided kept held (judged n r)
 refused_answer kept n r held f is some = refused_by kept n r held f (list_verdict n r) refl is some
 
-abbrev setting_with : Bool → ℕ → (ℕ → Bool) → Setting
-setting_with framed qubits coins = record { framed = framed; qubits = qubits; coins = coins }
-
-pub same_setting : {b c : Bool} {n m : ℕ} {f g : ℕ → Bool} → b ≡ c → n ≡ m → f ≡ g → setting_with b n f ≡ setting_with c m g
-same_setting {b} {c} {n} {m} {f} {g} d e h = ap (λ k. setting_with k n f) d ∙ ap (λ k. setting_with c k f) e ∙ ap (λ k. setting_with c m k) h
-
--- an edit keeps qubits and coins
-pub made_setting : {C : Type 0} (sequence : C → ℕ → Bool) (framed : Bool) (e : Edit) (old new : SessionState C) → IsEditedBy sequence e old new
-    → session_setting sequence framed new ≡ session_setting sequence framed old
-made_setting sequence framed e old new is = same_setting refl is.qubits is.coins
-
--- so does one that is refused
-pub kept_setting : {C : Type 0} (sequence : C → ℕ → Bool) (framed : Bool) (old new : SessionState C) → IsAsBefore sequence old new
-    → session_setting sequence framed new ≡ session_setting sequence framed old
-kept_setting sequence framed old new is = same_setting refl is.qubits is.coins
-
 -- what is told of an edit that was made
 pub told_made : {C : Type 0} (sequence : C → ℕ → Bool) (kept : Bool) (e : Edit) (old new : SessionState C) (m : MarkedBits) (reply : List ℕ) → IsEditedBy sequence e old new → reply ≡ made_text kept
     → answered (held_of new m) reply false ≡ decided kept (held_of old m) (judged old.qubits (edited e (entries old.items)))
@@ -95,37 +77,9 @@ pub told_refusal : {C : Type 0} (sequence : C → ℕ → Bool) (kept : Bool) (e
 told_refusal sequence kept e old new m f reply refused is fault some same true_is =
     same_refusal f.refusal (ap (λ x. held_with x (held_of old m).mark) is.items) same true_is ∙ refused_answer kept old.qubits (edited e (entries old.items)) (held_of old m) f fault some
 
--- a text that stands for no item
-pub put_refused : (kept : Bool) (held : Held) (after : OneItem → Result Items Refusal) (text : List ℕ) (f : Fault) (reply : List ℕ) (refused : Bool)
-    → ReadsItem text (Err f) → f.refusal ≢ OutOfMemory → reply ≡ refused_text f.refusal → refused ≡ true → IsPut kept held after text (answered held reply refused)
-put_refused kept held after text f reply refused (inl memory) some same true_is = absurd (some (ap (λ (g : Fault). g.refusal) memory))
-put_refused kept held after text f reply refused (inr fault) some same true_is = inl (f, fault, same_refusal f.refusal refl same true_is)
-
 -- the steps of a circuit that nothing refuses are counted to the end
 pub steps_told : (n k : ℕ) (items : Items) → check_within n items ≡ None → k ≡ min (length (unroll items)) steps_cap → k ≡ length (unroll items)
 steps_told n k items e f = f ∙ steps_counted items (check-whole n items e)
-
-abbrev numbers_with : (q t r d o : ℕ) → SessionNumbers
-numbers_with q t r d o = record { qubits = q; steps = t; records = r; detectors = d; observables = o }
-
--- numbers are those of a session, where each is
-pub numbers_told : {q t r d o : ℕ} (n : ℕ) (run : State) (items : Items) → q ≡ n → t ≡ length (unroll items) → r ≡ length run.records → d ≡ length run.detectors → o ≡ length run.observables
-    → numbers_with q t r d o ≡ session_numbers n run items
-numbers_told {q} {t} {r} {d} {o} n run items eq et er ed eo =
-    ap (λ k. numbers_with k t r d o) eq
-    ∙ ap (λ k. numbers_with n k r d o) et
-    ∙ ap (λ k. numbers_with n (length (unroll items)) k d o) er
-    ∙ ap (λ k. numbers_with n (length (unroll items)) (length run.records) k o) ed
-    ∙ ap (λ k. numbers_with n (length (unroll items)) (length run.records) (length run.detectors) k) eo
-
--- what is held before a script
-pub opened_with : (s : Setting) (items : Items) (m : Mark) → m ≡ first_mark s.framed (run_of s.qubits s.coins items) → held_with items m ≡ opened s items
-opened_with s items m e = ap (held_with items) e
-
--- want of memory, where nothing refuses the items
-pub unopened : (v : Option Refusal) (f : Fault) → v ≡ None → f ≡ whole OutOfMemory → IsCallFault v f
-unopened None f e is = is
-unopened (Some r) f e is = absurd (cc)
 
 -- a reply to what is shown, and its refusal
 pub told_framed : (run : State) (held behind : Held) (n : ℕ) (r : FramedRequest) (text : List ℕ) → framed_shown n run held r ≡ Ok text → behind ≡ held_behind run held r

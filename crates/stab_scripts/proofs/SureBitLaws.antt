@@ -6,6 +6,7 @@ use Rattle.std.proofs.lemmas.List.FromFn.{length-map-range_with_len, get_or-map-
 use Rattle.stab_io.specs.declared.refusal.Refusal.TheVariants.{OutOfMemory, BadCommand, QubitOutOfRange}
 use Rattle.stab_io.specs.declared.refusal.Fault.{Fault}
 use Rattle.stab_io.specs.Refusals.{whole, IsCallFault}
+use Rattle.stab_tableau.proofs.TestLemmas.{same_test}
 use Rattle.stab_circuit.specs.Items.{Items}
 use Rattle.stab_circuit.specs.Steps.{unroll, detectors_of, qubits_of, check_of, check_within}
 use Rattle.stab_circuit.specs.Laws.{AreOfLines, LinesKeepQubitsApart}
@@ -56,18 +57,13 @@ sure_text law apart n items lines checked =
     let found = sure_found law (qubits_of items) items (check-fits (qubits_of items) items (unroll items) own refl (apart lines.0 items lines.1)) in
     (f01_bytes found.0, (found.0, found.1, refl))
 
-same_bit : (x y : Bool) → (x ≡ true → y ≡ true) → (y ≡ true → x ≡ true) → x ≡ y
-same_bit true y f g = sym (f refl)
-same_bit false true f g = g refl
-same_bit false false f g = refl
-
 -- no other bits tell of them
 one_sure : (n : ℕ) (items : Items) (a b : List Bool) → AreSure n items a → AreSure n items b → b ≡ a
 one_sure n items a b p q =
     ext_get_or false b a (q.count ∙ sym p.count)
     (λ i lt.
     let within : i < bits_in items = omega (arith, lt, q.count) in
-    same_bit (get_or b i false) (get_or a i false) (λ e. (p.exact i within).1 ((q.exact i within).0 e)) (λ e. (q.exact i within).1 ((p.exact i within).0 e)))
+    same_test (get_or b i false) (get_or a i false) (λ e. (p.exact i within).1 ((q.exact i within).0 e)) (λ e. (q.exact i within).1 ((p.exact i within).0 e)))
 
 -- so there is one line of them
 pub one_sure_text : (items : Items) (x y : List ℕ) → IsSureText F01 items x → IsSureText F01 items y → y ≡ x

@@ -1,11 +1,11 @@
 -- Pauli spans: what stands in the span of a pending edit, in the old steps and in those that there are now.
-use Rattle.std.proofs.Common.{◌≡◌, ℕ, ◌+◌, ◌≤◌, ◌<◌, refl, sym, ◌∙◌, ap, subst, List, [], ◌∷◌, map, length, take, All, arith, Some, None, Ok}
+use Rattle.std.proofs.Common.{◌≡◌, ℕ, ◌+◌, ◌≤◌, ◌<◌, refl, sym, ◌∙◌, ap, subst, List, [], ◌∷◌, map, length, take, All, arith, Some, Ok}
 use Rattle.std.proofs.lemmas.List.{length-drop, length-map}
 use Rattle.std.specs.Prelude.{slice_get}
 use Rattle.stab_letters.specs.declared.letter.Letter.{Letter}
 use Rattle.stab_pauli.specs.Paulis.{string_product}
 use Rattle.stab_circuit.specs.Items.{OneItem, listed}
-use Rattle.stab_circuit.specs.Steps.{Step, one, unroll, named_qubits, qubits_of, check_within}
+use Rattle.stab_circuit.specs.Steps.{Step, one, unroll, named_qubits, qubits_of}
 use Rattle.stab_circuit.specs.Paths.{Path}
 use Rattle.stab_circuit.specs.Places.{item_at}
 use Rattle.stab_circuit.specs.Edits.{edit_path, edited, taken_at, taken, put_item, steps_before, behind_taken, behind_put, outermost, first_changed, old_end, new_end}
@@ -176,7 +176,3 @@ module _ (n : ℕ) (p : Pending) (now : List OneItem) (given : AreAccepted n p n
         new_counted = ap length put.steps ∙ length-map rs (one (gate_of m)) ∙ sym new_counted;
         product = product;
       }
-
--- what was begun leads between two circuits that nothing refuses, where nothing refused the old one
-pub begun-accepted : (n : ℕ) (edit : Edit) (old now : List OneItem) (p : Pending) (s : Span) → IsBegun n edit old now p s → check_within n (listed old) ≡ None → AreAccepted n p now
-begun-accepted n edit old now p s b checked = record { old = old; back = b.back; old_checked = checked; now_checked = b.checked }

@@ -10,7 +10,7 @@ use Rattle.stab_circuit.specs.Laws.{AreAlike, SplitsLeaveTheSteps}
 use Rattle.stab_circuit.proofs.EditLemmas.{entries-listed}
 use Rattle.stab_kept.specs.declared.kept.KeptRun.{KeptRun}
 use Rattle.stab_session.specs.Sessions.{SessionState}
-use Rattle.stab_session.specs.SessionEdits.{IsSplit, IsAsBefore}
+use Rattle.stab_session.specs.SessionEdits.{IsSplit}
 use Rattle.stab_kept.specs.KeptRuns.{IsKeptRun}
 use Rattle.stab_session.specs.inner.KeptSessions.{session_of, IsKept}
 use Rattle.stab_session.proofs.SessionLemmas.{session-kept}
@@ -45,18 +45,4 @@ module _ {C : Type 0} (sequence : C → ℕ → Bool) (stride : ℕ) (coins : C)
   session-split path round old new s is e = subst (λ t. IsSplit path round t (session_of (listed new) stride coins kept)) is (record {
     items = ap (split path round) (entries-listed old) ∙ e ∙ ap Ok (sym (entries-listed new));
     rest = refl;
-  })
-
-  pub session-same : (old new : List OneItem) (s : SessionState C) → session_of (listed old) stride coins kept ≡ s → new ≡ old → IsAsBefore sequence s (session_of (listed new) stride coins kept)
-  session-same old new s is e = subst (λ t. IsAsBefore sequence t (session_of (listed new) stride coins kept)) is (record {
-    items = ap listed e;
-    qubits = refl;
-    stride = refl;
-    coins = refl;
-    records = refl;
-    free = refl;
-    detectors = refl;
-    observables = refl;
-    tableau = refl;
-    checkpoints = refl;
   })

@@ -12,10 +12,11 @@ use Rattle.stab_run.specs.Records.{looked_up, parity}
 use Rattle.stab_run.specs.Runs.{when, flip_of, string_of}
 use Rattle.stab_run.specs.Points.{RunOutput, nothing, joined, coins_of, all_coins_of}
 use Rattle.stab_steps.proofs.RunLemmas.{joined-nothing, joined-assoc}
+use Rattle.stab_laws.proofs.CoinLemmas.{coins-append}
 use Rattle.stab_frames.specs.Frames.{plus, times_where}
 use Rattle.stab_frames.specs.Notes.{Notes}
 use Rattle.stab_frames.specs.FrameSteps.{letters_after, flips_given, frame_over, flips_over}
-use Rattle.stab_frames.proofs.OverLemmas.{coins-append, frame-append, flips-append}
+use Rattle.stab_frames.proofs.OverLemmas.{frame-append, flips-append}
 use Rattle.stab_shots.specs.Differences.{Difference, frame_of_difference, next_coin, Follows, IsMeasuredBy}
 
 -- steps one after another

@@ -22,7 +22,7 @@ use Rattle.stab_frames.specs.Notes.{Notes, notes_of, changed}
 use Rattle.stab_frames.specs.StepNotes.{AreRight, AreEnough}
 use Rattle.stab_frames.specs.FrameSteps.{frame_after, frame_over, flips_over}
 use Rattle.stab_frames.proofs.NoteLemmas.{right-enough}
-use Rattle.stab_frames.proofs.OverLemmas.{coins-append, coin-after}
+use Rattle.stab_laws.proofs.CoinLemmas.{coins-append, coins-are}
 use Rattle.stab_frames.proofs.StartLemmas.{framed-same}
 use Rattle.stab_frames.proofs.FrontLemmas.{fronts-outputs, fronts-matches, fronts-framed, records-flipped, flags-flipped, detectors-flipped, observables-flipped}
 use Rattle.stab_shots.specs.declared.shots.Shots.{Shots}
@@ -89,7 +89,7 @@ module _ (n : ℕ) (coins : ℕ → Bool) (xs ys : List Step) (fits : All (StepF
       ap length lane.still
       ∙ length-replicate (all_coins_of xs) false
       ∙ before (all_coins_of xs)
-      ∙ sym (coin-after n zero_coins xs origin)
+      ∙ sym (coins-are n zero_coins xs origin)
     where
       before : (k : ℕ) → k ≡ 0 + k
       before k = omega arith

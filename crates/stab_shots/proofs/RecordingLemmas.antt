@@ -16,9 +16,9 @@ use Rattle.stab_steps.proofs.RunLemmas.{after-append, outputs-append}
 use Rattle.stab_steps.proofs.RecordLemmas.{ones-append}
 use Rattle.stab_laws.proofs.StateLemmas.{run-state}
 use Rattle.stab_laws.proofs.PointLemmas.{records-are-records}
+use Rattle.stab_laws.proofs.CoinLemmas.{coins-steps, coins-are}
 use Rattle.stab_frames.specs.KeptStrings.{StringsState, note_at, IsNumbered, AreTrue, KeepsTrue}
 use Rattle.stab_frames.specs.StepNotes.{AreRight}
-use Rattle.stab_frames.proofs.OverLemmas.{coins-few, coin-after}
 use Rattle.stab_frames.proofs.TrueLemmas.{true-none, true-rest}
 use Rattle.stab_frames.proofs.WalkLemmas.{ones-few}
 use Rattle.stab_shots.specs.Noted.{zero_coins}
@@ -60,7 +60,7 @@ module _ (n : ℕ) (xs ys : List Step) (u : Signed → Bool) (o : RunOutput) (ze
   led = is p begun
 
   coin : length zeros ≡ all_coins_of xs
-  coin = let none_before : 0 + all_coins_of xs ≡ all_coins_of xs = omega arith in begun.coin ∙ coin-after n zero_coins xs origin ∙ none_before
+  coin = let none_before : 0 + all_coins_of xs ≡ all_coins_of xs = omega arith in begun.coin ∙ coins-are n zero_coins xs origin ∙ none_before
 
   flags-new : new.output.free ≡ zeros ++ more.free
   flags-new = ap (λ (o : RunOutput). o.free) led.output
@@ -91,7 +91,7 @@ module _ (n : ℕ) (xs ys : List Step) (u : Signed → Bool) (o : RunOutput) (ze
   free-few =
       let parts = ap ones flags-new ∙ ones-append zeros more.free in
       let long = ap length flags-new ∙ length-append zeros more.free in
-      omega (arith, parts, none, ones-few more.free, long, led.shows.coin, coin-after n zero_coins ys p, begun.coin, coins-few ys)
+      omega (arith, parts, none, ones-few more.free, long, led.shows.coin, coins-are n zero_coins ys p, begun.coin, coins-steps ys)
 
   -- where the strings of other steps were let go
 

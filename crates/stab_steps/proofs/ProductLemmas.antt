@@ -7,12 +7,12 @@ use Rattle.stab_letters.specs.declared.letter.Letter.TheVariants.{I}
 use Rattle.stab_pauli.specs.Paulis.{Signed, identity, minus, with_sign, anticommute, product}
 use Rattle.stab_pauli.proofs.SignedLemmas.{product-twice, length-product}
 use Rattle.stab_tableau.specs.Groups.{IsStabiliserGroup}
-use Rattle.stab_tableau.specs.Rules.{outcome_by, is_free_by, projected_by}
+use Rattle.stab_tableau.specs.Rules.{outcome_by, projected_by}
 use Rattle.stab_lines.specs.declared.product.Factor.{Factor}
 use Rattle.stab_lines.specs.Axes.{letter_of}
 use Rattle.stab_steps.specs.Runs.{with_factors, string_of}
 
-length-with_factors : (factors : List Factor) (letters : List Letter) → length (with_factors factors letters) ≡ length letters
+pub length-with_factors : (factors : List Factor) (letters : List Letter) → length (with_factors factors letters) ≡ length letters
 length-with_factors [] letters = refl
 length-with_factors (f ∷ fs) letters = length-with_factors fs (set letters f.qubit (letter_of f.letter)) ∙ length-set letters f.qubit (letter_of f.letter)
 
@@ -29,11 +29,6 @@ minus_stabilises true y coin apart e = let f : y ≡ false = apart refl in cc
 minus_stabilises false true coin apart e = refl
 minus_stabilises false false coin apart e = cc
 
-neither_free : (x y : Bool) → y ≡ true → (not x && not y) ≡ false
-neither_free true y e = refl
-neither_free false true e = refl
-neither_free false false e = cc
-
 left_as_is : (x y z : Bool) → (x ≡ true → y ≡ false) → (y ≡ false → z ≡ true → x ≡ true) → x ≡ (not y && (x || z))
 left_as_is true true z apart back = let e : true ≡ false = apart refl in cc
 left_as_is true false z apart back = refl
@@ -45,10 +40,6 @@ module _ (n : ℕ) (member : Signed → Bool) (group : IsStabiliserGroup n membe
   pub fixed-outcome_by : (b : Bool) → member (with_sign b p) ≡ true → (coin : Bool) → outcome_by member p coin ≡ b
   fixed-outcome_by false e coin = ap (λ x. if x then false else (if member (minus p) then true else coin)) e
   fixed-outcome_by true e coin = minus_stabilises (member p) (member (minus p)) coin (group.one_sign p lp) e
-
-  pub fixed-not_free : (b : Bool) → member (with_sign b p) ≡ true → is_free_by member p ≡ false
-  fixed-not_free false e = ap (λ x. not x && not (member (minus p))) e
-  fixed-not_free true e = neither_free (member p) (member (minus p)) e
 
   -- the group is left as it is
   pub fixed-projected_by : (b : Bool) → member (with_sign b p) ≡ true → (r : Signed) → length r.letters ≡ n → member r ≡ projected_by member p b r

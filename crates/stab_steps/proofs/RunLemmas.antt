@@ -216,12 +216,3 @@ pub run-steps : (n m : ℕ) (c d : ℕ → Bool) (xs ys rest : List Step) (a b n
     → IsRun m d ys a b → IsRun n c rest b new → IsRun n c xs a new
 run-steps n m c d xs ys rest a b new e same_size same_coins f g =
     subst (λ zs. IsRun n c zs a new) (sym e) (IsRun-append n c ys rest a b new (IsRun-same n m c d ys a b same_size same_coins f) g)
-
--- the first alone
-
-pub fits-rest : (n m : ℕ) (xs : List Step) (x : Step) (rest : List Step) → xs ≡ x ∷ rest → m ≡ n → All (StepFits n) xs → All (StepFits m) rest
-fits-rest n m xs x rest e same fits = (fits-steps n m xs (x ∷ []) rest e same fits).1
-
-pub run-rest : (n m : ℕ) (c d : ℕ → Bool) (xs : List Step) (x : Step) (rest : List Step) (a b new : ProgramState) → xs ≡ x ∷ rest → m ≡ n → d ≡ c
-    → IsRun m d (x ∷ []) a b → IsRun n c rest b new → IsRun n c xs a new
-run-rest n m c d xs x rest a b new e same_size same_coins f g = run-steps n m c d xs (x ∷ []) rest a b new e same_size same_coins f g

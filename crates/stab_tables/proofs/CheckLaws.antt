@@ -9,7 +9,6 @@ use Rattle.stab_io.specs.declared.refusal.Refusal.TheVariants.{LookbackTooFar, T
 use Rattle.stab_io.specs.Refusals.{whole}
 use Rattle.stab_circuit.specs.Items.{Items}
 use Rattle.stab_circuit.specs.Steps.{Step, one, two, controlled, collapse, product, detector, observable, unroll, makes, records_of, looks_too_far, check_of, most_steps, steps_cap, is_detector, detectors_of, detectors_in}
-use Rattle.stab_run.specs.Points.{all_coins_of, coins_of}
 use Rattle.stab_explain.specs.Explanations.{AppendsSome}
 use Rattle.stab_tables.specs.Checks.{SendsSome}
 use Rattle.stab_tables.proofs.WritingLaws.{took_some_none}
@@ -46,16 +45,6 @@ one_detector (product factors inverted) = omega arith
 one_detector (detector ks) = omega arith
 one_detector (observable j ks) = omega arith
 
--- a step uses up at most one coin number
-one_coin : (s : Step) → coins_of s ≤ 1
-one_coin (one g q) = omega arith
-one_coin (two g a b) = omega arith
-one_coin (controlled l k q) = omega arith
-one_coin (collapse l q recorded inverted resets) = omega arith
-one_coin (product factors inverted) = omega arith
-one_coin (detector ks) = omega arith
-one_coin (observable j ks) = omega arith
-
 -- steps make at most as many records as they are
 records_few : (ss : List Step) → records_of ss ≤ length ss
 records_few [] = omega arith
@@ -73,11 +62,6 @@ detectors_more s ss = by_kind (is_detector s)
 pub detectors_few : (ss : List Step) → detectors_of ss ≤ length ss
 detectors_few [] = omega arith
 detectors_few (s ∷ ss) = omega (arith, detectors_more s ss, one_detector s, detectors_few ss)
-
--- steps use up at most as many coin numbers as they are
-pub coins_few : (ss : List Step) → all_coins_of ss ≤ length ss
-coins_few [] = omega arith
-coins_few (s ∷ ss) = omega (arith, one_coin s, coins_few ss)
 
 -- what is within the cap is not cut
 uncut : (n : ℕ) → n ≤ most_steps → min n steps_cap ≡ n

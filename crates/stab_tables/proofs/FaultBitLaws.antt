@@ -7,6 +7,7 @@ use Rattle.stab_circuit.specs.Items.{Items}
 use Rattle.stab_circuit.specs.Steps.{unroll}
 use Rattle.stab_regions.specs.Faults.{FaultPlace, faults_of, flipped, flips, numbers_where, bits_in, IsFaultTable}
 use Rattle.stab_tables.specs.FaultTables.{set_all}
+use Rattle.stab_tables.proofs.UnsureLaws.{zero_at}
 
 -- as many bits as before
 pub length-set_all : (ks : List ℕ) (v : Bool) (bits : List Bool) → length (set_all ks v bits) ≡ length bits
@@ -60,12 +61,6 @@ cleared (k ∷ ks) bits zeros i = cleared ks (set bits k false) (zero_but k ks b
 zeros_all : (bits : List Bool) → ((i : ℕ) → get_or bits i false ≡ false) → bits ≡ replicate (length bits) false
 zeros_all [] h = refl
 zeros_all (b ∷ bits) h = ap₂ (λ x xs. x ∷ xs) (h 0) (zeros_all bits (λ i. h (suc i)))
-
-zero_at : (n i : ℕ) → get_or (replicate n false) i false ≡ false
-zero_at zero zero = refl
-zero_at zero (suc i) = refl
-zero_at (suc n) zero = refl
-zero_at (suc n) (suc i) = zero_at n i
 
 -- bits that were 0, and of which some were set and set back
 pub set_back : (ks : List ℕ) (n : ℕ) → set_all ks false (set_all ks true (replicate n false)) ≡ replicate n false

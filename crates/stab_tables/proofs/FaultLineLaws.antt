@@ -1,13 +1,10 @@
 -- Laws of fault lines: texts one after another, and the line that they make.
-use Rattle.std.proofs.Common.{◌≡◌, refl, sym, ap, ℕ, Result, Ok, Err, inl, inr, ◌+◌, ◌<◌, true, false, ◌==◌, List, [], ◌∷◌, ◌++◌, length, map, drop, get_or, add-one, append_assoc, codes, decimal, arith}
+use Rattle.std.proofs.Common.{◌≡◌, refl, sym, ap, ℕ, ◌+◌, ◌<◌, true, false, ◌==◌, List, [], ◌∷◌, ◌++◌, length, map, drop, get_or, add-one, append_assoc, codes, decimal, arith}
 use Rattle.std.proofs.lemmas.Bool.Decides.{nat_tests}
 use Rattle.std.proofs.Math.Seq.{drop-cons}
-use Rattle.stab_io.specs.Devices.{OutputView, WritesAll}
-use Rattle.stab_io.specs.declared.refusal.Refusal.{Refusal}
 use Rattle.stab_io.specs.declared.refusal.Fault.{Fault}
 use Rattle.stab_io.specs.Refusals.{number_of, name_of}
 use Rattle.stab_tables.specs.FaultLines.{fault_line, refused_text}
-use Rattle.stab_tables.specs.FaultLines.{TookOrFailed}
 use Rattle.stab_tables.specs.Texts.{texts_joined}
 
 -- the text at a place, and those after it
@@ -28,8 +25,3 @@ joined-line f line number name some is_line is_number is_name = rw (is_line, is_
 -- a line that isn't 0
 pub not_zero : (n : ℕ) → (n ≡ 0 → ⊥) → (n == 0) ≡ false
 not_zero n h = grind (arith, nat_tests)
-
--- a text that was written, or some first bytes of it, is told
-pub told : (old new : OutputView) (text : List ℕ) (r : Result (Unit {0}) Refusal) → WritesAll old new text r → TookOrFailed old new text
-told old new text (Ok u) writes = inl writes
-told old new text (Err r) writes = inr writes.1

@@ -1,5 +1,5 @@
 -- Laws of bits that are not sure: that some step makes each, and which is the first.
-use Rattle.std.proofs.Common.{◌≡◌, ◌≢◌, refl, sym, ap, ◌∙◌, subst, ℕ, zero, suc, ◌+◌, ◌-◌, ◌<◌, ◌≤◌, Bool, true, false, ◌==◌, nat_lt, List, [], ◌∷◌, ◌++◌, length, replicate, get_or, if◌then◌else◌, Some, None, arith}
+use Rattle.std.proofs.Common.{◌≡◌, ◌≢◌, refl, sym, ap, ◌∙◌, subst, ℕ, zero, suc, ◌+◌, ◌-◌, ◌<◌, ◌≤◌, Bool, true, false, ◌==◌, nat_lt, List, [], ◌∷◌, ◌++◌, length, replicate, get_or, if◌then◌else◌, arith}
 use Rattle.std.proofs.lemmas.Bool.{ltb-true, ltb-false}
 use Rattle.std.proofs.lemmas.Bool.Decides.{nat_tests}
 use Rattle.std.proofs.lemmas.List.{get_or-set_other, length-append}
@@ -12,31 +12,6 @@ use Rattle.stab_regions.specs.Faults.{IsSure, AreSure, bits_in, bit}
 use Rattle.stab_tables.specs.declared.unsure.Bit.{Bit}
 use Rattle.stab_tables.specs.declared.unsure.Bit.TheVariants.{Detector, Observable}
 use Rattle.stab_tables.specs.FaultTables.{adds_to, steps_before_adding, steps_before_bit, bit_of}
-use Rattle.stab_tables.specs.inner.Faults.{PassesStep}
-
--- a detector that is another's step, or not
-
-pub passes_other : (d : ℕ) (x : Step) → is_detector x ≡ false → PassesStep (Detector d) x (Some (Detector d))
-passes_other zero x e xs = ap (λ b. if b then [] else x ∷ steps_before_detector zero xs) e
-passes_other (suc d) x e xs = ap (λ b. x ∷ (if b then steps_before_detector d xs else steps_before_detector (suc d) xs)) e
-
-pub passes_earlier : (d : ℕ) (x : Step) → is_detector x ≡ true → 0 < d → PassesStep (Detector d) x (Some (Detector (d - 1)))
-passes_earlier zero x e h xs = absurd (omega arith)
-passes_earlier (suc d) x e h xs =
-    let less : suc d - 1 ≡ d = omega arith in
-    ap (λ b. x ∷ (if b then steps_before_detector d xs else steps_before_detector (suc d) xs)) e ∙ ap (λ k. x ∷ steps_before_detector k xs) (sym less)
-
-pub stops_at_detector : (d : ℕ) (x : Step) → is_detector x ≡ true → d ≡ 0 → PassesStep (Detector d) x None
-stops_at_detector zero x e h xs = ap (λ b. if b then [] else x ∷ steps_before_detector zero xs) e
-stops_at_detector (suc d) x e h xs = absurd (omega arith)
-
--- an observable that a step adds to, or not
-
-pub passes_adding : (j : ℕ) (x : Step) → adds_to j x ≡ false → PassesStep (Observable j) x (Some (Observable j))
-passes_adding j x e xs = ap (λ b. if b then [] else x ∷ steps_before_adding j xs) e
-
-pub stops_at_adding : (j : ℕ) (x : Step) → adds_to j x ≡ true → PassesStep (Observable j) x None
-stops_at_adding j x e xs = ap (λ b. if b then [] else x ∷ steps_before_adding j xs) e
 
 -- some step makes a detector
 
@@ -108,7 +83,7 @@ detectors_grow n coins (detector ks ∷ xs) s =
     let more : length (s.detectors ++ parity s.records ks ∷ []) ≡ length s.detectors + 1 = length-append s.detectors (parity s.records ks ∷ []) in
     omega (arith, later, more)
 
-zero_at : (n i : ℕ) → get_or (replicate n false) i false ≡ false
+pub zero_at : (n i : ℕ) → get_or (replicate n false) i false ≡ false
 zero_at zero zero = refl
 zero_at zero (suc i) = refl
 zero_at (suc n) zero = refl

@@ -3,6 +3,7 @@ use Rattle.std.proofs.Common.{◌≡◌, ℕ, zero, suc, ◌+◌, ◌-◌, ◌�
 use Rattle.std.specs.Prelude.{IfSome}
 use Rattle.std.proofs.lemmas.List.Elements.{All-take}
 use Rattle.std.proofs.lemmas.Option.{slice_get_within, get_or_from_slice_get}
+use Rattle.std.proofs.Math.Seq.{take-add}
 use Rattle.stab_tableau.specs.Tableaus.{TableauState}
 use Rattle.stab_tableau.specs.Traces.{member}
 use Rattle.stab_tableau.specs.Turns.{IsTurned}
@@ -15,7 +16,6 @@ use Rattle.stab_frames.proofs.FrontLemmas.{group-origin}
 use Rattle.stab_frames.proofs.TurnedLemmas.{turned-blank, turned-stabiliser}
 use Rattle.stab_copies.specs.declared.checkpoint.Checkpoint.{Checkpoint}
 use Rattle.stab_copies.specs.Checkpoints.{IsCheckpoint}
-use Rattle.stab_copies.proofs.TakeLemmas.{take-more}
 use Rattle.stab_turns.specs.LedFrames.{AreInOrder, IsDropped, Ending, over, gone, dropped}
 
 -- a frame turns nothing at a point, where it goes on without letters; from there on it is gone, whoever looks back no further than the reach
@@ -27,7 +27,7 @@ pub record IsEnded (n reach : ℕ) (a : Point) (last new : WalkState) : Type 0 w
 pub rest-point : (n : ℕ) (coins : ℕ → Bool) (xs back : List Step) (i : ℕ) → drop i xs ≡ back → (m : ℕ)
     → point_after n coins (take (i + m) xs) origin ≡ point_after n coins (take m back) (point_after n coins (take i xs) origin)
 rest-point n coins xs back i behind m =
-    ap (λ zs. point_after n coins zs origin) (take-more i m xs)
+    ap (λ zs. point_after n coins zs origin) (take-add i m xs)
     ∙ after-append n coins (take i xs) (take m (drop i xs)) origin
     ∙ ap (λ zs. point_after n coins (take m zs) (point_after n coins (take i xs) origin)) behind
 

@@ -6,7 +6,7 @@ use Rattle.stab_steps.specs.declared.records.Addition.{Addition}
 use Rattle.stab_run.specs.Points.{RunOutput, nothing, joined}
 use Rattle.stab_steps.proofs.RunLemmas.{joined-nothing}
 use Rattle.stab_frames.specs.Flips.{flipped, flipped_additions, flipped_output, Matches}
-use Rattle.stab_frames.proofs.FlipLemmas.{flipped-joined}
+use Rattle.stab_frames.proofs.FlipLemmas.{flipped-joined, flipped-nothing, additions-empty, flipped-empty}
 
 -- where two bits differ
 differ : (x y : Bool) → not (beq x y) ≡ y ⊕ x
@@ -15,15 +15,11 @@ differ true false = refl
 differ false true = refl
 differ false false = refl
 
-pub flipped-none : (bits : List Bool) → flipped bits [] ≡ bits
-flipped-none [] = refl
-flipped-none (x ∷ bits) = refl
-
 flipped-next : (i : ℕ) (bits flips : List Bool) (bit : Bool) → i < length flips → i < length bits
     → bit ≡ get_or flips i false ⊕ get_or (flipped bits (take i flips)) i false → set (flipped bits (take i flips)) i bit ≡ flipped bits (take (suc i) flips)
 flipped-next i [] flips bit few lt is = absurd (omega arith)
 flipped-next i (x ∷ bits) [] bit few lt is = absurd (omega arith)
-flipped-next zero (x ∷ bits) (y ∷ flips) bit few lt is = λ j. is j ∷ sym (flipped-none bits) j
+flipped-next zero (x ∷ bits) (y ∷ flips) bit few lt is = λ j. is j ∷ sym (flipped-empty bits) j
 flipped-next (suc i) (x ∷ bits) (y ∷ flips) bit few lt is = ap (λ more. (y ⊕ x) ∷ more) (flipped-next i bits flips bit (omega arith) (omega arith) is)
 
 -- one more
@@ -48,16 +44,12 @@ flipped-all (suc i) (x ∷ bits) (y ∷ flips) all = ap (λ more. (y ⊕ x) ∷ 
 abbrev pub flipped_addition : Addition → Addition → Addition
 flipped_addition a f = record { observable = a.observable; bit = f.bit ⊕ a.bit }
 
-pub additions-none : (adds : List Addition) → flipped_additions adds [] ≡ adds
-additions-none [] = refl
-additions-none (x ∷ adds) = refl
-
 additions-next : (i : ℕ) (adds flips : List Addition) (added d e : Addition) → i < length flips → i < length adds
     → added ≡ flipped_addition (get_or (flipped_additions adds (take i flips)) i d) (get_or flips i e)
     → set (flipped_additions adds (take i flips)) i added ≡ flipped_additions adds (take (suc i) flips)
 additions-next i [] flips added d e few lt is = absurd (omega arith)
 additions-next i (x ∷ adds) [] added d e few lt is = absurd (omega arith)
-additions-next zero (x ∷ adds) (y ∷ flips) added d e few lt is = λ j. is j ∷ sym (additions-none adds) j
+additions-next zero (x ∷ adds) (y ∷ flips) added d e few lt is = λ j. is j ∷ sym (additions-empty adds) j
 additions-next (suc i) (x ∷ adds) (y ∷ flips) added d e few lt is =
     ap (λ more. flipped_addition x y ∷ more) (additions-next i adds flips added d e (omega arith) (omega arith) is)
 
@@ -80,14 +72,6 @@ additions-all (suc i) (x ∷ adds) (y ∷ flips) all =
 
 -- flips as long as the first of two outputs flip that one alone
 
-output-none : (o : RunOutput) → flipped_output o nothing ≡ o
-output-none o = λ i. record {
-  records = flipped-none o.records i;
-  free = flipped-none o.free i;
-  detectors = flipped-none o.detectors i;
-  additions = additions-none o.additions i;
-}
-
 pub flipped-front : (a b flips : RunOutput) → Matches a flips → flipped_output (joined a b) flips ≡ joined (flipped_output a flips) b
 flipped-front a b flips same =
-    ap (flipped_output (joined a b)) (sym (joined-nothing flips)) ∙ flipped-joined a b flips nothing same ∙ ap (joined (flipped_output a flips)) (output-none b)
+    ap (flipped_output (joined a b)) (sym (joined-nothing flips)) ∙ flipped-joined a b flips nothing same ∙ ap (joined (flipped_output a flips)) (flipped-nothing b)

@@ -2,6 +2,7 @@
 use Rattle.std.proofs.Common.{◌≡◌, ℕ, ◌+◌, ◌≤◌, refl, sym, ◌∙◌, ap, subst, Bool, false, List, ◌++◌, append-nil, All, length, map, take, drop, replicate, Option, arith}
 use Rattle.std.proofs.lemmas.List.{drop-drop, drop_at, take_at, take-append-drop, length-append, length-drop, replicate-append-replicate}
 use Rattle.std.proofs.lemmas.List.Elements.{All-take, All-drop}
+use Rattle.std.proofs.Math.Seq.{take-add}
 use Rattle.stab_letters.specs.declared.letter.Letter.{Letter}
 use Rattle.stab_letters.specs.declared.letter.Letter.TheVariants.{I}
 use Rattle.stab_pauli.specs.Paulis.{with_sign, strings_anticommute, string_product}
@@ -14,8 +15,10 @@ use Rattle.stab_run.specs.Runs.{gate_of}
 use Rattle.stab_run.specs.Points.{Point, RunOutput, nothing, origin, joined, point_after, outputs, all_coins_of}
 use Rattle.stab_run.specs.ProgramStates.{StepFits}
 use Rattle.stab_run.specs.Cuts.{lengths_of}
+use Rattle.stab_run.proofs.FramedLemmas.{flips-free}
 use Rattle.stab_steps.proofs.RunLemmas.{after-append, outputs-append, joined-assoc, joined-nothing}
 use Rattle.stab_laws.proofs.PointLemmas.{flags-are-coins}
+use Rattle.stab_laws.proofs.CoinLemmas.{coins-are}
 use Rattle.stab_frames.specs.Flips.{flipped_output, unflipped, Matches}
 use Rattle.stab_frames.specs.Frames.{PointsDifferBy, frame_of, identity_frame}
 use Rattle.stab_frames.specs.Fronts.{AreFronts}
@@ -27,14 +30,11 @@ use Rattle.stab_frames.specs.StepNotes.{AreEnough}
 use Rattle.stab_frames.specs.Walks.{WalkState, frame_at, WalksOver}
 use Rattle.stab_frames.proofs.EditLemmas.{fronts-go-on, fronts-take-paulis, same-lengths, gates-fit}
 use Rattle.stab_frames.proofs.FlipLemmas.{unflipped-output, unflipped-matches}
-use Rattle.stab_frames.proofs.OverLemmas.{coin-after}
 use Rattle.stab_frames.proofs.StartLemmas.{framed-same, framed-paulis, framed-exchanged}
 use Rattle.stab_frames.proofs.TrueLemmas.{true-rest}
 use Rattle.stab_copies.specs.declared.checkpoint.Checkpoint.{Checkpoint}
 use Rattle.stab_copies.specs.Checkpoints.{IsCheckpoint}
-use Rattle.stab_copies.proofs.TakeLemmas.{take-more}
 use Rattle.stab_replay.specs.FramedReplays.{AreEnoughBy}
-use Rattle.stab_replay.proofs.SegmentLemmas.{flips-free}
 use Rattle.stab_turns.specs.PauliSpans.{ArePaulis}
 use Rattle.stab_turns.specs.PassedPlaces.{IsFrameBetween}
 use Rattle.stab_turns.proofs.LeadingLemmas.{flags-counted, rest-flags}
@@ -43,7 +43,7 @@ use Rattle.stab_turns.proofs.SameNotesLemmas.{IsReached, reached-on, notes-apart
 -- the steps of a run up to a place are some, where so many of those behind another place are
 
 steps-on : (i m : ℕ) (xs zs : List Step) → take m (drop i xs) ≡ zs → take (i + m) xs ≡ take i xs ++ zs
-steps-on i m xs zs is = take-more i m xs ∙ ap (λ ws. take i xs ++ ws) is
+steps-on i m xs zs is = take-add i m xs ∙ ap (λ ws. take i xs ++ ws) is
 
 point-on : (n : ℕ) (coins : ℕ → Bool) (i m : ℕ) (xs zs : List Step) → take m (drop i xs) ≡ zs
     → point_after n coins (take (i + m) xs) origin ≡ point_after n coins zs (point_after n coins (take i xs) origin)
@@ -97,7 +97,7 @@ module _ {n : ℕ} {coins : ℕ → Bool} {xs ys : List Step} {strings : ℕ →
       coin =
           walked.coin
           ∙ ap (λ c. c + all_coins_of piece) b.coin
-          ∙ sym (coin-after n coins piece here)
+          ∙ sym (coins-are n coins piece here)
           ∙ ap (λ (p : Point). p.coin) (sym point);
       are_true =
           subst (λ x. x) (λ i. AreTrue n coins strings (sym rest i) (sym point i))

@@ -9,10 +9,12 @@ use Rattle.stab_letters.specs.declared.letter.Letter.TheVariants.{I}
 use Rattle.stab_pauli.specs.Paulis.{Signed}
 use Rattle.stab_tableau.specs.Tableaus.{TableauState, stabilises}
 use Rattle.stab_tableau.specs.Turns.{IsTurned}
-use Rattle.stab_circuit.specs.Steps.{Step, one, two, controlled, collapse, product, detector, observable}
+use Rattle.stab_circuit.specs.Steps.{Step}
 use Rattle.stab_run.specs.Records.{looked_up, ones}
-use Rattle.stab_run.specs.Points.{Point, RunOutput, coins_of, all_coins_of, given, next_point, point_after, outputs}
+use Rattle.stab_run.specs.Points.{Point, RunOutput, all_coins_of, given, next_point, point_after, outputs}
 use Rattle.stab_steps.proofs.RunLemmas.{outputs-append}
+use Rattle.stab_laws.proofs.CoinLemmas.{coins-steps, coins-are}
+use Rattle.stab_laws.proofs.PointLemmas.{flags-given}
 use Rattle.stab_frames.specs.Notes.{same_coins}
 use Rattle.stab_frames.specs.FrameSteps.{frame_over}
 use Rattle.stab_frames.specs.StepNotes.{AreEnough}
@@ -21,7 +23,7 @@ use Rattle.stab_frames.specs.declared.steps.Stop.{Stop}
 use Rattle.stab_frames.specs.declared.steps.Stop.TheVariants.{Behind, Gone, NoString}
 use Rattle.stab_frames.specs.Stops.{IsStop}
 use Rattle.stab_frames.specs.Walks.{WalkState, frame_at, IsPlaced, IsGone, WalksOver}
-use Rattle.stab_frames.proofs.OverLemmas.{coin-after, coins-few, enough-append}
+use Rattle.stab_frames.proofs.OverLemmas.{enough-append}
 use Rattle.stab_frames.proofs.TrueLemmas.{true-rest}
 use Rattle.stab_frames.proofs.PassLemmas.{over-append}
 use Rattle.stab_copies.specs.declared.checkpoint.Checkpoint.{Checkpoint}
@@ -78,15 +80,6 @@ behind-told stop behind told = cc
 
 -- flags of steps, one a coin
 
-flags-given : (n : ℕ) (coins : ℕ → Bool) (x : Step) (a : Point) → length (given n coins x a).free ≡ coins_of x
-flags-given n coins (one g q) a = refl
-flags-given n coins (two g p q) a = refl
-flags-given n coins (controlled l k q) a = refl
-flags-given n coins (collapse l q recorded inverted resets) a = refl
-flags-given n coins (product factors inverted) a = refl
-flags-given n coins (detector ks) a = refl
-flags-given n coins (observable j ks) a = refl
-
 pub flags-counted : (n : ℕ) (coins : ℕ → Bool) (xs : List Step) (a : Point) → length (outputs n coins xs a).free ≡ all_coins_of xs
 flags-counted n coins [] a = refl
 flags-counted n coins (x ∷ xs) a =
@@ -125,7 +118,7 @@ enough-more n strings free back k m old now over first next coins a base same is
     frame_is = over.frame base ∙ ap (λ c. frame_over n (same_coins strings) (take k back) c (frame_at base old)) (sym same)
 
     coin_is : (point_after n coins (take k back) a).coin ≡ now.coin
-    coin_is = coin-after n coins (take k back) a ∙ ap (λ c. c + all_coins_of (take k back)) same ∙ sym over.coin
+    coin_is = coins-are n coins (take k back) a ∙ ap (λ c. c + all_coins_of (take k back)) same ∙ sym over.coin
 
 module _ (n : ℕ) (strings : List (List Letter)) (free : List Bool) (back : List Step) (from : ℕ) (old : WalkState) where
   -- turned copies
@@ -237,7 +230,7 @@ module _ {n : ℕ} {strings : List (List Letter)} {free : List Bool} {back : Lis
 
   pub few-left : old.coin + length back < 2 ^ 63 → now.coin + length left < 2 ^ 63
   few-left few =
-      omega (arith, few, past.walked.coin, coins-few (take k back), length-take k back, ap length rest, length-drop k back, past.within)
+      omega (arith, few, past.walked.coin, coins-steps (take k back), length-take k back, ap length rest, length-drop k back, past.within)
 
   module _ (m most : ℕ) (new : WalkState) (few : m ≤ length (take most left)) (size : length new.letters ≡ length now.letters) (placed : IsPlaced free new)
       (walked : WalksOver (length now.letters) (note_at strings free) (take m left) now new)

@@ -4,6 +4,7 @@ use Rattle.std.specs.Prelude.{IfSome}
 use Rattle.std.proofs.lemmas.List.{length-append, length-drop, length-take-le}
 use Rattle.std.proofs.lemmas.List.Elements.{All-nil, All-cons, All-head, All-tail}
 use Rattle.std.proofs.lemmas.Option.{slice_get_within}
+use Rattle.std.proofs.Math.Seq.{take-add}
 use Rattle.stab_letters.specs.declared.letter.Letter.{Letter}
 use Rattle.stab_letters.specs.declared.letter.Letter.TheVariants.{I}
 use Rattle.stab_pauli.specs.Paulis.{Signed, with_sign, strings_anticommute}
@@ -29,7 +30,6 @@ use Rattle.stab_copies.specs.declared.checkpoint.Checkpoint.{Checkpoint}
 use Rattle.stab_copies.specs.declared.checkpoint.Meeting.{Meeting}
 use Rattle.stab_copies.specs.Checkpoints.{IsCheckpoint}
 use Rattle.stab_copies.specs.LaidCopies.{moved, moved_lengths, moved_copy}
-use Rattle.stab_copies.proofs.TakeLemmas.{take-more}
 use Rattle.stab_turns.specs.LedFrames.{AreInOrder, AreTurnedCopies, IsLastApart, with_states}
 use Rattle.stab_turns.proofs.EndingLemmas.{IsEnded, rest-point, order-from}
 use Rattle.stab_turns.proofs.LedFrameLemmas.{IsLedBehind, agree-further, led-on-way, led-further, led-lengths, led-differ, led-agree}
@@ -87,14 +87,14 @@ module _ (n : ℕ) (coins : ℕ → Bool) (xs ys back : List Step) (i k : ℕ) (
   old_given : (m : ℕ) → outputs n coins (take (i + m) xs) origin
       ≡ joined (outputs n coins (take i xs) origin) (outputs n coins (take m back) (point_after n coins (take i xs) origin))
   old_given m =
-      ap (λ zs. outputs n coins zs origin) (take-more i m xs)
+      ap (λ zs. outputs n coins zs origin) (take-add i m xs)
       ∙ outputs-append n coins (take i xs) (take m (drop i xs)) origin
       ∙ ap (λ zs. joined (outputs n coins (take i xs) origin) (outputs n coins (take m zs) (point_after n coins (take i xs) origin))) r.old_behind
 
   new_given : (m : ℕ) → outputs n coins (take (k + m) ys) origin
       ≡ joined (outputs n coins (take k ys) origin) (outputs n coins (take m back) (point_after n coins (take k ys) origin))
   new_given m =
-      ap (λ zs. outputs n coins zs origin) (take-more k m ys)
+      ap (λ zs. outputs n coins zs origin) (take-add k m ys)
       ∙ outputs-append n coins (take k ys) (take m (drop k ys)) origin
       ∙ ap (λ zs. joined (outputs n coins (take k ys) origin) (outputs n coins (take m zs) (point_after n coins (take k ys) origin))) r.new_behind
 
@@ -164,7 +164,7 @@ module _ (n : ℕ) (coins : ℕ → Bool) (xs ys back : List Step) (i k : ℕ) (
     longer =
         is.lengths
         ∙ ap (λ m. lengths_of (outputs n coins (take m xs) origin)) (omega (arith, behind, r.begins))
-        ∙ ap (λ zs. lengths_of (outputs n coins zs origin)) (take-more r.first (c.step - r.first) xs)
+        ∙ ap (λ zs. lengths_of (outputs n coins zs origin)) (take-add r.first (c.step - r.first) xs)
         ∙ ap lengths_of (outputs-append n coins (take r.first xs) (take (c.step - r.first) (drop r.first xs)) origin)
 
     moved-turned : length ys < 2 ^ 64 → t.qubits ≡ n → IsCheckpoint n coins ys (moved_copy meeting (record c { tableau = t }))

@@ -3,6 +3,7 @@ use Rattle.std.proofs.Common.{◌≡◌, ℕ, ◌+◌, ◌-◌, ◌≤◌, sym, 
 use Rattle.std.proofs.lemmas.Bool.{cases_lt}
 use Rattle.std.proofs.lemmas.List.{take_all, take-take, replicate-append-replicate}
 use Rattle.std.proofs.lemmas.List.Elements.{All-take, All-drop}
+use Rattle.std.proofs.Math.Seq.{take-add}
 use Rattle.stab_letters.specs.declared.letter.Letter.{Letter}
 use Rattle.stab_letters.specs.Letters.{◌⊕◌}
 use Rattle.stab_tableau.specs.Traces.{member}
@@ -15,6 +16,7 @@ use Rattle.stab_run.specs.ProgramStates.{StepFits}
 use Rattle.stab_run.specs.Cuts.{lengths_of}
 use Rattle.stab_run.specs.Laws.{AgreeAt}
 use Rattle.stab_run.specs.Ends.{AgreeBack}
+use Rattle.stab_run.proofs.FramedLemmas.{flips-free}
 use Rattle.stab_laws.proofs.FutureLemmas.{same-future}
 use Rattle.stab_laws.proofs.FutureBackLemmas.{same-future-back}
 use Rattle.stab_steps.proofs.RunLemmas.{after-append, outputs-append}
@@ -25,26 +27,15 @@ use Rattle.stab_frames.specs.Lookbacks.{LooksWithin}
 use Rattle.stab_frames.specs.Notes.{same_coins}
 use Rattle.stab_frames.specs.StepNotes.{AreEnough}
 use Rattle.stab_frames.specs.Walks.{WalkState, frame_at, WalksOver}
-use Rattle.stab_frames.proofs.FlipLemmas.{length-flipped, length-flipped_additions, looked_up-flipped}
+use Rattle.stab_frames.proofs.FlipLemmas.{looked_up-flipped}
 use Rattle.stab_frames.proofs.NoteLemmas.{enough-before}
 use Rattle.stab_frames.proofs.StepLemmas.{over-framed, outputs-matches}
 use Rattle.stab_frames.proofs.TurnedLemmas.{turned-blank}
-use Rattle.stab_copies.proofs.TakeLemmas.{take-more}
-use Rattle.stab_frames.specs.AgainLaws.{AreTurnedOver}
-use Rattle.stab_replay.proofs.SegmentLemmas.{flips-free}
+use Rattle.stab_frames.proofs.EditLemmas.{same-lengths}
 use Rattle.stab_replay.proofs.FrameStartLemmas.{flips-differ}
 use Rattle.stab_replay.proofs.NotedLemmas.{near-enough}
 use Rattle.stab_turns.proofs.EndingLemmas.{IsEnded}
 use Rattle.stab_turns.proofs.FlippedLemmas.{flipped-front}
-
--- an output is as long as it was where it is flipped
-same-lengths : (o flips : RunOutput) → lengths_of (flipped_output o flips) ≡ lengths_of o
-same-lengths o flips = λ i. record {
-  records = length-flipped o.records flips.records i;
-  free = length-flipped o.free flips.free i;
-  detectors = length-flipped o.detectors flips.detectors i;
-  additions = length-flipped_additions o.additions flips.additions i;
-}
 
 -- points that agree so far back agree less far back
 nearer : (n m k : ℕ) (a b : Point) → k ≤ m → AgreeBack n m a b → AgreeBack n k a b
@@ -55,7 +46,7 @@ further : (n : ℕ) (coins : ℕ → Bool) (back : List Step) (i m : ℕ) → i 
     → point_after n coins (take m back) c ≡ point_after n coins (take (m - i) (drop i back)) (point_after n coins (take i back) c)
 further n coins back i m le c =
     ap (λ k. point_after n coins (take k back) c) {x = m} (omega (arith, le))
-    ∙ ap (λ zs. point_after n coins zs c) (take-more i (m - i) back)
+    ∙ ap (λ zs. point_after n coins zs c) (take-add i (m - i) back)
     ∙ after-append n coins (take i back) (take (m - i) (drop i back)) c
 
 -- and what it gives up to there
@@ -63,7 +54,7 @@ given-further : (n : ℕ) (coins : ℕ → Bool) (back : List Step) (i m : ℕ) 
     → outputs n coins (take m back) c ≡ joined (outputs n coins (take i back) c) (outputs n coins (take (m - i) (drop i back)) (point_after n coins (take i back) c))
 given-further n coins back i m le c =
     ap (λ k. outputs n coins (take k back) c) {x = m} (omega (arith, le))
-    ∙ ap (λ zs. outputs n coins zs c) (take-more i (m - i) back)
+    ∙ ap (λ zs. outputs n coins zs c) (take-add i (m - i) back)
     ∙ outputs-append n coins (take i back) (take (m - i) (drop i back)) c
 
 -- where two runs agree, they agree further on
@@ -201,13 +192,6 @@ module _ {n : ℕ} {coins : ℕ → Bool} {strings : ℕ → Option (List Letter
       ]
 
   -- so many steps on, wherever that is
-
-  pub led-turned : AreTurnedOver n coins back a b
-  led-turned m =
-      elim (cases_lt steps m) [
-        | inl lt ↦ (new.letters, led-further m (omega arith))
-        | inr le ↦ (_, (on-way h.led m le).1.group)
-      ]
 
   pub led-lengths : (m : ℕ) → lengths_of (outputs n coins (take m back) b) ≡ lengths_of (outputs n coins (take m back) a)
   led-lengths m =

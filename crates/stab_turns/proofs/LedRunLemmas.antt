@@ -18,12 +18,11 @@ use Rattle.stab_frames.specs.KeptStrings.{StringsState, AreTrue, note_at}
 use Rattle.stab_frames.specs.Lookbacks.{LooksWithin}
 use Rattle.stab_frames.specs.Notes.{same_coins}
 use Rattle.stab_frames.specs.Walks.{WalkState, frame_at}
-use Rattle.stab_frames.proofs.FlipLemmas.{flipped-joined, unflipped-output, unflipped-matches}
+use Rattle.stab_frames.proofs.FlipLemmas.{flipped-joined, unflipped-output, unflipped-matches, flipped-empty}
 use Rattle.stab_frames.proofs.FrontLemmas.{group-origin}
 use Rattle.stab_copies.specs.declared.checkpoint.Checkpoint.{Checkpoint}
 use Rattle.stab_copies.specs.Checkpoints.{IsCheckpoint}
 use Rattle.stab_replay.specs.NotedStrings.{IsNoted}
-use Rattle.stab_replay.proofs.FramedLemmas.{flipped-empty}
 use Rattle.stab_replay.proofs.SegmentLemmas.{flipped-zeros}
 use Rattle.stab_turns.specs.LedFrames.{AreInOrder, IsLedFrame}
 use Rattle.stab_turns.specs.PassedPlaces.{IsFrameBetween}

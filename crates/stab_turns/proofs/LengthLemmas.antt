@@ -1,5 +1,5 @@
 -- Lengths: how long lists are with what steps give behind them, the same from whatever point.
-use Rattle.std.proofs.Common.{◌≡◌, ℕ, zero, suc, ◌+◌, ◌-◌, ◌≤◌, refl, sym, ◌∙◌, ap, subst, Bool, true, false, List, [], ◌∷◌, ◌++◌, length, map, take, drop, arith}
+use Rattle.std.proofs.Common.{◌≡◌, ℕ, suc, ◌+◌, ◌-◌, ◌≤◌, refl, sym, ◌∙◌, ap, subst, Bool, true, false, List, [], ◌∷◌, ◌++◌, length, map, take, drop, arith}
 use Rattle.std.proofs.lemmas.List.{length-append}
 use Rattle.std.proofs.Math.Seq.{take-append-add, drop-append-add}
 use Rattle.stab_letters.specs.declared.gate.Gate.{Gate}
@@ -12,7 +12,7 @@ use Rattle.stab_circuit.specs.Steps.{Step, one, two, controlled, collapse, produ
 use Rattle.stab_steps.specs.declared.records.Lengths.{Lengths}
 use Rattle.stab_run.specs.Points.{Point, RunOutput, nothing, joined, given, next_point, point_after, outputs}
 use Rattle.stab_run.specs.Cuts.{lengths_of}
-use Rattle.stab_steps.proofs.RunLemmas.{joined-nothing, outputs-append}
+use Rattle.stab_steps.proofs.RunLemmas.{outputs-append}
 use Rattle.stab_turns.specs.LongerLists.{longer, AreBelow}
 
 no_more : (k : ℕ) → k + 0 ≡ k
@@ -66,10 +66,6 @@ longer-append n coins xs ys a l =
     ap (λ o. longer l (lengths_of o)) (outputs-append n coins xs ys a)
     ∙ longer-joined l (outputs n coins xs a) (outputs n coins ys (point_after n coins xs a))
     ∙ ap (longer (longer l (lengths_of (outputs n coins xs a)))) (outputs-anywhere n coins ys (point_after n coins xs a) a)
-
-pub longer-one : (n : ℕ) (coins : ℕ → Bool) (x : Step) (a : Point) (l new : Lengths) → new ≡ longer l (lengths_of (given n coins x a))
-    → new ≡ longer l (lengths_of (outputs n coins (x ∷ []) a))
-longer-one n coins x a l new is = is ∙ ap (λ o. longer l (lengths_of o)) (sym (joined-nothing (given n coins x a)))
 
 -- what the steps of one instruction give
 
@@ -205,17 +201,3 @@ longer-next n coins most k xs ys rest a l new is count le then =
 
 pub longer-none : (n : ℕ) (coins : ℕ → Bool) (xs : List Step) (a : Point) (l : Lengths) → xs ≡ [] → l ≡ longer l (lengths_of (outputs n coins xs a))
 longer-none n coins xs a l none = sym (longer-nothing l) ∙ ap (λ zs. longer l (lengths_of (outputs n coins zs a))) (sym none)
-
-pub take-none : (most : ℕ) (xs : List Step) → xs ≡ [] → take most xs ≡ []
-take-none zero xs none = refl
-take-none (suc most) xs none = ap (take (suc most)) none
-
-pub drop-none : (most : ℕ) (xs : List Step) → xs ≡ [] → drop most xs ≡ []
-drop-none zero xs none = none
-drop-none (suc most) xs none = ap (drop (suc most)) none
-
-pub take-zero : (most : ℕ) (xs : List Step) → most ≤ 0 → take most xs ≡ []
-take-zero most xs le = ap (λ k. take k xs) {x = most} {y = 0} (omega arith)
-
-pub drop-zero : (most : ℕ) (xs : List Step) → most ≤ 0 → drop most xs ≡ xs
-drop-zero most xs le = ap (λ k. drop k xs) {x = most} {y = 0} (omega arith)

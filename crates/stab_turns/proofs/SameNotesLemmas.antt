@@ -8,6 +8,7 @@ use Rattle.stab_circuit.specs.Steps.{Step, one}
 use Rattle.stab_run.specs.Runs.{gate_of}
 use Rattle.stab_run.specs.Points.{Point, RunOutput, origin, next_point, point_after, outputs, all_coins_of}
 use Rattle.stab_run.specs.ProgramStates.{StepFits}
+use Rattle.stab_run.proofs.FramedLemmas.{flips-free}
 use Rattle.stab_steps.proofs.RunLemmas.{after-append, outputs-append}
 use Rattle.stab_frames.specs.Flips.{flipped}
 use Rattle.stab_frames.specs.Frames.{Frame, PointsDifferBy}
@@ -22,8 +23,8 @@ use Rattle.stab_frames.proofs.StartLemmas.{framed-exchanged}
 use Rattle.stab_frames.proofs.StepLemmas.{over-framed}
 use Rattle.stab_frames.proofs.TrueLemmas.{true-append, true-front, true-rest}
 use Rattle.stab_frames.proofs.AgainLemmas.{true-turned}
-use Rattle.stab_replay.proofs.FramedLemmas.{flipped-empty}
-use Rattle.stab_replay.proofs.SegmentLemmas.{flips-free, flipped-zeros}
+use Rattle.stab_frames.proofs.FlipLemmas.{flipped-empty}
+use Rattle.stab_replay.proofs.SegmentLemmas.{flipped-zeros}
 use Rattle.stab_circuit.specs.Rounds.{interleaved}
 
 -- what all of some steps have, those behind the first have

@@ -1,16 +1,8 @@
 -- Texts of coins: how they split, and what no coins are the text of.
 use Rattle.std.proofs.Common.{◌≡◌, ◌++◌, ◌∷◌, [], ◌∙◌, ℕ, Bool, true, false, List, refl, sym, ap, subst, arith, inl, inr}
 use Rattle.clap.specs.Words.{Text}
-use Rattle.stab_io.specs.Devices.{InputView}
-use Rattle.stab_io.specs.declared.refusal.Refusal.TheVariants.{OutOfMemory}
-use Rattle.stab_circuit.specs.Inputs.{GaveText, IsUnread}
 use Rattle.stab_words.specs.Coins.{IsFileEnd, StandsForCoins, coin_character, coin_text}
 use Rattle.stab_words.specs.inner.Parts.{BeginsWithNoCoin}
-
--- one coin more at the end
-pub coin_moved : (front : List Bool) (coin : Bool) (after rest : Text) → rest ≡ coin_character coin ∷ after → coin_text (front ++ coin ∷ []) ++ after ≡ coin_text front ++ rest
-coin_moved [] coin after rest e = sym e
-coin_moved (first ∷ front) coin after rest e = ap (λ t. coin_character first ∷ t) (coin_moved front coin after rest e)
 
 -- the coins at the front of a text are one list, with one rest
 only_coins : (front list : List Bool) (rest end : Text) → BeginsWithNoCoin rest → BeginsWithNoCoin end → coin_text front ++ rest ≡ coin_text list ++ end → rest ≡ end
@@ -46,10 +38,6 @@ bare : (list : List Bool) → coin_text list ++ [] ≡ coin_text list
 bare [] = refl
 bare (coin ∷ list) = ap (λ t. coin_character coin ∷ t) (bare list)
 
--- coins alone, where nothing is left
-pub coins_alone : (front : List Bool) (rest text : Text) → text ≡ coin_text front ++ rest → rest ≡ [] → text ≡ coin_text front
-coins_alone front rest text split nothing = split ∙ (ap (λ t. coin_text front ++ t) nothing ∙ bare front)
-
 -- no coins alone, where something is left
 pub no_coins_alone : (front : List Bool) (rest text : Text) → text ≡ coin_text front ++ rest → BeginsWithNoCoin rest → (rest ≡ [] → ⊥) → (list : List Bool) → text ≡ coin_text list → ⊥
 no_coins_alone front rest text split none some list e =
@@ -60,7 +48,3 @@ pub stands_for_none : (front : List Bool) (rest text : Text) → text ≡ coin_t
 stands_for_none front rest text split none no_end coins stands =
     let same = only_coins front coins rest stands.0 none (end_is_no_coin stands.0 stands.1) (sym split ∙ stands.2) in
     no_end (subst (λ t. IsFileEnd t) (sym same) stands.1)
-
--- a text that was given whole, and then memory was refused
-pub unread_for_memory : (old new : InputView) (text : Text) → GaveText old new text → IsUnread old new OutOfMemory
-unread_for_memory old new text gave = inr (inr (refl, record { front = text; within = gave.within; gave = gave.gave.gave }))

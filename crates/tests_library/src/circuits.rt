@@ -1,6 +1,8 @@
 //! Texts of circuits and of items.
 use crate::answers::assert_same;
-use stab_circuit::{Circuit, Path, Refused, read_circuit, read_item, write_circuit, write_one_item};
+use stab_circuit::{
+    Circuit, Path, Refused, read_circuit, read_item, write_circuit, write_one_item,
+};
 use stab_pauli::{EndlessInput, Fault, MemoryInput, MemoryOutput, Refusal, write_all};
 use std::alloc::Global;
 use std::test::Fail;

@@ -4,7 +4,8 @@ use Rattle.stab_circuit.specs.Cursors.{steps_shown}
 use Rattle.stab_steps.specs.Points.{all_coins_of}
 use Rattle.stab_steps.specs.ProgramStates.{program_state, output_of}
 use Rattle.stab_steps.proofs.RunLemmas.{fits-steps}
-use Rattle.stab_laws.proofs.StepsLeftLemmas.{take-steps, drop-steps, coins-append, take-none, drop-none, take-empty, drop-empty}
+use Rattle.stab_laws.proofs.StepsLeftLemmas.{take-steps, drop-steps, take-none, drop-none, take-empty, drop-empty}
+use Rattle.stab_laws.proofs.CoinLemmas.{coins-append}
 use Rattle.stab_frames.proofs.NotesStepsLemmas.{notes-all, notes-steps}
 use Rattle.stab_frames.proofs.noting.run_noting.Goals as goal
 

@@ -2,10 +2,10 @@ use Rattle.std.proofs.Common.{◌≡◌, ◌+◌, ◌≤◌, sym, ◌∙◌, ap,
 use Rattle.std.proofs.lemmas.List.{drop_all}
 use Rattle.stab_circuit.specs.Cursors.{steps_shown}
 use Rattle.stab_steps.specs.Points.{all_coins_of}
+use Rattle.stab_laws.proofs.CoinLemmas.{coins-append, coins-few}
 use Rattle.stab_frames.specs.OtherCoins.{coins_from}
 use Rattle.stab_frames.specs.inner.OtherPasses.{record_of, GoesToOther}
-use Rattle.stab_frames.proofs.OverLemmas.{coins-append}
-use Rattle.stab_frames.proofs.StepsWalkedLemmas.{left-over, left-none, drop-over, fits-over, coin-few}
+use Rattle.stab_frames.proofs.StepsWalkedLemmas.{left-over, left-none, drop-over, fits-over}
 use Rattle.stab_frames.proofs.OtherCoinLemmas.{ones-fewer}
 use Rattle.stab_frames.proofs.OtherRunLemmas.{take-next, to-over, coins-within, take-enough, asks-end, walk-end}
 use Rattle.stab_frames.proofs.other_coins.walk_with_coins.Goals as goal
@@ -47,7 +47,7 @@ pass_steps-requires-clause-fits g c =
 pub pass_steps-requires-clause-few : goal.pass_steps-requires-clause-few
 pass_steps-requires-clause-few g c =
     let le = left-over c.loop-steps.steps c.args.cursor.now.left (steps_shown c.in-Some.next) c.next_steps.new.self.left (sym c.loop-steps.invariant.left ∙ c.in-Some.ensures.some) c.in-Some.ensures.within.0 in
-    omega (arith, c.loop-steps.invariant.goes.coin, coin-few c.loop-steps.steps c.args.cursor.now.left, le, c.requires.few)
+    omega (arith, c.loop-steps.invariant.goes.coin, coins-few c.loop-steps.steps c.args.cursor.now.left, le, c.requires.few)
 
 pub pass_steps-requires-clause-kept : goal.pass_steps-requires-clause-kept
 pass_steps-requires-clause-kept g c =

@@ -1,7 +1,8 @@
 use Rattle.std.proofs.Common.{◌≡◌, ◌+◌, ◌≤◌, ◌++◌, ◌∙◌, ap, sym, subst, arith, length, map, drop, get_or}
 use Rattle.stab_outlines.specs.Outlines.{stretch_steps, stretches_steps}
+use Rattle.stab_laws.proofs.CoinLemmas.{coins-few}
 use Rattle.stab_frames.specs.Walks.{frame_at, IsGone}
-use Rattle.stab_frames.proofs.StepsWalkedLemmas.{drop-over, fits-over, goes-over, coin-few}
+use Rattle.stab_frames.proofs.StepsWalkedLemmas.{drop-over, fits-over, goes-over}
 use Rattle.stab_frames.proofs.OutlineLemmas.{left-next, left-within, left-no-more, outline-enough}
 use Rattle.stab_frames.proofs.outlines.walk_outline.Goals as goal
 
@@ -40,7 +41,7 @@ pass_stretch-requires-clause-few c =
     let is : c.deref.result.now ≡ (get_or items i here).value = c.deref.ensures ∙ ap (λ r. r.value) c.stretch-item.is in
     let left : drop k all ≡ ys ++ rest =
     left-next items (λ r. r.value) i here k all c.loop-stretch-test.true c.loop-stretch.invariant.left ∙ ap (λ s. stretch_steps s ++ rest) (sym is) in
-    omega (arith, c.loop-stretch.invariant.goes.over.coin, coin-few k all, left-within k all ys rest left c.loop-stretch.invariant.within, c.requires.few)
+    omega (arith, c.loop-stretch.invariant.goes.over.coin, coins-few k all, left-within k all ys rest left c.loop-stretch.invariant.within, c.requires.few)
 
 pub overflow_add-steps : goal.overflow_add-steps
 overflow_add-steps c =

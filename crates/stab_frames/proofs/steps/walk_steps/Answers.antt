@@ -1,8 +1,9 @@
 use Rattle.std.proofs.Common.{◌≡◌, ◌+◌, ◌≤◌, ◌∙◌, ap, sym, subst, arith, length, drop}
 use Rattle.std.proofs.lemmas.List.{length-take}
 use Rattle.stab_circuit.specs.Cursors.{steps_shown}
+use Rattle.stab_laws.proofs.CoinLemmas.{coins-few}
 use Rattle.stab_frames.specs.Walks.{frame_at, IsGone}
-use Rattle.stab_frames.proofs.StepsWalkedLemmas.{left-over, left-none, drop-over, fits-over, goes-over, coin-few, walk-enough}
+use Rattle.stab_frames.proofs.StepsWalkedLemmas.{left-over, left-none, drop-over, fits-over, goes-over, walk-enough}
 use Rattle.stab_frames.proofs.steps.walk_steps.Goals as goal
 
 pub returns-then-is_gone-clause-stop : goal.returns-then-is_gone-clause-stop
@@ -32,7 +33,7 @@ pass_steps-requires-clause-fits c =
 pub pass_steps-requires-clause-few : goal.pass_steps-requires-clause-few
 pass_steps-requires-clause-few c =
     let le = left-over c.loop-steps.steps c.args.cursor.now.left (steps_shown c.in-Some.next) c.next_steps.new.self.left (sym c.loop-steps.invariant.left ∙ c.in-Some.ensures.some) c.in-Some.ensures.within.0 in
-    omega (arith, c.loop-steps.invariant.goes.over.coin, coin-few c.loop-steps.steps c.args.cursor.now.left, le, c.requires.few)
+    omega (arith, c.loop-steps.invariant.goes.over.coin, coins-few c.loop-steps.steps c.args.cursor.now.left, le, c.requires.few)
 
 pub returns-then-went-len-clause-within : goal.returns-then-went-len-clause-within
 returns-then-went-len-clause-within c =

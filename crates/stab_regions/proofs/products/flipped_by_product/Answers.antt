@@ -1,4 +1,5 @@
 use Rattle.std.proofs.Common.{◌<◌, ◌∙◌, sym, ap, arith, List, length, take, get_or}
+use Rattle.std.proofs.lemmas.List.{take_more}
 use Rattle.stab_letters.specs.Letters.{◌⊕◌}
 use Rattle.stab_pauli.specs.Paulis.{single, anticommute}
 use Rattle.stab_lines.specs.declared.product.Factor.{Factor}
@@ -6,7 +7,7 @@ use Rattle.stab_lines.specs.Axes.{letter_of}
 use Rattle.stab_run.specs.Runs.{string_of}
 use Rattle.stab_regions.specs.Rows.{odd}
 use Rattle.stab_regions.proofs.ShowLemmas.{bits-anticommute}
-use Rattle.stab_regions.proofs.FactorLemmas.{flips-none, flips-more, take-more, place-apart}
+use Rattle.stab_regions.proofs.FactorLemmas.{flips-none, flips-more, place-apart}
 use Rattle.stab_regions.proofs.products.flipped_by_product.Goals as goal
 
 pub loop-factor-init : goal.loop-factor-init
@@ -25,4 +26,4 @@ loop-factor-preserved c = λ i s long shows.
     ⊕ (c.in_ok-more.ensures.odd i ∙ bits-anticommute i n _ _ c.args.by_x.now c.args.by_z.now s in_range long shows
     ∙ (λ u. anticommute (single n ((c.number-qubit.ensures.value ∙ ap (λ (g : Factor). g.qubit) c.factor-item.is) u) ((c.letter-letter.ensures.value ∙ ap (λ (g : Factor). letter_of g.letter) c.factor-item.is) u)) s)) t)
     ∙ flips-more n (take k factors) f s (place-apart factors k c.factor-item.result inside c.requires.apart)
-    ∙ ap (λ (fs : List Factor). anticommute (string_of n fs) s) (sym (take-more factors k c.factor-item.result inside))
+    ∙ ap (λ (fs : List Factor). anticommute (string_of n fs) s) (sym (take_more factors k c.factor-item.result inside))

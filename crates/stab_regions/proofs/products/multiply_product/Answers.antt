@@ -1,8 +1,9 @@
 use Rattle.std.proofs.Common.{◌<◌, refl, ◌∙◌, sym, ap, subst, List, length, take, get_or}
+use Rattle.std.proofs.lemmas.List.{take_more}
 use Rattle.stab_lines.specs.declared.product.Factor.{Factor}
 use Rattle.stab_lines.specs.Axes.{letter_of}
 use Rattle.stab_regions.specs.Rows.{MovesLetters}
-use Rattle.stab_regions.proofs.FactorLemmas.{by_product, by_product-none, by_product-more, multiplied-as, take-more, place-apart}
+use Rattle.stab_regions.proofs.FactorLemmas.{by_product, by_product-none, by_product-more, multiplied-as, place-apart}
 use Rattle.stab_regions.proofs.products.multiply_product.Goals as goal
 
 pub loop-factor-init : goal.loop-factor-init
@@ -24,7 +25,7 @@ loop-factor-preserved c =
       same_z = c.in_ok-multiply.ensures.same_z ∙ c.loop-factor.invariant.same_z;
       strings =
           subst (λ (fs : List Factor). MovesLetters n (by_product n fs c.args.parities.now) c.args.by_x.now c.args.by_z.now c.multiply.new.by_x c.multiply.new.by_z)
-          (sym (take-more factors k c.factor-item.result inside))
+          (sym (take_more factors k c.factor-item.result inside))
           (by_product-more n (take k factors) f c.args.parities.now c.args.by_x.now c.args.by_z.now c.loop-factor.by_x c.loop-factor.by_z c.multiply.new.by_x c.multiply.new.by_z
           (place-apart factors k c.factor-item.result inside c.requires.apart)
           c.loop-factor.invariant.strings

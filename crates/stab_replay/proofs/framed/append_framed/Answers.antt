@@ -1,7 +1,7 @@
 use Rattle.std.proofs.Common.{◌∙◌, ◌++◌, sym, ap, length, take, drop}
 use Rattle.std.proofs.Math.Seq.{take-length}
 use Rattle.stab_frames.specs.Flips.{flipped, flipped_additions}
-use Rattle.stab_replay.proofs.FramedLemmas.{flipped-empty}
+use Rattle.stab_frames.proofs.FlipLemmas.{flipped-empty}
 use Rattle.stab_replay.proofs.framed.append_framed.Goals as goal
 
 pub returns : goal.returns

@@ -4,7 +4,8 @@ use Rattle.stab_circuit.specs.Cursors.{steps_shown}
 use Rattle.stab_steps.specs.Points.{all_coins_of}
 use Rattle.stab_steps.specs.ProgramStates.{IsRun, program_state, output_of}
 use Rattle.stab_steps.proofs.RunLemmas.{IsRun-none, fits-steps, run-steps}
-use Rattle.stab_laws.proofs.StepsLeftLemmas.{take-steps, drop-steps, coins-append, take-none, drop-none, take-empty, drop-empty}
+use Rattle.stab_laws.proofs.StepsLeftLemmas.{take-steps, drop-steps, take-none, drop-none, take-empty, drop-empty}
+use Rattle.stab_laws.proofs.CoinLemmas.{coins-append}
 use Rattle.stab_run.proofs.run.run_steps.Goals as goal
 
 pub apply_steps-requires-clause-same_length : goal.apply_steps-requires-clause-same_length

@@ -13,13 +13,15 @@ use Rattle.stab_steps.specs.Points.{RunOutput, nothing, origin, all_coins_of}
 use Rattle.stab_steps.specs.ProgramStates.{StepFits, output_of}
 use Rattle.stab_steps.proofs.RecordLemmas.{ones-append}
 use Rattle.stab_frames.specs.Flips.{flipped_output}
+use Rattle.stab_frames.proofs.FlipLemmas.{flipped-empty}
+use Rattle.stab_frames.proofs.StillWalkLemmas.{ones-within}
 use Rattle.stab_laws.proofs.FitLemmas.{check-steps, check-whole}
+use Rattle.stab_laws.proofs.CoinLemmas.{coins-steps, coins-are}
 use Rattle.stab_run.specs.inner.Led.{behind_rounds}
 use Rattle.stab_run.specs.inner.Turned.{point_behind}
 use Rattle.stab_run.proofs.LedLemmas.{coins-more}
 use Rattle.stab_run.proofs.AgainLemmas.{behind-later}
-use Rattle.stab_run.proofs.FramedLemmas.{flipped-empty, ones-first, ones-few, coins-steps}
-use Rattle.stab_run.proofs.OverLemmas.{coins-are}
+use Rattle.stab_run.proofs.FramedLemmas.{ones-first}
 use Rattle.stab_run.proofs.PeriodLemmas.{steps-fit, steps-next, asks-period, walked-same, later, next-period}
 use Rattle.stab_run.proofs.turned.go_over.Goals as goal
 
@@ -137,7 +139,7 @@ begin_again-requires g c = record {
         c.coin-coin.ensures.value,
         c.number-number.ensures.value,
         c.requires.period.placed,
-        ones-few c.args.period.now.walk.coin c.args.period.now.flags.items,
+        ones-within c.args.period.now.walk.coin c.args.period.now.flags.items,
       );
 }
 

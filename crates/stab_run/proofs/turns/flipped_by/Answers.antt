@@ -1,12 +1,13 @@
 use Rattle.std.proofs.Common.{◌∙◌, ◌++◌, sym, ap, drop}
+use Rattle.std.proofs.lemmas.List.{drop_min}
 use Rattle.stab_frames.specs.Flips.{flipped, flipped_additions}
-use Rattle.stab_run.proofs.FramedLemmas.{flipped-empty, drop-within}
+use Rattle.stab_frames.proofs.FlipLemmas.{flipped-empty}
 use Rattle.stab_run.proofs.turns.flipped_by.Goals as goal
 
 pub returns : goal.returns
 returns c =
     let none = c.new-outputs.ensures.value in
-    let flips = c.split_at.ensures.back ∙ (λ i. drop (c.min.ensures i) (c.records-flips.result.now)) ∙ drop-within c.args.before c.records-flips.result.now ∙ ap (drop c.args.before) c.records-flips.ensures.value in
+    let flips = c.split_at.ensures.back ∙ (λ i. drop (c.min.ensures i) (c.records-flips.result.now)) ∙ drop_min c.args.before c.records-flips.result.now ∙ ap (drop c.args.before) c.records-flips.ensures.value in
     record {
       value = λ i. record {
         records = (c.in_ok-append_flipped.ensures.value ∙ (λ j. (none j).records ++ flipped (c.as_slice.ensures.value j) (flips j))) i;

@@ -2,7 +2,8 @@ use Rattle.std.proofs.Common.{◌-◌, arith, ap, sym, subst, ◌∙◌, refl, t
 use Rattle.stab_circuit.specs.Cursors.{steps_shown}
 use Rattle.stab_run.specs.Points.{all_coins_of}
 use Rattle.stab_steps.proofs.RunLemmas.{fits-steps}
-use Rattle.stab_laws.proofs.StepsLeftLemmas.{take-steps, coins-append, take-none, take-empty}
+use Rattle.stab_laws.proofs.CoinLemmas.{coins-append}
+use Rattle.stab_laws.proofs.StepsLeftLemmas.{take-steps, take-none, take-empty}
 use Rattle.stab_shots.specs.Noted.{lane_notes}
 use Rattle.stab_shots.specs.Differences.{lane_difference, Follows}
 use Rattle.stab_shots.proofs.FollowLemmas.{follows-none, follows-steps}

@@ -1,4 +1,4 @@
-use Rattle.std.proofs.Common.{◌≡◌, refl, sym, ap, ◌∙◌, length}
+use Rattle.std.proofs.Common.{◌≡◌, refl, sym, ap, ◌∙◌, length, arith}
 use Rattle.stab_circuit.specs.Items.{entries}
 use Rattle.stab_circuit.specs.Steps.{unroll, records_of}
 use Rattle.stab_circuit.specs.Views.{circuit_items}

@@ -2,8 +2,9 @@ use Rattle.std.proofs.Common.{ap, arith}
 use Rattle.stab_circuit.specs.Steps.{unroll, detectors_of}
 use Rattle.stab_circuit.specs.Cursors.{step_shown}
 use Rattle.stab_circuit.specs.Views.{circuit_items}
+use Rattle.stab_laws.proofs.CoinLemmas.{coins-steps}
 use Rattle.stab_run.specs.Points.{all_coins_of}
-use Rattle.stab_tables.proofs.CheckLaws.{few_steps, detectors_few, detectors_more, coins_few}
+use Rattle.stab_tables.proofs.CheckLaws.{few_steps, detectors_few, detectors_more}
 use Rattle.stab_tables.proofs.check.count_steps.Goals as goal
 
 pub overflow_add-all : goal.overflow_add-all
@@ -14,4 +15,4 @@ overflow_add-all c =
 pub overflow_add-all-in-Some : goal.overflow_add-all-in-Some
 overflow_add-all-in-Some c =
     let steps = unroll (circuit_items c.args.circuit.now) in
-    record { fits = omega (arith, c.steps.invariant.1, ap all_coins_of c.in-Some.ensures.some, c.step_tally-one.ensures.coins, coins_few steps, few_steps (circuit_items c.args.circuit.now) c.requires.checked) }
+    record { fits = omega (arith, c.steps.invariant.1, ap all_coins_of c.in-Some.ensures.some, c.step_tally-one.ensures.coins, coins-steps steps, few_steps (circuit_items c.args.circuit.now) c.requires.checked) }

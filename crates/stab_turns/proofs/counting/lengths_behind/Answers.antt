@@ -1,7 +1,8 @@
 use Rattle.std.proofs.Common.{◌^◌, sym, ◌∙◌, false}
 use Rattle.stab_circuit.specs.Cursors.{steps_shown}
+use Rattle.stab_laws.proofs.StepsLeftLemmas.{take-empty, drop-empty, take-none, drop-none}
 use Rattle.stab_run.specs.Points.{origin}
-use Rattle.stab_turns.proofs.LengthLemmas.{below-next, below-rest, drop-next, drop-none, drop-zero, longer-next, longer-none, take-none, take-zero}
+use Rattle.stab_turns.proofs.LengthLemmas.{below-next, below-rest, drop-next, longer-next, longer-none}
 use Rattle.stab_turns.proofs.counting.lengths_behind.Goals as goal
 
 pub returns-in_default : goal.returns-in_default
@@ -9,9 +10,9 @@ returns-in_default c = record {
   all = c.next_steps.ensures.all ∙ c.loop-left.invariant.all;
   left =
       c.in_default.ensures.none.1
-      ∙ sym (drop-none c.loop-left.left c.loop-left.cursor.left c.in_default.ensures.none.0)
+      ∙ sym (drop-empty c.loop-left.left c.loop-left.cursor.left c.in_default.ensures.none.0)
       ∙ c.loop-left.invariant.left;
-  value = λ n coins a. longer-none n coins _ a c.loop-left.lengths (take-none c.loop-left.left c.loop-left.cursor.left c.in_default.ensures.none.0) ∙ c.loop-left.invariant.value n coins a;
+  value = λ n coins a. longer-none n coins _ a c.loop-left.lengths (take-empty c.loop-left.left c.loop-left.cursor.left c.in_default.ensures.none.0) ∙ c.loop-left.invariant.value n coins a;
 }
 
 pub lengths_with-lengths-requires : goal.lengths_with-lengths-requires
@@ -41,6 +42,6 @@ loop-left-preserved c =
 pub returns : goal.returns
 returns c = record {
   all = c.loop-left.invariant.all;
-  left = sym (drop-zero c.loop-left.left c.loop-left.cursor.left c.loop-left-test.false) ∙ c.loop-left.invariant.left;
-  value = λ n coins a. longer-none n coins _ a c.loop-left.lengths (take-zero c.loop-left.left c.loop-left.cursor.left c.loop-left-test.false) ∙ c.loop-left.invariant.value n coins a;
+  left = sym (drop-none c.loop-left.left c.loop-left.cursor.left c.loop-left-test.false) ∙ c.loop-left.invariant.left;
+  value = λ n coins a. longer-none n coins _ a c.loop-left.lengths (take-none c.loop-left.left c.loop-left.cursor.left c.loop-left-test.false) ∙ c.loop-left.invariant.value n coins a;
 }

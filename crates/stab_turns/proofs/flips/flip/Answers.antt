@@ -1,9 +1,10 @@
 use Rattle.std.proofs.Common.{arith, sym, ◌∙◌}
-use Rattle.stab_turns.proofs.FlippedLemmas.{flipped-none, flipped-more, flipped-all}
+use Rattle.stab_frames.proofs.FlipLemmas.{flipped-empty}
+use Rattle.stab_turns.proofs.FlippedLemmas.{flipped-more, flipped-all}
 use Rattle.stab_turns.proofs.flips.flip.Goals as goal
 
 pub loop-place-init : goal.loop-place-init
-loop-place-init c = sym (flipped-none c.args.bits.now)
+loop-place-init c = sym (flipped-empty c.args.bits.now)
 
 pub loop-place-preserved : goal.loop-place-preserved
 loop-place-preserved c =

@@ -1,10 +1,11 @@
 use Rattle.std.proofs.Common.{arith, sym, ◌∙◌, false}
 use Rattle.stab_steps.specs.declared.records.Addition.{Addition}
-use Rattle.stab_turns.proofs.FlippedLemmas.{additions-none, additions-more, additions-all}
+use Rattle.stab_frames.proofs.FlipLemmas.{additions-empty}
+use Rattle.stab_turns.proofs.FlippedLemmas.{additions-more, additions-all}
 use Rattle.stab_turns.proofs.flips.flip_additions.Goals as goal
 
 pub loop-place-init : goal.loop-place-init
-loop-place-init c = sym (additions-none c.args.additions.now)
+loop-place-init c = sym (additions-empty c.args.additions.now)
 
 pub loop-place-preserved : goal.loop-place-preserved
 loop-place-preserved c =

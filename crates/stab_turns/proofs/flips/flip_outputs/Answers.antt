@@ -1,7 +1,7 @@
 use Rattle.std.proofs.Common.{sym, ap, ◌∙◌, ◌++◌, take, drop}
 use Rattle.std.proofs.lemmas.List.{take-append-drop}
 use Rattle.stab_frames.specs.Flips.{flipped, flipped_additions}
-use Rattle.stab_turns.proofs.FlippedLemmas.{flipped-none}
+use Rattle.stab_frames.proofs.FlipLemmas.{flipped-empty}
 use Rattle.stab_turns.proofs.flips.flip_outputs.Goals as goal
 
 pub returns : goal.returns
@@ -11,7 +11,7 @@ returns c =
     record {
       value = λ i. record {
         records = (c.flip_from.ensures.value ∙ ap (λ flips. take from.records old.records.items ++ flipped (drop from.records old.records.items) flips) c.records.ensures.value) i;
-        free = (sym (take-append-drop from.free old.free.items) ∙ ap (λ bits. take from.free old.free.items ++ bits) (sym (flipped-none (drop from.free old.free.items)))) i;
+        free = (sym (take-append-drop from.free old.free.items) ∙ ap (λ bits. take from.free old.free.items ++ bits) (sym (flipped-empty (drop from.free old.free.items)))) i;
         detectors =
             (c.flip_from-2.ensures.value
             ∙ ap (λ flips. take from.detectors old.detectors.items ++ flipped (drop from.detectors old.detectors.items) flips) c.detectors.ensures.value) i;

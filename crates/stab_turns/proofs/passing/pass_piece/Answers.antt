@@ -1,6 +1,6 @@
 use Rattle.std.proofs.Common.{◌+◌, ◌-◌, ◌∷◌, [], ◌∙◌, ap, length, take, drop, arith}
 use Rattle.std.proofs.lemmas.List.{drop-drop, length-append, length-drop, length-take}
-use Rattle.stab_frames.proofs.OverLemmas.{coins-few}
+use Rattle.stab_laws.proofs.CoinLemmas.{coins-steps}
 use Rattle.stab_turns.proofs.PlaceLemmas.{piece-on, copy-on}
 use Rattle.stab_turns.proofs.passing.pass_piece.Goals as goal
 
@@ -25,7 +25,7 @@ loop-copy-preserved c =
       placed = went.placed;
       coin =
           let walked = went.walked did in
-          omega (arith, walked.coin, coins-few (take (behind - gone) left), length-take (behind - gone) left, ap length (went.left did), length-drop (behind - gone) left, went.within did, inv.coin);
+          omega (arith, walked.coin, coins-steps (take (behind - gone) left), length-take (behind - gone) left, ap length (went.left did), length-drop (behind - gone) left, went.within did, inv.coin);
       count = omega (arith, ap length c.in_ok-push.ensures.items, length-append c.loop-copy.passed.items (record { step = c.saturating_add.result; lengths = c.copy-item.result.lengths; tableau = c.in_ok-turned_copy.field-0 } ∷ []), inv.count);
       between = λ coins xs base front b.
           piece-on b gone behind c.loop-copy.walk c.walk_exactly.new.walk left place.0 place.1 inv.left (inv.between coins xs base front b) (length c.loop-copy.walk.letters) inv.size
@@ -49,7 +49,7 @@ returns-clause-coin c = λ did.
     omega (
       arith,
       walked.coin,
-      coins-few (take (c.args.gap - gone) left),
+      coins-steps (take (c.args.gap - gone) left),
       length-take (c.args.gap - gone) left,
       ap length (went.left did),
       length-drop (c.args.gap - gone) left,

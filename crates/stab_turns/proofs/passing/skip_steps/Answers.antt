@@ -1,7 +1,8 @@
 use Rattle.std.proofs.Common.{sym, ◌∙◌, ap, length, arith}
 use Rattle.std.proofs.lemmas.List.{length-append}
 use Rattle.stab_circuit.specs.Cursors.{steps_shown}
-use Rattle.stab_turns.proofs.LengthLemmas.{drop-next, drop-zero}
+use Rattle.stab_laws.proofs.StepsLeftLemmas.{drop-none}
+use Rattle.stab_turns.proofs.LengthLemmas.{drop-next}
 use Rattle.stab_turns.proofs.passing.skip_steps.Goals as goal
 
 pub loop-left-preserved : goal.loop-left-preserved
@@ -25,5 +26,5 @@ returns c =
     record {
       all = inv.all;
       within = λ e. omega (arith, inv.gone, c.loop-left-test.false);
-      left = λ e. sym (drop-zero c.loop-left.left c.loop-left.cursor.left c.loop-left-test.false) ∙ inv.left;
+      left = λ e. sym (drop-none c.loop-left.left c.loop-left.cursor.left c.loop-left-test.false) ∙ inv.left;
     }

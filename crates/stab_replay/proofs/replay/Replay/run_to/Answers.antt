@@ -1,6 +1,7 @@
 use Rattle.std.proofs.Common.{◌-◌, arith, take}
+use Rattle.stab_laws.proofs.CoinLemmas.{coins-few}
 use Rattle.stab_run.specs.ProgramStates.{program_state, output_of}
-use Rattle.stab_replay.proofs.ReplayLemmas.{coins-few, coins-cut, records-stay, run-on}
+use Rattle.stab_replay.proofs.ReplayLemmas.{coins-cut, records-stay, run-on}
 use Rattle.stab_replay.proofs.replay.Replay.run_to.Goals as goal
 
 pub returns-in_err-run_noting-clause-asks : goal.returns-in_err-run_noting-clause-asks

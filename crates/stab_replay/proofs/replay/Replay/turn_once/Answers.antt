@@ -10,14 +10,15 @@ use Rattle.stab_frames.specs.Limits.{most_strings}
 use Rattle.stab_frames.specs.Walks.{IsPlaced}
 use Rattle.stab_frames.specs.OtherCoins.{coins_from, WalksToOthers}
 use Rattle.stab_frames.proofs.StillWalkLemmas.{ones-within}
+use Rattle.stab_frames.proofs.FlipLemmas.{flipped-empty}
 use Rattle.stab_copies.specs.declared.checkpoint.Checkpoint.{Checkpoint}
 use Rattle.stab_tableau.specs.Tableaus.{stabilises}
 use Rattle.stab_tableau.specs.Turns.{IsTurned}
+use Rattle.stab_laws.proofs.CoinLemmas.{coins-few}
 use Rattle.stab_replay.specs.declared.replay.Replay.{Replay}
 use Rattle.stab_replay.specs.FramedReplays.{between}
 use Rattle.stab_replay.specs.inner.TurnedReplays.{HasGivenTurned}
-use Rattle.stab_replay.proofs.ReplayLemmas.{coins-few, coins-cut}
-use Rattle.stab_replay.proofs.FramedLemmas.{flipped-empty}
+use Rattle.stab_replay.proofs.ReplayLemmas.{coins-cut}
 use Rattle.stab_replay.proofs.TurnedReplayLemmas.{AreKnown, turned-known, kept-before, ones-given}
 use Rattle.stab_replay.proofs.replay.Replay.turn_once.Given.{Over}
 use Rattle.stab_replay.proofs.replay.Replay.turn_once.Goals as goal
