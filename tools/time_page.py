@@ -5,7 +5,8 @@
 
 For a surface code that is written out it opens the page (docs/page.md) and says how long that took to the first picture. Then it
 puts a Pauli on a qubit in the middle of the code, at moments that lie evenly over all, and takes it back each time. A line has the
-milliseconds of each step of the way, by the middle one of the edits, and the best and worst of the whole. The clock is the
+milliseconds of each step of the way, by the middle one of the edits, and the best and worst of the whole; the last is of a region
+that a click on a detector asks for. The clock is the
 browser's. It needs the built program, Chromium, its driver, selenium and aiohttp.
 """
 
@@ -49,24 +50,37 @@ window.WebSocket = class extends Real {
 # Types a letter on a qubit, and answers once the event's picture is painted: a message is taken up behind the frame.
 TYPE = """
 const [qubit, moment, done] = arguments;
-const slider = document.getElementById("moment");
-if (moment >= 0) { slider.value = moment; slider.dispatchEvent(new Event("input")); }
-requestAnimationFrame(() => setTimeout(() => {
-  const place = document.querySelector(moment >= 0 ? `[data-qubit='${qubit}']` : "#undo");
-  const painted = new MutationObserver(() => {
-    // Another event's picture is not what was asked for.
-    if (clock.heard === undefined) return;
-    painted.disconnect();
-    clock.framed = performance.now();
-    const { port1, port2 } = new MessageChannel();
-    port1.onmessage = () => { clock.painted = performance.now(); done(clock); };
-    port2.postMessage("");
-  });
-  painted.observe(document.body, { attributeFilter: ["data-shown"] });
-  window.clock = { pressed: performance.now() };
-  if (moment >= 0) place.dispatchEvent(new KeyboardEvent("keydown", { key: "x" }));
-  else place.click();
-}, 30));
+import("/static/main.js").then(({ page }) => {
+  if (moment >= 0) { page.shown.goTo(moment); page.shown.choose(qubit); }
+  requestAnimationFrame(() => setTimeout(() => {
+    const place = document.getElementById(moment >= 0 ? "picture" : "undo");
+    const painted = new MutationObserver(() => {
+      // Another event's picture is not what was asked for.
+      if (clock.heard === undefined) return;
+      painted.disconnect();
+      clock.framed = performance.now();
+      const { port1, port2 } = new MessageChannel();
+      port1.onmessage = () => { clock.painted = performance.now(); done(clock); };
+      port2.postMessage("");
+    });
+    painted.observe(document.body, { attributeFilter: ["data-shown"] });
+    window.clock = { pressed: performance.now() };
+    if (moment >= 0) place.dispatchEvent(new KeyboardEvent("keydown", { key: "x", bubbles: true }));
+    else place.click();
+  }, 30));
+});
+"""
+
+# Chooses a detector, and answers in how many milliseconds its region is drawn, once the table of faults is there.
+REGION = """
+const [bit, done] = arguments;
+import("/static/main.js").then(async ({ page }) => {
+  page.shown.chooseBit(null);
+  await new Promise((settle) => setTimeout(settle, 100));
+  const begun = performance.now();
+  await page.shown.chooseBit(bit);
+  requestAnimationFrame(() => setTimeout(() => done(performance.now() - begun)));
+});
 """
 
 STEPS = [("to send", "pressed", "sent"), ("server", "sent", "heard"), ("views", "heard", "framed"), ("paint", "framed", "painted"), ("all", "pressed", "painted")]
@@ -109,7 +123,7 @@ def measure(driver: webdriver.Chrome, distance: int, rounds: int, edits: int) ->
         drawn = first_picture(driver, address)
         print(f"distance {distance}, {rounds} rounds: served after {started:.2f} s, first picture {drawn:.2f} s later")
         time.sleep(3)
-        last = driver.execute_script("return Number(document.getElementById('moment').max)")
+        last = driver.execute_async_script("const [done] = arguments; import('/static/main.js').then(({page}) => done(page.moments() - 1))")
         qubit = middle_qubit(file, distance)
         times = []
         for number in range(edits):
@@ -120,6 +134,8 @@ def measure(driver: webdriver.Chrome, distance: int, rounds: int, edits: int) ->
         for name, first, then in STEPS:
             spent = sorted(one[then] - one[first] for one in times)
             print(f"    {name:8} {statistics.median(spent):6.1f} ms  ({spent[0]:.1f} to {spent[-1]:.1f})")
+        regions = sorted(driver.execute_async_script(REGION, f"D{number}") for number in range(distance, distance + edits))
+        print(f"    region   {statistics.median(regions):6.1f} ms  ({regions[0]:.1f} to {regions[-1]:.1f})")
         print(f"    bytes of the event: {max(one['bytes'] for one in times)}")
         server.terminate()
         server.wait()

@@ -41,9 +41,12 @@ class Page:
 
     def __init__(self, browser, folder, text, *words):
         self.browser = browser
-        file = folder / "circuit.stim"
-        file.write_text(text)
-        self.server = subprocess.Popen([sys.executable, "-B", "-m", "stabsim.page", str(file), *words], stdout=subprocess.PIPE, text=True)
+        named = []
+        if text is not None:
+            file = folder / "circuit.stim"
+            file.write_text(text)
+            named = [str(file)]
+        self.server = subprocess.Popen([sys.executable, "-B", "-m", "stabsim.page", *named, *words], stdout=subprocess.PIPE, text=True)
         self.address = self.server.stdout.readline().strip()
 
     def open(self):
@@ -55,7 +58,7 @@ class Page:
         self.server.wait(timeout=LONGEST)
 
     def wait(self, test):
-        return WebDriverWait(self.browser, LONGEST).until(lambda _: test())
+        return WebDriverWait(self.browser, LONGEST, poll_frequency=0.05).until(lambda _: test())
 
     # What is shown.
 
@@ -73,11 +76,25 @@ class Page:
     def history(self):
         return self.texts("#edits li button")
 
+    def ask(self, code, *words):
+        """What code of the page's own answers, which has `page` and the words as `words`."""
+        return self.browser.execute_async_script(
+            f"const words = Array.from(arguments); const done = words.pop(); import('/static/main.js').then(({{page}}) => done({code}));", *words)
+
     def letters(self):
         """The letters of the region on the qubits that have one, as X3."""
-        return self.browser.execute_script(
-            "return Array.from(document.querySelectorAll('.qubit .letter')).filter((it) => it.textContent)"
-            ".map((it) => it.textContent + it.parentElement.dataset.qubit)")
+        return self.ask("[...(page.shown.scene().region ?? [])].map(([qubit, letter]) => letter + qubit)")
+
+    def chosen(self):
+        return self.ask("page.shown.chosen")
+
+    def glyphs(self):
+        """The glyphs that are drawn of the moment, each as its shape and label."""
+        return self.ask("page.views.layout.elements().filter((it) => it.glyph).map((it) => [it.glyph, it.label ?? ''])")
+
+    def circuit(self):
+        """The circuit as it is now, by the page's own items."""
+        return self.ask("page.text()")
 
     # What a person does.
 
@@ -89,15 +106,14 @@ class Page:
         self.click(f"#text .row[data-path='{path}']")
 
     def unfold(self, place):
-        self.browser.execute_script("document.getElementById('text').scrollTop = arguments[0]", place * 22 - 100)
+        self.ask("page.shown.select([words[0]])", place)
         self.click(f"#text .row[data-path='{place}'] .fold")
 
     def go_to(self, moment):
-        self.browser.execute_script(
-            "const slider = document.getElementById('moment'); slider.value = arguments[0]; slider.dispatchEvent(new Event('input'));", moment)
+        self.ask("page.shown.goTo(words[0])", moment)
 
     def put_in(self, words):
-        field = self.browser.find_element(By.CSS_SELECTOR, ".item-form textarea")
+        field = self.find("words")
         field.clear()
         field.send_keys(words, Keys.ENTER)
 
@@ -114,10 +130,29 @@ class Page:
             chain = chain.key_up(key)
         chain.perform()
 
+    def spot(self, qubit):
+        """Where a qubit is seen on the picture."""
+        return self.ask("page.views.layout.at(words[0])", qubit)
+
+    def choose_qubit(self, *numbers):
+        """Clicks qubits, those behind the first with Shift, by one chain of events."""
+        picture = self.find("picture")
+        width, height = picture.rect["width"], picture.rect["height"]
+        chain = ActionChains(self.browser, duration=0)
+        for place, (left, top) in enumerate(self.ask("words.map((it) => page.views.layout.at(it))", *numbers)):
+            chain.move_to_element_with_offset(picture, round(left - width / 2), round(top - height / 2)).click()
+            if place == 0:
+                chain.key_down(Keys.SHIFT)
+        chain.key_up(Keys.SHIFT).perform()
+
     def type_on(self, number, key):
-        """Presses a key with a qubit in focus."""
-        self.focus(f"[data-qubit='{number}']")
+        """Presses a key with a qubit alone chosen."""
+        self.choose_qubit(number)
         self.press(key)
+
+    def click_bit(self, bit):
+        """Clicks a detector or observable on the timeline."""
+        self.point_at("#timeline", *self.ask("page.views.timeline.at(words[0])", bit)).click().perform()
 
     def hold(self, name, repeats=4):
         """Holds a key down, so that it repeats, and lets it go."""

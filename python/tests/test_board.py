@@ -8,6 +8,7 @@ import stabsim
 from stabsim import codes
 from stabsim.page.board import Board
 from stabsim.page.edits import Edit
+from stabsim.page.opening import opened_of
 
 CODE = codes.surface_code(3, 5)
 LINES = [line for line in CODE.splitlines() if not line.startswith(("#", " ", "}"))]
@@ -19,14 +20,14 @@ BITS = {"detectors", "observables", "qubit_coordinates", "detector_coordinates"}
 def board(tmp_path):
     file = tmp_path / "circuit.stim"
     file.write_text(CODE)
-    opened = Board(file)
+    opened = Board(opened_of(str(file)))
     yield opened
     opened.close()
 
 
 def test_an_edit_tells_what_it_flipped_and_its_own_entry_alone(board):
-    board.edit(Edit("insert", str(BLOCK), "X 1"))
-    told = board.edit(Edit("insert", str(BLOCK), "X 10"))
+    board.edit([Edit("insert", str(BLOCK), "X 1")])
+    told = board.edit([Edit("insert", str(BLOCK), "X 10")])
     assert set(told) == {"event", "age", "edits", "entries", "numbers", "position", "flipped"}
     assert [entry["text"] for entry in told["entries"]] == [f"insert {BLOCK} X 10"]
     with stabsim.Circuit(CODE).edit() as session:
@@ -36,30 +37,30 @@ def test_an_edit_tells_what_it_flipped_and_its_own_entry_alone(board):
 
 
 def test_bits_are_told_anew_where_some_come_or_go(board):
-    assert BITS <= set(board.edit(Edit("insert", str(len(LINES)), "DETECTOR rec[-1]")))
+    assert BITS <= set(board.edit([Edit("insert", str(len(LINES)), "DETECTOR rec[-1]")]))
     assert BITS <= set(board.go(0))
-    board.edit(Edit("insert", "0", "X 1"))
-    assert not BITS & set(board.edit(Edit("delete", "0")))
-    assert BITS <= set(board.edit(Edit("delete", str(BLOCK))))
+    board.edit([Edit("insert", "0", "X 1")])
+    assert not BITS & set(board.edit([Edit("delete", "0")]))
+    assert BITS <= set(board.edit([Edit("delete", str(BLOCK))]))
 
 
 def test_going_back_tells_no_entries(board):
     for qubit in (1, 3, 5):
-        board.edit(Edit("insert", str(BLOCK), f"X {qubit}"))
+        board.edit([Edit("insert", str(BLOCK), f"X {qubit}")])
     told = board.go(1)
     assert (told["position"], told["entries"], len(told["edits"])) == (1, [], 2)
-    again = board.edit(Edit("insert", "0", "Z 1"))
+    again = board.edit([Edit("insert", "0", "Z 1")])
     assert (again["position"], [entry["text"] for entry in again["entries"]]) == (2, ["insert 0 Z 1"])
 
 
 def test_each_change_has_the_next_age(board):
-    ages = [board.edit(Edit("insert", "0", "Z 1"))["age"], board.go(0)["age"], board.split(str(BLOCK), 1)["age"]]
+    ages = [board.edit([Edit("insert", "0", "Z 1")])["age"], board.go(0)["age"], board.split(str(BLOCK), 1)["age"]]
     assert ages == [1, 2, 3] and board.opened()["age"] == 3
 
 
 def test_an_edit_in_one_round_is_one_entry_that_moves_no_bits(board):
     place = f"{BLOCK + 1}/0"
-    told = board.edit_in_round(Edit("insert", place, "X 10"), str(BLOCK), 2)
+    told = board.edit_in_round([Edit("insert", place, "X 10")], str(BLOCK), 2)
     assert not BITS & set(told) and len(told["entries"]) == 1
     with stabsim.Circuit(CODE).edit() as session:
         session.insert(BLOCK, "X 10")
@@ -78,7 +79,7 @@ def test_a_split_is_one_edit_and_a_script_has_its_parts(board):
     after = board.text()
     with stabsim.Circuit(CODE).edit() as session:
         session.split(BLOCK, 2)
-        assert session.circuit == after
+        assert session.circuit() == after
     words = [line.split(" ")[0] for line in board.script().splitlines() if line[:1].isalpha()]
     assert words == ["insert", "insert", "replace"]
     assert not BITS & set(board.go(0)) and board.text() == text_at_first()
@@ -87,12 +88,12 @@ def test_a_split_is_one_edit_and_a_script_has_its_parts(board):
 def text_at_first():
     """The circuit as a session writes it."""
     with stabsim.Circuit(CODE).edit() as session:
-        return session.circuit
+        return session.circuit()
 
 
 def test_a_refused_edit_in_a_round_leaves_the_block_whole(board):
     with pytest.raises(stabsim.Refused):
-        board.edit_in_round(Edit("insert", f"{BLOCK + 1}/0", "X 1000"), str(BLOCK), 2)
+        board.edit_in_round([Edit("insert", f"{BLOCK + 1}/0", "X 1000")], str(BLOCK), 2)
     assert board.text() == text_at_first()
     assert board.position == 0
 
@@ -101,13 +102,13 @@ def test_a_refused_edit_in_a_round_leaves_the_block_whole(board):
 def test_an_edit_in_a_round_that_fails_otherwise_leaves_the_block_whole(board, item):
     before = board.opened()
     with pytest.raises(ValueError):
-        board.edit_in_round(Edit("insert", f"{BLOCK + 1}/0", item), str(BLOCK), 2)
+        board.edit_in_round([Edit("insert", f"{BLOCK + 1}/0", item)], str(BLOCK), 2)
     assert board.opened() == before
 
 
 def test_going_back_is_all_or_nothing(board, monkeypatch):
     for qubit in (1, 3):
-        board.edit(Edit("insert", str(BLOCK), f"X {qubit}"))
+        board.edit([Edit("insert", str(BLOCK), f"X {qubit}")])
     before = board.opened()
     delete, left = board.session.delete, [1]
 
@@ -151,7 +152,7 @@ REFUSED = {
 def test_a_refused_edit_is_explained_as_check_explains_the_circuit(board, edit, by_hand, shown):
     checked = subprocess.run([stabsim.find_program(), "check"], input=by_hand(board.text()), capture_output=True, text=True, check=False)
     with pytest.raises(stabsim.Refused) as refused:
-        board.edit(edit)
+        board.edit([edit])
     assert f"refused {refused.value.number} {refused.value.name}" in checked.stderr
     assert refused.value.explanation.split("\n") == shown + checked.stdout.splitlines()[2:]
 
@@ -159,14 +160,14 @@ def test_a_refused_edit_is_explained_as_check_explains_the_circuit(board, edit, 
 @pytest.mark.parametrize("item", ["X 1000", "CX rec[-9] 1000"])
 def test_a_qubit_that_the_session_has_not_is_explained(board, item):
     with pytest.raises(stabsim.Refused) as refused:
-        board.edit(Edit("insert", "0", item))
+        board.edit([Edit("insert", "0", item)])
     assert refused.value.number == 6 and "0 to 25" in refused.value.explanation
 
 
 def test_a_noisy_file_is_opened_without_its_noise_and_says_so(tmp_path):
     file = tmp_path / "noisy.stim"
     file.write_text("R 0 1\nDEPOLARIZE2(0.01) 0 1\nM(0.02) 0 1\nDETECTOR rec[-1]\n")
-    board = Board(file)
+    board = Board(opened_of(str(file)))
     opened = board.opened()
     board.close()
     assert opened["left_out"].startswith("The noise of 2 lines is left out")
@@ -181,9 +182,9 @@ def test_a_refusal_of_a_noisy_file_names_its_line(tmp_path):
     file = tmp_path / "noisy.stim"
     file.write_text("R 0\nX_ERROR(0.1) 0\nX_ERROR(0.1) 0\nT 0\n")
     with pytest.raises(stabsim.Refused) as refused:
-        Board(file)
+        Board(opened_of(str(file)))
     assert refused.value.line == 4
     file.write_text("R 0\nX_ERROR(0.1) 0\nHERALDED_ERASE(0.1) 0\n")
     with pytest.raises(stabsim.UnsupportedNoise) as unsupported:
-        Board(file)
+        Board(opened_of(str(file)))
     assert unsupported.value.line == 3

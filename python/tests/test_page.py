@@ -16,7 +16,8 @@ from stabsim import codes
 pytestmark = needs_browser
 
 CODE = codes.surface_code(3, 3)
-BLOCK = [line.split(" ")[0] for line in CODE.splitlines() if not line.startswith(("#", " ", "}"))].index("REPEAT")
+LINES = [line for line in CODE.splitlines() if not line.startswith(("#", " ", "}"))]
+BLOCK = [line.split(" ")[0] for line in LINES].index("REPEAT")
 
 
 @pytest.fixture
@@ -44,7 +45,10 @@ def test_strangers_are_refused(page):
 
 def test_it_shows_the_circuit_and_folds_its_blocks(page):
     numbers = stabsim.Circuit(CODE).numbers()
-    assert page.find("numbers").text.startswith(f"{numbers.qubits} qubits · {numbers.steps} steps · {numbers.records} records")
+    # Numbers that no item names are no qubits of the picture.
+    qubits = len({qubit for line in CODE.splitlines() if line.startswith("QUBIT_COORDS") for qubit in line.split(") ")[1].split()})
+    assert qubits < numbers.qubits
+    assert page.find("numbers").text.startswith(f"{qubits} qubits · {numbers.steps} steps · {numbers.records} records")
     inner = f"#text .row[data-path='{BLOCK}/0']"
     assert not page.texts(inner)
     page.unfold(BLOCK)
@@ -52,23 +56,24 @@ def test_it_shows_the_circuit_and_folds_its_blocks(page):
 
 
 def test_an_item_is_put_in_and_taken_back(page):
-    page.choose("0")
+    page.choose("0+")
     page.click("#insert")
     page.put_in("X 1")
     page.wait(lambda: page.history() == ["opened", "insert 0 X 1"])
     assert page.row("0") == "0X 1"
     page.click("#undo")
     page.wait(lambda: page.texts("#edits .undone"))
-    assert page.row("0") != "0X 1"
+    page.wait(lambda: not page.texts("#text .row[data-path='0']"))
     page.click("#redo")
     page.wait(lambda: page.row("0") == "0X 1")
 
 
 def test_a_refusal_stands_at_its_item(page):
-    page.choose("0")
+    place = LINES.index("TICK")
+    page.choose(str(place))
     page.click("#insert")
     page.put_in("X 1000")
-    page.wait(lambda: "refused 6 QubitOutOfRange" in page.row("0"))
+    page.wait(lambda: "refused 6 QubitOutOfRange" in page.row(str(place)))
     assert page.history() == ["opened"]
 
 
@@ -85,20 +90,22 @@ def test_a_pauli_on_a_qubit_flips_detectors_and_is_exported(page, tmp_path):
 
 def test_a_place_tells_what_a_fault_would_flip(page):
     page.go_to(6)
-    page.wait(lambda: hint_of(page, 10))
+    page.wait(lambda: "nothing" in " ".join(told_of_errors(page, 10)) or "D" in " ".join(told_of_errors(page, 10)))
     with stabsim.Circuit(CODE).edit() as session:
-        tick = [line.split("(")[0].split(" ")[0] for line in session.circuit.splitlines() if not line.startswith((" ", "}"))]
+        tick = [line.split("(")[0].split(" ")[0] for line in session.circuit().splitlines() if not line.startswith((" ", "}"))]
         at = [place for place, name in enumerate(tick) if name == "TICK"][6]
         session.insert(at, "X 10")
         flipped = " ".join(f"D{number}" for number in session.changed().detectors)
-    assert f"X flips {flipped} " in hint_of(page, 10) + " "
+    assert flipped
+    page.wait(lambda: told_of_errors(page, 10)[0].strip() == f"X{flipped}")
 
 
-def hint_of(page, qubit):
-    page.point_at("#moment").perform()
-    page.point_at(f"[data-qubit='{qubit}'] circle").perform()
-    time.sleep(0.3)
-    return page.find("hint").text
+def told_of_errors(page, qubit):
+    """What X, Y and Z on the qubit under the pointer would flip."""
+    page.point_at("#moment-said").perform()
+    page.point_at("#picture", *page.spot(qubit)).perform()
+    time.sleep(0.2)
+    return page.texts("#about-errors .error")
 
 
 def test_two_tabs_see_one_session(page):
@@ -176,11 +183,11 @@ def test_a_round_is_taken_out_of_its_block(page):
     page.click(".split")
     page.wait(lambda: page.history() == ["opened", f"round 0 of {BLOCK} by itself"])
     assert page.texts("#edits .now .told")[0].startswith("nothing changed")
-    page.wait(lambda: page.texts(f"#text .row.selected[data-path='{BLOCK}/1']"))
+    page.wait(lambda: page.texts(f"#text [aria-selected=true][data-path='{BLOCK}/1']"))
 
 
 def test_a_pauli_in_a_block_is_put_in_one_round_by_one_edit(page):
-    page.go_to(page.browser.execute_script("return Number(document.getElementById('moment').max)") - 2)
+    page.go_to(page.ask("page.moments()") - 3)
     page.type_on(10, "x")
     page.wait(lambda: len(page.history()) == 2)
     assert page.history()[1].startswith("insert ") and page.history()[1].endswith(f" of {BLOCK} alone")
@@ -200,7 +207,8 @@ def test_what_is_exported_makes_the_same_circuit(open_page, tmp_path):
     script = page.browser.execute_async_script(
         "const done = arguments[0]; const make = URL.createObjectURL;"
         "URL.createObjectURL = (blob) => { blob.text().then(done); return make(blob); };"
-        "document.getElementById('export-script').click();")
+        "document.getElementById('export').click();"
+        "[...document.querySelectorAll('#choice button')].find((it) => it.textContent.startsWith('script')).click();")
     program = stabsim.find_program()
     replayed = subprocess.run([program, "edit", "--in", str(tmp_path / "circuit.stim")], input=script + "show circuit\n",
                               capture_output=True, text=True, check=True).stdout

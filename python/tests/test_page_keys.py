@@ -45,14 +45,14 @@ def test_ctrl_z_and_ctrl_y_on_a_qubit_undo_and_redo(page):
 
 
 def test_a_letter_with_another_key_held_is_no_pauli(page):
-    page.focus("[data-qubit='0']")
-    for held in (Keys.CONTROL, Keys.ALT, Keys.META, Keys.SHIFT):
+    page.choose_qubit(0)
+    for held in (Keys.CONTROL, Keys.ALT, Keys.META):
         page.press("x", held=[held])
     assert put_z_last(page) == ["opened", "insert 1 Z 3"]
 
 
 def test_a_key_that_is_held_down_puts_in_one_pauli(page):
-    page.focus("[data-qubit='0']")
+    page.choose_qubit(0)
     page.hold("x")
     assert put_z_last(page) == ["opened", "insert 1 X 0", "insert 2 Z 3"]
 
@@ -75,41 +75,47 @@ def test_space_on_a_qubit_opens_its_menu_too(page):
 
 
 def test_enter_that_is_held_down_only_opens_the_menu(page):
-    page.focus("[data-qubit='0']")
+    page.choose_qubit(0)
     page.hold("Enter")
     assert page.find("choice").is_displayed()
     page.press(Keys.ESCAPE)
     assert not page.find("choice").is_displayed()
-    assert page.browser.switch_to.active_element.get_attribute("data-qubit") == "0"
+    assert page.browser.switch_to.active_element.get_attribute("id") == "picture" and page.chosen() == [0]
     assert put_z_last(page) == ["opened", "insert 1 Z 3"]
 
 
-def test_with_the_slider_in_focus_keys_do_what_they_do_elsewhere(page):
+def test_with_the_timeline_in_focus_keys_do_what_they_do_elsewhere(page):
     put_x(page)
-    page.focus("#moment")
+    page.focus("#timeline")
     page.press("]")
-    assert page.find("moment-said").text == "tick 1 of 2"
-    page.press("[")
-    assert page.find("moment-said").text == "tick 0 of 2"
+    assert page.find("moment-said").text == "tick 1"
+    page.press(Keys.ARROW_RIGHT)
+    assert page.find("moment-said").text == "tick 2"
+    page.press(Keys.HOME)
+    assert page.find("moment-said").text == "tick 0"
     page.press("z", held=[Keys.CONTROL])
     page.wait(lambda: undone(page) == ["insert 1 X 0"])
     page.press("y", held=[Keys.CONTROL])
     page.wait(lambda: undone(page) == [])
 
 
+def is_writing(page):
+    return page.browser.switch_to.active_element.get_attribute("id") == "words"
+
+
 def test_in_the_text_letters_with_ctrl_open_no_form(page):
     page.choose("1")
     page.press("a", held=[Keys.CONTROL])
     page.press("i", held=[Keys.ALT])
-    assert not page.texts(".item-form")
+    assert not is_writing(page)
     page.press("a")
-    assert page.texts(".item-form")
+    assert is_writing(page)
 
 
 def test_a_letter_that_is_held_down_opens_an_empty_form(page):
     page.choose("1")
     page.hold("i")
-    assert page.browser.execute_script("return document.querySelector('.item-form textarea').value") == ""
+    assert page.browser.execute_script("return document.getElementById('words').value") == ""
     page.press("X 2", Keys.ENTER)
     page.wait(lambda: page.history() == ["opened", "insert 1 X 2"])
 
@@ -117,8 +123,9 @@ def test_a_letter_that_is_held_down_opens_an_empty_form(page):
 def test_enter_that_is_held_down_opens_the_form_and_sends_nothing(page):
     page.choose("1")
     page.hold("Enter")
-    assert page.texts(".item-form")
+    assert is_writing(page)
     page.press(Keys.ESCAPE)
+    assert page.browser.switch_to.active_element.get_attribute("id") == "text"
     assert put_z_last(page) == ["opened", "insert 1 Z 3"]
 
 
@@ -126,12 +133,25 @@ def test_delete_that_is_held_down_takes_one_item_out(page):
     page.choose("1")
     page.hold("Delete")
     page.wait(lambda: len(page.history()) == 2)
-    assert put_z_last(page) == ["opened", "delete 1", "insert 2 Z 3"]
+    # Without the tick the CX ends the moment, since it acts on a qubit of the R.
+    assert put_z_last(page) == ["opened", "delete 1", "insert 1 Z 3"]
 
 
-def test_enter_on_a_button_of_the_form_presses_it(page):
+def test_the_tree_says_its_items_and_panes_are_one_tab_stop(page):
     page.choose("1")
-    page.press("i")
-    page.press("X 2", Keys.TAB, Keys.TAB, Keys.ENTER)
-    assert not page.texts(".item-form")
-    assert put_z_last(page) == ["opened", "insert 1 Z 3"]
+    page.press(Keys.ARROW_DOWN)
+    rows = "[...document.querySelectorAll('#text [role=treeitem]')].map((it) => [it.id, it.ariaLevel, it.ariaSelected])"
+    page.wait(lambda: ["row-2", "1", "true"] in page.ask(rows))
+    assert page.ask("document.getElementById('text').getAttribute('aria-activedescendant')") == "row-2"
+    assert [row[2] for row in page.ask(rows)].count("true") == 1
+    stops = "['tools', 'palette', 'view'].map((id) => document.querySelectorAll(`#${id} button[tabindex='0']`).length)"
+    assert page.ask(stops) == [1, 1, 1]
+    page.focus("#palette [data-tool='pick']")
+    page.press(Keys.ARROW_RIGHT)
+    assert page.browser.switch_to.active_element.get_attribute("data-tool") == "qubit" and page.ask(stops) == [1, 1, 1]
+
+
+def test_the_timeline_says_where_it_is(page):
+    page.go_to(1)
+    slider = page.find("timeline")
+    assert [slider.get_attribute(f"aria-{name}") for name in ("valuemin", "valuemax", "valuenow", "valuetext")] == ["0", "2", "1", "tick 1, outside blocks"]

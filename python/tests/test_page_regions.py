@@ -19,41 +19,27 @@ DETECTOR(0, 0, 0, 7) rec[-1]
 DETECTOR(0, 0, 1, 7) rec[-1]
 OBSERVABLE_INCLUDE(0) rec[-1]
 """
-# The middles of detectors on the canvas: a slice is 26 pixels wide and begins at 14, the first row stands at 40.
-DETECTORS = {0: (14, 40), 1: (40, 40)}
-OBSERVABLE = (22, 12)
-
-
 @pytest.fixture
 def page(open_page):
     return open_page(CODE)
 
 
 def said(page):
-    return page.find("region").text
+    return "".join(page.texts("#region"))
 
 
-def choose(page, spot):
-    page.point_at("#spacetime canvas", *spot).click().perform()
-
-
-def test_time_is_the_third_coordinate(page):
-    for number, spot in DETECTORS.items():
-        page.point_at("#spacetime canvas", *spot).perform()
+def test_a_detector_stands_at_its_moment_in_the_row_of_its_place(page):
+    places = {number: page.ask("page.views.timeline.at(words[0])", f"D{number}") for number in (0, 1)}
+    assert places[0][1] == places[1][1] and places[0][0] < places[1][0]
+    for number, spot in places.items():
+        page.point_at("#timeline", *spot).perform()
         page.wait(lambda: page.find("tip").text.startswith(f"D{number} at (0, 0, {number}, 7) is "))
-
-
-def test_detectors_of_one_spot_stand_beside_each_other(open_page):
-    page = open_page("R 0\nM 0\nDETECTOR(0, 0, 0, 0) rec[-1]\nDETECTOR(0, 0, 0, 1) rec[-1]\n")
-    for number, left in ((0, 14), (1, 20)):
-        page.point_at("#spacetime canvas", left, 40).perform()
-        page.wait(lambda: page.find("tip").text.startswith(f"D{number} at (0, 0, 0, {number}) is "))
 
 
 def test_the_region_of_a_detector_stands_on_the_qubits_tick_by_tick(page):
     # By hand: the record of the first product decides the sign of Z on qubit 0, with which X0*Z2 anticommutes, so between the
     # two products the region is X0 Z2, and the record has to be in the detector's set: the first product takes R away again.
-    choose(page, DETECTORS[1])
+    page.click_bit("D1")
     page.wait(lambda: said(page) == "region of D1: nothing here; ticks 2 to 3")
     shown = {}
     for moment in range(5):
@@ -63,11 +49,11 @@ def test_the_region_of_a_detector_stands_on_the_qubits_tick_by_tick(page):
     page.go_to(3)
     assert said(page) == "region of D1: X0 Z2; ticks 2 to 3"
     page.press(Keys.ESCAPE)
-    page.wait(lambda: page.letters() == [] and said(page) == "")
+    page.wait(lambda: page.letters() == [] and "No detector chosen" in page.find("about-detector").text)
 
 
 def test_the_region_of_an_observable_is_shown_by_a_click(page):
-    choose(page, OBSERVABLE)
+    page.click_bit("L0")
     page.wait(lambda: said(page).startswith("region of L0: "))
 
 
@@ -80,28 +66,29 @@ def test_a_pauli_shows_the_region_of_the_first_bit_that_it_flips(page):
     # What commutes with the region flips nothing, and no region is shown.
     page.type_on(0, "x")
     page.wait(lambda: page.texts("#edits .now .told")[0].startswith("nothing changed"))
-    page.wait(lambda: said(page) == "")
+    page.wait(lambda: "No detector chosen" in page.find("about-detector").text)
 
 
 def test_a_bit_that_a_coin_decides_has_no_region(open_page):
     page = open_page("RX 0\nTICK\nM 0\nDETECTOR(0, 0, 0) rec[-1]\n")
-    choose(page, DETECTORS[0])
-    page.wait(lambda: said(page) == "D0: a coin decides it, so that nothing flips it")
+    page.click_bit("D0")
+    page.wait(lambda: said(page) == "a coin decides it, so that nothing flips it")
 
 
 def test_too_many_steps_for_a_table_of_faults_are_said(open_page):
     page = open_page("R 0 1\nREPEAT 600000 {\n    TICK\n}\nM 0\nDETECTOR(0, 0, 0) rec[-1]\n")
-    choose(page, DETECTORS[0])
-    page.wait(lambda: said(page) == "D0: there is no table of faults: it was refused as 9 TooManySteps")
+    page.go_to(600_000)
+    page.click_bit("D0")
+    page.wait(lambda: said(page) == "there is no table of faults: it was refused as 9 TooManySteps")
 
 
 def test_a_refusal_is_explained_at_its_item(page):
     page.choose("0")
     page.press("i")
     page.press("DETECTOR rec[-2]", Keys.ENTER)
-    page.wait(lambda: page.texts(".item-form .refusal") == ["refused 8 LookbackTooFar"])
-    assert page.texts(".item-form .fault") == ["DETECTOR rec[-2]\n         ^^^^^^^"]
-    [why] = page.texts(".item-form .why")
+    page.wait(lambda: page.texts("#refusal") == ["refused 8 LookbackTooFar"])
+    assert page.texts("#fault") == ["DETECTOR rec[-2]\n         ^^^^^^^"]
+    [why] = page.texts("#why")
     assert "item 0" in why and page.find("message").text == f"refused 8 LookbackTooFar {why}"
 
 

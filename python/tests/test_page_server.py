@@ -16,6 +16,7 @@ if importlib.util.find_spec("aiohttp"):
     from stabsim.page import server as serving
     from stabsim.page import tabs
     from stabsim.page.board import Board
+    from stabsim.page.opening import opened_of
     from stabsim.page.server import Server, listening
 
 CODE = "R 0\nM 0\nDETECTOR rec[-1]\n"
@@ -49,7 +50,7 @@ def run_with_server(tmp_path, code, work):
     async def all_of_it():
         file = tmp_path / "circuit.stim"
         file.write_text(code)
-        board = Board(file)
+        board = Board(opened_of(str(file)))
         server = Server(board, "token")
         opened = []
         async with asyncio.timeout(2 * SECONDS), aiohttp.ClientSession() as session, listening(server, 0):
@@ -100,7 +101,7 @@ def test_the_server_ends_where_a_tab_does_not_read(tmp_path, monkeypatch):
 def test_an_event_comes_before_the_answer_to_what_caused_it(tmp_path):
     async def work(server, connect):
         tab = await connect()
-        await tab.ask(ask="edit", edit={"kind": "insert", "place": "0", "item": "X 0"})
+        await tab.ask(ask="edit", edits=[{"kind": "insert", "place": "0", "item": "X 0"}])
         kinds = [message.get("event", "answer") for message in tab.told]
         assert kinds.index("edited") < kinds.index("answer")
 
@@ -175,7 +176,7 @@ def test_a_question_that_is_none_is_answered_and_the_tab_goes_on(tmp_path):
 def test_a_refusal_is_told_with_what_is_wrong(tmp_path):
     async def work(server, connect):
         tab = await connect()
-        answer = await tab.ask(ask="edit", edit={"kind": "insert", "place": "1", "item": "MXX 0 1"})
+        answer = await tab.ask(ask="edit", edits=[{"kind": "insert", "place": "1", "item": "MXX 0 1"}])
         assert answer["refused"] == "refused 1 UnsupportedName"
         assert answer["explanation"].split("\n")[:2] == ["MXX 0 1", "^^^"] and "MPP X0*X1" in answer["explanation"]
 

@@ -4,6 +4,7 @@ import pytest
 import stabsim
 from stabsim import codes
 from stabsim.page.moment_faults import MomentFaults
+from stabsim.page.moments import marked
 
 # The teleportation that docs/faults.md works out by hand, a step in each moment: two records control gates on qubit 2.
 TELEPORTATION = """RY 0
@@ -52,13 +53,19 @@ def regions_of(code):
     return {bit: faults.region(bit) for bit in bits}
 
 
+def ends_of(code):
+    """In front of which line each moment ends."""
+    lines = marked(code, "mark").splitlines()
+    marks = [place for place, line in enumerate(lines) if line == "mark"]
+    return [place - number for number, place in enumerate(marks)]
+
+
 @pytest.mark.parametrize("code", [TELEPORTATION, codes.colour_code(3, 2)], ids=["teleportation", "colour code"])
 def test_just_the_paulis_that_anticommute_with_a_region_flip_its_bit(code):
     regions = regions_of(code)
     with stabsim.Circuit(code).edit() as session:
-        # A moment ends at a tick, or at the circuit's end; there are no blocks, so items are lines.
-        lines = session.circuit.splitlines()
-        for moment, place in enumerate([place for place, line in enumerate(lines) if line == "TICK"] + [len(lines)]):
+        # There are no blocks, so items are lines.
+        for moment, place in enumerate(ends_of(session.circuit())):
             for qubit in range(session.numbers().qubits):
                 for pauli in "XYZ":
                     session.mark()
@@ -78,6 +85,35 @@ def test_a_bit_that_a_coin_decides_has_no_region():
     faults = MomentFaults.of_circuit("RX 0\nTICK\nM 0\nDETECTOR rec[-1]\nTICK\nM 0\nDETECTOR rec[-1] rec[-2]\n")
     assert faults.region("D0") == {}
     assert {moment: words(letters) for moment, letters in faults.region("D1").items()} == {1: "Z0"}
+
+
+def test_a_slice_has_the_letters_of_each_region_at_its_moment():
+    regions = regions_of(codes.surface_code(3, 2))
+    faults = MomentFaults.of_circuit(codes.surface_code(3, 2))
+    for moment in (0, 5, 8):
+        assert faults.slice(moment) == {bit: region[moment] for bit, region in regions.items() if moment in region}
+    assert faults.slice(-1) == {} and faults.slice(10_000) == {}
+
+
+# Circuits with the lines in front of which they are cut, by hand; ticks are numbers of lines too.
+CUTS = {
+    "gates on one qubit": ("H 0\nS 0\nX 0\nX 0\n", [2, 4]),
+    "gates on several": ("H 0\nH 1\nCX 0 1\nM 2\nDETECTOR rec[-1]\nM 1\n", [3, 6]),
+    "a tick between": ("H 0\nTICK\nH 0\n", [2]),
+    "a record is no qubit": ("M 0\nCX rec[-1] 1\nZ 1\n", []),
+    "products that share a qubit": ("MPP X0*X1 Z0*Z1\nMPP Z1*Z2\n", [2]),
+    "a block that begins with a tick": ("R 0\nREPEAT 3 {\nTICK\nH 0\nTICK\nM 0\n}\nM 0\n", [3, 5, 8]),
+    "a block that meets itself": ("R 0\nREPEAT 3 {\nH 1\nDETECTOR\n}\nM 0\n", [3]),
+    "a block that meets what is before it": ("R 1\nREPEAT 1 {\nH 1\n}\nM 1\n", [2, 5]),
+    "a block whose rounds end with a tick": ("M 1\nREPEAT 3 {\nH 1\nTICK\n}\nM 1\n", [2, 4]),
+    "a block of detectors": ("R 0\nREPEAT 3 {\nDETECTOR\n}\nX 0\n", []),
+    "blocks in a block": ("REPEAT 2 {\nREPEAT 2 {\nH 0\n}\n}\n", [3]),
+}
+
+
+@pytest.mark.parametrize("code, cuts", CUTS.values(), ids=CUTS.keys())
+def test_a_moment_ends_where_a_qubit_is_acted_on_again(code, cuts):
+    assert [place + 1 for place in ends_of(code)][:-1] == cuts
 
 
 def test_what_is_no_bit_is_refused():

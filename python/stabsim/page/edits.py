@@ -5,8 +5,8 @@ from typing import Any, Literal
 
 from stabsim.rounds import longest_part, parts_of_block, place_behind
 
-Kind = Literal["insert", "replace", "delete", "split"]
-# What a tab may ask for as an edit; a split it asks for by itself.
+Kind = Literal["insert", "replace", "delete", "split", "open"]
+# What a tab may ask for as an edit; a split and another circuit it asks for by themselves.
 KINDS: tuple[Kind, ...] = ("insert", "replace", "delete")
 # Words of items whose coming or going moves detectors, observables or coordinates.
 MOVING = ("DETECTOR", "OBSERVABLE", "COORDS", "REPEAT")
@@ -15,12 +15,14 @@ MOVING = ("DETECTOR", "OBSERVABLE", "COORDS", "REPEAT")
 @dataclasses.dataclass(frozen=True)
 class Edit:
     """An edit at a place, the path of an item as `edit` counts them, with the text of the item that it puts in. For a split that
-    is the number of the round, and `block` the text of the block, which tabs have."""
+    is the number of the round, and `block` the text of the block, which tabs have. That which opens another circuit has its name as
+    the place, and its text as the item; `left_out` says what was left out of it."""
 
     kind: Kind
     place: str
     item: str = ""
     block: str = ""
+    left_out: str = ""
 
     @classmethod
     def of_message(cls, message: dict[str, Any]) -> "Edit":
@@ -35,17 +37,25 @@ class Edit:
 
     def first_line(self) -> str:
         """What names it in the history."""
-        return self.lines().split("\n")[0]
+        return f"open {self.place}" if self.kind == "open" else self.lines().split("\n")[0]
 
     def may_move_bits(self) -> bool:
         """Whether bits may come, go or move where its item is put in or taken out."""
-        return any(word in self.item.upper() for word in MOVING)
+        return self.kind == "open" or any(word in self.item.upper() for word in MOVING)
 
     def lines(self) -> str:
         """The lines of an edit script that make it. A script that is not framed knows no split, so that is made of its parts."""
+        if self.kind == "open":
+            return ""
         if self.kind == "split":
             return "".join(edit.lines() for edit in splitting(self.place, self.block, int(self.item)))
         return f"{self.kind} {self.place} {self.item}".strip() + "\n"
+
+
+def name_of(edits: list[Edit]) -> str:
+    """What names several edits in the history that are made as one."""
+    more = f" and {len(edits) - 1} more" if len(edits) > 1 else ""
+    return edits[0].first_line() + more
 
 
 def undoing(edit: Edit, old: str) -> list[Edit]:

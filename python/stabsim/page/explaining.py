@@ -4,6 +4,8 @@ import re
 
 import stabsim
 from stabsim.page.edits import Edit
+from stabsim.page.room import MOST_MORE, MOST_QUBITS
+from stabsim.reading import lines_at
 
 # The refusals of an edit that `check` explains: those of a circuit's text.
 EXPLAINED = range(1, 12)
@@ -15,14 +17,14 @@ LINE_NUMBER = re.compile(r"\d+: ")
 def explained(refused: stabsim.Refused, edit: Edit, circuit: str, qubits: int) -> stabsim.Refused:
     """A refusal of an edit of a circuit, as a session of so many qubits writes it, with what is wrong: the line at fault, carets
     under the word, what is wrong with it, and what to do."""
-    if edit.kind == "split" or refused.number not in EXPLAINED:
+    if edit.kind in ("split", "open") or refused.number not in EXPLAINED:
         return refused
     said = refused.explanation
     checked = refusal_of(edited(circuit, edit))
     if checked and checked.number == refused.number:
         said = checked.explanation
     elif refused.number == QUBIT_OUT_OF_RANGE:
-        said = f"The qubits are those that the circuit named when it was opened: 0 to {qubits - 1}."
+        said = f"There are qubits 0 to {qubits - 1}, and an item may name up to {MOST_MORE} more, below {MOST_QUBITS}."
     return stabsim.Refused(refused.number, refused.name, refused.line, without_line_number(said))
 
 
@@ -49,29 +51,7 @@ def without_line_number(said: str) -> str:
 
 def edited(circuit: str, edit: Edit) -> str:
     """The text of a circuit, as a session writes it, after an edit at a place that is there."""
-    lines = circuit.splitlines()
-    first, end = lines_at(lines, [int(number) for number in edit.place.split("/")])
+    lines = circuit.removesuffix("\n").split("\n")
+    first, end = lines_at(circuit, edit.place)
     put_in = [] if edit.kind == "delete" else edit.item.split("\n")
     return "\n".join(lines[:first] + put_in + lines[first if edit.kind == "insert" else end:]) + "\n"
-
-
-def lines_at(lines: list[str], path: list[int]) -> tuple[int, int]:
-    """Where the item at a path begins, and where the next one would."""
-    at = 0
-    for depth, number in enumerate(path):
-        # An item of a block stands after the line that opens it.
-        at += depth > 0
-        for _ in range(number):
-            at = end_of_item(lines, at)
-    return at, end_of_item(lines, at)
-
-
-def end_of_item(lines: list[str], first: int) -> int:
-    """Where the item ends that begins at a line."""
-    opened = 0
-    for at in range(first, len(lines)):
-        line = lines[at].strip()
-        opened += line.endswith("{") - (line == "}")
-        if opened <= 0:
-            return at + 1
-    return len(lines)

@@ -7,9 +7,11 @@ import numpy as np
 from numpy.typing import NDArray
 
 import stabsim
+from stabsim.page import moments
+from stabsim.reading import lines_of
 
-IDLE = re.compile(r"^\s*I\b(?:\[[^\]]*\])?(?!.*\{).*$", re.IGNORECASE | re.MULTILINE)
-TICK = re.compile(r"^\s*TICK\b.*$", re.IGNORECASE | re.MULTILINE)
+# What stands for a mark until the circuit's own are taken away: a comment that no circuit of a session has.
+PLACE = "# mark"
 
 
 @dataclasses.dataclass(frozen=True)
@@ -29,9 +31,7 @@ class MomentFaults:
         if not numbers.qubits:
             return cls(0, numbers.detectors, np.zeros(1, dtype=np.int64), np.zeros(0, dtype=np.int64))
         mark = "I " + " ".join(map(str, range(numbers.qubits)))
-        # Other marks are taken away: an I does nothing, and would have rows of its own.
-        marked = TICK.sub(lambda tick: f"{mark}\n{tick[0].strip()}", IDLE.sub("", text)) + f"\n{mark}\n"
-        table = stabsim.Circuit(marked).faults(sure_only=True)
+        table = stabsim.Circuit(marked_text(text, mark)).faults(sure_only=True)
         return cls(numbers.qubits, numbers.detectors, table.indptr, table.indices)
 
     def flips(self, moment: int, qubit: int) -> dict[str, list[str]]:
@@ -54,6 +54,19 @@ class MomentFaults:
             at_moment[fault // 2] = "Y" if fault // 2 in at_moment else "ZX"[fault % 2]
         return letters
 
+    def slice(self, moment: int) -> dict[str, dict[int, str]]:
+        """The detecting regions at the end of a moment: for each detector and observable that has letters there, the letter on each
+        qubit."""
+        letters: dict[str, dict[int, str]] = {}
+        for fault in range(2 * self.qubits):
+            row = 2 * moment * self.qubits + fault
+            if moment < 0 or row + 1 >= len(self.indptr):
+                break
+            for place in self.indices[self.indptr[row]:self.indptr[row + 1]].tolist():
+                at_qubit = letters.setdefault(self.name(place), {})
+                at_qubit[fault // 2] = "Y" if fault // 2 in at_qubit else "ZX"[fault % 2]
+        return letters
+
     def name(self, place: int) -> str:
         return f"D{place}" if place < self.detectors else f"L{place - self.detectors}"
 
@@ -62,3 +75,10 @@ class MomentFaults:
         if not re.fullmatch(r"[DL]\d+", name):
             raise ValueError(f"{name} is no detector and no observable")
         return int(name[1:]) + (self.detectors if name[0] == "L" else 0)
+
+
+def marked_text(text: str, mark: str) -> str:
+    """A circuit with a mark at the end of each moment, and no other: an `I` of its own does nothing, and would have rows too. It
+    cuts moments all the same, as each gate does."""
+    lines = lines_of(moments.marked(text, PLACE))
+    return "\n".join(line.text for line in lines if line.parts is None or line.parts.name != "I").replace(PLACE, mark)

@@ -19,10 +19,19 @@ from stabsim.page.moment_faults import MomentFaults
 from stabsim.page.tabs import Tab
 
 HOST = "127.0.0.1"
-# The greatest message that a tab may send: an item's text, or a question.
-MOST_BYTES = 1 << 20
+# The greatest message that a tab may send: a circuit, an item's text, or a question.
+MOST_BYTES = 1 << 25
 # How long tabs may take to end when the server does.
 LAST_SECONDS = 1.0
+# What each answer has beside it: nothing but the page's own files is loaded, no other page frames it, and none is told of its address.
+GUARDS = {
+    "Content-Security-Policy": "default-src 'none'; script-src 'self'; style-src 'self'; img-src 'self' data:; connect-src 'self'; "
+                               "base-uri 'none'; form-action 'none'; frame-ancestors 'none'",
+    "Cache-Control": "no-store",
+    "Referrer-Policy": "no-referrer",
+    "X-Content-Type-Options": "nosniff",
+    "X-Frame-Options": "DENY",
+}
 # Why there is no table of faults, once an edit was made.
 NOT_YET = "the table of faults is being made"
 
@@ -30,9 +39,11 @@ NOT_YET = "the table of faults is being made"
 class Server:
     """One board for all tabs. What is asked of the board is asked in one thread, in the order in which it comes."""
 
-    def __init__(self, board: Board, token: str) -> None:
+    def __init__(self, board: Board, token: str, public_port: int | None = None) -> None:
         self.board = board
         self.token = token
+        # The port by which tabs come, where that is another than the server's own.
+        self.public_port = public_port
         self.tabs: set[Tab] = set()
         # Tasks, each kept until it ends: the loop itself would lose them.
         self.tasks: set[asyncio.Task[None]] = set()
@@ -46,6 +57,7 @@ class Server:
 
     def application(self) -> web.Application:
         app = web.Application(middlewares=[self.refuse_strangers])
+        app.on_response_prepare.append(guard)
         app.on_shutdown.append(self.close_tabs)
         app.router.add_get("/", self.page)
         app.router.add_get("/session", self.tab)
@@ -55,7 +67,7 @@ class Server:
     @web.middleware
     async def refuse_strangers(self, request: web.Request, handler: Handler) -> web.StreamResponse:
         """Only this address, from its own pages, and all but the pictures of the page with the token."""
-        names = {f"{HOST}:{self.port}", f"localhost:{self.port}"}
+        names = {f"{host}:{port}" for host in (HOST, "localhost") for port in (self.port, self.public_port)}
         origin = request.headers.get("Origin")
         if request.headers.get("Host") not in names or (origin is not None and origin not in {f"http://{name}" for name in names}):
             raise web.HTTPForbidden(text="this server answers to its own address alone\n")
@@ -131,12 +143,16 @@ class Server:
     async def answer_to(self, tab: Tab, question: Message) -> Message:
         asked = question["ask"]
         if asked == "edit":
-            edit, inside = Edit.of_message(question["edit"]), question.get("round")
+            edits, inside = [Edit.of_message(it) for it in question["edits"]], question.get("round")
+            if not edits:
+                raise ValueError("no edit")
             if inside:
-                return await self.change(self.board.edit_in_round, edit, str(inside["place"]), int(inside["number"]))
-            return await self.change(self.board.edit, edit)
+                return await self.change(self.board.edit_in_round, edits, str(inside["place"]), int(inside["number"]))
+            return await self.change(self.board.edit, edits)
         if asked == "split":
             return await self.change(self.board.split, str(question["place"]), int(question["round"]))
+        if asked == "open":
+            return await self.change(self.board.open, str(question["text"]), str(question["name"]))
         if asked == "go":
             return await self.change(self.board.go, int(question["position"]))
         if asked == "mark":
@@ -152,6 +168,8 @@ class Server:
             return self.flips_at(int(question["moment"]), int(question["qubit"]))
         if asked == "region":
             return await self.region_of(str(question["bit"]))
+        if asked == "slice":
+            return await self.slice_at(int(question["moment"]))
         if asked == "export":
             return {"text": await self.call(self.board.script if question["what"] == "script" else self.board.text)}
         if asked == "save":
@@ -217,6 +235,18 @@ class Server:
         return {"region": await asyncio.to_thread(self.faults.region, bit)}
 
 
+    async def slice_at(self, moment: int) -> Message:
+        """All regions at the end of a moment, or why none can be told."""
+        if isinstance(self.faults, str):
+            return {"why": self.faults}
+        return {"slice": await asyncio.to_thread(self.faults.slice, moment)}
+
+
+async def guard(request: web.Request, response: web.StreamResponse) -> None:
+    """Gives an answer its guards, a refusal too."""
+    response.headers.update(GUARDS)
+
+
 def faults_or_why(text: str) -> MomentFaults | str:
     """The table of faults of a circuit, or why there is none."""
     try:
@@ -225,7 +255,7 @@ def faults_or_why(text: str) -> MomentFaults | str:
         return f"there is no table of faults: it was refused as {refused.number} {refused.name}"
 
 
-TYPES = {"html": "text/html", "css": "text/css", "js": "text/javascript"}
+TYPES = {"html": "text/html", "css": "text/css", "js": "text/javascript", "json": "application/json"}
 
 
 def file_response(name: str) -> web.Response:
@@ -234,7 +264,7 @@ def file_response(name: str) -> web.Response:
     folder = importlib.resources.files("stabsim.page") / "static"
     if kind is None or "/" in name or "\\" in name or not (folder / name).is_file():
         raise web.HTTPNotFound(text="no such file\n")
-    return web.Response(body=(folder / name).read_bytes(), content_type=kind, charset="utf-8", headers={"Cache-Control": "no-store"})
+    return web.Response(body=(folder / name).read_bytes(), content_type=kind, charset="utf-8")
 
 
 @contextlib.asynccontextmanager
@@ -245,13 +275,13 @@ async def listening(server: Server, port: int) -> AsyncIterator[str]:
     try:
         await web.TCPSite(runner, HOST, port).start()
         server.port = runner.addresses[0][1]
-        yield f"http://{HOST}:{server.port}/?token={server.token}"
+        yield f"http://{HOST}:{server.public_port or server.port}/?token={server.token}"
     finally:
         await runner.cleanup()
 
 
-async def serve(board: Board, port: int) -> None:
+async def serve(board: Board, port: int, public_port: int | None = None) -> None:
     """Serves until it is stopped, and prints the address to open."""
-    async with listening(Server(board, secrets.token_urlsafe(18)), port) as address:
+    async with listening(Server(board, secrets.token_urlsafe(18), public_port), port) as address:
         print(address, flush=True)
         await asyncio.Event().wait()

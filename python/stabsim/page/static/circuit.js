@@ -1,8 +1,11 @@
 // A circuit as a tree of items, with the counts that the views ask for.
 //
-// An item is {text, name, targets} for one line, or {text, count, items, once} for a block. Each has its `ticks`, `records` and
-// `detectors`, a block those of all its rounds, and in `once` those of one. A path is the list of an item's place in the
-// outermost list, then in the block there, and so on, as the editing session counts them.
+// An item is {text, name, targets} for one line, or {text, count, items, once} for a block. Each has its counts (counts.js), a block
+// those of all its rounds, and in `once` those of one; an item that acts may have a `cut` in front of it (cuts.js). A path is the list
+// of an item's place in the outermost list, then in the block there, and so on, as the editing session counts them.
+
+import { forget, recount } from "./counts.js";
+import { cutList } from "./cuts.js";
 
 const HEAD = /^([A-Za-z][A-Za-z0-9_]*)(?:\[[^\]]*\])?(?:\(([^)]*)\))?\s*(.*)$/;
 const NAMES = {
@@ -29,6 +32,13 @@ export function parse(text) {
   return outermost;
 }
 
+// The items of a whole circuit, cut into moments.
+export function parseCircuit(text) {
+  const items = parse(text);
+  cutList(items);
+  return items;
+}
+
 function withoutComment(line) {
   const at = line.indexOf("#");
   return at < 0 ? line : line.slice(0, at);
@@ -36,7 +46,7 @@ function withoutComment(line) {
 
 function blockOf(line) {
   const head = HEAD.exec(line.slice(0, -1).trim());
-  return { text: line.slice(0, -1).trim(), count: Number(head[3]), items: [], once: null, ticks: 0, records: 0, detectors: 0 };
+  return { text: line.slice(0, -1).trim(), count: Number(head[3]), items: [], once: null, ticks: 0, cut: false, records: 0, detectors: 0 };
 }
 
 function lineOf(line) {
@@ -49,6 +59,7 @@ function lineOf(line) {
     name,
     targets,
     ticks: name === "TICK" ? 1 : 0,
+    cut: false,
     records: RECORDED.has(name) ? targets.length : 0,
     detectors: name === "DETECTOR" ? 1 : 0,
   };
@@ -85,7 +96,11 @@ export function applyEdit(items, edit) {
   else if (edit.kind === "replace") list.splice(place, 1, itemOf(edit.item));
   else if (edit.kind === "delete") list.splice(place, 1);
   else if (edit.kind === "split") list.splice(place, 1, ...partsOf(list[place], Number(edit.item)));
+  const lists = [items, ...blocksAround(items, path).map((block) => block.items)];
+  lists.forEach((it) => forget(it));
   for (const block of blocksAround(items, path).reverse()) recount(block);
+  // What cuts a block depends on what is before it, so all is cut anew from the outermost list on.
+  cutList(items, path[0], path[0] + (edit.kind === "split" ? 3 : 1));
 }
 
 // The blocks that a block becomes where a round is split off: the rounds before it, that round, and the rounds behind it.
@@ -106,24 +121,6 @@ export function blocksAround(items, path) {
     list = list[place].items;
   }
   return blocks;
-}
-
-function recount(block) {
-  block.once = countsOfList(block.items);
-  block.ticks = block.once.ticks * block.count;
-  block.records = block.once.records * block.count;
-  block.detectors = block.once.detectors * block.count;
-}
-
-// How many ticks, records and detectors items have, their rounds written out.
-export function countsOfList(items) {
-  const sum = { ticks: 0, records: 0, detectors: 0 };
-  for (const item of items) {
-    sum.ticks += item.ticks;
-    sum.records += item.records;
-    sum.detectors += item.detectors;
-  }
-  return sum;
 }
 
 // The place of the thing with a number: "detectors" or "ticks". Answers {item, path, rounds, records}, with the

@@ -5,25 +5,49 @@ export const PAULIS = ["X", "Y", "Z"];
 const GATES = new Set(["I", "X", "Y", "Z", "H", "S", "S_DAG", "SQRT_X", "SQRT_X_DAG", "SQRT_Y", "SQRT_Y_DAG", "C_XYZ", "C_ZYX"]);
 const PAIRS = new Set(["CX", "CY", "CZ", "SWAP"]);
 const RESETS = new Set(["MR", "MRX", "MRY", "R", "RX", "RY"]);
-const COLLAPSES = new Set(["M", "MX", "MY", ...RESETS]);
+const RECORDED = new Set(["M", "MX", "MY", "MR", "MRX", "MRY", "MPP"]);
+
+// All names that the program reads, for completion.
+export const NAMES = [...GATES, ...PAIRS, ...RECORDED, "R", "RX", "RY", "TICK", "DETECTOR", "OBSERVABLE_INCLUDE", "QUBIT_COORDS", "SHIFT_COORDS", "REPEAT"];
 
 export const isPair = (name) => PAIRS.has(name);
-export const isCollapse = (name) => COLLAPSES.has(name);
+export const isRecorded = (name) => RECORDED.has(name);
 export const resets = (name) => RESETS.has(name);
-
-// The qubits of an instruction in the groups on which it acts, without those that a record controls.
-export function groupsOf(item) {
-  if (isPair(item.name)) return pairsOf(item.targets).map((pair) => pair.filter(isQubit).map(qubitOf));
-  if (GATES.has(item.name) || isCollapse(item.name)) return item.targets.map((target) => [qubitOf(target)]);
-  if (item.name === "MPP") return item.targets.map((product) => product.split("*").map((factor) => qubitOf(factor.replace(/[XYZxyz]/, ""))));
-  return [];
-}
+export const isSingle = (name) => GATES.has(name) || RESETS.has(name) || (RECORDED.has(name) && name !== "MPP");
+export const acts = (name) => isSingle(name) || isPair(name) || name === "MPP";
 
 const isQubit = (target) => !target.startsWith("rec[");
 const qubitOf = (target) => Number(target.replace("!", ""));
 
-function pairsOf(targets) {
+// The qubits on which an item acts, in the order of its targets and without records that control it; they are kept with the item.
+export function qubitsOf(item) {
+  if (item.items || !acts(item.name)) return [];
+  item.on ??= item.name === "MPP" ? item.targets.flatMap((product) => factorsOf(product).map(({ qubit }) => qubit))
+    : item.targets.filter(isQubit).map(qubitOf);
+  return item.on;
+}
+
+// The factors of a product, each {letter, qubit, isInverted}.
+export function factorsOf(product) {
+  return product.split("*").map((factor) => {
+    const [, not, letter, qubit] = /^(!?)([XYZ])(\d+)$/i.exec(factor) ?? ["", "", "Z", "0"];
+    return { letter: letter.toUpperCase(), qubit: Number(qubit), isInverted: not === "!" };
+  });
+}
+
+// The pairs of targets of a gate on two, as they are written.
+export function pairsOf(item) {
   const pairs = [];
-  for (let i = 0; i + 1 < targets.length; i += 2) pairs.push([targets[i], targets[i + 1]]);
+  for (let i = 0; i + 1 < item.targets.length; i += 2) pairs.push([item.targets[i], item.targets[i + 1]]);
   return pairs;
 }
+
+// The groups of targets of which one can't be taken out without the others, each with its words and its qubits.
+export function groupsOf(item) {
+  if (isPair(item.name)) return pairsOf(item).map((pair) => ({ words: pair, qubits: pair.filter(isQubit).map(qubitOf) }));
+  if (item.name === "MPP") return item.targets.map((product) => ({ words: [product], qubits: factorsOf(product).map(({ qubit }) => qubit) }));
+  return item.targets.map((target) => ({ words: [target], qubits: isQubit(target) ? [qubitOf(target)] : [] }));
+}
+
+export const isRecord = (target) => !isQubit(target);
+export { qubitOf };

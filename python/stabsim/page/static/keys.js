@@ -1,18 +1,38 @@
-// Keys. With Ctrl, Alt, Meta or Shift held a letter is a command or nothing; a key that is held down repeats, and acts once.
+// Keys. A key that is held down repeats, and acts once; with Ctrl, Alt or Meta held a letter is a command or nothing.
 
 // The name of a key that is pressed by itself, and "" for any other.
 export function keyOf(event) {
-  const isHeld = event.repeat || event.ctrlKey || event.altKey || event.metaKey || event.shiftKey;
+  return event.shiftKey ? "" : letterOf(event);
+}
+
+// The same, where Shift may be held and makes another letter of it.
+export function letterOf(event) {
+  const isHeld = event.repeat || event.ctrlKey || event.altKey || event.metaKey;
   return isHeld ? "" : event.key;
 }
 
-// What a key asks for together with Ctrl, or with Meta on a Mac: "undo", "redo" or "".
+// What a key asks for together with Ctrl, or with Meta on a Mac: "undo", "redo", "save", "open" or "".
 export function commandOf(event) {
   if (event.repeat || event.altKey || !(event.ctrlKey || event.metaKey)) return "";
   const letter = event.key.toLowerCase();
   if (letter === "z") return event.shiftKey ? "redo" : "undo";
-  return letter === "y" ? "redo" : "";
+  return event.shiftKey ? "" : { y: "redo", s: "save", o: "open" }[letter] ?? "";
 }
 
-// Whether an element takes what is typed for itself; a slider does not.
-export const isField = (element) => element.matches("textarea, input:not([type='range'])");
+// Whether an element takes what is typed for itself.
+export const isField = (element) => element.matches("textarea, input:not([type='range']), select");
+
+// All keys, for the page that says them.
+export const ALL_KEYS = [
+  ["[ ]", "the tick before, the next"], ["← ↑ → ↓", "the nearest qubit that way; with Shift one more"],
+  ["h s x y z", "H, S, a Pauli"], ["X Y C", "√X, √Y, C_XYZ"],
+  ["m M, r R, n", "M, MX; R, RX; MR"], ["c v V w", "CX, CZ, CY, SWAP of the chosen two, or with the next"],
+  ["p", "measure the product of the chosen"], ["Delete", "take out what acts on them here"],
+  ["t T", "a tick put in here, the one that ends this taken out"], ["< >", "move what acts on them a tick back, on"],
+  ["d D", "a detector of the chosen records; one for each, with the record before"], ["o", "the chosen records go into observable 0"],
+  ["q", "put qubits on the grid"], ["Enter", "what else there is for a qubit"],
+  ["+ - 0", "greater, smaller, all; the wheel zooms, a drag pans"], ["Shift-drag", "choose the qubits in a box"],
+  ["Ctrl-Z Ctrl-Y", "undo, redo"], ["Ctrl-O Ctrl-S", "open, save"],
+  ["i a", "in the text: put an item in before, behind"], ["F6", "the next pane"],
+  ["Page ↑ ↓", "on the timeline: the same tick of another round"], ["Esc", "let go: of a tool, a region, what is chosen"],
+];

@@ -1,228 +1,248 @@
-// The qubits at one moment: the gates of that moment, Paulis that can be put on a qubit at its end, and the letters that the
-// region of a detector or observable has there.
+// The qubits at one moment, on a canvas that is zoomed and panned. What the pointer does there is handed on as what it means.
 
-import { PAULIS, groupsOf, isCollapse, isPair, resets } from "./instructions.js";
-import { keyOf } from "./keys.js";
-import { momentAt, momentsOf } from "./moments.js";
+import { CanvasPen } from "./canvas_pen.js";
+import { drawingOf } from "./drawing.js";
 
-const SVG = "http://www.w3.org/2000/svg";
-const STEP = 46;
-// Names are left out where they would be too small to be read: below this part of their size.
-const LEAST_SCALE = 0.5;
+const MARGIN = { left: 48, right: 40, top: 44, bottom: 34 };
+// How far apart neighbouring qubits stand at most when all are fitted in, and at any zoom, in pixels.
+const MOST_FITTED = 104;
+const MOST = 200;
+// How far the pointer may move in a click.
+const SLIP = 4;
 
 export class LayoutView {
-  #place;
-  #slider;
-  #said;
+  #canvas;
+  #pen;
   #act;
-  #items = [];
-  #qubits = 0;
-  #coordinates = null;
-  #places = new Map();
-  #dots = [];
-  #lines = element("g", {});
-  #drawnLines = null;
-  #extent = { width: 1, height: 1 };
-  #moment = 0;
-  #instructions = [];
-  #region = {};
+  #scene = null;
+  #view = null;
+  #fitted = 1;
+  #size = [0, 0];
+  #frame = 0;
+  #pointers = new Map();
+  #drag = null;
+  #hovered = null;
 
-  // `act` has put(letter, qubit, moment, instructions), offer(qubit, element, place), hover(qubit, moment), leave(), select(path),
-  // and moved() for when another moment is shown.
-  constructor({ place, slider, said }, act) {
-    this.#place = place;
-    this.#slider = slider;
-    this.#said = said;
+  // `act` has choose(qubit, isMore), box(qubits, isMore), use(qubit), place(spot), hover(qubit), menu(qubit, place), zoomed(part), and
+  // tool(): "pick", "qubit", or anything else for a gate.
+  constructor(canvas, act) {
+    this.#canvas = canvas;
+    this.#pen = new CanvasPen(canvas);
     this.#act = act;
-    slider.addEventListener("input", () => this.goTo(Number(slider.value)));
-    place.addEventListener("pointerleave", () => this.#act.leave());
-    new ResizeObserver(() => this.#fit()).observe(place);
+    canvas.addEventListener("wheel", (event) => this.#wheel(event), { passive: false });
+    canvas.addEventListener("pointerdown", (event) => this.#press(event));
+    canvas.addEventListener("pointermove", (event) => this.#move(event));
+    canvas.addEventListener("pointerup", (event) => this.#release(event));
+    canvas.addEventListener("pointercancel", (event) => this.#forget(event));
+    canvas.addEventListener("pointerleave", () => this.#hover(null));
+    canvas.addEventListener("contextmenu", (event) => this.#menu(event));
+    new ResizeObserver(() => this.#resize()).observe(canvas);
   }
 
-  // Coordinates are a list for each qubit that has some; the others stand in a row.
-  show(items, qubits, coordinates) {
-    this.#items = items;
-    this.#region = {};
-    if (qubits !== this.#qubits || coordinates !== this.#coordinates) {
-      this.#qubits = qubits;
-      this.#coordinates = coordinates;
-      this.#lay();
+  // Draws another scene (drawing.js); where qubits came to stand elsewhere, all of them are fitted in.
+  show(scene, isFresh) {
+    this.#scene = scene;
+    if (isFresh || !this.#view) this.fit();
+    else this.draw();
+  }
+
+  // Draws in the next frame, however often it is asked for.
+  draw() {
+    this.#frame ||= requestAnimationFrame(() => {
+      this.#frame = 0;
+      this.drawNow();
+    });
+  }
+
+  drawNow() {
+    if (!this.#scene || !this.#view) return;
+    this.#pen.begin(...this.#size);
+    this.#pen.draw(this.elements());
+  }
+
+  // What is drawn, as elements (glyphs.js).
+  elements() {
+    return drawingOf({ ...this.#scene, ...this.#marks() }, this.#fullView());
+  }
+
+  get size() {
+    return this.#size;
+  }
+
+  // Where a qubit is seen, from the upper left corner of the canvas; null where it has no place.
+  at(qubit) {
+    const place = this.#scene?.places.get(qubit);
+    return place && this.#view ? this.#seen(place) : null;
+  }
+
+  // Where a place of the grid is seen.
+  spot(place) {
+    return this.#seen(place);
+  }
+
+  fit() {
+    const [width, height] = this.#size;
+    if (!this.#scene || !width) return;
+    const { box, near } = this.#scene;
+    const room = [width - MARGIN.left - MARGIN.right, height - MARGIN.top - MARGIN.bottom];
+    this.#fitted = Math.max(1e-3, Math.min(room[0] / (box.right - box.left || 1), room[1] / (box.bottom - box.top || 1), MOST_FITTED / near));
+    this.#view = {
+      scale: this.#fitted,
+      x: (width + MARGIN.left - MARGIN.right - this.#fitted * (box.left + box.right)) / 2,
+      y: (height + MARGIN.top - MARGIN.bottom - this.#fitted * (box.top + box.bottom)) / 2,
+    };
+    this.#zoomed();
+  }
+
+  // Zooms by a factor, so that the spot given stays where it is.
+  zoom(factor, x = this.#size[0] / 2, y = this.#size[1] / 2) {
+    if (!this.#view) return;
+    const wanted = this.#view.scale * factor;
+    const scale = Math.max(this.#fitted / 2, Math.min(MOST / this.#scene.near, wanted));
+    const part = scale / this.#view.scale;
+    this.#view = { scale, x: x - (x - this.#view.x) * part, y: y - (y - this.#view.y) * part };
+    this.#zoomed();
+  }
+
+  // Pans just so far that a qubit is in sight.
+  bringIntoSight(qubit) {
+    const spot = this.at(qubit);
+    if (!spot) return;
+    const [width, height] = this.#size;
+    const into = (value, most) => Math.min(0, most - 24 - value) + Math.max(0, 24 - value);
+    const [across, down] = [into(spot[0], width), into(spot[1], height)];
+    if (across || down) this.#pan(across, down);
+  }
+
+  #zoomed() {
+    this.#act.zoomed(this.#view.scale / this.#fitted);
+    this.draw();
+  }
+
+  #pan(across, down) {
+    this.#view = { ...this.#view, x: this.#view.x + across, y: this.#view.y + down };
+    this.draw();
+  }
+
+  #resize() {
+    const before = this.#size;
+    this.#size = [this.#canvas.clientWidth, this.#canvas.clientHeight];
+    if (!this.#view || this.#view.scale === this.#fitted) this.fit();
+    else this.#pan((this.#size[0] - before[0]) / 2, (this.#size[1] - before[1]) / 2);
+  }
+
+  #seen([x, y]) {
+    return [this.#view.x + x * this.#view.scale, this.#view.y + y * this.#view.scale];
+  }
+
+  #fullView() {
+    return { ...this.#view, width: this.#size[0], height: this.#size[1], near: this.#scene.near };
+  }
+
+  // What is drawn for the pointer: the line to what a gate on two would act on next, the spot of a new qubit, the box of a drag.
+  #marks() {
+    const pointer = this.#hovered?.at;
+    const from = this.#scene.waiting === null ? null : this.at(this.#scene.waiting);
+    const spot = pointer && this.#act.tool() === "qubit" && this.#qubitAt(...pointer) === null ? this.#seen(this.#spotAt(...pointer)) : null;
+    return { pending: from && pointer ? [from, pointer] : null, spot, frame: this.#drag?.box ?? null };
+  }
+
+  #qubitAt(x, y) {
+    let [best, least] = [null, Math.max(10, this.#view.scale * this.#scene.near * 0.5)];
+    for (const [qubit, place] of this.#scene.places) {
+      const [left, top] = this.#seen(place);
+      const far = Math.hypot(left - x, top - y);
+      if (far < least) [best, least] = [qubit, far];
     }
-    this.#slider.max = momentsOf(items) - 1;
-    this.goTo(Math.min(this.#moment, Number(this.#slider.max)));
+    return best;
   }
 
-  get moment() {
-    return this.#moment;
+  // The place for a qubit nearest to a spot: a whole one.
+  #spotAt(x, y) {
+    return [Math.round((x - this.#view.x) / this.#view.scale), Math.round((y - this.#view.y) / this.#view.scale)];
   }
 
-  get instructions() {
-    return this.#instructions;
-  }
-
-  goTo(moment) {
-    this.#moment = moment;
-    this.#slider.value = moment;
-    this.#said.textContent = `tick ${moment} of ${this.#slider.max}`;
-    this.#instructions = momentAt(this.#items, moment);
-    this.#draw();
-    this.#act.moved();
-  }
-
-  // Shows a region: for each moment at whose end it has letters, those of the qubits.
-  showRegion(region) {
-    this.#region = region;
-    this.#draw();
-  }
-
-  // Makes the picture of all qubits; each moment then changes what differs there.
-  #lay() {
-    this.#places = placesOf(this.#qubits, this.#coordinates);
-    this.#dots = Array.from({ length: this.#qubits }, (_, qubit) => this.#dotOf(qubit));
-    this.#drawnLines = null;
-    const ends = endsOf(this.#places);
-    this.#extent = { width: ends.width + 2 * STEP, height: ends.height + 2 * STEP };
-    const { width, height } = this.#extent;
-    const picture = element("svg", { viewBox: `${ends.left - STEP} ${ends.top - STEP} ${width} ${height}`, role: "img", "aria-label": "the qubits" });
-    picture.append(this.#lines, ...this.#dots.map((dot) => dot.group));
-    this.#place.replaceChildren(picture);
-    this.#fit();
-  }
-
-  #fit() {
-    const scale = Math.min(this.#place.clientWidth / this.#extent.width, this.#place.clientHeight / this.#extent.height);
-    this.#place.classList.toggle("small", scale < LEAST_SCALE);
-  }
-
-  #dotOf(qubit) {
-    const { x, y } = this.#places.get(qubit);
-    const group = element("g", { class: "qubit", tabindex: 0, role: "button", "aria-label": `qubit ${qubit}`, "data-qubit": qubit });
-    const circle = element("circle", { cx: x, cy: y, r: 14 });
-    const name = element("text", { x, y: y + 4, class: "name" }, "");
-    const zero = element("text", { x: x + 15, y: y + 16, class: "pair-name" }, "");
-    const mark = element("text", { class: "letter" }, "");
-    const title = element("title", {}, "");
-    group.append(circle, name, zero, mark, title);
-    group.addEventListener("pointerenter", () => this.#act.hover(qubit, this.#moment));
-    group.addEventListener("focus", () => this.#act.hover(qubit, this.#moment));
-    group.addEventListener("click", (event) => this.#act.offer(qubit, group, { left: event.clientX, top: event.clientY }));
-    group.addEventListener("keydown", (event) => this.#key(event, qubit, group));
-    return { x, y, group, circle, name, zero, mark, title, shown: null };
-  }
-
-  #key(event, qubit, group) {
-    const key = keyOf(event);
-    const letter = key.toUpperCase();
-    if (PAULIS.includes(letter)) this.#act.put(letter, qubit, this.#moment, this.#instructions);
-    if (key !== "Enter" && key !== " ") return;
-    // Else the key would go on, and press the first button of the menu.
+  #wheel(event) {
     event.preventDefault();
-    const { right, bottom } = group.getBoundingClientRect();
-    this.#act.offer(qubit, group, { left: right, top: bottom });
+    if (!this.#scene) return;
+    // A pinch of two fingers comes as a wheel with Ctrl; two fingers that slide pan by Shift, as elsewhere.
+    if (event.shiftKey) this.#pan(-event.deltaX - event.deltaY, 0);
+    else this.zoom(Math.exp(-event.deltaY / (event.ctrlKey ? 100 : 400)), event.offsetX, event.offsetY);
   }
 
-  #draw() {
-    this.#drawLines();
-    const labels = labelsOf(this.#instructions);
-    const letters = this.#region[this.#moment] ?? {};
-    this.#dots.forEach((dot, qubit) => drawDot(dot, qubit, labels.get(qubit) ?? "", letters[qubit] ?? ""));
+  #press(event) {
+    if (event.button !== 0 || !this.#scene) return;
+    // A pointer that the browser does not know, as in a test, has nothing to be held.
+    if (event.isTrusted) this.#canvas.setPointerCapture(event.pointerId);
+    this.#pointers.set(event.pointerId, [event.offsetX, event.offsetY]);
+    const spot = [event.offsetX, event.offsetY];
+    this.#drag = this.#pointers.size > 1 ? null : { from: spot, last: spot, box: null, isMoved: false, isBox: event.shiftKey };
   }
 
-  // Gates on several qubits, drawn anew only where they are others than those that are drawn, or stand elsewhere.
-  #drawLines() {
-    const joining = this.#instructions.filter(({ item }) => isPair(item.name) || item.name === "MPP");
-    const shown = joining.map(({ item, path }) => `${path.join("/")} ${item.text}`).join("\n");
-    if (shown === this.#drawnLines) return;
-    this.#drawnLines = shown;
-    this.#lines.replaceChildren(...joining.flatMap(({ item, path }) => groupsOf(item).flatMap((group) => this.#linesOf(item, path, group))));
-  }
-
-  #linesOf(item, path, group) {
-    const lines = [];
-    for (let i = 0; i + 1 < group.length; i += 1) {
-      const [a, b] = [this.#places.get(group[i]), this.#places.get(group[i + 1])];
-      const line = element("line", { x1: a.x, y1: a.y, x2: b.x, y2: b.y, class: `pair ${item.name.toLowerCase()}` });
-      line.append(element("title", {}, `${item.name} ${group.join(" ")}, item ${path.join("/")}`));
-      line.addEventListener("click", () => this.#act.select(path));
-      lines.push(line);
+  #move(event) {
+    const spot = [event.offsetX, event.offsetY];
+    if (this.#pointers.size === 2 && this.#pointers.has(event.pointerId)) return this.#pinch(event.pointerId, spot);
+    if (!this.#drag) return this.#hover(spot);
+    const { from, last, isBox } = this.#drag;
+    if (Math.hypot(spot[0] - from[0], spot[1] - from[1]) >= SLIP) this.#drag.isMoved = true;
+    this.#drag.last = spot;
+    if (!this.#drag.isMoved) return undefined;
+    if (isBox) {
+      this.#drag.box = [from, spot];
+      return this.draw();
     }
-    if (isPair(item.name) && group.length === 2) lines.push(targetOf(item.name, this.#places.get(group[1])));
-    return lines;
+    return this.#pan(spot[0] - last[0], spot[1] - last[1]);
   }
-}
 
-// The name of what happens on each qubit in a moment, but for gates on two.
-function labelsOf(instructions) {
-  const labels = new Map();
-  for (const { item } of instructions) {
-    if (isPair(item.name)) continue;
-    for (const group of groupsOf(item)) for (const qubit of group) labels.set(qubit, item.name);
+  #pinch(id, spot) {
+    const other = [...this.#pointers].find(([it]) => it !== id)[1];
+    const before = this.#pointers.get(id);
+    const far = (a) => Math.hypot(a[0] - other[0], a[1] - other[1]) || 1;
+    this.#pointers.set(id, spot);
+    this.zoom(far(spot) / far(before), (spot[0] + other[0]) / 2, (spot[1] + other[1]) / 2);
   }
-  return labels;
-}
 
-// Draws a qubit, where something else is shown on it than before: the name of what happens on it, and the letter of a region.
-function drawDot(dot, qubit, label, letter) {
-  const shown = `${label} ${letter}`;
-  if (dot.shown === shown) return;
-  dot.shown = shown;
-  const kind = label ? (isCollapse(label) ? "collapse" : "gate") : "";
-  dot.circle.setAttribute("class", [kind, letter.toLowerCase()].filter(Boolean).join(" "));
-  dot.name.setAttribute("class", letter ? "name filled" : "name");
-  dot.name.textContent = label ? short(label) : letter ? "" : String(qubit);
-  drawLetter(dot, letter, Boolean(label));
-  dot.zero.textContent = label && resets(label) ? "0" : "";
-  dot.title.textContent = `qubit ${qubit}${label ? `, ${label}` : ""}`;
-}
-
-// A letter stands on its qubit, or beside it where a name stands there.
-function drawLetter({ x, y, mark }, letter, isBeside) {
-  mark.setAttribute("class", isBeside ? `letter beside ${letter.toLowerCase()}` : "letter");
-  mark.setAttribute("x", isBeside ? x - 17 : x);
-  mark.setAttribute("y", isBeside ? y - 9 : y + 4);
-  mark.textContent = letter;
-}
-
-function targetOf(name, place) {
-  return element("text", { x: place.x + 15, y: place.y - 12, class: "pair-name" }, name === "SWAP" ? "×" : name.slice(1));
-}
-
-function placesOf(count, coordinates) {
-  const qubits = Array.from({ length: count }, (_, qubit) => qubit);
-  const given = qubits.filter((qubit) => coordinates[qubit]?.length);
-  const lowest = given.reduce((low, qubit) => Math.max(low, coordinates[qubit][1] ?? 0), -1);
-  const places = new Map();
-  let alone = 0;
-  for (const qubit of qubits) {
-    const at = coordinates[qubit];
-    if (at?.length) places.set(qubit, { x: at[0] * STEP, y: (at[1] ?? 0) * STEP });
-    else {
-      places.set(qubit, { x: alone * STEP, y: (lowest + 1) * STEP });
-      alone += 1;
-    }
+  #release(event) {
+    const drag = this.#drag;
+    this.#forget(event);
+    if (!drag) return;
+    if (!drag.isMoved) this.#click(event);
+    else if (drag.box) this.#act.box(this.#qubitsIn(...drag.box), event.ctrlKey || event.metaKey);
+    this.draw();
   }
-  return places;
-}
 
-function endsOf(places) {
-  let [left, top, right, bottom] = [Infinity, Infinity, -Infinity, -Infinity];
-  for (const { x, y } of places.values()) {
-    left = Math.min(left, x);
-    right = Math.max(right, x);
-    top = Math.min(top, y);
-    bottom = Math.max(bottom, y);
+  #click(event) {
+    const qubit = this.#qubitAt(event.offsetX, event.offsetY);
+    const tool = this.#act.tool();
+    if (tool === "qubit" && qubit === null) this.#act.place(this.#spotAt(event.offsetX, event.offsetY));
+    else if (tool === "pick" || tool === "qubit" || event.shiftKey || qubit === null) this.#act.choose(qubit, event.shiftKey);
+    else this.#act.use(qubit);
   }
-  if (left > right) return { left: 0, top: 0, width: 0, height: 0 };
-  return { left, top, width: right - left, height: bottom - top };
-}
 
-function short(label) {
-  return label.length <= 3 ? label : label.replace("SQRT_", "√").replace("_DAG", "†").replace("C_", "");
-}
+  #qubitsIn([left, top], [right, bottom]) {
+    const isBetween = (value, a, b) => value >= Math.min(a, b) && value <= Math.max(a, b);
+    return [...this.#scene.places].filter(([, place]) => {
+      const [x, y] = this.#seen(place);
+      return isBetween(x, left, right) && isBetween(y, top, bottom);
+    }).map(([qubit]) => qubit);
+  }
 
-function element(name, attributes, text) {
-  const made = document.createElementNS(SVG, name);
-  for (const [key, value] of Object.entries(attributes)) made.setAttribute(key, value);
-  if (text !== undefined) made.textContent = text;
-  return made;
+  #forget(event) {
+    this.#pointers.delete(event.pointerId);
+    this.#drag = null;
+  }
+
+  #hover(spot) {
+    const qubit = spot && this.#scene && this.#view ? this.#qubitAt(...spot) : null;
+    const isNew = qubit !== (this.#hovered?.qubit ?? null);
+    this.#hovered = spot && { qubit, at: spot };
+    if (isNew) this.#act.hover(qubit);
+    if (this.#scene && (this.#scene.waiting !== null || this.#act.tool() === "qubit")) this.draw();
+  }
+
+  #menu(event) {
+    event.preventDefault();
+    const qubit = this.#scene && this.#qubitAt(event.offsetX, event.offsetY);
+    if (qubit !== null) this.#act.menu(qubit, { left: event.clientX, top: event.clientY });
+  }
 }

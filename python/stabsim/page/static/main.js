@@ -1,49 +1,76 @@
 // The page: what the server says goes into the views, and what a person does goes to the server.
 
-import { applyEdit, parse, pathOf } from "./circuit.js";
-import { DetectorsView } from "./detectors_view.js";
+import { pathOf, textOf } from "./circuit.js";
+import { exchangeThemes, followSystem } from "./colours.js";
+import { Editor } from "./editor.js";
+import { pathOfRound } from "./editing.js";
+import { EntryView } from "./entry_view.js";
+import { circuitOfAddress, shared, takeFiles } from "./files.js";
 import { HistoryView } from "./history_view.js";
-import { PAULIS } from "./instructions.js";
-import { commandOf, isField } from "./keys.js";
+import { Inspector } from "./inspector.js";
+import { Keyboard } from "./keyboard.js";
+import { Knowledge } from "./knowledge.js";
 import { LayoutView } from "./layout_view.js";
+import { showLegend } from "./legend.js";
 import { Link } from "./link.js";
 import { Menu } from "./menu.js";
-import { momentOf, momentsOf } from "./moments.js";
+import { momentsOf } from "./moments.js";
+import { exportsOf } from "./exports.js";
+import { Palette } from "./palette.js";
 import { partsOf } from "./refusals.js";
-import { saidOfRegion } from "./regions.js";
+import { Shown } from "./shown.js";
+import { State } from "./state.js";
 import { TextView } from "./text_view.js";
+import { TimelineView } from "./timeline_view.js";
+import { saidOfBit } from "./tips.js";
 
 const by = (id) => document.getElementById(id);
 
 const GONE = "The server is gone: nothing more can be asked. Start it again, and open the address that it prints.";
 
-// All that the views show; the server's events alone change it.
-let state = null;
-// The detector or observable whose region is shown, as D3 or L0, and the region, or why there is none.
-let chosen = { bit: null, region: {}, why: "" };
+followSystem(() => shown.state && shown.take("sure"));
 
-const text = new TextView(by("text"), { select: showPath, edit, split });
-const layout = new LayoutView({ place: by("picture"), slider: by("moment"), said: by("moment-said") }, { put, hover, leave, offer, select, moved });
-const detectors = new DetectorsView({ place: by("spacetime"), tip: by("tip") }, { select, choose });
-const history = new HistoryView(by("edits"), (position) => ask({ ask: "go", position }));
+const views = {
+  text: new TextView(by("text"), { select, write, remove }),
+  entry: new EntryView(by("entry"), { send: sendItem, split, leave: leaveEntry }),
+  layout: new LayoutView(by("picture"), {
+    choose: (qubit, isMore) => shown.choose(qubit, isMore),
+    box: (qubits, isMore) => shown.chooseAll(qubits, isMore),
+    use: (qubit) => editor.use(qubit),
+    place: (spot) => editor.place(spot),
+    hover: (qubit) => shown.hover(qubit),
+    menu: openMenu,
+    zoomed: (part) => { by("scale").textContent = `${Math.round(part * 100)}%`; },
+    tool: () => shown.tool,
+  }),
+  timeline: new TimelineView(by("timeline"), { goTo: (moment) => shown.goTo(moment), choose: chooseBit, tip: showTip }),
+  inspector: new Inspector({ qubit: by("about-qubit"), errors: by("about-errors"), detector: by("about-detector") }, { choose: chooseBit, select: (path) => shown.select(path) }),
+  history: new HistoryView(by("edits"), (position) => ask({ ask: "go", position })),
+  palette: new Palette(by("palette"), (name) => editor.take(name)),
+};
 const menu = new Menu(by("choice"));
 const link = new Link(hear, (reason) => say(reason || GONE, true));
+const knowledge = new Knowledge((question) => link.ask(question));
+const shown = new Shown(views, knowledge);
+const editor = new Editor(shown, { send, say, menu: (qubit, offers) => menu.open(by("picture"), placeOf(qubit), offers) });
+new Keyboard({ shown, editor, menu, layout: views.layout, openMenu, press: (id) => by(id).click() });
 
 function hear(event) {
   const started = performance.now();
+  const { state } = shown;
   if (event.event === "opened") open(event);
   else if (state && event.event === "edited") {
     if (event.age <= state.age) return;
     // An event that did not come, as where the tab slept, had edits that this one goes on from.
     if (event.age !== state.age + 1) return void ask({ ask: "all" });
-    take(event);
-  } else if (state && event.event === "sure" && event.age === state.age) state.sure = bitsOf(event.sure);
-  else if (state && event.event === "marked") mark(event);
+    state.take(event);
+  } else if (state && event.event === "sure" && event.age === state.age) state.takeSure(event.sure);
+  else if (state && event.event === "marked") state.mark(event.position);
   else {
-    if (event.event === "faults" && event.age === state?.age) choose(chosen.bit);
+    if (event.event === "faults" && event.age === state?.age) shown.known();
     return;
   }
-  show(event.event);
+  shown.take(event.event);
   // What a test's clock reads: the time from the event to the picture.
   requestAnimationFrame(() => {
     document.body.dataset.shown = String(Number(document.body.dataset.shown ?? 0) + 1);
@@ -51,75 +78,28 @@ function hear(event) {
   });
 }
 
+let isFirst = true;
+
 function open(event) {
-  state = {
-    age: event.age,
-    name: event.name,
-    items: parse(event.circuit),
-    numbers: event.numbers,
-    sure: event.sure === null ? null : bitsOf(event.sure),
-    entries: event.entries,
-    position: event.position,
-    markedAt: event.marked_at,
-    flipped: new Set(event.flipped),
-    marked: new Set(event.marked),
-  };
-  takeBits(event);
-  by("save").hidden = !event.saves;
+  shown.state = new State(event);
+  by("save").title = event.saves ? "write the circuit to its file (Ctrl-S)" : "have the browser save the circuit (Ctrl-S)";
+  by("save").dataset.writes = event.saves;
   by("left-out").hidden = !event.left_out;
-  by("left-out").textContent = event.left_out;
+  by("left-out").textContent = by("left-out").title = event.left_out;
   by("name").textContent = event.name;
   document.title = `${event.name} · stabsim`;
+  if (isFirst) openAddress();
+  isFirst = false;
 }
 
-// Edits that were made, by this tab or another. Entries that were undone have gone where new ones came.
-function take(event) {
-  for (const made of event.edits) applyEdit(state.items, made);
-  if (event.entries.length) state.entries.splice(event.position - event.entries.length, Infinity, ...event.entries);
-  Object.assign(state, { age: event.age, numbers: event.numbers, position: event.position, flipped: new Set(event.flipped), sure: null });
-  for (const name of event.flipped) if (!state.marked.delete(name)) state.marked.add(name);
-  if (event.detectors === undefined) event.flipped.forEach(flip);
-  else takeBits(event);
+async function openAddress() {
+  const text = await circuitOfAddress().catch(() => say("the address holds no circuit", true));
+  if (text) openText(text, "linked.stim");
 }
 
-function takeBits(event) {
-  state.detectors = bitsOf(event.detectors);
-  state.observables = bitsOf(event.observables);
-  state.coordinates = event.detector_coordinates;
-  state.qubitPlaces = event.qubit_coordinates;
-}
-
-function flip(name) {
-  listOf(name)[Number(name.slice(1))] ^= 1;
-}
-
-function mark(event) {
-  state.marked.clear();
-  state.markedAt = event.position;
-}
-
-const bitsOf = (line) => Uint8Array.from(line, Number);
-
-// Of a bit as D3 or L0: whether there is one, and whether a coin decides it, as far as that is known.
-const listOf = (bit) => (bit.startsWith("D") ? state.detectors : state.observables);
-const isThere = (bit) => bit !== null && Number(bit.slice(1)) < listOf(bit).length;
-const isRandom = (bit) => state.sure?.[Number(bit.slice(1)) + (bit.startsWith("D") ? 0 : state.detectors.length)] === 0;
-
-// Draws what an event changed: sure bits and marks stand in few views.
-function show(kind) {
-  const { numbers, items } = state;
-  if (kind === "opened" || kind === "edited") {
-    text.show(items);
-    detectors.show(state);
-    layout.show(items, numbers.qubits, state.qubitPlaces);
-    by("numbers").textContent = `${numbers.qubits} qubits · ${numbers.steps} steps · ${numbers.records} records · ${numbers.detectors} detectors · ${numbers.observables} observables`;
-    by("undo").disabled = state.position === 0;
-    by("redo").disabled = state.position === state.entries.length;
-    choose(isThere(chosen.bit) ? chosen.bit : null);
-  } else {
-    detectors.show(state);
-  }
-  if (kind !== "sure") history.show(state.entries, state.position, state.markedAt);
+async function openText(text, name) {
+  const answer = await ask({ ask: "open", text, name });
+  if (!answer.refused) say(`${name} is opened; Undo brings the circuit before it back`);
 }
 
 function say(words, bad = false) {
@@ -141,82 +121,79 @@ async function ask(question) {
   }
 }
 
-// Makes an edit, where `round` is {place, number} in a round of that block that is first taken out of it.
-async function edit(made, round = null) {
-  const answer = await ask({ ask: "edit", edit: made, round });
-  if (answer.refused) text.refuse(made.place, answer);
+// Makes edits as one entry, where `round` is {place, number} in a round of that block that is first taken out of it.
+async function send(edits, round = null) {
+  const answer = await ask({ ask: "edit", edits, round });
+  if (answer.refused) refuse(edits[0].place, answer);
+  else views.text.refuse(null);
   return !answer.refused;
+}
+
+function refuse(place, answer) {
+  views.text.refuse(place, answer.refused);
+  views.entry.refuse(answer);
+}
+
+async function sendItem(kind, path, item) {
+  const place = [...path];
+  if (kind === "behind") place[place.length - 1] += 1;
+  return send([{ kind: kind === "replace" && shown.state.items.length > path[0] ? "replace" : "insert", place: place.join("/"), item }]);
+}
+
+function remove(path) {
+  if (path[0] < shown.state.items.length) send([{ kind: "delete", place: path.join("/") }]);
 }
 
 // Takes a round out of the innermost block around a path, and chooses the path's item in it.
 async function split(path, round) {
   const block = path.slice(0, -1);
   const answer = await ask({ ask: "split", place: block.join("/"), round });
-  if (answer.refused) text.refuse(block.join("/"), answer);
-  else text.select([...pathOfRound(block, round), path.at(-1)]);
+  if (answer.refused) refuse(block.join("/"), answer);
+  else shown.select([...pathOfRound(block, round), path.at(-1)]);
 }
 
-// Where a round of a block stands once it is taken out: behind the rounds before, where there are some.
-const pathOfRound = (block, round) => [...block.slice(0, -1), block.at(-1) + (round > 0 ? 1 : 0)];
-
-function select(path) {
-  text.select(path);
+// Shows the moment of an item that was chosen in the text.
+function select(path, item) {
+  if (item) shown.select(path);
+  else shown.showItem(path);
 }
 
-// Shows the moment of an item that was selected in the text.
-function showPath(path) {
-  layout.goTo(Math.min(momentOf(state.items, path), momentsOf(state.items) - 1));
+function write(kind, path, item) {
+  const count = shown.showItem(path);
+  views.entry.open(kind, path, item, count);
 }
 
-// Where something is put in so that it stands at the end of a moment: before its tick, or behind the last item.
-function placeAtEnd(instructions) {
-  const tick = instructions.find(({ item }) => item.name === "TICK");
-  return tick ?? { path: [state.items.length], rounds: [] };
+function leaveEntry() {
+  views.text.refuse(null);
+  if (views.text.selected !== null) shown.showItem(pathOf(views.text.selected));
+  views.text.focus();
 }
 
-// Puts a Pauli on a qubit at the end of a moment; where that stands in a block, in this round alone. The region of the first bit that
-// it flipped is then shown.
-async function put(letter, qubit, moment, instructions, everyRound = false) {
-  const { path, rounds } = placeAtEnd(instructions);
-  const item = `${letter} ${qubit}`;
-  let place = path;
-  let round = null;
-  if (rounds.length === 1 && !everyRound && state.items[path[0]].count > 1) {
-    round = { place: String(path[0]), number: rounds[0] };
-    place = [...pathOfRound([path[0]], rounds[0]), path[1]];
-  }
-  if (await edit({ kind: "insert", place: place.join("/"), item }, round)) choose([...state.flipped][0] ?? null);
+// Chooses a bit, and its item in the text if it is a detector.
+function chooseBit(bit) {
+  shown.chooseBit(bit);
+  const path = saidOfBit(bit, shown.state)?.path;
+  if (path) shown.select(path, false);
 }
 
-// Opens the menu of a qubit, which an element shows.
-function offer(qubit, element, place) {
-  const { moment, instructions } = layout;
-  const inBlock = placeAtEnd(instructions).rounds.length > 0;
-  const offers = PAULIS.map((letter) => [`${letter} here`, () => put(letter, qubit, moment, instructions)]);
-  if (inBlock) offers.push(...PAULIS.map((letter) => [`${letter} in each round`, () => put(letter, qubit, moment, instructions, true)]));
-  offers.push(["Stabilised by Z?", () => askSign(`Z${qubit}`)], ["by X?", () => askSign(`X${qubit}`)]);
-  menu.open(element, place, offers);
+function showTip(bit, place) {
+  by("tip").hidden = !bit;
+  if (!bit) return;
+  by("tip").textContent = saidOfBit(bit, shown.state).words;
+  by("tip").style.left = `${Math.min(place.left + 14, innerWidth - by("tip").offsetWidth - 4)}px`;
+  by("tip").style.top = `${Math.min(place.top + 14, innerHeight - by("tip").offsetHeight - 4)}px`;
 }
 
-// Shows the region of a bit, or with null that of none.
-async function choose(bit) {
-  chosen = { bit, region: {}, why: "its region is asked for" };
-  detectors.choose(bit);
-  const answer = bit === null ? {} : await link.ask({ ask: "region", bit }).catch(() => ({}));
-  if (chosen.bit !== bit) return;
-  chosen = { bit, region: answer.region ?? {}, why: answer.why ?? "" };
-  layout.showRegion(chosen.region);
-  moved();
+// Where a qubit is seen in the window.
+function placeOf(qubit) {
+  const box = by("picture").getBoundingClientRect();
+  const [left, top] = views.layout.at(qubit) ?? [0, 0];
+  return { left: box.left + left + 16, top: box.top + top + 16 };
 }
 
-// Says what the region has at the moment that is shown.
-function moved() {
-  const { bit, region, why } = chosen;
-  let said = "";
-  if (bit !== null && why) said = `${bit}: ${why}`;
-  else if (bit !== null && isRandom(bit)) said = `${bit}: a coin decides it, so that nothing flips it`;
-  else if (bit !== null) said = saidOfRegion(bit, region, layout.moment);
-  by("region").textContent = said;
+function openMenu(qubit, place = placeOf(qubit)) {
+  if (!shown.chosen.includes(qubit)) shown.choose(qubit);
+  menu.open(by("picture"), place, editor.offers(qubit, askSign));
 }
 
 async function askSign(pauli) {
@@ -224,60 +201,40 @@ async function askSign(pauli) {
   if (sign) say(sign === "0" ? `neither ${pauli} nor -${pauli} is in the group at the end` : `${sign}${pauli} is in the group at the end`);
 }
 
-// What X and Z on a qubit would flip at the end of a moment; nothing until the table of faults is there.
-let hovered = 0;
-
-async function hover(qubit, moment) {
-  const number = ++hovered;
-  const answer = await link.ask({ ask: "faults", moment, qubit }).catch(() => ({}));
-  if (number !== hovered || !answer.flips) return;
-  const said = Object.entries(answer.flips).map(([letter, names]) => `${letter} flips ${names.join(" ") || "nothing"}`);
-  by("hint").textContent = `on qubit ${qubit} here: ${said.join(" · ")}`;
+async function share() {
+  const { text } = await ask({ ask: "export", what: "circuit" });
+  if (text !== undefined) await shared(text).then(say, (fault) => say(fault.message, true));
 }
 
-function leave() {
-  hovered += 1;
-  by("hint").textContent = "";
+function openKind(kind) {
+  if (views.text.selected !== null) write(kind, pathOf(views.text.selected), views.text.item);
 }
 
-function download(name, contents) {
-  const anchor = document.createElement("a");
-  anchor.href = URL.createObjectURL(new Blob([contents], { type: "text/plain" }));
-  anchor.download = name;
-  anchor.click();
-  URL.revokeObjectURL(anchor.href);
-}
+const exports = exportsOf({ ask, name: () => shown.state.name, layout: views.layout });
+const clicks = {
+  undo: () => ask({ ask: "go", position: shown.state.position - 1 }),
+  redo: () => ask({ ask: "go", position: shown.state.position + 1 }),
+  mark: () => ask({ ask: "mark" }),
+  open: () => by("file").click(),
+  link: share,
+  export: () => menu.open(by("export"), { left: by("export").getBoundingClientRect().left, top: 40 }, exports.offers),
+  save: () => (by("save").dataset.writes === "true" ? ask({ ask: "save" }) : exports.circuit()),
+  theme: () => { exchangeThemes(); shown.take("sure"); shown.drawLayout(); showLegend(by("legend")); },
+  replace: () => openKind("replace"),
+  insert: () => openKind("insert"),
+  behind: () => views.text.item && openKind("behind"),
+  delete: () => views.text.selected !== null && remove(pathOf(views.text.selected)),
+  smaller: () => views.layout.zoom(0.8),
+  greater: () => views.layout.zoom(1.25),
+  fit: () => views.layout.fit(),
+  drawer: () => menu.open(by("drawer"), by("drawer").getBoundingClientRect(), [[`without a place: ${shown.state.placement.drawer.join(" ")}`.slice(0, 200), () => {}]]),
+};
+for (const [id, act] of Object.entries(clicks)) by(id).addEventListener("click", act);
+by("since").addEventListener("change", (event) => shown.showSince(event.target.value));
+takeFiles(by("file"), openText);
+showLegend(by("legend"));
 
-async function exported(what, name) {
-  const answer = await ask({ ask: "export", what });
-  if (answer.text !== undefined) download(name, answer.text);
-}
-
-function deleteSelected() {
-  if (text.selected !== null && pathOf(text.selected)[0] < state.items.length) edit({ kind: "delete", place: text.selected });
-}
-
-by("undo").addEventListener("click", () => ask({ ask: "go", position: state.position - 1 }));
-by("redo").addEventListener("click", () => ask({ ask: "go", position: state.position + 1 }));
-by("mark").addEventListener("click", () => ask({ ask: "mark" }));
-by("since").addEventListener("change", (event) => detectors.since(event.target.value));
-by("export-script").addEventListener("click", () => exported("script", "edits.script"));
-by("export-circuit").addEventListener("click", () => exported("circuit", state.name));
-by("save").addEventListener("click", () => ask({ ask: "save" }));
-by("insert").addEventListener("click", () => text.openForm("insert"));
-by("behind").addEventListener("click", () => text.openForm("behind"));
-by("replace").addEventListener("click", () => text.openForm("replace"));
-by("delete").addEventListener("click", deleteSelected);
-by("previous").addEventListener("click", () => layout.goTo(Math.max(0, layout.moment - 1)));
-by("next").addEventListener("click", () => layout.goTo(Math.min(momentsOf(state.items) - 1, layout.moment + 1)));
-document.addEventListener("keydown", (event) => {
-  if (isField(event.target)) return;
-  const command = commandOf(event);
-  if (command) {
-    event.preventDefault();
-    by(command).click();
-  } else if (event.key === "Escape" && !menu.close()) choose(null);
-  // Brackets may need other keys held, so they are taken by what they type.
-  else if (event.key === "[" && !event.ctrlKey && !event.metaKey) by("previous").click();
-  else if (event.key === "]" && !event.ctrlKey && !event.metaKey) by("next").click();
-});
+// For tests: what is shown, and where it is seen.
+export const page = {
+  shown, views, moments: () => momentsOf(shown.state.items), text: () => shown.state.items.map((item) => `${textOf(item)}\n`).join(""),
+};

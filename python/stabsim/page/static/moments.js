@@ -1,49 +1,154 @@
-// Moments: what stands between two ticks, with the rounds of blocks written out.
+// Moments: what stands between two ticks or cuts, with the rounds of blocks written out.
 
-import { countsOfList } from "./circuit.js";
+import { before, countsOfList, firstReaching } from "./counts.js";
 
-// The instructions of a moment, each {item, path, rounds}. A block without ticks stands in one moment, and is
-// shown by its first round.
+// The instructions of a moment, each {item, path, rounds}.
 export function momentAt(items, moment) {
   const found = [];
   gather(items, moment, 0, [], [], found);
   return found;
 }
 
-function gather(items, moment, ticks, path, rounds, found) {
-  let before = ticks;
-  for (let place = 0; place < items.length && before <= moment; place += 1) {
+// Adds those of a list in front of which so many moments end.
+function gather(items, moment, start, path, rounds, found) {
+  const { bounds } = before(items);
+  for (let place = firstReaching(bounds, moment - start); place < items.length; place += 1) {
     const item = items[place];
-    const here = item.ticks;
-    if (before + here >= moment) {
-      if (item.items) gatherBlock(item, moment, before, [...path, place], rounds, found);
-      else if (before === moment) found.push({ item, path: [...path, place], rounds });
-    }
-    before += here;
+    let now = start + bounds[place];
+    if (now > moment) return;
+    if (item.cut) now += 1;
+    if (item.items) gatherBlock(item, moment, now, [...path, place], rounds, found);
+    else if (now === moment) found.push({ item, path: [...path, place], rounds });
   }
 }
 
-function gatherBlock(block, moment, before, path, rounds, found) {
-  const once = block.once.ticks;
+// A block within one moment is shown by its first round.
+function gatherBlock(block, moment, now, path, rounds, found) {
+  const once = block.once.bounds;
   if (once === 0) {
-    gather(block.items, moment, before, path, [...rounds, 0], found);
+    gather(block.items, moment, now, path, [...rounds, 0], found);
     return;
   }
-  const last = Math.min(block.count - 1, Math.floor((moment - before) / once));
+  const last = Math.min(block.count - 1, Math.floor((moment - now) / once));
   for (let round = Math.max(0, last - 1); round <= last; round += 1) {
-    gather(block.items, moment, before + round * once, path, [...rounds, round], found);
+    gather(block.items, moment, now + round * once, path, [...rounds, round], found);
   }
 }
 
-export const momentsOf = (items) => countsOfList(items).ticks + 1;
+export const momentsOf = (items) => before(items).bounds[items.length] + 1;
 
-// The moment in which the item at a path stands, in the first round of each block around it.
-export function momentOf(items, path) {
+// The moment in which the item at a path stands, in the given round of each block around it, else in the first.
+export function momentOf(items, path, rounds = []) {
   let moment = 0;
   let list = items;
-  for (const place of path) {
-    for (let i = 0; i < place; i += 1) moment += list[i].ticks;
-    list = list[place]?.items ?? [];
-  }
+  path.forEach((place, deep) => {
+    moment += before(list).bounds[Math.min(place, list.length)];
+    const item = list[place];
+    if (item?.cut) moment += 1;
+    if (item?.items && deep + 1 < path.length) moment += (rounds[deep] ?? 0) * item.once.bounds;
+    list = item?.items ?? [];
+  });
   return moment;
+}
+
+// Where something is put in so that it stands at the end of a moment, as {path, rounds}: in front of what ends it, or behind the
+// last item.
+export function endOf(items, moment) {
+  const found = endIn(items, moment, [], []);
+  return found ?? { path: [items.length], rounds: [] };
+}
+
+function endIn(list, moment, path, rounds) {
+  const { bounds } = before(list);
+  // The first item by which one more moment has ended.
+  const place = firstReaching(bounds, moment + 1);
+  if (place >= list.length || bounds[place + 1] < moment + 1) return null;
+  const item = list[place];
+  const left = moment - bounds[place] - (item.cut ? 1 : 0);
+  if (!item.items || left < 0) return { path: [...path, place], rounds };
+  const round = Math.floor(left / item.once.bounds);
+  return endIn(item.items, left - round * item.once.bounds, [...path, place], [...rounds, round]);
+}
+
+// Where something is put in so that it stands at the beginning of a moment: behind what ends the one before.
+export function beginOf(items, moment) {
+  if (moment === 0) return { path: [0], rounds: [] };
+  const { path, rounds } = endOf(items, moment - 1);
+  const item = path.reduce((list, place, deep) => (deep + 1 < path.length ? list[place].items : list[place]), items);
+  return item?.name === "TICK" ? { path: [...path.slice(0, -1), path.at(-1) + 1], rounds } : { path, rounds };
+}
+
+// What a moment is called: its tick, and its part where cuts make several moments of that tick.
+export function nameOf(items, moment) {
+  const tick = tickOf(items, moment);
+  const first = firstOfTick(items, tick, moment);
+  const isAlone = first === moment && (moment + 1 >= momentsOf(items) || tickOf(items, moment + 1) !== tick);
+  return { tick, name: isAlone ? String(tick) : `${tick}.${moment - first + 1}` };
+}
+
+// The first moment of a tick that has the given moment.
+function firstOfTick(items, tick, moment) {
+  let low = 0;
+  let high = moment;
+  while (low < high) {
+    const middle = (low + high) >> 1;
+    if (tickOf(items, middle) === tick) high = middle;
+    else low = middle + 1;
+  }
+  return low;
+}
+
+// How many TICKs come before a moment.
+export function tickOf(items, moment) {
+  if (moment <= 0) return 0;
+  return ticksUpTo(items, moment);
+}
+
+// How many TICKs are among the first so many bounds of a list.
+function ticksUpTo(list, number) {
+  const { bounds, ticks } = before(list);
+  const place = firstReaching(bounds, number);
+  if (place >= list.length) return ticks[list.length];
+  const item = list[place];
+  let count = ticks[place];
+  const left = number - bounds[place] - (item.items && item.cut ? 1 : 0);
+  if (left <= 0) return count;
+  if (!item.items) return count + item.ticks;
+  const round = Math.floor(left / item.once.bounds);
+  count += round * item.once.ticks;
+  const rest = left - round * item.once.bounds;
+  return rest > 0 ? count + ticksUpTo(item.items, rest) : count;
+}
+
+// The moment that declares each detector, in order.
+export function momentsOfDetectors(items) {
+  const found = new Int32Array(countsOfList(items).detectors);
+  fill(items, 0, found, 0);
+  return found;
+}
+
+// Fills in those of a list from a moment and a detector on; answers with the detector behind its last.
+function fill(list, start, found, first) {
+  let moment = start;
+  let next = first;
+  for (const item of list) {
+    if (item.cut) moment += 1;
+    if (item.items) {
+      const begin = next;
+      if (item.detectors) {
+        next = fill(item.items, moment, found, begin);
+        const once = next - begin;
+        for (let round = 1; round < item.count; round += 1) {
+          const shift = round * item.once.bounds;
+          for (let i = 0; i < once; i += 1) found[next + i] = found[begin + i] + shift;
+          next += once;
+        }
+      }
+      moment += item.bounds;
+      continue;
+    }
+    if (item.detectors) found[next++] = moment;
+    moment += item.ticks;
+  }
+  return next;
 }

@@ -2,12 +2,13 @@
 
 const MOST_LETTERS = 12;
 
-// Says where a region is, as the letters by moments that the server tells, and which letters it has at one moment.
-export function saidOfRegion(bit, region, moment) {
+// Says where a region is, as the letters by moments that the server tells, and which letters it has at one moment; `name(moment)` is
+// what a moment is called.
+export function saidOfRegion(bit, region, name, moment) {
   const moments = Object.keys(region).map(Number);
   if (!moments.length) return `no Pauli at the end of a tick flips ${bit}`;
   const letters = Object.entries(region[moment] ?? {}).map(([qubit, letter]) => `${letter}${qubit}`);
   const more = letters.length > MOST_LETTERS ? ` and ${letters.length - MOST_LETTERS} more` : "";
   const here = letters.length ? letters.slice(0, MOST_LETTERS).join(" ") + more : "nothing here";
-  return `region of ${bit}: ${here}; ticks ${moments[0]} to ${moments.at(-1)}`;
+  return `region of ${bit}: ${here}; ticks ${name(moments[0])} to ${name(moments.at(-1))}`;
 }

@@ -1,12 +1,10 @@
-// The circuit as text: blocks folded, each item with its path, and a form at the item that is edited.
-// Only the rows in sight are in the document.
+// The circuit as text: a tree of items with their paths, of which only the rows in sight are in the document.
 
-import { blocksAround, pathOf, textOf } from "./circuit.js";
+import { blocksAround, pathOf } from "./circuit.js";
+import { before } from "./counts.js";
 import { keyOf } from "./keys.js";
-import { partsOf } from "./refusals.js";
 import { countRows, numberOfRow, rowsBetween } from "./rows.js";
-
-const ROW = 22;
+import { iconOf } from "./svg_pen.js";
 
 export class TextView {
   #place;
@@ -15,28 +13,44 @@ export class TextView {
   #act;
   #items = [];
   #unfolded = new Set();
+  // The path of the row that is chosen, and whether that is the head of a run and no item.
   #selected = null;
-  #form = null;
+  #isHead = false;
+  #here = new Set();
+  #flagOf = () => null;
   #refusal = null;
   #height = 0;
+  #row = 20;
+  #frame = 0;
 
-  // `act` has select(path), edit(edit) and split(path, round).
+  // `act` has select(path, item), write(kind, path, item), remove(path).
   constructor(place, act) {
     this.#place = place;
     this.#act = act;
     this.#sheet.className = "sheet";
+    // Rows are of the tree, and what they lie in is not.
+    this.#sheet.role = this.#list.role = "presentation";
     this.#sheet.append(this.#list);
     place.append(this.#sheet);
     place.addEventListener("scroll", () => this.#draw());
     place.addEventListener("keydown", (event) => this.#key(event));
     new ResizeObserver(() => {
       this.#height = place.clientHeight;
+      this.#row = parseFloat(getComputedStyle(place).lineHeight) || 20;
       this.#draw();
     }).observe(place);
   }
 
-  show(items) {
+  // `flagOf(first, behind)` says whether one of some detectors is "flipped" or "random".
+  show(items, flagOf) {
     this.#items = items;
+    this.#flagOf = flagOf;
+    this.#draw();
+  }
+
+  // Marks the items that act at the moment which is shown.
+  mark(paths) {
+    this.#here = new Set(paths.map((path) => path.join("/")));
     this.#draw();
   }
 
@@ -44,74 +58,133 @@ export class TextView {
     return this.#selected;
   }
 
+  // The item that is chosen; null where none is, behind the last, or where an edit has taken it away.
+  get item() {
+    return this.#selectedRow()?.item ?? null;
+  }
+
   select(path) {
     this.#selected = path.join("/");
+    this.#isHead = false;
     for (const block of blocksAround(this.#items, path)) this.#unfolded.add(block);
     this.#bringIntoSight();
     this.#draw();
   }
 
-  // What an edit at a path was refused with, and the lines that explain it, if there are some.
-  refuse(place, { refused, explanation }) {
-    this.#refusal = { place, words: refused, ...partsOf(explanation) };
+  letGo() {
+    [this.#selected, this.#isHead] = [null, false];
+    this.#place.scrollTop = 0;
     this.#draw();
-    this.#form?.element.scrollIntoView({ block: "nearest" });
+  }
+
+  focus() {
+    this.#place.focus();
+  }
+
+  // What an edit at a path was refused with stands at its row; with null it goes.
+  refuse(place, words) {
+    this.#refusal = place === null ? null : { place, words };
+    this.#draw();
   }
 
   // Behind the last item something can be put in, too, so there is a row more.
   #rowsBetween(first, last) {
     const count = countRows(this.#items, this.#unfolded);
     const rows = rowsBetween(this.#items, this.#unfolded, first, last);
-    if (first <= count && count < last) rows.push({ number: count, path: [this.#items.length], item: null });
+    if (first <= count && count < last) rows.push({ number: count, path: [this.#items.length], item: null, run: 0 });
     return { rows, count: count + 1 };
   }
 
-  // The row that is selected; null where none is, or an edit has taken it away.
   #selectedRow() {
     if (this.#selected === null) return null;
-    const number = numberOfRow(this.#items, this.#unfolded, pathOf(this.#selected));
-    const row = this.#rowsBetween(number, number + 1).rows[0];
-    return row?.path.join("/") === this.#selected ? row : null;
+    const path = pathOf(this.#selected);
+    const number = numberOfRow(this.#items, this.#unfolded, path);
+    const row = this.#rowsBetween(number, number + 2).rows.find((it) => it.path.join("/") === this.#selected && (it.run > 0) === this.#isHead);
+    // An item in a folded run has no row of its own, and is chosen all the same.
+    return row ?? this.#inFoldedRun(path, number);
+  }
+
+  #inFoldedRun(path, number) {
+    if (this.#isHead) return null;
+    const list = blocksAround(this.#items, path).at(-1)?.items ?? this.#items;
+    const [head] = this.#rowsBetween(number, number + 1).rows;
+    const item = list[path.at(-1)];
+    return head?.run && item ? { number, path, item, run: 0 } : null;
   }
 
   #bringIntoSight() {
-    const top = numberOfRow(this.#items, this.#unfolded, pathOf(this.#selected)) * ROW;
+    const top = numberOfRow(this.#items, this.#unfolded, pathOf(this.#selected)) * this.#row;
     const { scrollTop } = this.#place;
-    if (top >= scrollTop && top + ROW <= scrollTop + this.#height) return;
+    if (top >= scrollTop && top + this.#row <= scrollTop + this.#height) return;
     // The sheet is as high as what was unfolded when it was last drawn.
-    this.#sheet.style.height = `${(countRows(this.#items, this.#unfolded) + 1) * ROW}px`;
+    this.#sheet.style.height = `${(countRows(this.#items, this.#unfolded) + 1) * this.#row}px`;
     this.#place.scrollTop = top - this.#height / 2;
   }
 
+  // Draws in the next frame, however often it is asked for.
   #draw() {
-    const first = Math.max(0, Math.floor(this.#place.scrollTop / ROW) - 5);
-    const { rows, count } = this.#rowsBetween(first, first + Math.ceil(this.#height / ROW) + 10);
-    this.#sheet.style.height = `${count * ROW}px`;
-    this.#list.replaceChildren(...rows.map((row) => this.#line(row)));
-    if (this.#form) this.#drawForm();
+    this.#frame ||= requestAnimationFrame(() => {
+      this.#frame = 0;
+      this.#drawNow();
+    });
   }
 
-  #line({ number, path, item }) {
+  #drawNow() {
+    const first = Math.max(0, Math.floor(this.#place.scrollTop / this.#row) - 5);
+    const { rows, count } = this.#rowsBetween(first, first + Math.ceil(this.#height / this.#row) + 10);
+    const selected = this.#selectedRow();
+    this.#sheet.style.height = `${count * this.#row}px`;
+    this.#list.replaceChildren(...rows.map((row) => this.#line(row, row.number === selected?.number)));
+    const active = this.#list.querySelector("[aria-selected=true]");
+    if (active) this.#place.setAttribute("aria-activedescendant", active.id);
+    else this.#place.removeAttribute("aria-activedescendant");
+  }
+
+  #line({ number, path, item, run }, isSelected) {
     const name = path.join("/");
     const line = document.createElement("div");
-    line.className = name === this.#selected ? "row selected" : "row";
+    line.className = ["row", isSelected && "selected", !run && this.#here.has(name) && "here", item?.name === "TICK" && "tick"].filter(Boolean).join(" ");
     line.role = "treeitem";
-    line.style.top = `${number * ROW}px`;
-    line.dataset.path = name;
-    line.append(span("path", item ? name : "end"), this.#fold(item), span("text", item?.text ?? "", path.length - 1));
-    if (item?.items) {
-      const isOpen = this.#unfolded.has(item);
-      line.ariaExpanded = isOpen;
-      line.append(span("inside", isOpen ? "" : `{ ${item.items.length} items, ${item.detectors} detectors }`));
-    }
-    if (this.#refusal?.place === name) line.append(span("refusal", this.#refusal.words));
-    line.addEventListener("click", () => this.#choose(path, item));
-    line.addEventListener("dblclick", () => this.openForm(item ? "replace" : "insert"));
+    line.id = `row-${name}${run ? "+" : ""}`;
+    line.ariaLevel = path.length;
+    line.ariaSelected = isSelected;
+    line.style.top = `${number * this.#row}px`;
+    line.dataset.path = run ? `${name}+` : name;
+    line.append(span("path", item ? name : "end"), this.#fold(item, run), ...this.#said(item, run, path.length - 1));
+    if (item?.items || run) line.ariaExpanded = this.#unfolded.has(item);
+    const flag = this.#flag(path, item, run);
+    if (flag) line.append(flag);
+    if (this.#refusal?.place === name && !run) line.append(span("refusal", this.#refusal.words));
+    line.addEventListener("click", () => this.#choose(path, item, run));
+    line.addEventListener("dblclick", () => run || this.#act.write(item ? "replace" : "insert", path, item));
     return line;
   }
 
-  #fold(item) {
-    if (!item?.items) return span("fold", "");
+  #said(item, run, depth) {
+    const margin = span("margin", "");
+    margin.style.paddingLeft = `${depth * 14}px`;
+    if (run) return [margin, span("inside", `${run} × ${item.name}`)];
+    if (!item) return [margin];
+    const [, name, rest] = /^(\S*?)((?:[[(\s].*)?)$/.exec(item.text);
+    const words = [margin, span("name", name), span("words", rest.slice(0, 300))];
+    if (item.items && !this.#unfolded.has(item)) words.push(span("inside", ` ${item.items.length} items, ${item.detectors} detectors`));
+    return words;
+  }
+
+  // Whether detectors of a row were flipped, or coins decide them; in a block rows have detectors of each round, and no flag.
+  #flag(path, item, run) {
+    if (path.length > 1 || item?.name !== "DETECTOR" || (run && this.#unfolded.has(item))) return null;
+    const { detectors } = before(this.#items);
+    const kind = this.#flagOf(detectors[path[0]], detectors[path[0] + Math.max(1, run)]);
+    if (!kind) return null;
+    const flag = span("flag", "");
+    flag.title = kind;
+    flag.innerHTML = iconOf(kind, kind === "random" ? 11 : 8, kind === "random" ? "quiet" : "flip");
+    return flag;
+  }
+
+  #fold(item, run) {
+    if (!item?.items && !run) return span("fold", "");
     const mark = span("fold", this.#unfolded.has(item) ? "▾" : "▸");
     mark.addEventListener("click", (event) => {
       event.stopPropagation();
@@ -120,129 +193,39 @@ export class TextView {
     return mark;
   }
 
-  #toggle(block) {
-    if (!this.#unfolded.delete(block)) this.#unfolded.add(block);
+  #toggle(item) {
+    if (!this.#unfolded.delete(item)) this.#unfolded.add(item);
     this.#draw();
   }
 
-  #choose(path, item) {
+  #choose(path, item, run) {
     this.#selected = path.join("/");
+    this.#isHead = run > 0;
     this.#refusal = null;
     this.#draw();
     this.#place.focus();
-    if (item) this.#act.select(path);
-  }
-
-  // A form for the text of an item: kind is "insert" (before), "behind" or "replace".
-  openForm(kind) {
-    const row = this.#selectedRow();
-    if (!row || (!row.item && kind !== "insert")) return;
-    this.#form?.element.remove();
-    this.#refusal = null;
-    this.#form = { kind, path: row.path, element: this.#formOf(kind, row.path, kind === "replace" ? textOf(row.item) : "") };
-    this.#sheet.append(this.#form.element);
-    this.#draw();
-    this.#form.element.querySelector("textarea").focus();
-  }
-
-  #formOf(kind, path, text) {
-    const form = document.createElement("form");
-    form.className = "item-form";
-    const field = document.createElement("textarea");
-    field.rows = Math.min(12, text.split("\n").length);
-    field.value = text;
-    field.ariaLabel = kind === "replace" ? "the item" : "the item to put in";
-    form.append(field, button("Put in", "submit"), button("Leave", "button", () => this.#closeForm()));
-    if (path.length > 1) form.append(this.#roundOffer(path));
-    // The row's own words may be out of sight behind the form.
-    form.append(span("refusal", ""), span("fault", ""), span("why", ""));
-    this.#listen(field, form);
-    form.addEventListener("submit", (event) => {
-      event.preventDefault();
-      this.#send(kind, path, field.value);
-    });
-    return form;
-  }
-
-  // In the form Enter puts the item in. The key that opened it may still be held down, and types nothing.
-  #listen(field, form) {
-    let isOpening = true;
-    field.addEventListener("keydown", (event) => {
-      event.stopPropagation();
-      isOpening &&= event.repeat;
-      const isEnter = event.key === "Enter" && !event.shiftKey;
-      if (event.repeat && (isOpening || isEnter)) event.preventDefault();
-      else if (event.key === "Escape") this.#closeForm();
-      else if (isEnter) {
-        event.preventDefault();
-        form.requestSubmit();
-      }
-    });
-  }
-
-  #drawForm() {
-    const { kind, path, element } = this.#form;
-    const number = numberOfRow(this.#items, this.#unfolded, path);
-    element.style.top = `${(number + (kind === "insert" ? 0 : 1)) * ROW}px`;
-    element.querySelector(".refusal").textContent = this.#refusal?.words ?? "";
-    element.querySelector(".fault").textContent = this.#refusal?.shown ?? "";
-    element.querySelector(".why").textContent = this.#refusal?.why ?? "";
-  }
-
-  // An edit inside a block is one of each of its rounds; one round can be taken out first.
-  #roundOffer(path) {
-    const count = blocksAround(this.#items, path).at(-1).count;
-    const offer = document.createElement("span");
-    offer.className = "offer";
-    const round = document.createElement("input");
-    round.type = "number";
-    round.min = 0;
-    round.max = count - 1;
-    round.value = 0;
-    round.ariaLabel = "round";
-    const split = button("Take out round", "button", () => {
-      this.#closeForm();
-      this.#act.split(path, Number(round.value));
-    });
-    split.className = "split";
-    offer.append(`changes all ${count} rounds`, split, round);
-    return offer;
-  }
-
-  async #send(kind, path, text) {
-    const place = [...path];
-    if (kind === "behind") place[place.length - 1] += 1;
-    const edit = { kind: kind === "replace" ? kind : "insert", place: place.join("/"), item: text.trim() };
-    if (await this.#act.edit(edit)) this.#closeForm();
-  }
-
-  #closeForm() {
-    this.#form?.element.remove();
-    this.#form = null;
-    this.#draw();
-    this.#place.focus();
+    this.#act.select(path, run ? null : item);
   }
 
   #key(event) {
-    // A form in the text has keys of its own.
-    if (event.target !== this.#place) return;
-    const moves = { ArrowDown: 1, ArrowUp: -1, PageDown: 20, PageUp: -20 };
+    const moves = { ArrowDown: 1, ArrowUp: -1, PageDown: 20, PageUp: -20, Home: -Infinity, End: Infinity };
     const row = this.#selectedRow();
     if (event.key in moves) {
       event.preventDefault();
-      this.#move(row ? row.number + moves[event.key] : 0);
+      this.#move(row || Math.abs(moves[event.key]) === Infinity ? (row?.number ?? 0) + moves[event.key] : 0);
       return;
     }
     if (!row) return;
-    const { path, item } = row;
+    const { path, item, run } = row;
+    const folds = item?.items || run;
     const isOpen = this.#unfolded.has(item);
     const keys = {
-      ArrowRight: () => item?.items && !isOpen && this.#toggle(item),
-      ArrowLeft: () => isOpen && this.#toggle(item),
-      Enter: () => this.openForm(item ? "replace" : "insert"),
-      i: () => this.openForm("insert"),
-      a: () => this.openForm("behind"),
-      Delete: () => item && this.#act.edit({ kind: "delete", place: path.join("/") }),
+      ArrowRight: () => folds && !isOpen && this.#toggle(item),
+      ArrowLeft: () => folds && isOpen && this.#toggle(item),
+      Enter: () => (run ? this.#toggle(item) : this.#act.write(item ? "replace" : "insert", path, item)),
+      i: () => this.#act.write("insert", path, item),
+      a: () => item && !run && this.#act.write("behind", path, item),
+      Delete: () => item && !run && this.#act.remove(path),
     };
     const act = keys[keyOf(event)];
     if (act) {
@@ -255,24 +238,15 @@ export class TextView {
   #move(number) {
     const last = countRows(this.#items, this.#unfolded);
     const at = Math.max(0, Math.min(last, number));
-    const { path, item } = this.#rowsBetween(at, at + 1).rows[0];
-    this.#choose(path, item);
+    const { path, item, run } = this.#rowsBetween(at, at + 1).rows[0];
+    this.#choose(path, item, run);
     this.#bringIntoSight();
   }
 }
 
-function span(name, text, depth = 0) {
+function span(name, text) {
   const element = document.createElement("span");
   element.className = name;
   element.textContent = text;
-  if (depth) element.style.paddingLeft = `${depth * 1.5}em`;
-  return element;
-}
-
-function button(text, type, act) {
-  const element = document.createElement("button");
-  element.type = type;
-  element.textContent = text;
-  if (act) element.addEventListener("click", act);
   return element;
 }

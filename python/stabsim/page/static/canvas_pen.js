@@ -1,0 +1,150 @@
+// Draws elements (glyphs.js) on a canvas. A glyph is drawn once as a picture of its own and then copied, since most of a moment's
+// glyphs are the same.
+
+import { elementsOf, hatch } from "./glyphs.js";
+import { colourOf, theme } from "./colours.js";
+
+const MOST_PICTURES = 400;
+const HATCH_STEP = 6;
+
+export class CanvasPen {
+  #canvas;
+  #pen;
+  #pictures = new Map();
+  #hatches = new Map();
+  #theme = null;
+  #ratio = 1;
+
+  constructor(canvas) {
+    this.#canvas = canvas;
+    this.#pen = canvas.getContext("2d");
+  }
+
+  // Clears the canvas, which is as large as it is shown.
+  begin(width, height) {
+    const ratio = devicePixelRatio || 1;
+    if (theme() !== this.#theme || ratio !== this.#ratio) {
+      this.#pictures.clear();
+      this.#hatches.clear();
+    }
+    [this.#theme, this.#ratio] = [theme(), ratio];
+    const size = [Math.round(width * ratio), Math.round(height * ratio)];
+    if (this.#canvas.width !== size[0]) this.#canvas.width = size[0];
+    if (this.#canvas.height !== size[1]) this.#canvas.height = size[1];
+    this.#pen.setTransform(ratio, 0, 0, ratio, 0, 0);
+    this.#pen.clearRect(0, 0, width, height);
+    this.#pen.lineJoin = this.#pen.lineCap = "round";
+  }
+
+  draw(elements) {
+    for (const element of elements) {
+      if (element.glyph) this.#copy(element);
+      else if (element.picture) this.#pen.drawImage(element.picture, 0, 0, element.width, element.height);
+      else if (element.path) this.#path(this.#pen, element);
+      else this.#words(this.#pen, element);
+    }
+  }
+
+  // A picture of elements by themselves, which `draw` takes as {picture, width, height}.
+  pictureOf(elements, width, height) {
+    const picture = new OffscreenCanvas(Math.max(1, Math.round(width * this.#ratio)), Math.max(1, Math.round(height * this.#ratio)));
+    const shown = this.#pen;
+    this.#pen = picture.getContext("2d");
+    this.#pen.scale(this.#ratio, this.#ratio);
+    this.draw(elements);
+    this.#pen = shown;
+    return picture;
+  }
+
+  #copy(glyph) {
+    const key = `${glyph.glyph} ${glyph.side.toFixed(2)} ${glyph.role} ${glyph.label ?? ""} ${glyph.small ?? ""}`;
+    let picture = this.#pictures.get(key);
+    if (!picture) {
+      if (this.#pictures.size >= MOST_PICTURES) this.#pictures.clear();
+      picture = this.#glyphPicture(glyph);
+      this.#pictures.set(key, picture);
+    }
+    const side = picture.width / this.#ratio;
+    // On whole pixels, else a copy would be blurred.
+    const left = Math.round((glyph.x - side / 2) * this.#ratio) / this.#ratio;
+    const top = Math.round((glyph.y - side / 2) * this.#ratio) / this.#ratio;
+    this.#pen.drawImage(picture, left, top, side, side);
+  }
+
+  #glyphPicture(glyph) {
+    const side = Math.ceil(Math.max(4, glyph.side * 1.5)) + 2;
+    const picture = new OffscreenCanvas(Math.ceil(side * this.#ratio), Math.ceil(side * this.#ratio));
+    const pen = picture.getContext("2d");
+    pen.scale(this.#ratio, this.#ratio);
+    pen.lineJoin = pen.lineCap = "round";
+    const middle = picture.width / this.#ratio / 2;
+    for (const element of elementsOf({ ...glyph, x: middle, y: middle })) {
+      if (element.path) this.#path(pen, element);
+      else this.#words(pen, element);
+    }
+    return picture;
+  }
+
+  #path(pen, { path, fill, stroke, width = 1, dash, alpha = 1, hatch: letter }) {
+    pen.beginPath();
+    for (const [op, ...numbers] of path) {
+      if (op === "M") pen.moveTo(...numbers);
+      else if (op === "L") pen.lineTo(...numbers);
+      else if (op === "A") pen.arc(...numbers);
+      else pen.closePath();
+    }
+    pen.globalAlpha = alpha;
+    if (fill) {
+      pen.fillStyle = colourOf(fill);
+      pen.fill();
+    }
+    if (letter) {
+      pen.fillStyle = this.#hatch(letter);
+      pen.fill();
+    }
+    if (stroke) {
+      pen.strokeStyle = colourOf(stroke);
+      pen.lineWidth = width;
+      pen.setLineDash(dash ?? []);
+      pen.stroke();
+      if (dash) pen.setLineDash([]);
+    }
+    pen.globalAlpha = 1;
+  }
+
+  #words(pen, { words, x, y, size, fill, align = "center", weight = 400, mono = false, halo }) {
+    pen.font = `${weight} ${size}px ${colourOf(mono ? "mono" : "sans")}`;
+    pen.textAlign = align;
+    pen.textBaseline = "middle";
+    if (halo) {
+      pen.strokeStyle = colourOf(halo);
+      pen.lineWidth = 3;
+      pen.strokeText(words, x, y);
+    }
+    pen.fillStyle = colourOf(fill);
+    pen.fillText(words, x, y);
+  }
+
+  // Patterns tell letters apart without colour.
+  #hatch(letter) {
+    if (!this.#hatches.has(letter)) this.#hatches.set(letter, this.#pen.createPattern(tileOf(letter), "repeat"));
+    return this.#hatches.get(letter);
+  }
+}
+
+function tileOf(letter) {
+  const tile = new OffscreenCanvas(HATCH_STEP, HATCH_STEP);
+  const pen = tile.getContext("2d");
+  pen.strokeStyle = pen.fillStyle = colourOf(letter.toLowerCase());
+  pen.globalAlpha = 0.55;
+  if (hatch[letter] === "dots") pen.fillRect(2, 2, 2, 2);
+  else {
+    const strokes = hatch[letter] === "rising" ? [[-1, 1, 1, -1], [0, 6, 6, 0], [5, 7, 7, 5]] : [[0, 3.5, 6, 3.5]];
+    for (const [left, top, right, bottom] of strokes) {
+      pen.moveTo(left, top);
+      pen.lineTo(right, bottom);
+    }
+    pen.stroke();
+  }
+  return tile;
+}

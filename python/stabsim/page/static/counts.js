@@ -1,0 +1,62 @@
+// How many ticks, moments, records and detectors items have, their rounds written out.
+
+const NAMES = ["ticks", "bounds", "records", "detectors"];
+
+// The places at which an item ends moments: a TICK is one, and a cut in front of an item.
+const boundsOf = (item) => (item.items ? item.bounds : item.ticks) + (item.cut ? 1 : 0);
+
+export function countsOfList(items) {
+  const sum = { ticks: 0, bounds: 0, records: 0, detectors: 0 };
+  for (const item of items) {
+    sum.ticks += item.ticks;
+    sum.bounds += boundsOf(item);
+    sum.records += item.records;
+    sum.detectors += item.detectors;
+  }
+  return sum;
+}
+
+// Counts what a block has anew, once its items are right.
+export function recount(block) {
+  block.once = countsOfList(block.items);
+  for (const name of NAMES) block[name] = block.once[name] * block.count;
+  forget(block.items);
+}
+
+// What is worked out of a list, by its name, is kept until the list changes.
+const kept = new WeakMap();
+
+export function derived(list, name, make) {
+  if (!kept.has(list)) kept.set(list, {});
+  return (kept.get(list)[name] ??= make(list));
+}
+
+export function forget(list) {
+  kept.delete(list);
+}
+
+// What comes before each item of a list, in order: how many bounds, ticks, records and detectors.
+export const before = (list) => derived(list, "sums", sumsOf);
+
+function sumsOf(list) {
+  const sums = Object.fromEntries(NAMES.map((name) => [name, new Float64Array(list.length + 1)]));
+  list.forEach((item, place) => {
+    sums.ticks[place + 1] = sums.ticks[place] + item.ticks;
+    sums.bounds[place + 1] = sums.bounds[place] + boundsOf(item);
+    sums.records[place + 1] = sums.records[place] + item.records;
+    sums.detectors[place + 1] = sums.detectors[place] + item.detectors;
+  });
+  return sums;
+}
+
+// The first place of a list whose sums reach a number: sums[place + 1] >= number.
+export function firstReaching(sums, number) {
+  let low = 0;
+  let high = sums.length - 1;
+  while (low < high) {
+    const middle = (low + high) >> 1;
+    if (sums[middle + 1] >= number) high = middle;
+    else low = middle + 1;
+  }
+  return low;
+}

@@ -1,0 +1,143 @@
+// The edits that tools and keys make of a circuit. Each answers {edits, round, shown}: what the session is asked for, the round
+// {place, number} that is split off first, or null, and where what was put in then stands, {path, rounds}; or {why} where nothing is
+// to be done.
+
+import { itemAt } from "./circuit.js";
+import { PAULIS, groupsOf, isPair, isSingle, qubitsOf } from "./instructions.js";
+import { beginOf, endOf, momentAt } from "./moments.js";
+
+const inBlock = ({ rounds }) => rounds.length > 0;
+
+// Where a round of a block stands once it is split off: behind the rounds before, where there are some.
+export const pathOfRound = (block, round) => [...block.slice(0, -1), block.at(-1) + (round > 0 ? 1 : 0)];
+
+// Whether an edit at a place can be made in its round alone: in a block that stands in no other, and has several rounds.
+const isAlone = (items, { path, rounds }) => rounds.length === 1 && items[path[0]].count > 1;
+
+// Makes edits those of one round alone, where `alone` says so and their place is in a block.
+function inRound(items, edits, where, alone) {
+  if (!alone || !isAlone(items, where)) return { edits, round: null, shown: where };
+  const [block] = where.path;
+  const number = where.rounds[0];
+  const moved = (path) => (path[0] === block ? [...pathOfRound([block], number), ...path.slice(1)] : path);
+  return {
+    edits: edits.map((edit) => ({ ...edit, place: moved(edit.place.split("/").map(Number)).join("/") })),
+    round: { place: String(block), number },
+    shown: { path: moved(where.path), rounds: [0] },
+  };
+}
+
+// Puts a gate, measurement or reset on qubits at the end of a moment. Of a gate that stands there already, and on other qubits, that
+// instruction goes on; an error stays by itself.
+export function putIn(items, moment, name, qubits, alone) {
+  const where = endOf(items, moment);
+  const words = wordsOf(name, qubits);
+  if (!words) return { why: `${name} acts on pairs of qubits: choose two` };
+  const before = where.path.at(-1) > 0 ? [...where.path.slice(0, -1), where.path.at(-1) - 1] : null;
+  const last = before && itemAt(items, before);
+  const joins = last?.name === name && !PAULIS.includes(name) && !qubits.some((qubit) => qubitsOf(last).includes(qubit));
+  if (joins) {
+    return inRound(items, [{ kind: "replace", place: before.join("/"), item: `${last.text} ${words}` }], { path: before, rounds: where.rounds }, alone);
+  }
+  return inRound(items, [{ kind: "insert", place: where.path.join("/"), item: `${name} ${words}` }], where, alone);
+}
+
+function wordsOf(name, qubits) {
+  if (isPair(name) && (qubits.length < 2 || qubits.length % 2)) return "";
+  return qubits.join(" ");
+}
+
+export const isForPairs = isPair;
+export const isForSingles = isSingle;
+
+// Measures the product of one letter on each qubit.
+export function measureProduct(items, moment, letter, qubits, alone) {
+  return putIn(items, moment, "MPP", [qubits.map((qubit) => `${letter}${qubit}`).join("*")], alone);
+}
+
+// Takes out what acts on qubits at a moment, with the other qubits of its pair or product; where nothing does, the places of qubits
+// on which nothing acts at all.
+export function takeOut(items, moment, qubits, alone, isUsed) {
+  const touched = momentAt(items, moment).filter(({ item }) => qubitsOf(item).some((qubit) => qubits.includes(qubit)));
+  if (!touched.length) return takePlaces(items, qubits.filter((qubit) => !isUsed(qubit)));
+  if (new Set(touched.map(({ path, rounds }) => `${path[0]} ${rounds.join("/")}`)).size > 1 && touched.some(inBlock) && alone) {
+    return { why: "these stand in several rounds: have the edit made in each round" };
+  }
+  return inRound(items, lastFirst(touched).map(({ item, path }) => without(item, path, qubits)), touched[0], alone);
+}
+
+// From the last to the first, so that none moves those that are still to come.
+function lastFirst(found) {
+  return [...found].sort((a, b) => {
+    const deep = a.path.findIndex((place, i) => place !== b.path[i]);
+    return deep < 0 ? 0 : b.path[deep] - a.path[deep];
+  });
+}
+
+function without(item, path, qubits) {
+  const left = groupsOf(item).filter((group) => !group.qubits.some((qubit) => qubits.includes(qubit)));
+  return changedTo(item, path, left);
+}
+
+function changedTo(item, path, groups) {
+  const place = path.join("/");
+  return groups.length ? { kind: "replace", place, item: `${headOf(item)} ${groups.flatMap(({ words }) => words).join(" ")}` } : { kind: "delete", place };
+}
+
+// What stands in front of an item's targets: its name, with a tag and arguments.
+const headOf = (item) => /^\S+?(?:\[[^\]]*\])?(?:\([^)]*\))?(?=\s|$)/.exec(item.text)[0];
+
+function takePlaces(items, qubits) {
+  const edits = [];
+  items.forEach((item, place) => {
+    if (item.name !== "QUBIT_COORDS") return;
+    const left = item.targets.filter((target) => !qubits.includes(Number(target)));
+    if (left.length === item.targets.length) return;
+    edits.unshift(left.length ? { kind: "replace", place: String(place), item: `${headOf(item)} ${left.join(" ")}` } : { kind: "delete", place: String(place) });
+  });
+  return edits.length ? { edits, round: null, shown: null } : { why: "nothing acts on these qubits here" };
+}
+
+// Moves what acts on qubits at a moment to the end of the one before it (by = -1), or the beginning of the next (by = 1).
+export function moveBy(items, moment, qubits, by) {
+  const touched = momentAt(items, moment).filter(({ item }) => qubitsOf(item).some((qubit) => qubits.includes(qubit)));
+  if (!touched.length) return { why: "nothing acts on these qubits here" };
+  const to = by < 0 ? (moment > 0 ? endOf(items, moment - 1) : null) : nextBegin(items, moment);
+  if (!to) return { why: "there is no such tick" };
+  const isElsewhere = touched.some(({ path, rounds }) => path.slice(0, -1).join() !== to.path.slice(0, -1).join() || rounds.join() !== to.rounds.join());
+  if (isElsewhere) return { why: "the tick is not in the same round" };
+  const taken = lastFirst(touched).map(({ item, path }) => without(item, path, qubits));
+  const put = touched.map(({ item }) => `${headOf(item)} ${groupsOf(item).filter((group) => group.qubits.some((qubit) => qubits.includes(qubit))).flatMap(({ words }) => words).join(" ")}`);
+  // Each list keeps its places in front of where it is changed, so the later change is made first.
+  if (by < 0) return { edits: [...taken, ...put.reverse().map((item) => ({ kind: "insert", place: to.path.join("/"), item }))], round: null, shown: to };
+  const gone = taken.filter(({ kind }) => kind === "delete").length;
+  const path = [...to.path.slice(0, -1), to.path.at(-1) - gone];
+  return { edits: [...put.reverse().map((item) => ({ kind: "insert", place: to.path.join("/"), item })), ...taken], round: null, shown: { ...to, path } };
+}
+
+function nextBegin(items, moment) {
+  const end = endOf(items, moment);
+  return itemAt(items, end.path) ? beginOf(items, moment + 1) : null;
+}
+
+// Puts a tick in at the end of a moment: what comes later stands in a tick of its own.
+export function putTick(items, moment) {
+  const { path, rounds } = endOf(items, moment);
+  return { edits: [{ kind: "insert", place: path.join("/"), item: "TICK" }], round: null, shown: { path: [...path.slice(0, -1), path.at(-1) + 1], rounds } };
+}
+
+// Takes out the tick that ends a moment.
+export function takeTick(items, moment) {
+  const { path } = endOf(items, moment);
+  if (itemAt(items, path)?.name !== "TICK") return { why: "no TICK ends this moment" };
+  return { edits: [{ kind: "delete", place: path.join("/") }], round: null, shown: null };
+}
+
+// Puts a qubit on a place of the grid: its line stands behind those of the qubits before it.
+export function putQubit(items, [x, y], taken) {
+  let qubit = 0;
+  while (taken.has(qubit)) qubit += 1;
+  const first = items.findIndex((item) => item.name !== "QUBIT_COORDS");
+  const place = first < 0 ? items.length : first;
+  return { edits: [{ kind: "insert", place: String(place), item: `QUBIT_COORDS(${x}, ${y}) ${qubit}` }], round: null, shown: null, qubit };
+}

@@ -1,0 +1,111 @@
+// What is chosen, at places that never move: the qubit, what an error there would flip, and the detector.
+
+import { findNumbered } from "./circuit.js";
+import { iconOf } from "./svg_pen.js";
+
+const MOST_NAMES = 8;
+
+export class Inspector {
+  #boxes;
+  #act;
+
+  // `act` has choose(bit) and select(path).
+  constructor(boxes, act) {
+    this.#boxes = boxes;
+    this.#act = act;
+  }
+
+  // `about` has {qubit, kind, at, said, item, path, more}, or is null where no qubit is chosen: then `where` says what is shown.
+  qubit(about, where) {
+    if (!about) return void fill(this.#boxes.qubit, title("No qubit chosen"), line(where), quiet("Click one, or use the arrows."));
+    const place = about.at ? ` at (${about.at.join(", ")})` : "";
+    const item = about.item ? [code(about.item.name), " of item ", this.#itemButton(about.path)] : ["idle here"];
+    const others = about.more ? `, and ${about.more} more` : "";
+    return void fill(this.#boxes.qubit, title(`Qubit ${about.qubit}`, `${about.kind}${place}${others}`), line(where), line(...item));
+  }
+
+  // What each Pauli there would flip, {X, Y, Z} of names, or why that is not known.
+  errors(flips, why) {
+    const rows = ["X", "Y", "Z"].map((letter) => {
+      const row = document.createElement("p");
+      row.className = "error";
+      row.dataset.letter = letter;
+      row.append(icon(letter, 15, letter.toLowerCase(), letter), ...this.#names(flips?.[letter], why));
+      return row;
+    });
+    fill(this.#boxes.errors, title("An error here would flip"), ...rows);
+  }
+
+  #names(names, why) {
+    if (!names) return [quiet(why, "span")];
+    if (!names.length) return [quiet("nothing", "span")];
+    const shown = names.slice(0, MOST_NAMES).flatMap((name) => [this.#button(name, () => this.#act.choose(name)), " "]);
+    return names.length > MOST_NAMES ? [...shown, `and ${names.length - MOST_NAMES} more`] : shown;
+  }
+
+  // state: {items, detectors, observables, coordinates}; `kind` says how the bit is drawn (timeline_view.js), `region` is what is said of
+  // its region.
+  detector(bit, state, { kind, region }) {
+    const place = this.#boxes.detector;
+    if (bit === null) return void fill(place, title("No detector chosen"), quiet("Click one on the timeline, or in the list above."));
+    const number = Number(bit.slice(1));
+    const value = (bit.startsWith("D") ? state.detectors : state.observables)[number];
+    const said = { random: "a coin decides it", flipped: `${value}, flipped`, bit1: "1", bit0: "0" }[kind];
+    const role = { random: "quiet", flipped: "flip", bit1: "one", bit0: "zero" }[kind];
+    const now = line(icon(kind, 12, role), ` ${said}`);
+    now.className = `bit ${kind}`;
+    const about = document.createElement("p");
+    about.id = "region";
+    about.textContent = region;
+    return void fill(place, ...this.#declared(bit, number, state), now, about);
+  }
+
+  #declared(bit, number, { items, coordinates }) {
+    if (!bit.startsWith("D")) return [title(bit, "observable")];
+    const found = findNumbered(items, "detectors", number);
+    const at = coordinates[number]?.length ? `at (${coordinates[number].join(", ")})` : "";
+    const records = found.item.targets.map((target) => found.records - Number(/\d+/.exec(target)[0]));
+    const head = title(bit, `${at}${at ? " · " : ""}item `);
+    head.querySelector("small").append(this.#itemButton(found.path));
+    return [head, line(`records ${records.join(" + ") || "none"}`)];
+  }
+
+  #itemButton(path) {
+    return this.#button(path.join("/"), () => this.#act.select(path));
+  }
+
+  #button(words, act) {
+    const button = document.createElement("button");
+    button.className = "link";
+    button.textContent = words;
+    button.addEventListener("click", act);
+    return button;
+  }
+}
+
+// A box that is one tab stop, and keeps the focus where it is filled anew.
+function fill(place, ...parts) {
+  const buttons = () => [...place.querySelectorAll("button")];
+  const at = buttons().indexOf(document.activeElement);
+  place.replaceChildren(...parts);
+  if (at >= 0) (buttons()[at] ?? buttons().at(-1))?.focus();
+}
+
+function element(name, className, ...parts) {
+  const made = document.createElement(name);
+  if (className) made.className = className;
+  made.append(...parts);
+  return made;
+}
+
+const line = (...parts) => element("p", "", ...parts);
+const code = (words) => element("code", "", words);
+const quiet = (words, name = "p") => element(name, "none", words);
+const title = (words, small) => element("h3", "", words, ...(small ? [" ", element("small", "", small)] : []));
+
+function icon(glyph, side, role, label = "") {
+  const made = document.createElement("span");
+  made.className = "icon";
+  made.innerHTML = iconOf(glyph, side, role, label);
+  return made;
+}

@@ -1,0 +1,151 @@
+// The keys of the whole page: each pane is one tab stop, and arrows move within it.
+
+import { ALL_KEYS, commandOf, isField, keyOf, letterOf } from "./keys.js";
+import { momentAt, momentsOf } from "./moments.js";
+import { neighbourOf } from "./places.js";
+import { roundOf } from "./timeline.js";
+
+const PANES = ["tools", "text", "words", "palette", "picture", "view", "timeline", "inspector"];
+const ROVING = ["tools", "palette", "view"];
+const ARROWS = { ArrowLeft: [-1, 0], ArrowRight: [1, 0], ArrowUp: [0, -1], ArrowDown: [0, 1] };
+
+const by = (id) => document.getElementById(id);
+
+export class Keyboard {
+  #page;
+
+  // `page` has shown, editor, menu, layout, openMenu(qubit) and press(id), which clicks a button.
+  constructor(page) {
+    this.#page = page;
+    document.addEventListener("keydown", (event) => this.#key(event));
+    for (const id of ROVING) this.#rove(by(id), 0);
+    sayKeys(by("keys"), by("hints"));
+  }
+
+  #key(event) {
+    if (event.defaultPrevented || !this.#page.shown.state || by("keys").open) return;
+    if (event.key === "F6") return void this.#nextPane(event);
+    const command = commandOf(event);
+    if (command && !(isField(event.target) && command !== "save" && command !== "open")) {
+      event.preventDefault();
+      this.#page.press(command);
+    } else if (!isField(event.target) && !this.#page.menu.isOpen) this.#act(event);
+    else if (event.key === "Escape") this.#page.menu.close();
+  }
+
+  #act(event) {
+    const isDone = this.#everywhere(event) || this.#inPane(event) || (!by("text").contains(event.target) && this.#onChosen(event));
+    if (isDone) event.preventDefault();
+  }
+
+  // Keys that mean the same in each pane. Brackets may need other keys held, so they are taken by what they type.
+  #everywhere({ key, ctrlKey, metaKey }) {
+    const { shown } = this.#page;
+    if (ctrlKey || metaKey) return false;
+    const keys = {
+      "[": () => shown.goTo(shown.moment - 1), "]": () => shown.goTo(shown.moment + 1), "+": () => this.#page.press("greater"), "=": () => this.#page.press("greater"),
+      "-": () => this.#page.press("smaller"), 0: () => this.#page.press("fit"), "?": () => by("keys").showModal(), Escape: () => this.#letGo(),
+    };
+    if (!Object.hasOwn(keys, key)) return false;
+    keys[key]();
+    return true;
+  }
+
+  #inPane(event) {
+    const pane = PANES.find((id) => by(id).contains(event.target));
+    if (pane === "timeline") return this.#onTimeline(event.key);
+    if (pane === "picture") return this.#onPicture(event);
+    const by_ = { ArrowLeft: -1, ArrowUp: -1, ArrowRight: 1, ArrowDown: 1 }[event.key];
+    if (!by_ || !(ROVING.includes(pane) || pane === "inspector")) return false;
+    this.#rove(by(pane), by_, true);
+    return true;
+  }
+
+  #onPicture(event) {
+    const { shown } = this.#page;
+    if (ARROWS[event.key]) {
+      const { places, box } = shown.state.placement;
+      const from = places.get(shown.chosen.at(-1)) ?? [box.left - 1, box.top];
+      const next = shown.chosen.length ? neighbourOf(places, from, ARROWS[event.key]) : neighbourOf(places, from, [1, 0]);
+      if (next !== null) shown.choose(next, event.shiftKey);
+      return true;
+    }
+    const key = keyOf(event);
+    if (key !== "Enter" && key !== " ") return false;
+    if (shown.chosen.length) this.#page.openMenu(shown.chosen.at(-1));
+    return true;
+  }
+
+  #onTimeline(key) {
+    const { shown } = this.#page;
+    const keys = {
+      ArrowLeft: () => shown.goTo(shown.moment - 1), ArrowRight: () => shown.goTo(shown.moment + 1), ArrowDown: () => shown.goTo(shown.moment - 1),
+      ArrowUp: () => shown.goTo(shown.moment + 1), Home: () => shown.goTo(0), End: () => shown.goTo(momentsOf(shown.state.items) - 1),
+      PageUp: () => this.#round(-1), PageDown: () => this.#round(1),
+    };
+    keys[key]?.();
+    return Boolean(keys[key]);
+  }
+
+  // The same tick one round later or earlier; outside blocks eight moments.
+  #round(by_) {
+    const { shown } = this.#page;
+    const { path, rounds } = roundOf(momentAt(shown.state.items, shown.moment));
+    let list = shown.state.items;
+    let once = 8;
+    for (const place of path.slice(0, rounds.length)) {
+      once = list[place].once.bounds;
+      list = list[place].items;
+    }
+    shown.goTo(shown.moment + by_ * Math.max(1, once));
+  }
+
+  #onChosen(event) {
+    const letter = letterOf(event);
+    return letter !== "" && this.#page.editor.key(letter);
+  }
+
+  // Escape lets go of one thing after another.
+  #letGo() {
+    const { shown } = this.#page;
+    if (shown.tool !== "pick" || shown.waiting !== null) shown.takeTool("pick");
+    else if (shown.bit !== null) shown.chooseBit(null);
+    else shown.choose(null);
+  }
+
+  #rove(pane, by_, isFocused = false) {
+    const buttons = [...pane.querySelectorAll("button:not(:disabled)")];
+    if (!buttons.length) return;
+    const now = Math.max(0, buttons.indexOf(document.activeElement));
+    const next = buttons.at((now + by_) % buttons.length);
+    for (const button of pane.querySelectorAll("button")) button.tabIndex = button === next ? 0 : -1;
+    if (isFocused) next.focus();
+  }
+
+  #nextPane(event) {
+    event.preventDefault();
+    const now = PANES.findIndex((id) => by(id).contains(document.activeElement));
+    const step = event.shiftKey ? -1 : 1;
+    for (let i = 1; i <= PANES.length; i += 1) {
+      const pane = by(PANES[(Math.max(now, step < 0 ? 0 : -1) + step * i + 2 * PANES.length) % PANES.length]);
+      const stop = pane.tabIndex >= 0 && !pane.disabled ? pane : pane.querySelector("button[tabindex='0']:not(:disabled), button:not(:disabled)");
+      if (!stop) continue;
+      stop.focus();
+      return;
+    }
+  }
+}
+
+function sayKeys(dialog, hints) {
+  const list = document.createElement("dl");
+  for (const [keys, words] of ALL_KEYS) list.append(made("dt", made("kbd", keys)), made("dd", words));
+  dialog.append(made("h2", "All keys"), list);
+  const parts = [["[", " "], ["]", " tick · "], ["←↑↓→", " qubit · "], ["F6", " next pane · "], ["?", " all keys"]];
+  hints.replaceChildren(...parts.flatMap(([key, words]) => [made("kbd", key), words]));
+}
+
+function made(name, content) {
+  const element = document.createElement(name);
+  element.append(content);
+  return element;
+}

@@ -1,0 +1,109 @@
+// What the program's table of faults says of the circuit: what each Pauli would flip, and where bits have their regions. It is asked for
+// when it is shown, and known until the next edit.
+
+import { isRecorded } from "./instructions.js";
+import { momentAt, momentsOf } from "./moments.js";
+
+// How many moments are looked through for one in which something is measured.
+const MOST_MOMENTS = 60;
+// A region of more qubits is no check.
+const MOST_OF_CHECK = 12;
+
+export class Knowledge {
+  #ask;
+  #slices = new Map();
+  #flips = new Map();
+
+  // `ask(question)` asks the server.
+  constructor(ask) {
+    this.#ask = ask;
+  }
+
+  forget() {
+    this.#slices.clear();
+    this.#flips.clear();
+  }
+
+  // The region of a bit as letters by moments, {region}, or {why} there is none.
+  async region(bit) {
+    const answer = await this.#ask({ ask: "region", bit }).catch(() => ({}));
+    return { region: answer.region ?? {}, why: answer.why ?? "" };
+  }
+
+  // What X, Y and Z on a qubit at the end of a moment would flip; null until the table is there.
+  flips(moment, qubit) {
+    return this.#kept(this.#flips, `${moment} ${qubit}`, { ask: "faults", moment, qubit }, (answer) => answer.flips ?? null);
+  }
+
+  // All regions at the end of a moment, {bit: Map of letters by qubits}; null until the table is there.
+  slice(moment) {
+    return this.#kept(this.#slices, moment, { ask: "slice", moment }, (answer) => (answer.slice ? slicesOf(answer.slice) : null));
+  }
+
+  async #kept(known, key, question, read) {
+    if (!known.has(key)) known.set(key, this.#ask(question).then(read).catch(() => null));
+    const found = await known.get(key);
+    // What is not there yet is asked for again.
+    if (!found && known.get(key)) known.delete(key);
+    return found;
+  }
+
+  // The faces of checks round a moment: those of the last moment up to it, and of the first behind it, in which something is measured.
+  async faces(items, moment, ancillas) {
+    const moments = measuredRound(items, moment);
+    const slices = await Promise.all(moments.map((it) => this.slice(it)));
+    return slices.some((slice) => slice === null) ? null : facesOf(slices, ancillas);
+  }
+
+  // The regions at a moment that share an error with that of a bit.
+  async neighbours(bit, moment) {
+    const slice = await this.slice(moment);
+    return slice ? neighboursOf(slice, bit) : [];
+  }
+}
+
+function slicesOf(slice) {
+  return Object.fromEntries(Object.entries(slice).map(([bit, letters]) => [bit, new Map(Object.entries(letters).map(([qubit, letter]) => [Number(qubit), letter]))]));
+}
+
+// The moments next to one in which something is measured: the last up to it, and the first behind it.
+export function measuredRound(items, moment) {
+  const isMeasured = (at) => momentAt(items, at).some(({ item }) => isRecorded(item.name));
+  const found = [];
+  for (let at = moment; at >= Math.max(0, moment - MOST_MOMENTS); at -= 1) {
+    if (isMeasured(at)) {
+      found.push(at);
+      break;
+    }
+  }
+  for (let at = moment + 1; at < Math.min(momentsOf(items), moment + MOST_MOMENTS); at += 1) {
+    if (isMeasured(at)) return [...found, at];
+  }
+  return found;
+}
+
+// The faces of slices: of each detector the qubits that are no ancillas, with the kind of its letters, or "op" for several.
+export function facesOf(slices, ancillas) {
+  const faces = new Map();
+  for (const slice of slices) {
+    for (const [bit, letters] of Object.entries(slice)) {
+      if (!bit.startsWith("D")) continue;
+      const qubits = [...letters.keys()].filter((qubit) => !ancillas.has(qubit)).sort((a, b) => a - b);
+      if (qubits.length < 2 || qubits.length > MOST_OF_CHECK) continue;
+      const own = new Set(qubits.map((qubit) => letters.get(qubit)));
+      const kind = own.size > 1 ? "op" : [...own][0].toLowerCase();
+      const key = qubits.join(" ");
+      faces.set(key, { qubits, kind: faces.has(key) && faces.get(key).kind !== kind ? "op" : kind });
+    }
+  }
+  // Greater ones are drawn first, so that none hides another.
+  return [...faces.values()].sort((a, b) => b.qubits.length - a.qubits.length);
+}
+
+// The regions that some Pauli on one qubit flips together with that of a bit.
+export function neighboursOf(slice, bit) {
+  const own = slice[bit];
+  if (!own) return [];
+  const isHit = (letters) => [...own].some(([qubit, letter]) => letters.has(qubit) && ["X", "Y", "Z"].some((pauli) => pauli !== letter && pauli !== letters.get(qubit)));
+  return Object.entries(slice).filter(([other, letters]) => other !== bit && other.startsWith("D") && isHit(letters)).map(([, letters]) => letters);
+}

@@ -1,0 +1,17 @@
+// What the marks on the picture and the timeline mean, and the keys that one begins with.
+
+import { iconOf } from "./svg_pen.js";
+
+const MARKS = [
+  ["data", 13, "qubit", "data"], ["ancilla", 13, "qubit", "ancilla"], ["X", 13, "x", "X"], ["Y", 13, "y", "Y"], ["Z", 13, "z", "Z"],
+  ["flipped", 9, "flip", "flipped"], ["random", 11, "quiet", "a coin decides"], ["bit1", 9, "one", "1"],
+];
+
+export function showLegend(place) {
+  place.replaceChildren(...MARKS.map(([glyph, side, role, words]) => {
+    const mark = document.createElement("span");
+    mark.innerHTML = iconOf(glyph, side, role, "XYZ".includes(glyph) ? glyph : "");
+    mark.append(words);
+    return mark;
+  }));
+}

@@ -1,0 +1,122 @@
+// What all views show of the circuit: the server's events alone change it.
+
+import { applyEdit, parseCircuit } from "./circuit.js";
+import { isRecorded, pairsOf, isPair, isRecord, qubitOf, qubitsOf, resets } from "./instructions.js";
+import { placesOf } from "./places.js";
+
+const bitsOf = (line) => Uint8Array.from(line, Number);
+
+export class State {
+  constructor(event) {
+    Object.assign(this, {
+      age: event.age,
+      name: event.name,
+      items: parseCircuit(event.circuit),
+      numbers: event.numbers,
+      sure: event.sure === null ? null : bitsOf(event.sure),
+      entries: event.entries,
+      position: event.position,
+      markedAt: event.marked_at,
+      flipped: new Set(event.flipped),
+      marked: new Set(event.marked),
+      used: new Set(),
+      ancillas: new Set(),
+      placement: null,
+      arranged: new Map(),
+    });
+    this.#use(this.items, 1);
+    this.#takeBits(event);
+    this.#place();
+  }
+
+  // Edits that were made, by this tab or another. Entries that were undone have gone where new ones came.
+  take(event) {
+    const known = this.used.size;
+    for (const made of event.edits) {
+      applyEdit(this.items, made);
+      if (made.kind === "insert" || made.kind === "replace") this.#use(parseCircuit(made.item), made.place.includes("/") ? 2 : 1);
+    }
+    if (event.entries.length) this.entries.splice(event.position - event.entries.length, Infinity, ...event.entries);
+    Object.assign(this, { age: event.age, position: event.position, flipped: new Set(event.flipped), sure: null });
+    for (const name of event.flipped) if (!this.marked.delete(name)) this.marked.add(name);
+    const isMoved = event.detectors !== undefined || event.numbers.qubits !== this.numbers.qubits || this.used.size !== known;
+    this.numbers = event.numbers;
+    if (event.detectors === undefined) event.flipped.forEach((name) => this.#flip(name));
+    else this.#takeBits(event);
+    if (isMoved) this.#place();
+  }
+
+  takeSure(line) {
+    this.sure = bitsOf(line);
+  }
+
+  mark(position) {
+    this.marked.clear();
+    this.markedAt = position;
+  }
+
+  // Of a bit as D3 or L0: whether there is one, and whether a coin decides it, as far as that is known.
+  isThere(bit) {
+    return bit !== null && Number(bit.slice(1)) < this.#listOf(bit).length;
+  }
+
+  isRandom(bit) {
+    return this.sure?.[Number(bit.slice(1)) + (bit.startsWith("D") ? 0 : this.detectors.length)] === 0;
+  }
+
+  // How a bit is drawn: "random" where a coin decides it, "flipped" where it is one of `flips`, or "bit0" or "bit1".
+  kindOf(bit, flips) {
+    if (this.isRandom(bit)) return "random";
+    if (flips.has(bit)) return "flipped";
+    return this.#listOf(bit)[Number(bit.slice(1))] ? "bit1" : "bit0";
+  }
+
+  // Whether a detector is drawn otherwise than as 0.
+  isTold(number, flips) {
+    return this.detectors[number] === 1 || this.sure?.[number] === 0 || (flips.size > 0 && flips.has(`D${number}`));
+  }
+
+  #listOf(bit) {
+    return bit.startsWith("D") ? this.detectors : this.observables;
+  }
+
+  #flip(name) {
+    this.#listOf(name)[Number(name.slice(1))] ^= 1;
+  }
+
+  #takeBits(event) {
+    this.detectors = bitsOf(event.detectors);
+    this.observables = bitsOf(event.observables);
+    this.coordinates = event.detector_coordinates;
+    this.qubitCoordinates = event.qubit_coordinates;
+  }
+
+  #place() {
+    this.placement = placesOf(this.qubitCoordinates, this.used, () => joinedIn(this.items), this.arranged);
+  }
+
+  // Notes on which qubits items act, and which are measured more than once, as ancillas are.
+  #use(items, rounds) {
+    for (const item of items) {
+      if (item.items) this.#use(item.items, item.count * rounds);
+      else this.#useItem(item, rounds);
+    }
+  }
+
+  #useItem(item, rounds) {
+    const isReused = isRecorded(item.name) && item.name !== "MPP" && (resets(item.name) || rounds > 1);
+    for (const qubit of qubitsOf(item)) {
+      this.used.add(qubit);
+      if (isReused) this.ancillas.add(qubit);
+    }
+  }
+}
+
+// The pairs of qubits on which gates act.
+function joinedIn(items) {
+  return items.flatMap((item) => {
+    if (item.items) return joinedIn(item.items);
+    if (item.name === "MPP") return qubitsOf(item).slice(1).map((qubit, i) => [qubitsOf(item)[i], qubit]);
+    return isPair(item.name) ? pairsOf(item).filter((pair) => !pair.some(isRecord)).map((pair) => pair.map(qubitOf)) : [];
+  });
+}

@@ -1,0 +1,20 @@
+// What is said of a detector under the pointer.
+
+import { findNumbered } from "./circuit.js";
+
+// {words, path} of a detector or observable, as D3 or L0.
+export function saidOfBit(bit, state) {
+  const number = Number(bit.slice(1));
+  if (bit.startsWith("L")) return { words: `${bit} is ${state.observables[number]}${kindOf(bit, state)}`, path: null };
+  const found = findNumbered(state.items, "detectors", number);
+  const records = found.item.targets.map((target) => found.records - Number(/\d+/.exec(target)[0]));
+  const at = state.coordinates[number]?.length ? ` at (${state.coordinates[number].join(", ")})` : "";
+  const rounds = found.rounds.length ? `, round ${found.rounds.join("/")}` : "";
+  const words = `${bit}${at} is ${state.detectors[number]}${kindOf(bit, state)}; item ${found.path.join("/")}${rounds}; records ${records.join(" ") || "none"}`;
+  return { words, path: found.path };
+}
+
+function kindOf(bit, state) {
+  if (state.sure === null) return "";
+  return state.isRandom(bit) ? ", a coin decides it" : ", the same for all coins";
+}

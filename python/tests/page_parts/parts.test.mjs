@@ -1,0 +1,160 @@
+// Rows, completion, places, drawings and edits: what the page works out without a browser.
+
+import assert from "node:assert/strict";
+import test from "node:test";
+
+import { arranged } from "../../stabsim/page/static/arranging.js";
+import { parseCircuit } from "../../stabsim/page/static/circuit.js";
+import { completed } from "../../stabsim/page/static/completion.js";
+import { drawingOf } from "../../stabsim/page/static/drawing.js";
+import { moveBy, putIn, putQubit, takeOut } from "../../stabsim/page/static/editing.js";
+import { elementsOf, hull } from "../../stabsim/page/static/glyphs.js";
+import { facesOf, neighboursOf } from "../../stabsim/page/static/knowledge.js";
+import { momentAt } from "../../stabsim/page/static/moments.js";
+import { neighbourOf, placesOf } from "../../stabsim/page/static/places.js";
+import { lookbacksOf, nameOfRecord, putDetector } from "../../stabsim/page/static/records.js";
+import { countRows, numberOfRow, rowsBetween } from "../../stabsim/page/static/rows.js";
+import { svgOf } from "../../stabsim/page/static/svg_pen.js";
+
+const VIEW = { scale: 60, x: 50, y: 50, width: 400, height: 300, near: 1 };
+
+function drawn(text, more = {}) {
+  const items = parseCircuit(text);
+  const placement = placesOf([[0, 0], [1, 0], [2, 0], [0, 1]], new Set(), () => []);
+  const scene = { ...placement, ancillas: new Set(), instructions: momentAt(items, 0), faces: [], region: null, neighbours: [], chosen: [], ...more };
+  return drawingOf(scene, VIEW);
+}
+
+const glyphs = (elements) => elements.filter(({ glyph }) => glyph).map(({ glyph, label, x, y }) => [glyph, label ?? "", (x - 50) / 60, (y - 50) / 60]);
+
+test("a CX has a dot on its control and a cross in a ring on its target", () => {
+  assert.deepEqual(glyphs(drawn("CX 2 0\n")).filter(([glyph]) => glyph !== "data"), [["control", "", 2, 0], ["xtarget", "", 0, 0]]);
+});
+
+test("measurements and resets say their basis, and idle qubits are rings", () => {
+  assert.deepEqual(glyphs(drawn("MX 0\nRY 1\nMR 2\n")).map(([glyph, label]) => `${glyph} ${label}`), ["data ", "measure MX", "reset i", "mreset M"]);
+});
+
+test("a product has one outline with its letters on its qubits", () => {
+  const elements = drawn("MPP X0*!Z3\n");
+  assert.equal(elements.filter(({ path, fill }) => path && fill === "op-soft").length, 1);
+  assert.deepEqual(glyphs(elements).filter(([glyph]) => glyph === "factor"), [["factor", "X", 0, 0], ["factor", "!Z", 0, 1]]);
+});
+
+test("an error on a gate stands beside it, above on the right", () => {
+  const [[, , x, y]] = glyphs(drawn("H 1\nX 1\n")).filter(([glyph]) => glyph === "X");
+  assert.ok(x > 1 && y < 0);
+});
+
+test("the letters of a region are shapes of their own on its qubits", () => {
+  const found = glyphs(drawn("TICK\n", { region: new Map([[0, "X"], [3, "Z"]]) })).filter(([glyph]) => "XZ".includes(glyph));
+  assert.deepEqual(found, [["X", "X", 0, 0], ["Z", "Z", 0, 1]]);
+});
+
+test("a glyph loses its words and then its shape as it gets smaller", () => {
+  const at = (side) => elementsOf({ glyph: "gate", x: 0, y: 0, side, role: "op", label: "S†" }).filter(({ words }) => words).map(({ words }) => words);
+  assert.deepEqual([30, 14, 8, 3].map(at), [["S†"], ["S"], [], []]);
+});
+
+test("SVG has the same glyphs, and escapes words", () => {
+  const svg = svgOf([{ words: "a<b&c", x: 0, y: 0, size: 10, fill: "ink" }, ...drawn("CX 0 1\n")], { width: 400, height: 300, colour: (name) => `var(--${name})` });
+  assert.ok(svg.includes("a&lt;b&amp;c") && svg.includes('stroke="var(--wire)"') && !svg.includes("NaN"));
+});
+
+test("the hull has the corners alone", () => {
+  assert.deepEqual(hull([[0, 0], [2, 0], [1, 0], [2, 2], [1, 1], [0, 2]]).length, 4);
+});
+
+test("qubits without coordinates that nothing acts on have no place", () => {
+  const { places, drawer } = placesOf([[0, 0], [], [1, 0], [], [2, 2], []], new Set([3]), () => []);
+  assert.deepEqual([...places.keys()], [0, 2, 4, 3]);
+  assert.deepEqual(drawer, [1]);
+});
+
+test("qubits without coordinates stand by their gates, and always alike", () => {
+  const qubits = Array.from({ length: 16 }, (_, qubit) => qubit);
+  const joined = qubits.slice(1).map((qubit) => [qubit - 1, qubit]);
+  const places = new Map(arranged(qubits, joined));
+  const far = (a, b) => Math.hypot(places.get(a)[0] - places.get(b)[0], places.get(a)[1] - places.get(b)[1]);
+  assert.ok(joined.every(([a, b]) => far(a, b) < far(0, 15) / 2));
+  assert.deepEqual(arranged(qubits, joined), [...places]);
+});
+
+test("places that were found by gates stay when qubits come", () => {
+  const coordinates = Array.from({ length: 15 }, () => []);
+  const known = new Map();
+  const used = new Set(Array.from({ length: 14 }, (_, qubit) => qubit));
+  const before = placesOf(coordinates, used, () => [[0, 1], [1, 2]], known).places;
+  const after = placesOf(coordinates, new Set([...used, 14]), () => [], known).places;
+  for (const [qubit, place] of before) assert.deepEqual(after.get(qubit), place);
+  assert.ok(after.has(14));
+});
+
+test("an arrow leads to the nearest qubit that way", () => {
+  const places = new Map([[0, [0, 0]], [1, [1, 1]], [2, [2, 0]], [3, [0, 2]]]);
+  assert.equal(neighbourOf(places, [0, 0], [1, 0]), 2);
+  assert.equal(neighbourOf(places, [0, 0], [0, 1]), 3);
+  assert.equal(neighbourOf(places, [0, 0], [-1, 0]), null);
+});
+
+test("runs of places and detectors are one row until they are opened", () => {
+  const items = parseCircuit("QUBIT_COORDS(0) 0\nQUBIT_COORDS(1) 1\nQUBIT_COORDS(2) 2\nH 0\nREPEAT 2 {\n    M 0\n    DETECTOR rec[-1]\n}\n");
+  assert.deepEqual(rowsBetween(items, new Set(), 0, 9).map(({ path, run }) => [path.join("/"), run]), [["0", 3], ["3", 0], ["4", 0]]);
+  const unfolded = new Set([items[0], items[4]]);
+  const rows = rowsBetween(items, unfolded, 0, 99);
+  assert.deepEqual(rows.map(({ path }) => path.join("/")), ["0", "0", "1", "2", "3", "4", "4/0", "4/1"]);
+  assert.equal(countRows(items, unfolded), rows.length);
+  for (const { number, path, run } of rows) if (!run) assert.equal(numberOfRow(items, unfolded, path), number);
+});
+
+test("names are completed as far as they are the same", () => {
+  assert.equal(completed("sqrt_x_").words, "SQRT_X_DAG ");
+  assert.equal(completed("H 0\nsqr").words, "SQRT_");
+  assert.equal(completed("H 0 sqr"), null);
+});
+
+test("a gate joins the one in front of it, but an error stands by itself", () => {
+  const items = parseCircuit("H 0\nTICK\n");
+  assert.deepEqual(putIn(items, 0, "H", [1, 2]).edits, [{ kind: "replace", place: "0", item: "H 0 1 2" }]);
+  assert.deepEqual(putIn(items, 0, "H", [0]).edits, [{ kind: "insert", place: "1", item: "H 0" }]);
+  assert.deepEqual(putIn(items, 0, "X", [1]).edits, [{ kind: "insert", place: "1", item: "X 1" }]);
+  assert.ok(putIn(items, 0, "CX", [1]).why);
+});
+
+test("what is put into one round alone has the places that it has once the round is split off", () => {
+  const items = parseCircuit("R 0\nREPEAT 4 {\n    TICK\n    H 0\n}\n");
+  assert.deepEqual(putIn(items, 2, "X", [0], true), {
+    edits: [{ kind: "insert", place: "2/0", item: "X 0" }], round: { place: "1", number: 2 }, shown: { path: [2, 0], rounds: [0] },
+  });
+});
+
+test("what is taken out or moved takes its pair with it", () => {
+  const items = parseCircuit("CX 0 1 2 3\nS 4\nTICK\nH 4\n");
+  const edits = [{ kind: "delete", place: "1" }, { kind: "replace", place: "0", item: "CX 2 3" }];
+  assert.deepEqual(takeOut(items, 0, [1, 4]).edits, edits);
+  assert.deepEqual(moveBy(items, 0, [1], 1).edits, [{ kind: "insert", place: "3", item: "CX 0 1" }, { kind: "replace", place: "0", item: "CX 2 3" }]);
+  assert.ok(moveBy(items, 0, [1], -1).why);
+});
+
+test("a new qubit has the least number that is free, behind the places of the others", () => {
+  const made = putQubit(parseCircuit("QUBIT_COORDS(0, 0) 0\nQUBIT_COORDS(1, 0) 2\nH 0\n"), [3, 4], new Set([0, 2]));
+  assert.deepEqual(made.edits, [{ kind: "insert", place: "2", item: "QUBIT_COORDS(3, 4) 1" }]);
+});
+
+test("a detector compares the last records of qubits, over rounds too", () => {
+  const items = parseCircuit("R 0 1\nREPEAT 3 {\n    TICK\n    MR 0 1\n}\nTICK\nM 1\n");
+  assert.deepEqual(lookbacksOf(items, 2, [1], 2), [{ qubit: 1, lookbacks: [{ lookback: -1, isHere: true }, { lookback: -3, isHere: false }] }]);
+  const places = new Map([[0, [5, 6]], [1, [7, 8]]]);
+  assert.deepEqual(putDetector(items, 4, [1, 0], { isEach: false, places, time: 2 }).edits, [{ kind: "insert", place: "4", item: "DETECTOR(5, 6, 2) rec[-1] rec[-3]" }]);
+  assert.equal(nameOfRecord(parseCircuit("M 4 5\nTICK\nM 6\nCX rec[-3] 0\nM 7\n"), 1, [3], -3), "M 4");
+});
+
+test("faces have the kind of their letters on data qubits, and are grey where both kinds are checked", () => {
+  const slices = [{ D0: new Map([[1, "X"], [2, "X"], [9, "Z"]]), D1: new Map([[3, "Z"], [4, "Z"]]), L0: new Map([[1, "Z"], [3, "Z"]]) }, { D2: new Map([[3, "X"], [4, "X"]]) }];
+  assert.deepEqual(facesOf(slices, new Set([9])), [{ qubits: [1, 2], kind: "x" }, { qubits: [3, 4], kind: "op" }]);
+});
+
+test("regions that one Pauli flips together are neighbours", () => {
+  const slice = { D0: new Map([[0, "Z"]]), D1: new Map([[0, "Z"], [1, "Z"]]), D2: new Map([[1, "X"]]) };
+  assert.deepEqual(neighboursOf(slice, "D0"), [slice.D1]);
+});
