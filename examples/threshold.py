@@ -88,24 +88,19 @@ def name_of(distance: int, chance: float) -> str:
     return f"distance {distance}, chance {chance}"
 
 
-def draw(sums: dict[str, stabsim.Sums], path: str) -> None:
-    """The rates with bars of one standard deviation."""
+def draw(counted: list[stabsim.Sums], path: str) -> None:
+    """The rates, with bars over those that are less likely by up to a factor of 1,000."""
     import matplotlib
 
     matplotlib.use("Agg")
     from matplotlib import pyplot
 
     figure, axes = pyplot.subplots(figsize=(7, 4.6), dpi=110)
-    for distance, marker in zip(DISTANCES, "osD"):
-        counted = [sums[name_of(distance, chance)] for chance in CHANCES]
-        rates = np.array([it.errors / it.shots for it in counted])
-        bars = np.sqrt(rates * (1 - rates) / [it.shots for it in counted])
-        axes.errorbar(CHANCES, rates, yerr=bars, marker=marker, capsize=3, label=f"distance {distance}, {distance} rounds")
-    axes.set(yscale="log", xlabel="chance of an error of each gate, reset and measurement", ylabel="logical error rate")
+    stabsim.plot(counted, x="chance", group="distance", axes=axes)
+    axes.set_xlabel("chance of an error of each gate, reset and measurement")
     # Codes of another model of noise would need a picture of their own.
     axes.set_title(f"Rotated surface code, {codes.NOISE_MODELS['surface_code']} noise, matching")
     axes.grid(True, which="both", alpha=0.3)
-    axes.legend()
     figure.tight_layout()
     figure.savefig(path)
 
@@ -120,14 +115,15 @@ def main() -> None:
     given = words.parse_args()
     models = {name_of(distance, chance): stabsim.error_model(codes.surface_code(distance, distance, noise=codes.Noise.uniform(chance)))
               for distance in DISTANCES for chance in CHANCES}
+    metadata = {name_of(distance, chance): {"distance": distance, "chance": chance} for distance in DISTANCES for chance in CHANCES}
     with ProcessPoolExecutor() as executor:
         counted = stabsim.collect(models, ("matching", decoder), shots=given.shots, errors=given.errors, seed=given.seed, executor=executor,
-                                  save=given.save, part_shots=1024)
+                                  save=given.save, part_shots=1024, metadata=metadata)
         sums = {it.name: it for it in counted}
     for name in models:
         print(f"{name}: {sums[name].errors} errors in {sums[name].shots} shots")
     if given.picture:
-        draw(sums, given.picture)
+        draw([sums[name] for name in models], given.picture)
 
 
 if __name__ == "__main__":

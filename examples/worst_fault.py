@@ -70,7 +70,7 @@ def told(table: stabsim.FaultTable, lines: list[int]) -> str:
 
 def exchange_middle_gates(session: stabsim.Session) -> None:
     """In the first round and in the block of the others, the second and third of the four lines of CX change places."""
-    items = session.circuit.splitlines()
+    items = session.circuit().splitlines()
     block = sum(not line.startswith("    ") for line in items[: next(i for i, line in enumerate(items) if line.startswith("REPEAT"))])
     first = [str(place) for place, line in enumerate(items[:block]) if line.startswith("CX")]
     body = [line.strip() for line in items[block + 1 :] if line.startswith("    ")]
@@ -85,7 +85,7 @@ def main() -> None:
     circuit = stabsim.Circuit(codes.surface_code(DISTANCE, 3))
     with circuit.edit() as session:
         for schedule in ("as it is", "with the middle gates of each round exchanged"):
-            faults = lightest(stabsim.Circuit(session.circuit))
+            faults = lightest(stabsim.Circuit(session.circuit()))
             print(f"{schedule}: {len(faults)} faults flip the observable unseen")
             for fault in faults:
                 print(f"  {fault}")

@@ -2,54 +2,82 @@
 
 - `Circuit`: a circuit in Stim's text without noise, and what the program says of it, as arrays.
 - `Session`: a circuit that is edited while it is kept run; made by `Circuit.edit`.
-- `error_model`, `without_noise`: of circuits with noise, which the program does not read.
+- `from_stim`: any circuit of Stim's, with its noise; `without_noise`: its text without that, which the program reads.
+- `error_model`: what the noise of a circuit flips, and how often.
 - `collect`: counts logical errors of many error models, on many cores, with a file to go on from.
 - `codes`: circuits of codes; it needs no numpy.
 
 Everything is computed by the program, which is found by the variable STABSIM, in this repository, or on the PATH. What the package
-adds, error models and their samples, no proof covers. docs/python.md of the repository begins with examples.
+adds, what it makes of Stim's text, error models and their samples, no proof covers. docs/python.md of the repository begins with examples.
 """
 
 import importlib
 from typing import TYPE_CHECKING
 
+__version__ = "0.2.0"
+
 __all__ = [
-    "Changed", "Circuit", "Decoder", "ErrorModel", "FaultTable", "ItemSteps", "MissingProgram", "NotDecomposed", "Numbers",
-    "OtherExperiment", "Path", "Predict", "ProgramFailed", "Refused", "Session", "SessionEnded", "SessionNumbers", "StabsimError",
-    "Sums", "Sure", "UnsupportedNoise", "codes", "collect", "error_model", "find_program", "without_noise",
+    "BadErrorModel", "BadShots", "Block", "Cause", "Changed", "Circuit", "Collection", "Decoder", "ErrorModel", "FaultTable", "Instruction",
+    "Item", "ItemSteps", "MissingProgram", "NotDecomposed", "Numbers", "OtherExperiment", "Path", "Predict", "ProgramFailed", "Rate",
+    "Refused", "Seeded", "Session", "SessionEnded", "SessionNumbers", "SparseMatrix", "StabsimError", "StimCircuit", "Sums", "Sure",
+    "UnsupportedNoise", "codes", "collect", "combine", "error_model", "find_program", "fit_rate", "from_stim", "m2d", "plot",
+    "rate_per_round", "read_shots", "without_noise", "write_shots",
 ]
 
 # A module is read when one of its names is asked for first, so that `stabsim.codes` needs no numpy.
 if TYPE_CHECKING:
     from stabsim import codes
+    from stabsim.causes import Cause
     from stabsim.circuit import Circuit, Numbers
-    from stabsim.collecting import Sums, collect
+    from stabsim.collecting import Collection, collect
     from stabsim.counting import Decoder, Predict
     from stabsim.errors import (
-        MissingProgram, NotDecomposed, OtherExperiment, ProgramFailed, Refused, SessionEnded, StabsimError, UnsupportedNoise,
+        BadErrorModel, BadShots, MissingProgram, NotDecomposed, OtherExperiment, ProgramFailed, Refused, SessionEnded, StabsimError,
+        UnsupportedNoise,
     )
     from stabsim.faults import FaultTable
+    from stabsim.formats import read_shots, write_shots
+    from stabsim.measured import m2d
     from stabsim.models import ErrorModel, error_model
+    from stabsim.plotting import plot
     from stabsim.program import find_program
-    from stabsim.quiet import without_noise
+    from stabsim.profile import without_noise
+    from stabsim.rates import Rate, fit_rate, rate_per_round
+    from stabsim.reading import Block, Instruction, Item
     from stabsim.script import Path
+    from stabsim.seeds import Seeded
     from stabsim.session import Changed, ItemSteps, Session, SessionNumbers
+    from stabsim.sparse import SparseMatrix
+    from stabsim.stim_circuit import StimCircuit, from_stim
+    from stabsim.sums import Sums
     from stabsim.sure import Sure
+    from stabsim.totals import combine
 else:
     # Where each name stands.
     HOMES = {
+        "causes": ("Cause",),
         "circuit": ("Circuit", "Numbers"),
-        "collecting": ("Sums", "collect"),
+        "collecting": ("Collection", "collect"),
         "counting": ("Decoder", "Predict"),
-        "errors": ("MissingProgram", "NotDecomposed", "OtherExperiment", "ProgramFailed", "Refused", "SessionEnded", "StabsimError",
-                   "UnsupportedNoise"),
+        "errors": ("BadErrorModel", "BadShots", "MissingProgram", "NotDecomposed", "OtherExperiment", "ProgramFailed", "Refused", "SessionEnded",
+                   "StabsimError", "UnsupportedNoise"),
         "faults": ("FaultTable",),
+        "formats": ("read_shots", "write_shots"),
+        "measured": ("m2d",),
         "models": ("ErrorModel", "error_model"),
+        "plotting": ("plot",),
         "program": ("find_program",),
-        "quiet": ("without_noise",),
+        "profile": ("without_noise",),
+        "rates": ("Rate", "fit_rate", "rate_per_round"),
+        "reading": ("Block", "Instruction", "Item"),
         "script": ("Path",),
+        "seeds": ("Seeded",),
         "session": ("Changed", "ItemSteps", "Session", "SessionNumbers"),
+        "sparse": ("SparseMatrix",),
+        "stim_circuit": ("StimCircuit", "from_stim"),
+        "sums": ("Sums",),
         "sure": ("Sure",),
+        "totals": ("combine",),
     }
 
     def __getattr__(name: str) -> object:

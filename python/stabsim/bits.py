@@ -1,5 +1,7 @@
 """Bits as the program writes them, as numpy arrays."""
 
+from typing import Any
+
 import numpy as np
 from numpy.typing import NDArray
 
@@ -11,11 +13,36 @@ def bytes_of_shot(bits: int) -> int:
 
 def of_b8(data: bytes, shots: int, bits: int) -> NDArray[np.bool_]:
     """Shots in the format b8, as a bool array (shots, bits)."""
+    return unpacked(packed_of_b8(data, shots, bits), bits)
+
+
+def packed_of_b8(data: bytes, shots: int, bits: int) -> NDArray[np.uint8]:
+    """The same packed as they are, uint8 (shots, (bits + 7) // 8)."""
     each = bytes_of_shot(bits)
     if len(data) != shots * each:
         raise ValueError(f"{len(data)} bytes are not {shots} shots of {bits} bits")
-    packed = np.frombuffer(data, dtype=np.uint8).reshape(shots, each)
+    return np.frombuffer(data, dtype=np.uint8).reshape(shots, each)
+
+
+def unpacked(packed: NDArray[np.uint8], bits: int) -> NDArray[np.bool_]:
+    """Packed shots, uint8 (shots, (bits + 7) // 8), as a bool array (shots, bits)."""
     return np.unpackbits(packed, axis=1, count=bits, bitorder="little").view(np.bool_)
+
+
+def packed(shots: NDArray[np.bool_]) -> NDArray[np.uint8]:
+    """Shots, bool (shots, bits), as uint8 (shots, (bits + 7) // 8): bit k is bit k % 8 of byte k // 8."""
+    return np.packbits(shots, axis=1, bitorder="little")
+
+
+def table_of(shots: NDArray[np.bool_] | NDArray[np.uint8], bits: int, name: str) -> NDArray[np.bool_]:
+    """Shots that a user gave by this name, as a bool array (shots, bits): they are one, or they are packed, uint8."""
+    given: NDArray[Any] = np.asarray(shots)
+    each = bytes_of_shot(bits)
+    if given.ndim == 2 and given.dtype == np.bool_ and given.shape[1] == bits:
+        return given
+    if given.ndim == 2 and given.dtype == np.uint8 and given.shape[1] == each:
+        return unpacked(given, bits)
+    raise ValueError(f"{name} is a bool array (shots, {bits}), or packed a uint8 array (shots, {each}), and not {given.dtype} {given.shape}")
 
 
 def of_text(line: bytes) -> NDArray[np.bool_]:

@@ -3,7 +3,8 @@
 A channel is named with what it does to its qubits: the chances of its Pauli errors, of which at most one happens. The same channel
 may be a product of independent errors, each of which happens or not by itself: the factor by which a channel shrinks the
 expectation of a Pauli Q is then the product of 1 - 2 a over the errors of chance a that anticommute with Q. Taking logarithms, and
-the inverse of that sum over all Paulis, gives each a, where there is a solution with chances.
+the inverse of that sum over all Paulis, gives each a, if there is a solution with chances. The Paulis are those of the group that the
+channel's errors generate: no others are needed.
 """
 
 import itertools
@@ -19,10 +20,11 @@ TWO = tuple("".join(pair) for pair in itertools.product("IXYZ", repeat=2))[1:]
 # Chances below this part of a channel's own are rounding.
 ROUNDING = 1e-14
 
+# Letters by their number in base 4: the number of a product is the sum of its factors' modulo 2, bit by bit.
+LETTERS = "IXZY"
 
-def anticommute(left: str, right: str) -> bool:
-    """Whether two strings of the letters I, X, Y, Z anticommute: they differ at an odd number of places where neither is I."""
-    return sum(a != b and "I" not in (a, b) for a, b in zip(left, right)) % 2 == 1
+# A group of Paulis that more generate than this many is not looked through.
+MOST_GENERATORS = 6
 
 
 def depolarising(chance: float, qubits: int) -> Errors | None:
@@ -37,24 +39,42 @@ def depolarising(chance: float, qubits: int) -> Errors | None:
 
 
 def independent(chances: Errors) -> Errors | None:
-    """The chances of independent errors that make the same channel as disjoint ones.
+    """The chances of independent errors that make the same channel as disjoint ones, whose names have one length.
 
-    None where there are none, and also, but for a single error, where an expectation changes its sign or is lost altogether: that
-    takes errors of a chance of one half or more.
+    None if there are none, if the errors are products of too many, and also, except of a single error, if an expectation changes its
+    sign or is lost altogether: that takes errors of a chance of one half or more.
     """
     names = [name for name, chance in chances.items() if chance]
     if len(names) < 2:
         return {name: chances[name] for name in names}
-    every = ONE if len(names[0]) == 1 else TWO
-    flips = {q: math.fsum(chances[p] for p in names if anticommute(p, q)) for q in every}
-    if max(flips.values()) >= 0.5:
+    group = group_of(names)
+    if group is None:
         return None
-    logarithms = {q: math.log1p(-2 * flip) for q, flip in flips.items()}
+    # An expectation for each number but 0: its sign is changed by the elements with which it has an odd number of generators in common.
+    others = range(1, len(group) + 1)
+    flips = [math.fsum(chances[name] for name in names if (group[name] & other).bit_count() % 2) for other in others]
+    if max(flips) >= 0.5:
+        return None
+    logarithms = [math.log1p(-2 * flip) for flip in flips]
     found = {}
-    for name in every:
-        total = math.fsum(-logarithm if anticommute(name, q) else logarithm for q, logarithm in logarithms.items())
-        found[name] = -math.expm1(-2 * total / (len(every) + 1)) / 2
+    for name in sorted(group):
+        total = math.fsum(-it if (group[name] & other).bit_count() % 2 else it for other, it in zip(others, logarithms))
+        found[name] = -math.expm1(-2 * total / (len(group) + 1)) / 2
     least = ROUNDING * sum(chances.values())
     if min(found.values()) < -least:
         return None
     return {name: chance for name, chance in found.items() if chance > least}
+
+
+def group_of(names: list[str]) -> dict[str, int] | None:
+    """All products of some Paulis of one length, but for the identity and for signs: each with the set of generators that it is the
+    product of, as a number in base 2. None if there are too many."""
+    elements = [0]
+    for name in names:
+        number = sum(LETTERS.index(letter) << 2 * place for place, letter in enumerate(name))
+        if number not in elements:
+            elements += [element ^ number for element in elements]
+        if len(elements) > 2**MOST_GENERATORS:
+            return None
+    each = range(len(names[0]))
+    return {"".join(LETTERS[element >> 2 * place & 3] for place in each): at for at, element in enumerate(elements) if at}

@@ -3,26 +3,32 @@
 import functools
 import pathlib
 import warnings
-from concurrent.futures import Executor
+from collections.abc import Iterator
 from dataclasses import dataclass, field
 from os import PathLike
-from typing import Literal, overload
 
 import numpy as np
 from numpy.typing import NDArray
 
-from stabsim import bits, coordinates, program, quiet, shot_parts
+from stabsim import bits, coordinates, program
 from stabsim.errors import Refused
 from stabsim.faults import FaultTable, table_of
+from stabsim.profile import profile_of
+from stabsim.reading import Item, indented, items_of, walk
+from stabsim.sampling import Sampled
 from stabsim.session import Session
+from stabsim.sizes import Sizes, sizes_of
 from stabsim.sure import Sure, sure_of
-
-Bits = NDArray[np.bool_]
 
 
 @dataclass(frozen=True)
 class Numbers:
-    """How many of each thing a circuit has, once all blocks are written out; `items` counts those of the outermost list."""
+    """How many of each thing a circuit has, once all blocks are written out; `items` counts those of the outermost list.
+
+    >>> import stabsim
+    >>> stabsim.Circuit("H 0\\nREPEAT 5 {\\nM 0 1\\n}\\n").numbers()
+    Numbers(qubits=2, items=2, steps=11, records=10, detectors=0, observables=0, coins=10)
+    """
 
     qubits: int
     items: int
@@ -34,28 +40,53 @@ class Numbers:
 
 
 @dataclass(frozen=True, repr=False)
-class Circuit:
-    """A circuit in Stim's circuit text without noise, which the program reads whenever it is asked for something.
+class Circuit(Sampled):
+    """A circuit in Stim's circuit text without noise, which stays as it is.
 
     text: str; left_out: the lines of noise, counted from 1, that a file had and the text has not. Neither can be set.
-    Each call raises stabsim.Refused, with the words of `stabsim check`, where the program refuses the circuit, and
-    stabsim.MissingProgram where there is none.
+    Properties ask nothing of the program: they are read from the text. Methods have the program read it, and raise stabsim.Refused,
+    with the words of `stabsim check`, if it refuses the circuit, and stabsim.MissingProgram if there is none. `from_stim` reads
+    instructions of Stim's that the program does not read.
+
+    >>> import stabsim
+    >>> once = stabsim.Circuit('''H 0
+    ... CX 0 1
+    ... MR 0 1
+    ... DETECTOR rec[-1] rec[-2]''')
+    >>> twice = stabsim.Circuit("R 0 1") + 2 * once
+    >>> twice.num_qubits, twice.num_records, twice.num_detectors
+    (2, 4, 2)
+    >>> [(item.path, item.name, item.repeat) for item in twice]
+    [('0', 'R', None), ('1', 'REPEAT', 2)]
+    >>> twice.detect(3, seed=7).any()
+    False
     """
 
-    text: str
+    text: str = ""
     left_out: tuple[int, ...] = field(default=(), compare=False)
 
     @classmethod
     def from_file(cls, path: str | PathLike[str]) -> "Circuit":
-        """The circuit whose text a file has now. Where that has noise, this is `without_noise` of it, and a warning says so; lines
-        of a refusal are then those of `text`, and no longer the file's."""
-        text = program.text_of(pathlib.Path(path).read_bytes())
-        noisy = quiet.noisy_lines(text)
-        if not noisy:
-            return cls(text)
-        circuit = cls(quiet.without_noise(text), tuple(noisy))
-        warnings.warn(f"{path}: {circuit.about_noise()}, the first of them line {noisy[0]}; stabsim.error_model reads it", stacklevel=2)
+        """The circuit whose text a file has now, as `from_stim` reads it but not yet judged. If it has noise, that is left out, and a
+        warning says so. Lines of a refusal are those of `text`, which the file's may not be."""
+        profile = profile_of(program.text_of(pathlib.Path(path).read_bytes()))
+        circuit = cls(profile.circuit.text, tuple(profile.left_out))
+        if circuit.left_out:
+            warnings.warn(f"{path}: {circuit.about_noise()}, the first of them line {circuit.left_out[0]}; stabsim.from_stim keeps it",
+                          stacklevel=2)
         return circuit
+
+    def to_file(self, path: str | PathLike[str]) -> None:
+        """Writes the text to a file, in the place of what it has.
+
+        >>> import os, tempfile
+        >>> import stabsim
+        >>> with tempfile.TemporaryDirectory() as folder:
+        ...     stabsim.Circuit("M 0").to_file(os.path.join(folder, "circuit.stim"))
+        ...     stabsim.Circuit.from_file(os.path.join(folder, "circuit.stim")).text
+        'M 0'
+        """
+        pathlib.Path(path).write_bytes(program.bytes_of(self.text))
 
     def __repr__(self) -> str:
         about = f"{self.text.count(chr(10))} lines"
@@ -72,8 +103,84 @@ class Circuit:
         count = len(self.left_out)
         return f"the noise of {count} line{'s' * (count > 1)} is left out"
 
+    # What is read from the text.
+
+    @functools.cached_property
+    def items(self) -> tuple[Item, ...]:
+        """The instructions and blocks of the outermost list. Raises stabsim.Refused if a line is misshapen or a block is not closed."""
+        return items_of(self.text)
+
+    def __iter__(self) -> Iterator[Item]:
+        return iter(self.items)
+
+    def __len__(self) -> int:
+        return len(self.items)
+
+    def __bool__(self) -> bool:
+        return True
+
+    def walk(self) -> Iterator[Item]:
+        """All items, each block in front of its own.
+
+        >>> import stabsim
+        >>> c = stabsim.Circuit("R 0\\nREPEAT 3 {\\n    X 0\\n    M 0\\n}\\n")
+        >>> [item.path for item in c.walk() if item.name == "M"]
+        ['1/1']
+        """
+        return walk(self.items)
+
+    @functools.cached_property
+    def sizes(self) -> Sizes:
+        """How much there is, counted from the text. Raises stabsim.Refused at an instruction that the program does not read."""
+        return sizes_of(self.items)
+
+    @property
+    def num_qubits(self) -> int:
+        """One more than the greatest qubit that is named; 0 if none is."""
+        return self.sizes.qubits
+
+    @property
+    def num_records(self) -> int:
+        """How many records a run makes, with blocks written out, as are the next three."""
+        return self.sizes.records
+
+    @property
+    def num_detectors(self) -> int:
+        """How many detectors there are."""
+        return self.sizes.detectors
+
+    @property
+    def num_observables(self) -> int:
+        """One more than the greatest observable that is named; 0 if none is."""
+        return self.sizes.observables
+
+    @property
+    def num_ticks(self) -> int:
+        """How many TICKs there are."""
+        return self.sizes.ticks
+
+    def __add__(self, other: "Circuit") -> "Circuit":
+        """This circuit, and then another. Lookbacks of the other may reach into this one."""
+        if not isinstance(other, Circuit):
+            return NotImplemented
+        return Circuit(closed_text(self) + closed_text(other))
+
+    def __mul__(self, count: int) -> "Circuit":
+        """The circuit as a block of so many rounds; 1 and 0 of them need none."""
+        if not isinstance(count, int):
+            return NotImplemented
+        if count < 0:
+            raise ValueError(f"{count} rounds are fewer than none")
+        if count < 2:
+            return Circuit(closed_text(self) * count)
+        return Circuit(f"REPEAT {count} {{\n{indented(closed_text(self))}}}\n")
+
+    __rmul__ = __mul__
+
+    # What is asked of the program.
+
     def numbers(self) -> Numbers:
-        """How many qubits, items, steps, records, detectors, observables and coins the circuit has."""
+        """How many qubits, items, steps, records, detectors, observables and coins the program counts, which judges the circuit."""
         return self.known_numbers
 
     @functools.cached_property
@@ -82,47 +189,29 @@ class Circuit:
         lines = program.run(["check"], self.text).decode().split("\n")
         return Numbers(**{name: int(number) for name, _, number in (line.partition(": ") for line in lines if line)})
 
-    def sample(self, shots: int, *, seed: int = 0, first_shot: int = 0, executor: Executor | None = None, parts: int = 64) -> Bits:
-        """The records of shots first_shot, first_shot + 1 .. of a seed, as a bool array (shots, records).
-
-        With an executor of concurrent.futures the shots are split into so many parts, which gives the same array.
-        """
-        return self.shots("sample", self.numbers().records, shots, seed, first_shot, executor, parts)
-
-    @overload
-    def detect(self, shots: int, *, seed: int = ..., first_shot: int = ..., separate_observables: Literal[False] = ...,
-               executor: Executor | None = ..., parts: int = ...) -> Bits: ...
-
-    @overload
-    def detect(self, shots: int, *, seed: int = ..., first_shot: int = ..., separate_observables: Literal[True],
-               executor: Executor | None = ..., parts: int = ...) -> tuple[Bits, Bits]: ...
-
-    def detect(self, shots: int, *, seed: int = 0, first_shot: int = 0, separate_observables: bool = False,
-               executor: Executor | None = None, parts: int = 64) -> Bits | tuple[Bits, Bits]:
-        """The detectors of shots first_shot, first_shot + 1 .. of a seed, as a bool array (shots, detectors): raw parities of
-        records. With separate_observables a pair: that array, and the observables as a bool array (shots, observables).
-
-        With an executor of concurrent.futures the shots are split into so many parts, which gives the same arrays.
-        """
+    def widths(self) -> tuple[int, int, int]:
+        """How many records, detectors and observables there are, as the program counts them."""
         has = self.numbers()
-        if not separate_observables:
-            return self.shots("detect", has.detectors, shots, seed, first_shot, executor, parts)
-        both = self.shots("detect_both", has.detectors + has.observables, shots, seed, first_shot, executor, parts)
-        return both[:, : has.detectors], both[:, has.detectors :]
-
-    def shots(self, what: shot_parts.What, width: int, shots: int, seed: int, first_shot: int,
-              executor: Executor | None, count: int) -> Bits:
-        """Shots of so many bits, from one run of the program or from several."""
-        asked = shot_parts.Shots(self.text, what, seed, first_shot, shots)
-        return bits.of_b8(shot_parts.bytes_of(asked, executor, count), shots, width)
+        return has.records, has.detectors, has.observables
 
     def stabilisers(self, *, seed: int = 0) -> list[str]:
-        """The reduced rows of the group that stabilises the state after shot 0 of a seed: a signed string, as +XZ_, for each qubit."""
+        """The reduced rows of the group that stabilises the state after shot 0 of a seed: a signed string, as +XZ_, for each qubit.
+
+        >>> import stabsim
+        >>> stabsim.Circuit("H 0\\nCX 0 1\\nZ 0").stabilisers()
+        ['-XX', '+ZZ']
+        """
         self.numbers()
         return program.run(["stabilisers", *program.seed_words(seed)], self.text).decode().split()
 
     def deterministic(self) -> Sure:
-        """Which detectors, bool (detectors,), and observables, bool (observables,), are the same for all coins."""
+        """Which detectors, bool (detectors,), and observables, bool (observables,), are the same for all coins.
+
+        >>> import stabsim
+        >>> sure = stabsim.Circuit("MX 0 0\\nDETECTOR rec[-1]\\nDETECTOR rec[-1] rec[-2]").deterministic()
+        >>> sure.detectors.tolist()
+        [False, True]
+        """
         has = self.numbers()
         written = program.run(["deterministic", "--out_format", "b8"], self.text)
         return sure_of(bits.of_b8(written, 1, has.detectors + has.observables)[0], has.detectors)
@@ -132,6 +221,11 @@ class Circuit:
 
         Raises stabsim.Refused, 18 NotDeterministic, where a detector or observable is not the same for all coins; with
         sure_only such ones count as never flipped.
+
+        >>> import stabsim
+        >>> table = stabsim.Circuit("R 0\\nI 0\\nM 0\\nDETECTOR rec[-1]").faults()
+        >>> [(table.paulis[fault], table.qubits[fault], table.flipped(fault).tolist()) for fault in range(len(table))]
+        [('X', 0, [0]), ('Z', 0, [])]
         """
         has = self.numbers()
         words = ["--everywhere"] * everywhere + ["--sure_only"] * sure_only
@@ -139,13 +233,24 @@ class Circuit:
 
     def detector_coordinates(self) -> NDArray[np.float64]:
         """The coordinates of each detector, float64 (detectors, width): width is the most that one has, and nan stands where
-        another has none. SHIFT_COORDS counts, also in blocks, as in Stim."""
+        another has none. SHIFT_COORDS counts, also in blocks, as in Stim. The program judges the circuit first.
+
+        >>> import stabsim
+        >>> c = stabsim.Circuit("M 0\\nREPEAT 2 {\\nDETECTOR(5, 0) rec[-1]\\nSHIFT_COORDS(0, 1)\\n}")
+        >>> c.detector_coordinates().tolist()
+        [[5.0, 0.0], [5.0, 1.0]]
+        """
         # The program judges the circuit first, so what is made here is within its limits.
         self.numbers()
         return coordinates.detector_coordinates(self.text)
 
     def qubit_coordinates(self) -> NDArray[np.float64]:
-        """The coordinates of each qubit, float64 (qubits, width), nan where a qubit has none."""
+        """The coordinates of each qubit, float64 (qubits, width), nan where a qubit has none.
+
+        >>> import stabsim
+        >>> stabsim.Circuit("QUBIT_COORDS(3, 4) 1").qubit_coordinates().tolist()
+        [[nan, nan], [3.0, 4.0]]
+        """
         return coordinates.qubit_coordinates(self.text, self.numbers().qubits)
 
     def edit(self, *, qubits: int | None = None, seed: int = 0, stride: int | None = None) -> Session:
@@ -153,6 +258,12 @@ class Circuit:
 
         qubits: how many there are, of which the circuit and each edit may name some; without it, those that the circuit names.
         seed: the coins are those of its shot 0. stride: how far apart copies of the state are kept.
+
+        >>> import stabsim
+        >>> with stabsim.Circuit("M 0").edit(qubits=2) as session:
+        ...     session.insert(1, "MX 1")
+        ...     session.numbers().records
+        2
         """
         try:
             return Session(self.text, qubits=qubits, seed=seed, stride=stride)
@@ -160,3 +271,10 @@ class Circuit:
             # Where the text itself is at fault, this raises the same in words.
             self.numbers()
             raise
+
+
+def closed_text(circuit: Circuit) -> str:
+    """The text of a circuit with an end of its last line. Raises stabsim.Refused if its blocks are not closed, since what is put behind
+    it would be in them."""
+    items_of(circuit.text)
+    return circuit.text if circuit.text.endswith("\n") or not circuit.text else circuit.text + "\n"

@@ -1,39 +1,30 @@
 """The threshold experiment: logical errors of many error models, counted on as many cores as an executor has."""
 
-import contextlib
 import hashlib
-import sys
+import json
 import uuid
-from collections.abc import Generator, Iterator, Mapping
-from concurrent.futures import FIRST_COMPLETED, Executor, Future, wait
-from dataclasses import dataclass
+from collections import deque
+from collections.abc import Callable, Iterator, Mapping
+from concurrent.futures import Executor, ThreadPoolExecutor
+from dataclasses import replace
 from os import PathLike
+from types import TracebackType
+from typing import Any
+
+import numpy as np
+from numpy.typing import ArrayLike, NDArray
 
 from stabsim import drawing
-from stabsim.counting import Counted, Decoder, Part, count
+from stabsim.counting import Counted, Decoder, Load, Part, held
 from stabsim.ledger import Key, Ledger
 from stabsim.models import ErrorModel
+from stabsim.progress import Progress
+from stabsim.sending import Sending
+from stabsim.sums import Sums
 
-
-@dataclass
-class Sums:
-    """What was counted of a model: its shots, those among them in which an observable was predicted wrongly, and the seconds that
-    drawing and decoding took, added over all workers; with the decoder's name, and the seed by which `ErrorModel.sample` gives these
-    shots."""
-
-    name: str
-    shots: int = 0
-    errors: int = 0
-    seconds: float = 0.0
-    decoder: str = ""
-    seed: int = 0
-
-    def add(self, part: Counted) -> None:
-        if part.first_shot != self.shots:
-            raise ValueError(f"{self.name} has counts up to shot {self.shots}, and then from shot {part.first_shot} on")
-        self.shots += part.shots
-        self.errors += part.errors
-        self.seconds += part.seconds
+Mask = NDArray[np.bool_]
+Postselect = Mapping[str, ArrayLike] | Callable[[ErrorModel], ArrayLike]
+Path = str | PathLike[str]
 
 
 class Work:
@@ -42,14 +33,20 @@ class Work:
     Parts are counted in the order of their shots, whoever is first, so that the sums are the same whatever the workers do.
     """
 
-    def __init__(self, key: Key, model: ErrorModel, shots: int | None, errors: int | None) -> None:
+    def __init__(self, key: Key, shots: int | None, errors: int | None, metadata: Mapping[str, Any]) -> None:
         self.key = key
-        self.sums = Sums(key.name, decoder=key.decoder, seed=key.seed)
-        self.model = model
+        self.sums = Sums(key.name, decoder=key.decoder, seed=key.seed, metadata=metadata)
         self.shots = shots
         self.errors = errors
         self.next_shot = 0
         self.early: dict[int, Counted] = {}
+
+    def go_on(self, ledger: Ledger) -> None:
+        """Counts what a file has, whose metadata stays if no other is given."""
+        for part in ledger.parts_of(self.key):
+            self.sums.add(part)
+        self.sums.metadata = self.sums.metadata or ledger.metadata_of(self.key)
+        self.next_shot = self.sums.shots
 
     def is_done(self) -> bool:
         """Enough shots or errors are counted."""
@@ -76,39 +73,179 @@ class Work:
             yield counted
 
 
+class Collection(Iterator[Sums]):
+    """Counting that is under way: an iterator over the sums of a model, each time that more are counted, at last those of each model
+    whole. Its end, that of a `with` block, and `close` end the counting; what is in the file stays there.
+
+    >>> import stabsim
+    >>> model = stabsim.ErrorModel.from_dem("error(0.5) D0 L0")
+    >>> with stabsim.collect({"coin": model}, ("copy", lambda model: lambda detectors: detectors), shots=100_000, seed=1) as counting:
+    ...     print(next(counting).errors)
+    0
+    """
+
+    def __init__(self, works: dict[str, Work], loads: dict[str, Load], size: int, executor: Executor | None, save: Path | None,
+                 waiting: int) -> None:
+        self.works = works
+        self.experiment = uuid.uuid4().hex
+        self.ready: deque[Sums] = deque()
+        self.progress = Progress(len(works))
+        self.own: ThreadPoolExecutor | None = None
+        self.ledger: Ledger | None = None
+        if executor is None:
+            executor, waiting = ThreadPoolExecutor(1), 2
+            self.own = executor
+        self.sending = Sending(executor, loads, waiting)
+        try:
+            if save is not None:
+                self.ledger = Ledger(save)
+                self.ledger.expect(any(work.sums.metadata for work in works.values()) or any(load.postselect is not None for load in loads.values()))
+                for work in works.values():
+                    work.go_on(self.ledger)
+            self.ready.extend(replace(work.sums) for work in works.values() if work.is_done())
+            self.parts = parts_of(works, size, self.experiment)
+            self.sending.fill(self.parts)
+        except BaseException:
+            self.close()
+            raise
+
+    def __next__(self) -> Sums:
+        try:
+            while not self.ready:
+                if not self.sending.running or all(work.is_done() for work in self.works.values()):
+                    raise StopIteration
+                self.count(self.sending.take())
+                self.sending.fill(self.parts)
+            return self.ready.popleft()
+        except BaseException:
+            self.close()
+            raise
+
+    def count(self, parts: list[Counted]) -> None:
+        """Counts parts, and keeps them in the file."""
+        for counted in parts:
+            work = self.works[counted.name]
+            for part in work.came(counted):
+                if self.ledger:
+                    self.ledger.add(work.key, part, work.sums.metadata)
+                self.ready.append(replace(work.sums))
+        self.progress.tell(sum(work.is_done() for work in self.works.values()), [work.sums for work in self.works.values()])
+
+    def close(self) -> None:
+        """Ends the counting: no more is sent, the file is closed, and nothing more is yielded."""
+        self.ready.clear()
+        self.sending.cancel()
+        if self.own:
+            self.own.shutdown(wait=False, cancel_futures=True)
+        if self.ledger:
+            self.ledger.close()
+        self.progress.close()
+        held.drop(self.experiment)
+
+    def __enter__(self) -> "Collection":
+        return self
+
+    def __exit__(self, kind: type[BaseException] | None, fault: BaseException | None, trace: TracebackType | None) -> None:
+        self.close()
+
+    def __del__(self) -> None:
+        # Without a sending nothing was begun.
+        if "sending" in vars(self):
+            self.close()
+
+
 def collect(models: Mapping[str, ErrorModel], decoder: Decoder | tuple[str, Decoder], *, shots: int | None = None,
-            errors: int | None = None, seed: int, executor: Executor | None = None, save: str | PathLike[str] | None = None,
-            part_shots: int = 8192, waiting: int = 64) -> Iterator[Sums]:
-    """Counts logical errors of each model until it has so many shots or so many errors, whichever is first.
+            errors: int | None = None, seed: int, executor: Executor | None = None, save: Path | None = None, part_shots: int = 8192,
+            waiting: int = 64, metadata: Mapping[str, Mapping[str, Any]] | None = None, postselect: Postselect | None = None) -> Collection:
+    """Counts logical errors of each model until it has so many shots or so many errors, whichever is first. It starts at once.
 
     models: error models by name. decoder: a function of a model that gives a function from detectors, a bool array
-    (shots, detectors), to predicted observables, an array (shots, observables); with an executor of processes both are sent there.
-    A decoder has a name: its module's and its own, or the one that is given, as ("name", function).
-    seed: of all shots; each model has a seed of its own by this and its name. executor: of concurrent.futures; without it parts are
-    counted here, one after another. save: a file of counts, which is gone on from where it is there: by the names of model and
-    decoder; part_shots: about how many shots a part has; waiting: how many parts may be with the executor at once.
+    (shots, detectors), to predicted observables, an array (shots, observables); with an executor of processes both are sent there,
+    once to each. A decoder has a name: its module's and its own, or the one that is given, as ("name", function).
+    seed: of all shots; each model has a seed of its own by this and its name. executor: of concurrent.futures; without it a thread
+    of its own counts. save: a file of counts, which is gone on from where it is there: by the names of model and decoder; part_shots:
+    about how many shots a part has; waiting: how many parts may be with the executor at once. metadata: what is to be kept of a model,
+    by its name, as JSON has it; without it the file's. postselect: by the name of a model, or as a function of it, a bool array
+    (detectors,): shots in which one of these detectors is flipped are discarded.
 
-    Yields the sums of a model (name, shots, errors, seconds, decoder, seed) as they are counted, at last those of each model whole.
-    They depend on models, decoder, seed, shots, errors and part_shots alone, but for the seconds. A line on standard error tells how
-    far it is where that is a terminal. Raises stabsim.OtherExperiment where the file counts something else by one of the names.
+    Yields the sums of a model as they are counted, at last those of each model whole; `Collection` says how it ends. They depend on
+    models, decoder, seed, shots, errors, part_shots and postselect alone, except for the seconds. With tqdm a line on standard error says
+    how far it is if that is a terminal. Raises stabsim.OtherExperiment if the file counts something else by one of the names.
+
+    >>> import numpy, stabsim
+    >>> models = {f"p={p}": stabsim.ErrorModel.from_dem(f"error({p}) D0 L0\\nerror({p}) L0") for p in (0.25, 0.5)}
+    >>> counting = stabsim.collect(models, ("copy", lambda model: lambda detectors: detectors), shots=1000, seed=5)
+    >>> for name, sums in {it.name: it for it in counting}.items():
+    ...     print(name, sums.shots, sums.rate().low < float(name[2:]) < sums.rate().high)
+    p=0.25 1000 True
+    p=0.5 1000 True
     """
+    check(models, shots, errors, seed, part_shots, waiting)
+    decoder_name, function = named(decoder)
+    size = max(part_shots // drawing.BLOCK, 1) * drawing.BLOCK
+    said = metadata_of(models, metadata or {})
+    masks = {name: mask_of(name, model, postselect) for name, model in models.items()}
+    works = {name: Work(Key(name, decoder_name, fingerprint_of(model, masks[name]), seed_of(name, seed)), shots, errors, said[name])
+             for name, model in models.items()}
+    # What makes its mechanisms no decoder asks for.
+    loads = {name: Load(replace(model, causes=None), function, masks[name]) for name, model in models.items()}
+    return Collection(works, loads, size, executor, save, waiting)
+
+
+def check(models: Mapping[str, ErrorModel], shots: int | None, errors: int | None, seed: int, part_shots: int, waiting: int) -> None:
+    """Raises TypeError or ValueError if something can't be counted."""
+    if not isinstance(models, Mapping) or not all(isinstance(name, str) and isinstance(model, ErrorModel) for name, model in models.items()):
+        raise TypeError("models are error models by name, as {'d=3': stabsim.error_model(text)}")
     if shots is None and errors is None:
         raise ValueError("say how many shots or how many errors are enough")
-    size = max(part_shots // drawing.BLOCK, 1) * drawing.BLOCK
-    decoder_name, function = named(decoder)
-    works = {name: Work(Key(name, decoder_name, model.fingerprint, seed_of(name, seed)), model, shots, errors)
-             for name, model in models.items()}
-    return counting(works, function, size, executor, save, waiting)
+    for name, number, least in (("shots", shots, 0), ("errors", errors, 1), ("part_shots", part_shots, 1), ("waiting", waiting, 1)):
+        if number is not None and number < least:
+            raise ValueError(f"{name} is {number}, and {least} is the least")
+    if not isinstance(seed, (int, np.integer)):
+        raise TypeError(f"the seed is a whole number, and not {seed!r}")
 
 
 def named(decoder: Decoder | tuple[str, Decoder]) -> tuple[str, Decoder]:
     """A decoder with its name: what was given, or that of its module and its own, if it can be found by these."""
     if isinstance(decoder, tuple):
+        if len(decoder) != 2 or not isinstance(decoder[0], str) or not callable(decoder[1]):
+            raise TypeError('a decoder is a function of a model, or ("name", function)')
         return decoder
+    if not callable(decoder):
+        raise TypeError('a decoder is a function of a model, or ("name", function)')
     module, name = getattr(decoder, "__module__", None), getattr(decoder, "__qualname__", "<")
     if module is None or "<" in name or hasattr(decoder, "__self__"):
         raise ValueError('this decoder has no name of its own, as a lambda has none: name it, as ("name", function)')
     return f"{module}.{name}", decoder
+
+
+def metadata_of(models: Mapping[str, ErrorModel], metadata: Mapping[str, Mapping[str, Any]]) -> dict[str, dict[str, Any]]:
+    """What is kept of each model, as it is read again from a file."""
+    unknown = set(metadata) - set(models)
+    if unknown:
+        raise ValueError(f"there is metadata of {min(unknown)}, and no model of this name")
+    try:
+        return {name: json.loads(json.dumps(dict(metadata.get(name, {})))) for name in models}
+    except (TypeError, ValueError) as fault:
+        raise TypeError(f"metadata is kept as JSON: {fault}") from None
+
+
+def mask_of(name: str, model: ErrorModel, postselect: Postselect | None) -> Mask | None:
+    """The detectors of a model of which none may be flipped, bool (detectors,); None if there are none."""
+    given = postselect(model) if callable(postselect) else (postselect or {}).get(name)
+    if given is None:
+        return None
+    mask = np.asarray(given)
+    if mask.dtype != np.bool_ or mask.shape != (model.detectors,):
+        raise ValueError(f"postselect of {name} is a bool array ({model.detectors},), and not {mask.dtype} {mask.shape}")
+    return mask if mask.any() else None
+
+
+def fingerprint_of(model: ErrorModel, mask: Mask | None) -> str:
+    """The same for counts of the same mechanisms, parts and postselection."""
+    if mask is None:
+        return model.fingerprint
+    return hashlib.sha256(model.fingerprint.encode() + np.packbits(mask).tobytes()).hexdigest()[:16]
 
 
 def seed_of(name: str, seed: int) -> int:
@@ -116,81 +253,9 @@ def seed_of(name: str, seed: int) -> int:
     return int.from_bytes(hashlib.sha256(f"{seed} {name}".encode()).digest()[:8], "little")
 
 
-def counting(works: dict[str, Work], decoder: Decoder, size: int, executor: Executor | None, save: str | PathLike[str] | None,
-             waiting: int) -> Iterator[Sums]:
-    """Counts until all work is done."""
-    with contextlib.ExitStack() as stack:
-        ledger = stack.enter_context(Ledger(save)) if save is not None else None
-        if ledger:
-            go_on(works, ledger)
-        progress = stack.enter_context(Progress(works))
-        yield from (work.sums for work in works.values() if work.is_done())
-        parts = counted_parts(parts_of(works, decoder, size), executor, waiting)
-        for counted in stack.enter_context(contextlib.closing(parts)):
-            work = works[counted.name]
-            for part in work.came(counted):
-                if ledger:
-                    ledger.add(work.key, part)
-                progress.tell()
-                yield Sums(**vars(work.sums))
-
-
-def go_on(works: dict[str, Work], ledger: Ledger) -> None:
-    """Counts what the file has."""
-    for work in works.values():
-        for part in ledger.parts_of(work.key):
-            work.sums.add(part)
-        work.next_shot = work.sums.shots
-
-
-def parts_of(works: dict[str, Work], decoder: Decoder, size: int) -> Iterator[Part]:
+def parts_of(works: dict[str, Work], size: int, experiment: str) -> Iterator[Part]:
     """The parts that are to be counted: one of each model in turn, while it has more."""
-    experiment = uuid.uuid4().hex
     while left := [work for work in works.values() if work.has_more()]:
         for work in left:
             if work.has_more():
-                first, number = work.take_shots(size)
-                yield Part(experiment, work.key.name, work.model, decoder, work.key.seed, first, number)
-
-
-def counted_parts(parts: Iterator[Part], executor: Executor | None, waiting: int) -> Generator[Counted, None, None]:
-    """What comes of the parts, as it comes. A part is taken only when there is room for it, since one that was counted in the
-    meantime may have been enough."""
-    if executor is None:
-        yield from map(count, parts)
-        return
-    running: set[Future[Counted]] = set()
-    try:
-        while True:
-            while len(running) < waiting and (part := next(parts, None)):
-                running.add(executor.submit(count, part))
-            if not running:
-                return
-            done, running = wait(running, return_when=FIRST_COMPLETED)
-            yield from (future.result() for future in done)
-    finally:
-        for future in running:
-            future.cancel()
-
-
-class Progress:
-    """A line on a terminal that is renewed; elsewhere nothing is written."""
-
-    def __init__(self, works: dict[str, Work]) -> None:
-        self.works = works
-        self.is_shown = sys.stderr.isatty()
-
-    def __enter__(self) -> "Progress":
-        return self
-
-    def __exit__(self, *fault: object) -> None:
-        if self.is_shown:
-            sys.stderr.write("\n")
-
-    def tell(self) -> None:
-        if self.is_shown:
-            done = sum(work.is_done() for work in self.works.values())
-            shots = sum(work.sums.shots for work in self.works.values())
-            errors = sum(work.sums.errors for work in self.works.values())
-            sys.stderr.write(f"\r\033[Kstabsim: {done} of {len(self.works)} models, {shots} shots, {errors} errors")
-            sys.stderr.flush()
+                yield Part(experiment, work.key.name, work.key.seed, *work.take_shots(size))

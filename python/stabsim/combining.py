@@ -1,10 +1,25 @@
 """Sets that are added modulo 2, and equal ones joined: the arithmetic of error mechanisms on CSR arrays."""
 
+from typing import NamedTuple
+
 import numpy as np
 from numpy.typing import NDArray
 
 Numbers = NDArray[np.int64]
 Chances = NDArray[np.float64]
+
+
+class Joined(NamedTuple):
+    """Errors of which those that flip the same are one mechanism, in the order of what is flipped.
+
+    chances: float64 (mechanisms,); indptr: int64 (mechanisms + 1,), and indices: int64 (flips,): what each flips, as a CSR matrix;
+    mechanisms: int64 (errors,), the mechanism of each error, -1 of one that flips nothing.
+    """
+
+    chances: Chances
+    indptr: Numbers
+    indices: Numbers
+    mechanisms: Numbers
 
 
 def rows_of(rows: Numbers, indptr: Numbers, indices: Numbers) -> tuple[Numbers, Numbers]:
@@ -30,26 +45,62 @@ def odd(sets: Numbers, columns: Numbers, width: int) -> tuple[Numbers, Numbers]:
     return keys // max(width, 1), keys % max(width, 1)
 
 
-def combined(chances: Chances, sets: Numbers, columns: Numbers) -> tuple[Chances, Numbers, Numbers]:
-    """Errors joined that flip the same: the chance of each, and a CSR matrix of what it flips, in the order of what is flipped.
+def combined(chances: Chances, sets: Numbers, columns: Numbers) -> Joined:
+    """Errors joined that flip the same.
 
     chances: of each error; sets, columns: pairs, ascending, of an error and what it flips. Errors that flip nothing are left out.
     """
-    ends = np.searchsorted(sets, np.arange(len(chances) + 1))
-    places: dict[bytes, list[int]] = {}
-    for error, (start, end) in enumerate(zip(ends[:-1].tolist(), ends[1:].tolist())):
-        if end > start:
-            places.setdefault(columns[start:end].tobytes(), []).append(error)
-    found = sorted((np.frombuffer(key, dtype=np.int64).tolist(), errors) for key, errors in places.items())
-    joined = np.array([odd_chance(chances[errors]) for _, errors in found], dtype=np.float64)
-    indptr = starts_of(np.array([len(flipped) for flipped, _ in found], dtype=np.int64))
-    indices = np.array([column for flipped, _ in found for column in flipped], dtype=np.int64)
-    return joined, indptr, indices
+    indptr = starts_of(np.bincount(sets, minlength=len(chances)))
+    places = places_in_order(indptr, columns)
+    some = np.flatnonzero(np.diff(indptr))
+    # Errors one after another as they are ordered, equal ones in the order in which they came.
+    ordered = some[np.argsort(places[some], kind="stable")]
+    begins = np.flatnonzero(np.diff(places[ordered], prepend=-1))
+    mechanisms = np.full(len(chances), -1, dtype=np.int64)
+    mechanisms[ordered] = np.repeat(np.arange(len(begins)), np.diff(begins, append=len(ordered)))
+    firsts = ordered[begins]
+    _, indices = rows_of(firsts, indptr, columns)
+    joined = odd_chances(chances[ordered], begins)
+    return Joined(joined, starts_of(indptr[firsts + 1] - indptr[firsts]), indices, mechanisms)
 
 
-def odd_chance(chances: Chances) -> float:
-    """The chance that an odd number of independent events happens."""
-    total = 0.0
-    for chance in chances.tolist():
-        total = total * (1 - chance) + chance * (1 - total)
-    return total
+def places_in_order(indptr: Numbers, columns: Numbers) -> Numbers:
+    """The place of each row of a CSR matrix among all rows in the order of their entries, as words in a dictionary, int64 (rows,). Equal
+    rows have the place of the first of them."""
+    lengths = np.diff(indptr)
+    places = np.zeros(len(lengths), dtype=np.int64)
+    # Rows that are equal up to some entry share a place. By their next entry they are told apart, until they end or each is alone.
+    active = np.arange(len(lengths))
+    width = int(columns.max(initial=0)) + 2
+    entry = 0
+    while len(active):
+        going = lengths[active] > entry
+        following = np.zeros(len(active), dtype=np.int64)
+        following[going] = columns[indptr[active[going]] + entry] + 1
+        keys = places[active] * width + following
+        order = np.argsort(keys, kind="stable")
+        keys = keys[order]
+        active, going = active[order], going[order]
+        is_new = np.diff(keys, prepend=-1) != 0
+        is_group = np.diff(keys // width, prepend=-1) != 0
+        at = np.arange(len(active))
+        begins = np.maximum.accumulate(np.where(is_new, at, 0))
+        places[active] += begins - np.maximum.accumulate(np.where(is_group, at, 0))
+        is_alone = is_new & np.append(is_new[1:], True)
+        active = active[going & ~is_alone]
+        entry += 1
+    return places
+
+
+def odd_chances(chances: Chances, begins: Numbers) -> Chances:
+    """The chance that an odd number of independent events happens, of each of several runs of events that begin at these places."""
+    lengths = np.diff(begins, append=len(chances))
+    totals = np.zeros(len(begins), dtype=np.float64)
+    # Runs by their length, so that those that have one more event are the last.
+    by_length = np.argsort(lengths, kind="stable")
+    ascending = lengths[by_length]
+    for place in range(int(lengths.max(initial=0))):
+        runs = by_length[int(np.searchsorted(ascending, place, side="right")) :]
+        added = chances[begins[runs] + place]
+        totals[runs] = totals[runs] * (1 - added) + added * (1 - totals[runs])
+    return totals

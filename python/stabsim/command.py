@@ -1,4 +1,4 @@
-"""The commands of an installed package: `stabsim`, and `stabsim-page FILE`."""
+"""The commands of an installed package: `stabsim`, and `stabsim-page [FILE]`."""
 
 import os
 import sys

@@ -32,7 +32,7 @@ class Places:
     def add(self, item: Item) -> None:
         """Places what one item places."""
         if isinstance(item, Block):
-            self.add_block(places_of(item.items), item.count)
+            self.add_block(places_of(item.items), item.repeat)
         elif item.name == "DETECTOR":
             self.detectors.append(shifted(np.array([item.numbers()]), self.shift))
         elif item.name == "QUBIT_COORDS":
@@ -89,13 +89,7 @@ def joined(parts: list[NDArray[np.float64]]) -> NDArray[np.float64]:
 
 def coordinates_of(text: str) -> Places:
     """What a circuit's text places. Lines that place nothing are passed over before they are read."""
-    return places_of(items_of("\n".join(line if is_needed(line) else "" for line in text.split("\n"))))
-
-
-def is_needed(line: str) -> bool:
-    """A line that places something, or opens or closes a block."""
-    content = line.split("#", 1)[0].strip().upper()
-    return content.startswith(NAMES) or content.endswith("{") or content == "}"
+    return places_of(items_of(text, NAMES))
 
 
 def detector_coordinates(text: str) -> NDArray[np.float64]:

@@ -15,6 +15,15 @@ class Refused(StabsimError):
     number: int, and name: str, as docs/refusals.md lists them; line: int, counted from 1, or None where
     the refusal belongs to no line; explanation: str, lines that say what is wrong and what to do, as `stabsim check` has them,
     perhaps none.
+
+    >>> import stabsim
+    >>> stabsim.Circuit("M 0\\nX 1 rec[-1]").numbers()
+    Traceback (most recent call last):
+    stabsim.errors.Refused: line 2: refused 3 BadTarget
+    2: X 1 rec[-1]
+           ^^^^^^^
+    This instruction takes qubits, and no records.
+    Give it a qubit's number; a record stands first in a pair of CX, CY or CZ.
     """
 
     def __init__(self, number: int, name: str, line: int | None = None, explanation: str = "") -> None:
@@ -42,6 +51,11 @@ class UnsupportedNoise(StabsimError):
     """A noise channel, or a probability of one, of which no error model is made.
 
     line: int, counted from 1; why: str.
+
+    >>> import stabsim
+    >>> stabsim.error_model("R 0\\nX_ERROR(1.5) 0\\nM 0")
+    Traceback (most recent call last):
+    stabsim.errors.UnsupportedNoise: line 2: X_ERROR wants 1 chance of at most 1 in all
     """
 
     def __init__(self, line: int, why: str) -> None:
@@ -51,6 +65,30 @@ class UnsupportedNoise(StabsimError):
 
     def __str__(self) -> str:
         return f"line {self.line}: {self.why}"
+
+
+class BadErrorModel(StabsimError):
+    """A text is no detector error model.
+
+    line: int, counted from 1; why: str.
+
+    >>> import stabsim
+    >>> stabsim.ErrorModel.from_dem("error(2) D0")
+    Traceback (most recent call last):
+    stabsim.errors.BadErrorModel: line 1: an error has one chance, from 0 to 1
+    """
+
+    def __init__(self, line: int, why: str) -> None:
+        super().__init__(line, why)
+        self.line = line
+        self.why = why
+
+    def __str__(self) -> str:
+        return f"line {self.line}: {self.why}"
+
+
+class BadShots(StabsimError):
+    """A file has no shots of the format and the numbers of bits that were named."""
 
 
 class NotDecomposed(StabsimError):

@@ -1,11 +1,10 @@
-"""Refusals in words: of edits, and of circuits with noise."""
+"""Refusals of edits in words."""
 
 import contextlib
 from collections.abc import Iterator
 
 from stabsim import program
 from stabsim.errors import Refused
-from stabsim.quiet import with_quiet_lines
 
 
 @contextlib.contextmanager
@@ -26,15 +25,3 @@ def words_of(item: str, number: int) -> str:
         if alone.number == number and alone.line is not None:
             return alone.explanation
     return ""
-
-
-def as_written(refused: Refused, text: str) -> Refused:
-    """A refusal of `quiet.with_quiet_lines` of a text, with the line that it quotes as the text has it."""
-    quoted, _, rest = refused.explanation.partition("\n")
-    number, _, shown = quoted.partition(": ")
-    lines = text.split("\n")
-    # A long line is quoted in part, and then stays as it is.
-    if not number.isdigit() or with_quiet_lines(lines[int(number) - 1]).split() != shown.split():
-        return refused
-    line = lines[int(number) - 1].replace("\t", " ").rstrip("\r")
-    return Refused(refused.number, refused.name, refused.line, f"{number}: {line}\n{rest}")

@@ -24,6 +24,11 @@ class FaultTable:
     a detector is its number, and an observable is `detectors` and its number.
     detectors, observables: int, how many of each the circuit has.
     everywhere: whether all faults were asked for, and not those at marks alone.
+
+    >>> import stabsim
+    >>> table = stabsim.Circuit("R 0 1\\nCX 0 1\\nM 0 1\\nDETECTOR rec[-1]\\nDETECTOR rec[-2]").faults(everywhere=True)
+    >>> table.dense().shape, table.paths[0], table.flipped(0).tolist()
+    ((16, 2), '0', [0, 1])
     """
 
     steps: NDArray[np.int64]

@@ -1,14 +1,17 @@
 """A circuit with noise as one without, in which `I` marks each qubit that an error may meet, and the channels on these marks."""
 
+import math
+from collections.abc import Iterator, Sequence
 from dataclasses import dataclass, replace
 
 import numpy as np
 from numpy.typing import NDArray
 
-from stabsim.channels import ONE, TWO, Errors, depolarising, independent
+from stabsim.channels import LETTERS, ONE, TWO, Errors, depolarising, independent
 from stabsim.errors import Refused, UnsupportedNoise
-from stabsim.quiet import CHANNELS, CORRELATED, FLIPS, MEASUREMENTS, OTHER_NOISE
-from stabsim.reading import Block, Instruction, Item, items_of
+from stabsim.names import CHANNELS, ELSE, FIRST, FLIPS, MEASUREMENTS
+from stabsim.reading import Block, Instruction, Item, headed
+from stabsim.targets import apart, qubits_of
 
 Marks = NDArray[np.int64]
 
@@ -21,14 +24,23 @@ class Source:
     """One independent error of one instruction, each time that it is met.
 
     letters: a Pauli for each of the marks of one time, as XI; chance: float; marks: int64 (times, len(letters)), the numbers of the
-    marks among all of the circuit, as they are met in the first round of all blocks; blocks: of each block around it, the innermost
-    first, how many rounds it has, and how many marks later each of them is.
+    marks among all of the circuit, as they are met in the first round of all blocks; line, name: of the instruction; targets: of all
+    times one after another, the qubit of each mark, or of a wrong record, is_record, what is measured each time; blocks: of each block
+    around it, the innermost first, how many rounds it has, and how many marks later each of them is.
     """
 
     letters: str
     chance: float
     marks: Marks
+    line: int
+    name: str
+    targets: tuple[str, ...]
+    is_record: bool = False
     blocks: tuple[tuple[int, int], ...] = ()
+
+    def times(self) -> int:
+        """How often it is met in all rounds."""
+        return len(self.marks) * math.prod(rounds for rounds, _ in self.blocks)
 
     def all_marks(self) -> Marks:
         """The marks of all rounds, int64 (times, len(letters)): as many as the circuit has steps, so it is judged before."""
@@ -58,38 +70,42 @@ class Marker:
         self.approximated: set[int] = set()
         self.lines: list[str] = []
 
-    def items(self, items: list[Item], first: int) -> tuple[list[Source], int]:
+    def items(self, items: Sequence[Item], first: int) -> tuple[list[Source], int]:
         """Writes items, whose first mark has this number, and answers their errors and the number of the next mark."""
         sources: list[Source] = []
-        for item in items:
-            found, first = self.block(item, first) if isinstance(item, Block) else self.instruction(item, first)
+        for run in runs_of(items):
+            head = run[0]
+            if isinstance(head, Block):
+                found, first = self.block(head, first)
+            elif head.name == FIRST:
+                found, first = self.chain([it for it in run if isinstance(it, Instruction)], first)
+            else:
+                found, first = self.instruction(head, first)
             sources += found
         return sources, first
 
     def block(self, block: Block, first: int) -> tuple[list[Source], int]:
         """Writes a block. Its errors come again in each round, as many marks later as a round has."""
-        self.lines.append(f"REPEAT{block.tag} {block.count} {{")
+        self.lines.append(f"{headed('REPEAT', block.tag)} {block.repeat} {{")
         sources, end = self.items(block.items, first)
         self.lines.append("}")
         each = end - first
-        again = [replace(it, blocks=(*it.blocks, (block.count, each))) for it in sources]
-        return again, first + each * block.count
+        again = [replace(it, blocks=(*it.blocks, (block.repeat, each))) for it in sources]
+        return again, first + each * block.repeat
 
     def instruction(self, item: Instruction, first: int) -> tuple[list[Source], int]:
         """Writes one instruction."""
-        if item.name in OTHER_NOISE:
-            raise UnsupportedNoise(item.line, f"no error model is made of {item.name}")
+        if item.name == ELSE:
+            raise UnsupportedNoise(item.line, f"{ELSE} follows {FIRST} or another {ELSE} on the line in front of it")
         if item.name in CHANNELS:
             return self.channel(item, first)
-        if item.name in CORRELATED:
-            return self.correlated(item, first)
         if item.name in MEASUREMENTS and item.arguments:
             return self.measurement(item, first)
         if item.name == "I":
             # Its marks would be taken for those of noise. It does nothing, and so does TICK.
             self.lines.append("TICK")
         else:
-            self.lines.append(written(item))
+            self.lines.append(str(item))
         return [], first
 
     def channel(self, item: Instruction, first: int) -> tuple[list[Source], int]:
@@ -103,7 +119,8 @@ class Marker:
         self.lines.append(" ".join(["I", *item.targets]))
         marks = (first + np.arange(count, dtype=np.int64)).reshape(-1, each)
         errors = self.errors(item)
-        return [Source(letters, chance, marks) for letters, chance in errors.items() if chance], first + count
+        found = [Source(letters, chance, marks, item.line, item.name, item.targets) for letters, chance in errors.items() if chance]
+        return found, first + count
 
     def errors(self, item: Instruction) -> Errors:
         """The independent errors of a channel."""
@@ -115,27 +132,39 @@ class Marker:
             if found is None:
                 raise UnsupportedNoise(item.line, f"{item.name}({item.arguments[0]}) is stronger than full depolarising")
             return found
-        disjoint = dict(zip(ONE if item.name.endswith("1") else TWO, chances))
-        found = independent(disjoint)
-        if found is None and not self.approximate:
-            raise UnsupportedNoise(item.line, f"no independent errors were found that make {item.name}; with approximate_disjoint_errors "
-                                              "its disjoint errors are taken for independent ones")
-        if found is None:
-            self.approximated.add(item.line)
-        return disjoint if found is None else found
+        return self.independent_of(dict(zip(ONE if item.name.endswith("1") else TWO, chances)), [item])
 
-    def correlated(self, item: Instruction, first: int) -> tuple[list[Source], int]:
-        """Writes a mark for each letter of one error on several qubits."""
-        letters = [target[:1].upper() for target in item.targets]
-        qubits = [target[1:] for target in item.targets]
-        if not set(letters) <= set("XYZ") or not all(qubit.isdigit() for qubit in qubits):
-            raise UnsupportedNoise(item.line, f"the targets of {item.name} are Paulis, as X0 Z3")
-        [chance] = chances_of(item, 1)
-        if not letters:
+    def independent_of(self, disjoint: Errors, items: list[Instruction]) -> Errors:
+        """The independent errors that make disjoint ones of some lines, or these themselves where they may be taken for such."""
+        found = independent(disjoint)
+        if found is not None:
+            return found
+        if not self.approximate:
+            raise UnsupportedNoise(items[-1].line, f"no independent errors were found that make {items[-1].name}; with "
+                                                   "approximate_disjoint_errors its disjoint errors are taken for independent ones")
+        self.approximated |= {item.line for item in items}
+        return disjoint
+
+    def chain(self, items: list[Instruction], first: int) -> tuple[list[Source], int]:
+        """Writes a mark for each qubit of an error on several, and of those behind it that may happen if none before them did."""
+        errors = [paulis_of(item) for item in items]
+        qubits = list(dict.fromkeys(qubit for error in errors for qubit in error))
+        disjoint: Errors = {}
+        none_yet = 1.0
+        for item, error in zip(items, errors):
+            [chance] = chances_of(item, 1)
+            letters = "".join(LETTERS[error.get(qubit, 0)] for qubit in qubits)
+            disjoint[letters] = disjoint.get(letters, 0.0) + chance * none_yet
+            none_yet *= 1 - chance
+        if not qubits:
             return [], first
+        disjoint.pop("I" * len(qubits), None)
         self.lines.append(" ".join(["I", *qubits]))
         marks = (first + np.arange(len(qubits), dtype=np.int64))[None]
-        return [Source("".join(letters), chance, marks)] if chance else [], first + len(qubits)
+        found = self.independent_of(disjoint, items)
+        line, name = items[0].line, items[0].name
+        sources = [Source(letters, chance, marks, line, name, tuple(qubits)) for letters, chance in found.items() if chance]
+        return sources, first + len(qubits)
 
     def measurement(self, item: Instruction, first: int) -> tuple[list[Source], int]:
         """Writes a measurement whose record may be wrong: as if a Pauli in front of it turned the outcome over, and the same
@@ -143,25 +172,55 @@ class Marker:
         [chance] = chances_of(item, 1)
         is_reset = item.name.startswith("MR")
         sources: list[Source] = []
-        for targets in apart(item.targets):
+        for targets in apart(item.targets, qubits_of):
             marks = [mark_of(item.name, target) for target in targets]
             line = " ".join(["I", *(qubit for _, qubit in marks)])
             self.lines.append(line)
-            self.lines.append(written(item, targets))
+            self.lines.append(str(replace(item, arguments=(), targets=tuple(targets))))
             count = len(marks)
             if not is_reset:
                 self.lines.append(line)
             for i, (letter, _) in enumerate(marks):
                 around = [first + i] if is_reset else [first + i, first + count + i]
-                sources.append(Source(letter * len(around), chance, np.array([around], dtype=np.int64)))
+                sources.append(Source(letter * len(around), chance, np.array([around], dtype=np.int64), item.line, item.name,
+                                      (targets[i],), is_record=True))
             first += count if is_reset else 2 * count
         return joined(sources) if chance else [], first
 
 
 def joined(sources: list[Source]) -> list[Source]:
     """The errors of the same letters as one, in the order of their marks."""
-    letters = sorted({source.letters for source in sources})
-    return [Source(it, sources[0].chance, np.concatenate([source.marks for source in sources if source.letters == it])) for it in letters]
+    found = []
+    for letters in sorted({source.letters for source in sources}):
+        alike = [source for source in sources if source.letters == letters]
+        targets = tuple(target for source in alike for target in source.targets)
+        found.append(replace(alike[0], marks=np.concatenate([source.marks for source in alike]), targets=targets))
+    return found
+
+
+def runs_of(items: Sequence[Item]) -> Iterator[list[Item]]:
+    """Items one by one, except that an error on several qubits comes with those that follow it and may happen if it did not."""
+    run: list[Item] = []
+    for item in items:
+        is_else = isinstance(item, Instruction) and item.name == ELSE
+        if run and not (is_else and isinstance(run[0], Instruction) and run[0].name == FIRST):
+            yield run
+            run = []
+        run.append(item)
+    if run:
+        yield run
+
+
+def paulis_of(item: Instruction) -> dict[str, int]:
+    """The letter on each qubit of an error on several, as a number in LETTERS; those of one qubit are multiplied."""
+    found: dict[str, int] = {}
+    for target in item.targets:
+        letter, qubit = target[:1].upper(), target[1:]
+        if letter not in ("X", "Y", "Z") or not qubit.isdigit():
+            raise UnsupportedNoise(item.line, f"the targets of {item.name} are Paulis, as X0 Z3")
+        name = str(int(qubit))
+        found[name] = found.get(name, 0) ^ LETTERS.index(letter)
+    return found
 
 
 def chances_of(item: Instruction, count: int) -> list[float]:
@@ -176,20 +235,6 @@ def chances_of(item: Instruction, count: int) -> list[float]:
     return chances
 
 
-def apart(targets: list[str]) -> list[list[str]]:
-    """The targets of a measurement in runs in which no qubit comes twice, so that marks can stand round each run."""
-    runs: list[list[str]] = []
-    seen: set[str] = set()
-    for target in targets:
-        qubits = {factor.lstrip("!XYZxyz").lstrip("0") for factor in target.split("*")}
-        if not runs or qubits & seen:
-            runs.append([])
-            seen = set()
-        runs[-1].append(target)
-        seen |= qubits
-    return runs
-
-
 def mark_of(name: str, target: str) -> tuple[str, str]:
     """A letter and a qubit that turn over the outcome of a measured target: of a product, those of its first factor."""
     factor = target.split("*")[0].lstrip("!")
@@ -197,15 +242,9 @@ def mark_of(name: str, target: str) -> tuple[str, str]:
     return OTHER.get(letter, "X"), factor.lstrip("XYZxyz")
 
 
-def written(item: Instruction, targets: list[str] | None = None) -> str:
-    """The line of an instruction, or of one that measures these of its targets without a chance of error."""
-    arguments = f"({', '.join(item.arguments)})" if item.arguments and targets is None else ""
-    return " ".join([item.name + item.tag + arguments, *(item.targets if targets is None else targets)])
-
-
-def marked(text: str, approximate: bool) -> Marked:
-    """The circuit of a noisy text, with marks; approximate takes disjoint errors for independent ones where need be."""
+def marked(items: Sequence[Item], approximate: bool) -> Marked:
+    """The circuit of items with noise, with marks; approximate takes disjoint errors for independent ones where need be."""
     marker = Marker(approximate)
-    sources, _ = marker.items(items_of(text), 0)
+    sources, _ = marker.items(items, 0)
     lines = "".join(line + "\n" for line in marker.lines)
     return Marked(lines, sources, tuple(sorted(marker.approximated)))

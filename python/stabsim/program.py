@@ -23,7 +23,14 @@ WHAT_TO_DO = (
 
 
 def find_program() -> str:
-    """The path of the program: what STABSIM names, else the shipped one, the one built in this repository, the one on the PATH."""
+    """The path of the program: what STABSIM names, else the shipped one, the one built in this repository, the one on the PATH.
+
+    Raises stabsim.MissingProgram if there is none that runs here.
+
+    >>> import stabsim, subprocess
+    >>> subprocess.run([stabsim.find_program(), "--version"], capture_output=True).stdout[:7]
+    b'stabsim'
+    """
     named = os.environ.get("STABSIM")
     if named:
         return checked(named, "STABSIM names")

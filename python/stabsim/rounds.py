@@ -1,24 +1,34 @@
 """Rounds of a block that stand by themselves."""
 
-import re
+from stabsim.errors import Refused
+from stabsim.reading import Block, headed, items_of
 
-HEAD = re.compile(r"REPEAT(\[[^\]]*\])?\s+(\d+)", re.IGNORECASE)
+
+def block_of(text: str) -> Block:
+    """The block that a text is; ValueError if it is none."""
+    try:
+        [block] = items_of(text)
+    except Refused as refused:
+        raise ValueError(str(refused)) from None
+    if not isinstance(block, Block):
+        raise ValueError("this is no block")
+    return block
 
 
-def parts_of_block(block: str, round_number: int) -> list[str]:
+def parts_of_block(text: str, round_number: int) -> list[str]:
     """The blocks that a block becomes where one of its rounds, counted from 0, is split off: the rounds before it, that round,
     and the rounds behind it, without those that have none. ValueError where the text is no block or has no such round."""
-    head = HEAD.match(block.strip())
-    count = int(head[2]) if head else 0
-    if not head or not 0 <= round_number < count:
+    block = block_of(text)
+    if not 0 <= round_number < block.repeat:
         raise ValueError("there is no such round")
-    body = block.strip()[head.end():]
-    return [f"REPEAT{head[1] or ''} {rounds}{body}" for rounds in (round_number, 1, count - round_number - 1) if rounds]
+    body = "\n".join(text.rstrip().split("\n")[block.line :])
+    rounds = (round_number, 1, block.repeat - round_number - 1)
+    return [f"{headed('REPEAT', block.tag)} {count} {{\n{body}" for count in rounds if count]
 
 
 def longest_part(parts: list[str]) -> int:
     """Which of these blocks has the most rounds: the first that does, counted from 0."""
-    rounds = [int(head[2]) for head in map(HEAD.match, parts) if head]
+    rounds = [block_of(part).repeat for part in parts]
     return rounds.index(max(rounds))
 
 

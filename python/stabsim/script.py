@@ -5,6 +5,7 @@ from collections.abc import Sequence
 
 from stabsim import program
 from stabsim.errors import Refused
+from stabsim.reading import Line, lines_of
 
 MOST_LINE_BYTES = 65_536
 SPACING = " \t\r\n"
@@ -28,33 +29,30 @@ def edit_lines(words: str, item: str) -> bytes:
     A text of several lines is taken as a block's, up to the line that closes it. Any line behind that would be a command of
     its own, so a text that is not exactly one item is refused here.
     """
-    lines = program.bytes_of(f"{words} {item.strip(SPACING)}").split(b"\n")
+    text = f"{words} {item.strip(SPACING)}"
+    lines = list(lines_of(text))
     if len(lines) > 1:
-        if len(lines[0]) > MOST_LINE_BYTES:
+        if is_too_long(lines[0]):
             raise Refused(14, "TooLong")
-        if closing_line(lines) != len(lines) - 1:
+        if closing_line(lines) != len(lines):
             raise ValueError("the text is not one instruction on one line, and not one whole block")
-    elif opens(lines[0]):
+    elif lines[0].opens:
         raise ValueError("the block is not closed")
-    return b"\n".join(lines) + b"\n"
+    return program.bytes_of(text + "\n")
 
 
-def closing_line(lines: list[bytes]) -> int | None:
-    """The line at which the block that the first line opens is closed; None where it opens none, or none closes it."""
+def closing_line(lines: list[Line]) -> int | None:
+    """The number of the line at which the block that the first line opens is closed; None if it opens none, or none closes it."""
     opened = 0
-    for number, line in enumerate(lines):
+    for line in lines:
         # A line over its limit neither opens nor closes.
-        if len(line) <= MOST_LINE_BYTES:
-            opened += opens(line) - (content(line) == b"}")
+        if not is_too_long(line):
+            opened += line.opens - line.closes
         if opened == 0:
-            return number if number else None
+            return line.number if line is not lines[0] else None
     return None
 
 
-def opens(line: bytes) -> bool:
-    return content(line).endswith(b"{")
-
-
-def content(line: bytes) -> bytes:
-    """A line without its comment and the spacing round it."""
-    return line.split(b"#", 1)[0].strip(SPACING.encode())
+def is_too_long(line: Line) -> bool:
+    """Whether a script may not have such a line."""
+    return len(program.bytes_of(line.text)) > MOST_LINE_BYTES

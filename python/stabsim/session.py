@@ -22,7 +22,13 @@ Places = NDArray[np.int64]
 
 @dataclass(frozen=True)
 class SessionNumbers:
-    """How many of each thing the circuit has, as it is now; of qubits, as many as the session has."""
+    """How many of each thing the circuit has, as it is now; of qubits, as many as the session has.
+
+    >>> import stabsim
+    >>> with stabsim.Circuit("M 0").edit(qubits=3) as session:
+    ...     session.numbers()
+    SessionNumbers(qubits=3, steps=1, records=1, detectors=0, observables=0)
+    """
 
     qubits: int
     steps: int
@@ -37,6 +43,11 @@ class ItemSteps:
 
     In a block they are those of the first round of each block around the item. An item without steps, or with no records, has an
     empty range, which begins where the next ones would.
+
+    >>> import stabsim
+    >>> with stabsim.Circuit("R 0 1\\nM 0 1").edit() as session:
+    ...     session.place(1)
+    ItemSteps(steps=range(2, 4), records=range(0, 2), detectors=range(0, 0), coins=range(2, 4))
     """
 
     steps: range
@@ -50,6 +61,14 @@ class Changed:
     """What differs from the mark, place by place: numbers of detectors, observables and records, int64 (changed,) each.
 
     lengths has, for each of the three whose number of places has changed, that number at the mark and now.
+
+    >>> import stabsim
+    >>> with stabsim.Circuit("M 0\\nDETECTOR rec[-1]").edit() as session:
+    ...     session.insert(0, "X 0")
+    ...     session.insert(3, "DETECTOR")
+    ...     changed = session.changed()
+    >>> changed.detectors.tolist(), changed.lengths
+    ([0], {'detectors': (1, 2)})
     """
 
     detectors: Places
@@ -63,7 +82,15 @@ class Session:
 
     It is a context manager, and its process ends with it. One thread at a time uses it. An edit that is refused raises
     stabsim.Refused, with words for a fault of the item's own, and changes nothing. Where the process has ended, or was interrupted
-    in a reply, every call raises stabsim.SessionEnded.
+    in a reply, every call raises stabsim.SessionEnded. All calls but `close` ask the program, so none is a property.
+
+    >>> import stabsim
+    >>> with stabsim.Circuit("H 0\\nCX 0 1\\nM 0 1\\nDETECTOR rec[-1] rec[-2]").edit() as session:
+    ...     session.insert(2, "X 1")
+    ...     print(session.changed().detectors, session.detectors(), session.sign("Z0*Z1"))
+    ...     print(session.undo(), session.detectors())
+    [0] [ True] -1
+    True [False]
     """
 
     def __init__(self, text: str, *, qubits: int | None = None, seed: int = 0, stride: int | None = None) -> None:
@@ -87,29 +114,60 @@ class Session:
         """Ends the session and its process. A session that has ended stays so."""
         self.process.close()
 
-    # Edits.
+    # Edits. A path is a number, or numbers that lead into blocks, as 3/0/2.
 
     def insert(self, path: Path, text: str) -> None:
-        """Puts an item, one instruction or one whole block, in front of the one at the path, or behind all of its list."""
+        """Puts an item, one instruction or one whole block, in front of the one at the path, or behind all of its list.
+
+        >>> import stabsim
+        >>> with stabsim.Circuit("REPEAT 2 {\\n    M 0\\n}").edit() as session:
+        ...     session.insert("0/1", "X 0")
+        ...     print(session.circuit(), end="")
+        REPEAT 2 {
+            M 0
+            X 0
+        }
+        """
         at = path_text(path)
         with explaining(text):
             self.change(Change.of_one(edit_lines(f"insert {at}", text), delete_line(at)))
 
     def replace(self, path: Path, text: str) -> None:
-        """Puts an item in the stead of the one at the path."""
+        """Puts an item in the place of the one at the path.
+
+        >>> import stabsim
+        >>> with stabsim.Circuit("X 0\\nM 0").edit() as session:
+        ...     session.replace(0, "H 0")
+        ...     session.free()
+        array([ True])
+        """
         at = path_text(path)
         with explaining(text):
             self.change(Change.of_one(edit_lines(f"replace {at}", text), edit_lines(f"replace {at}", self.old_item(at))))
 
     def delete(self, path: Path) -> None:
-        """Takes the item at the path out."""
+        """Takes the item at the path out.
+
+        >>> import stabsim
+        >>> with stabsim.Circuit("X 0\\nM 0").edit() as session:
+        ...     session.delete(0)
+        ...     session.records()
+        array([False])
+        """
         at = path_text(path)
         self.change(Change.of_one(delete_line(at), edit_lines(f"insert {at}", self.old_item(at))))
 
     def split(self, path: Path, round_number: int) -> None:
         """Splits a round, counted from 0, off the block at the path, so that it can be edited by itself: the rounds before it
         become a block, that round one, and the rounds behind it one; a part without rounds is left out. The steps stay, so
-        nothing is run and no bit changes."""
+        nothing is run and no bit changes.
+
+        >>> import stabsim
+        >>> with stabsim.Circuit("REPEAT 9 {\\n    M 0\\n}").edit() as session:
+        ...     session.split(0, 3)
+        ...     [block.repeat for block in stabsim.Circuit(session.circuit())]
+        [3, 1, 5]
+        """
         at = path_text(path)
         block = self.old_item(at)
         self.change(Change((Request(f"split {at} {round_number}\n".encode(), b""),), joining(at, block, round_number)))
@@ -128,32 +186,26 @@ class Session:
         """How many qubits, steps, records, detectors and observables there are now."""
         return SessionNumbers(*map(int, self.line("show numbers").split()))
 
-    @property
     def records(self) -> Bits:
         """The records, bool (records,)."""
         return bits.of_text(self.line("show measurements"))
 
-    @property
     def free(self) -> Bits:
         """For each measured target or product and each reset whether its coin decided the outcome, bool (coins,)."""
         return bits.of_text(self.line("show free"))
 
-    @property
     def detectors(self) -> Bits:
         """The detectors, bool (detectors,): raw parities of records."""
         return bits.of_text(self.line("show detectors"))
 
-    @property
     def observables(self) -> Bits:
         """The observables, bool (observables,)."""
         return bits.of_text(self.line("show observables"))
 
-    @property
     def stabilisers(self) -> list[str]:
         """The reduced rows of the group that stabilises the state behind the circuit: a signed string for each qubit."""
         return [line.decode() for line in self.process.ask(b"show stabilisers\n")]
 
-    @property
     def circuit(self) -> str:
         """The text of the circuit as it is now."""
         return text_of_lines(self.process.ask(b"show circuit\n"))
@@ -172,8 +224,14 @@ class Session:
         return sure_of(bits.of_text(self.line("show deterministic")), self.numbers().detectors)
 
     def sign(self, pauli: str) -> int:
-        """1 where the string, as X0*Z3 or -X0 or with a letter for each qubit, stabilises the state, -1 where its negative
-        does, 0 where neither does."""
+        """1 if the string, as X0*Z3 or -X0 or with a letter for each qubit, stabilises the state, -1 if its negative does, 0 if neither
+        does.
+
+        >>> import stabsim
+        >>> with stabsim.Circuit("X 0\\nH 1").edit() as session:
+        ...     [session.sign(it) for it in ("Z0", "+_X", "-ZX", "X0*X1")]
+        [-1, 1, 1, 0]
+        """
         return {b"+": 1, b"-": -1, b"0": 0}[self.line(f"show sign {pauli}")]
 
     def mark(self) -> None:

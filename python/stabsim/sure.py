@@ -7,7 +7,12 @@ from numpy.typing import NDArray
 
 
 class Sure(NamedTuple):
-    """What is the same for all coins: detectors is a bool array (detectors,), observables a bool array (observables,)."""
+    """What is the same for all coins: detectors is a bool array (detectors,), observables a bool array (observables,).
+
+    >>> import stabsim
+    >>> stabsim.Circuit("MX 0\\nOBSERVABLE_INCLUDE(0) rec[-1]").deterministic().observables.tolist()
+    [False]
+    """
 
     detectors: NDArray[np.bool_]
     observables: NDArray[np.bool_]

@@ -28,10 +28,11 @@ def open_page(browser, tmp_path):
     """Opens the page on a circuit, perhaps with more words for its server."""
     pages = []
 
-    def opened(text, *words):
+    def opened(text, *words, is_opened=True):
         page = Page(browser, tmp_path, text, *words)
         pages.append(page)
-        page.open()
+        if is_opened:
+            page.open()
         return page
 
     yield opened

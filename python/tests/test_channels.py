@@ -5,7 +5,7 @@ import math
 import random
 
 import pytest
-from stabsim.channels import ONE, TWO, anticommute, depolarising, independent
+from stabsim.channels import ONE, TWO, depolarising, group_of, independent
 
 
 def product(left, right):
@@ -46,9 +46,23 @@ def test_stronger_than_full_depolarising_is_nothing():
     assert depolarising(0.76, 1) is None and depolarising(0.94, 2) is None
 
 
-def test_letters_anticommute_where_they_differ_at_an_odd_number_of_places():
-    assert anticommute("X", "Z") and anticommute("XI", "YZ") and anticommute("IY", "IZ")
-    assert not anticommute("X", "X") and not anticommute("I", "Z") and not anticommute("XX", "ZZ")
+def test_a_group_has_all_products_of_its_generators():
+    assert group_of(["XX", "ZZ"]) == {"XX": 1, "ZZ": 2, "YY": 3}
+    assert group_of(["X", "Z", "Y"]) == {"X": 1, "Z": 2, "Y": 3}
+    assert set(group_of(["XIZ", "IXI", "XXZ", "IIY"])) == {"XIZ", "IXI", "XXZ", "IIY", "XIX", "IXY", "XXX"}
+    # Sixty-four elements are looked through, and more are not.
+    singles = ["I" * place + "X" + "I" * (6 - place) for place in range(7)]
+    assert len(group_of(singles[:6])) == 63 and group_of(singles) is None
+
+
+def test_random_independent_errors_of_three_qubits_are_found_again():
+    numbers = random.Random(6)
+    for _ in range(5):
+        errors = {name: numbers.uniform(0.01, 0.1) for name in ("XZI", "IYY", "XXY", "ZIZ")}
+        chances = disjoint(errors, 3)
+        chances.pop("III")
+        found = independent(chances)
+        assert all(math.isclose(found.get(name, 0), errors.get(name, 0), abs_tol=1e-12) for name in {*found, *errors})
 
 
 @pytest.mark.parametrize("qubits", [1, 2])

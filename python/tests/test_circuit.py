@@ -217,7 +217,7 @@ def test_a_noisy_file_is_opened_without_its_noise_and_says_so(tmp_path):
     assert circuit.numbers().records == 4
     assert repr(circuit) == "<stabsim.Circuit: 1 qubits, 6 steps, 1 detectors, the noise of 2 lines is left out>"
     with pytest.warns(UserWarning, match="1 line is left out"), stabsim.Circuit.from_file(one_line(tmp_path)).edit() as session:
-        assert session.circuit == "R 0\n"
+        assert session.circuit() == "R 0\n"
 
 
 def one_line(folder):
@@ -293,7 +293,7 @@ def test_bytes_that_are_no_text_stay_as_they_are(tmp_path):
     circuit = stabsim.Circuit.from_file(path)
     assert program.bytes_of(circuit.text) == path.read_bytes() and circuit.numbers().detectors == 1
     with circuit.edit() as session:
-        assert program.bytes_of(session.circuit) == b"M 0\nDETECTOR[\xfe] rec[-1]\n"
+        assert program.bytes_of(session.circuit()) == b"M 0\nDETECTOR[\xfe] rec[-1]\n"
         session.delete(1)
         assert session.undo() and program.bytes_of(session.item(1)) == b"DETECTOR[\xfe] rec[-1]\n"
 

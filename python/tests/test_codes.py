@@ -10,6 +10,9 @@ import pytest
 import stabsim
 from stabsim import codes
 
+HAMMING = [[1, 0, 1, 0, 1, 0, 1], [0, 1, 1, 0, 0, 1, 1], [0, 0, 0, 1, 1, 1, 1]]
+# The polynomials x^3 + y + y^2 and y^3 + x + x^2.
+SEVENTY_TWO = ([(3, 0), (0, 1), (0, 2)], [(0, 3), (1, 0), (2, 0)])
 TEXTS = {
     "surface, Z": codes.surface_code(3, 4),
     "surface, X": codes.surface_code(4, 3, basis="X"),
@@ -19,7 +22,16 @@ TEXTS = {
     "colour": codes.colour_code(5, 3),
     "Bacon-Shor": codes.bacon_shor_code(3, 3),
     "Steane": codes.steane_code(3),
+    "unrotated surface, Z": codes.unrotated_surface_code(3, 3),
+    "unrotated surface, X": codes.unrotated_surface_code(4, 2, basis="X"),
+    "toric, Z": codes.toric_code(3, 3),
+    "toric, X": codes.toric_code(2, 2, basis="X"),
+    "CSS, Z": codes.css_code(HAMMING, HAMMING, 3),
+    "CSS, X": codes.css_code(HAMMING, HAMMING, 2, basis="X"),
+    "bivariate bicycle": codes.bivariate_bicycle_code(6, 6, *SEVENTY_TWO, rounds=3),
 }
+# How many logical qubits there are if not one.
+OBSERVABLES = {"toric, Z": 2, "toric, X": 2, "bivariate bicycle": 12}
 
 
 @pytest.mark.parametrize("name", TEXTS)
@@ -33,7 +45,7 @@ def test_detectors_and_the_observable_are_0_whatever_the_coins(name):
     circuit = stabsim.Circuit(TEXTS[name])
     sure = circuit.deterministic()
     detectors, observables = circuit.detect(3, seed=1, separate_observables=True)
-    assert sure.detectors.all() and sure.observables.all() and sure.observables.shape == (1,)
+    assert sure.detectors.all() and sure.observables.all() and sure.observables.shape == (OBSERVABLES.get(name, 1),)
     assert not detectors.any() and not observables.any()
 
 
@@ -43,6 +55,7 @@ def test_counts_are_those_of_the_layouts():
         (codes.surface_code(3, 4), 4 + 3 * 8 + 4, 26), (codes.surface_code(5, 2, basis="X"), 12 + 24 + 12, 64),
         (codes.repetition_code(4, 6), 3 + 5 * 3 + 3, 7), (codes.colour_code(5, 3), 9 + 2 * 18 + 9, 19),
         (codes.bacon_shor_code(3, 3), 2 + 2 * 4 + 2, 9), (codes.steane_code(3), 3 + 2 * 6 + 3, 13),
+        (codes.unrotated_surface_code(3, 3), 6 + 2 * 12 + 6, 25), (codes.toric_code(3, 2), 9 + 18 + 9, 36),
     ]:
         has = stabsim.Circuit(text).numbers()
         assert (has.detectors, has.qubits) == (detectors, qubits)
@@ -124,6 +137,15 @@ DISTANCES = {
     "Bacon-Shor, distance 4": (codes.bacon_shor_code, {"distance": 4, "rounds": 2}, 4, 4, 4),
     "Bacon-Shor, distance 5": (codes.bacon_shor_code, {"distance": 5, "rounds": 2}, 5, 5, 5),
     "Steane": (codes.steane_code, {"rounds": 3}, 2, 3, 3),
+    "Steane by matrices": (codes.css_code, {"hx": HAMMING, "hz": HAMMING, "rounds": 3}, 2, 3, 3),
+    "unrotated surface": (codes.unrotated_surface_code, {"distance": 3, "rounds": 3}, 3, 3, 3),
+    "unrotated surface, X": (codes.unrotated_surface_code, {"distance": 3, "rounds": 2, "basis": "X"}, 3, 3, 3),
+    "unrotated surface, distance 4": (codes.unrotated_surface_code, {"distance": 4, "rounds": 2}, 4, 4, 4),
+    "toric, distance 2": (codes.toric_code, {"distance": 2, "rounds": 2}, 2, 2, 2),
+    "toric": (codes.toric_code, {"distance": 3, "rounds": 3}, 3, 3, 3),
+    "toric, X": (codes.toric_code, {"distance": 3, "rounds": 2, "basis": "X"}, 3, 3, 3),
+    "toric, distance 4": (codes.toric_code, {"distance": 4, "rounds": 2}, 4, 4, 4),
+    "unrotated surface, distance 5": (codes.unrotated_surface_code, {"distance": 5, "rounds": 2}, 5, 5, 5),
 }
 
 
@@ -177,7 +199,8 @@ def test_the_search_finds_what_all_sets_have():
 
 def test_noise_comes_off_again():
     noise = codes.Noise.uniform(0.01)
-    for name, given in [("surface_code", (3, 3)), ("repetition_code", (3, 3)), ("colour_code", (3, 2)), ("bacon_shor_code", (3, 2))]:
+    for name, given in [("surface_code", (3, 3)), ("repetition_code", (3, 3)), ("colour_code", (3, 2)), ("bacon_shor_code", (3, 2)),
+                        ("toric_code", (3, 2)), ("css_code", (HAMMING, HAMMING, 2))]:
         make = getattr(codes, name)
         assert stabsim.without_noise(make(*given, noise=noise)) == make(*given)
     assert stabsim.without_noise(codes.steane_code(2, noise=noise)) == codes.steane_code(2)
@@ -200,7 +223,8 @@ def test_the_deepest_has_a_round_less_than_too_many_steps():
 
 def test_what_is_out_of_range_is_a_value_error():
     for wrong in (lambda: codes.surface_code(1, 1), lambda: codes.surface_code(22, 1), lambda: codes.colour_code(4, 1),
-                  lambda: codes.repetition_code(3, 0), lambda: codes.surface_code(3, 1, basis="Y")):
+                  lambda: codes.repetition_code(3, 0), lambda: codes.surface_code(3, 1, basis="Y"), lambda: codes.toric_code(17, 1),
+                  lambda: codes.unrotated_surface_code(3, 1, basis="Y"), lambda: codes.css_code(HAMMING, HAMMING, 1, basis="Y")):
         with pytest.raises(ValueError):
             wrong()
 

@@ -1,13 +1,16 @@
 """Counting logical errors: the same sums however the work is done, and nothing counted twice or lost."""
 
+import contextlib
 import csv
 import functools
 import itertools
+import json
 import multiprocessing
 import os
 import signal
 import subprocess
 import sys
+import threading
 import time
 from concurrent.futures import ProcessPoolExecutor, ThreadPoolExecutor
 
@@ -16,6 +19,7 @@ import pytest
 import stabsim
 from stabsim import codes
 from stabsim.collecting import seed_of
+from stabsim.counting import held
 
 import deciding
 
@@ -219,17 +223,167 @@ def test_predictions_of_a_wrong_shape_are_told():
         sums_of(MODELS, deciding.too_few, shots=10, seed=4)
 
 
+def test_counting_starts_at_the_call(tmp_path):
+    with ThreadPoolExecutor(2) as executor:
+        begun = threading.Event()
+
+        def decoder(model):
+            begun.set()
+            return deciding.nothing(model)
+
+        counting = stabsim.collect(MODELS, ("nothing", decoder), shots=5000, seed=4, executor=executor, save=tmp_path / "counts.csv")
+        assert begun.wait(10)
+        counting.close()
+    # Without an executor too.
+    begun.clear()
+    with stabsim.collect(MODELS, ("nothing", decoder), shots=5000, seed=4):
+        assert begun.wait(10)
+
+
+def test_a_counting_that_is_closed_lets_its_file_go(tmp_path):
+    path = tmp_path / "counts.csv"
+    words = {"seed": 4, "save": path, "part_shots": 1024}
+    counting = stabsim.collect(MODELS, deciding.nothing, shots=50_000, **words)
+    next(counting)
+    with pytest.raises(stabsim.OtherExperiment, match="another process"):
+        stabsim.collect(MODELS, deciding.nothing, shots=50_000, **words)
+    counting.close()
+    assert list(counting) == []
+    some = each_shot_once(path)
+    assert sums_of(MODELS, deciding.nothing, shots=3000, **words) == each_shot_once(path) and some["d3"][0] < 50_000
+    # One that nobody holds any more is closed, and one that fails too.
+    del counting
+    stabsim.collect(MODELS, deciding.nothing, shots=50_000, **words)
+    with pytest.raises(ZeroDivisionError):
+        list(stabsim.collect(MODELS, ("other", lambda model: lambda detectors: 1 // 0), shots=50_000, **words))
+    assert sums_of(MODELS, deciding.nothing, shots=3000, **words)["d3"][0] >= 3000
+
+
+@pytest.mark.parametrize("wrong, kind, why", [
+    ({"models": [MODELS["d3"]]}, TypeError, "by name"), ({"models": {"d3": "M 0"}}, TypeError, "by name"), ({"decoder": 5}, TypeError, "a function"),
+    ({"decoder": ("name", 5)}, TypeError, "a function"), ({"seed": "4"}, TypeError, "seed"), ({"shots": -1}, ValueError, "shots"),
+    ({"errors": 0}, ValueError, "errors"), ({"waiting": 0}, ValueError, "waiting"), ({"part_shots": 0}, ValueError, "part_shots"),
+    ({"metadata": {"d4": {}}}, ValueError, "no model"), ({"metadata": {"d3": {"x": object()}}}, TypeError, "JSON"),
+    ({"postselect": {"d3": [True]}}, ValueError, "postselect of d3"), ({"postselect": lambda model: np.zeros(model.detectors)}, ValueError, "postselect"),
+])
+def test_wrong_arguments_are_told_by_the_call(wrong, kind, why, tmp_path):
+    words = {"models": MODELS, "decoder": deciding.nothing, "shots": 10, "seed": 4, "save": tmp_path / "counts.csv", **wrong}
+    with pytest.raises(kind, match=why):
+        stabsim.collect(words.pop("models"), words.pop("decoder"), **words)
+    assert not (tmp_path / "counts.csv").exists()
+
+
+def test_models_are_forgotten_once_they_are_counted():
+    counting = stabsim.collect(MODELS, deciding.nothing, shots=3000, seed=4, part_shots=1024)
+    next(counting)
+    assert counting.experiment in held.loads
+    # All parts are wanted, so none is under way once the last is counted.
+    assert [it.shots for it in counting][-1] == 3000
+    assert counting.experiment not in held.loads
+
+
+def test_metadata_is_kept(tmp_path):
+    path = tmp_path / "counts.csv"
+    metadata = {"d3": {"d": 3, "p": 0.03, "tags": ["a", "b, c"]}}
+    found = {it.name: it.metadata for it in stabsim.collect(MODELS, deciding.nothing, shots=2048, seed=4, save=path, metadata=metadata, part_shots=1024)}
+    assert found == {"d3": metadata["d3"], "d5": {}}
+    with open(path, newline="") as file:
+        kept = [(row["name"], row["metadata"]) for row in csv.DictReader(file)]
+    assert len(kept) == 4 and all(json.loads(said) == metadata["d3"] if name == "d3" else said == "" for name, said in kept)
+    # A later call keeps it, or says something else.
+    again = {it.name: it for it in stabsim.collect(MODELS, deciding.nothing, shots=3072, seed=4, save=path)}
+    assert {name: it.metadata for name, it in again.items()} == found
+    other = {"d3": {"d": 4}, "d5": {"d": 6}}
+    later = {it.name: it for it in stabsim.collect(MODELS, deciding.nothing, shots=4096, seed=4, save=path, metadata=other)}
+    assert {name: it.metadata for name, it in later.items()} == other == {it.name: it.metadata for it in stabsim.combine(path)}
+
+
+def masks_of(model):
+    """Every other detector of a model, bool (detectors,)."""
+    return np.arange(model.detectors) % 2 == 0
+
+
+@pytest.mark.parametrize("kind", [None, ProcessPoolExecutor])
+def test_shots_with_certain_detectors_are_discarded(kind, tmp_path):
+    path = tmp_path / "counts.csv"
+    with kind(2) if kind else contextlib.nullcontext() as executor:
+        counted = {it.name: it for it in stabsim.collect(MODELS, deciding.lookup, shots=5000, seed=4, save=path, postselect=masks_of, part_shots=1024,
+                                                         executor=executor)}
+    for name, model in MODELS.items():
+        detectors, observables = model.sample(5000, seed=seed_of(name, 4))
+        kept = ~detectors[:, masks_of(model)].any(axis=1)
+        wrong = (deciding.lookup(model)(detectors[kept]) != observables[kept]).any(axis=1)
+        assert 0 < kept.sum() < 5000 and counted[name].kept == kept.sum()
+        assert (counted[name].shots, counted[name].discards, counted[name].errors) == (5000, 5000 - kept.sum(), wrong.sum())
+        assert counted[name].rate().best == wrong.sum() / kept.sum()
+    # Gone on with the same masks, here by names, and with no others.
+    by_name = {name: masks_of(model) for name, model in MODELS.items()}
+    again = {it.name: it for it in stabsim.collect(MODELS, deciding.lookup, shots=5000, seed=4, save=path, postselect=by_name)}
+    assert {name: (it.shots, it.discards, it.errors) for name, it in again.items()} == {
+        name: (it.shots, it.discards, it.errors) for name, it in counted.items()}
+    for other in (None, {"d3": ~masks_of(MODELS["d3"]), "d5": by_name["d5"]}):
+        with pytest.raises(stabsim.OtherExperiment, match="d3"):
+            stabsim.collect(MODELS, deciding.lookup, shots=5000, seed=4, save=path, postselect=other)
+
+
+def test_a_file_of_fewer_columns_is_gone_on_with(tmp_path):
+    path = tmp_path / "counts.csv"
+    short = "name,decoder,model,seed,first_shot,shots,errors,seconds\n"
+    first = short + f"d3,deciding.nothing,{MODELS['d3'].fingerprint},{seed_of('d3', 4)},0,1024,{errors_in('d3', 1024)},0.500000\n"
+    path.write_text(first)
+    assert sums_of(MODELS, deciding.nothing, shots=3000, seed=4, save=path) == {name: (3000, errors_in(name, 3000)) for name in MODELS}
+    assert path.read_text().startswith(first) and each_shot_once(path)["d3"] == (3000, errors_in("d3", 3000))
+    for more in ({"metadata": {"d3": {"d": 3}}}, {"postselect": masks_of}):
+        with pytest.raises(stabsim.OtherExperiment, match="count anew"):
+            stabsim.collect(MODELS, deciding.nothing, shots=3000, seed=4, save=path, **more)
+
+
+class Pickled(deciding.Decoding):
+    """A decoder that counts how often it is sent."""
+
+    times = 0
+
+    def __reduce__(self):
+        Pickled.times += 1
+        return deciding.Decoding, ()
+
+
+def test_models_are_sent_to_workers_and_not_with_each_part():
+    Pickled.times = 0
+    with ProcessPoolExecutor(2) as executor:
+        found = sums_of(MODELS, ("nothing", Pickled()), shots=50 * 1024, seed=4, part_shots=1024, executor=executor)
+    assert found == {name: (50 * 1024, errors_in(name, 50 * 1024)) for name in MODELS}
+    # Two models and two processes, and some more if a part with a model met a process that had it.
+    assert 2 <= Pickled.times <= 20
+
+
 def test_how_much_is_enough_must_be_said():
     with pytest.raises(ValueError, match="enough"):
         sums_of(MODELS, deciding.nothing, seed=4)
 
 
 def test_progress_is_shown_on_a_terminal_alone(capfd):
+    pytest.importorskip("tqdm")
     sums_of(MODELS, deciding.nothing, shots=10, seed=4)
     assert capfd.readouterr().err == ""
     leader, follower = os.openpty()
     code = DRIVER.replace("60 * 1024", "3 * 1024").replace("sys.argv[1]", "None")
     subprocess.run([sys.executable, "-c", code], stdout=subprocess.DEVNULL, stderr=follower, check=True)
     os.close(follower)
-    assert b"1 of 1 models, 3072 shots" in os.read(leader, 65536)
+    shown = os.read(leader, 65536)
     os.close(leader)
+    assert b"1/1 " in shown and b"3072 shots" in shown
+
+
+def test_without_tqdm_there_is_no_line():
+    leader, follower = os.openpty()
+    code = "import sys; sys.modules['tqdm'] = None\n" + DRIVER.replace("60 * 1024", "3 * 1024").replace("sys.argv[1]", "None")
+    done = subprocess.run([sys.executable, "-c", code], stdout=subprocess.PIPE, stderr=follower, check=True, text=True)
+    os.set_blocking(leader, False)
+    os.close(follower)
+    try:
+        assert os.read(leader, 65536) == b""
+    except (BlockingIOError, OSError):
+        pass
+    os.close(leader)
+    assert done.stdout.split() == ["1024", "2048", "3072"]

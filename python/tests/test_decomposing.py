@@ -8,7 +8,7 @@ import numpy as np
 import pytest
 import stabsim
 from stabsim import codes
-from stabsim.decomposing import parts_of
+from stabsim.decomposing import Table, parts_of, ways_of_each
 
 import matching
 
@@ -119,8 +119,39 @@ def test_an_error_of_very_many_detectors_is_cut_apart():
     # One that flips all detectors and the observable, one of two detectors for each pair of neighbours, and one with the observable.
     count = 2000
     flips = [list(range(count + 1)), *([it, it + 1] for it in range(count - 1)), [0, 1, count]]
-    parts = parts_of([0.1] * len(flips), flips, count, False)
+    indptr = np.cumsum([0, *map(len, flips)])
+    parts = parts_of(np.full(len(flips), 0.1), indptr, np.concatenate(flips), count, False)
     assert sorted(parts[0]) == [*range(3, count, 2), count] and parts[1:] == tuple((it,) for it in range(1, len(flips)))
+
+
+def random_model(numbers, observables):
+    """Mechanisms of one to four of nine detectors, and of some observables, in the order of what they flip."""
+    flips = set()
+    for _ in range(numbers.integers(5, 60)):
+        seen = numbers.choice(9, size=numbers.integers(1, 5), replace=False).tolist()
+        some = [9 + it for it in range(observables) if numbers.random() < 0.3]
+        flips.add(tuple(sorted(seen) + some))
+    return sorted(map(list, flips))
+
+
+@pytest.mark.parametrize("seed", range(30))
+@pytest.mark.parametrize("observables", [1, 2, 64, 65])
+def test_all_at_once_and_one_by_one_find_parts_as_likely(seed, observables):
+    numbers = np.random.default_rng([seed, observables])
+    # Of many observables the first two and the last two are flipped.
+    names = [0, 1, observables - 2, observables - 1] if observables > 4 else list(range(observables))
+    flips = [[it if it < 9 else 9 + names[it - 9] for it in flip] for flip in random_model(numbers, len(names))]
+    chances = numbers.choice([0.1, 0.2, 0.05], size=len(flips))
+    indptr, indices = np.cumsum([0, *map(len, flips)]), np.concatenate(flips)
+    found = parts_of(chances, indptr, indices, 9, True)
+    sizes = np.array([sum(it < 9 for it in flip) for flip in flips])
+    alone = ways_of_each(Table(-np.log(chances), indptr, indices, 9, sizes), np.flatnonzero(sizes > 2).tolist())
+    for number, parts in enumerate(found):
+        other = alone.get(number, (number,))
+        assert np.isclose(np.log(chances[list(parts)]).sum(), np.log(chances[list(other)]).sum(), atol=1e-12)
+        assert functools.reduce(set.symmetric_difference, (set(flips[part]) for part in parts)) == set(flips[number])
+        seen = [it for part in parts for it in flips[part] if it < 9]
+        assert len(set(seen)) == len(seen) and (sizes[list(parts)] <= 2).all() or parts == (number,)
 
 
 @pytest.mark.parametrize("text", [codes.repetition_code(3, 2, noise=NOISE), codes.surface_code(2, 1, noise=NOISE)],

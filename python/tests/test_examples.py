@@ -60,8 +60,8 @@ def test_the_matching_corrects_each_single_error():
 def test_a_picture_is_drawn(tmp_path):
     pytest.importorskip("matplotlib")
     threshold = example("threshold")
-    sums = {threshold.name_of(distance, chance): stabsim.Sums("", 100, 5 + distance) for distance, chance in
-            itertools.product(threshold.DISTANCES, threshold.CHANCES)}
+    sums = [stabsim.Sums("", 100, 5 + distance, metadata={"distance": distance, "chance": chance}) for distance, chance in
+            itertools.product(threshold.DISTANCES, threshold.CHANCES)]
     threshold.draw(sums, str(tmp_path / "picture.png"))
     assert (tmp_path / "picture.png").read_bytes().startswith(b"\x89PNG")
 

@@ -2,6 +2,8 @@
 
 import itertools
 import math
+import subprocess
+import sys
 from fractions import Fraction
 
 import numpy as np
@@ -123,8 +125,120 @@ def test_disjoint_errors_are_approximated_only_where_that_is_asked_for():
     assert "lines [3] approximated" in repr(found) and found.dem.startswith("# The disjoint errors of line 3")
 
 
+def chain(*chances):
+    """A circuit with X, Y and Z of qubit 0 as a chain, whose chances are these if none before them happened."""
+    names = ["E", "ELSE_CORRELATED_ERROR", "else_correlated_error[tag]"]
+    lines = "".join(f"{name}({chance!r}) {letter}0 X1\n" for name, chance, letter in zip(names, chances, "XYZ"))
+    return f"R 0\nRX 2\nCX 2 0\nR 1\n{lines}CX 2 0\nM 0 1\nMX 2\nDETECTOR rec[-3]\nDETECTOR rec[-2]\nDETECTOR rec[-1]\n"
+
+
+def test_a_chain_is_independent_errors_if_some_make_it():
+    # X and Z, each with X on the other qubit, happen independently with chances 0.1 and 0.2, and in place of Y is their product: I of the
+    # other qubit. It has X too here, so no independent errors make it.
+    disjoint = (0.1 * 0.8, 0.1 * 0.2, 0.9 * 0.2)
+    given = [disjoint[0], disjoint[1] / (1 - disjoint[0]), disjoint[2] / (1 - disjoint[0] - disjoint[1])]
+    with pytest.raises(stabsim.UnsupportedNoise, match="line 7: .*approximate_disjoint_errors"):
+        stabsim.error_model(chain(*given))
+    text = "".join(line.replace(" X1", "") if "Y0" in line else line for line in chain(*given).splitlines(keepends=True))
+    # X flips detectors 0 and 1, Z, which a control of the check meets, detectors 1 and 2.
+    assert close(mechanisms(stabsim.error_model(text)), {"D0 D1": 0.1, "D1 D2": 0.2})
+
+
+def test_a_chain_is_taken_for_independent_errors_if_that_is_asked_for():
+    found = stabsim.error_model(chain(0.1, 0.2, 0.5), approximate_disjoint_errors=True)
+    assert close(mechanisms(found), {"D0 D1": 0.1, "D0 D1 D2": 0.9 * 0.2, "D1 D2": 0.9 * 0.8 * 0.5}) and found.approximated == (5, 6, 7)
+
+
+def test_letters_of_one_qubit_are_multiplied_and_a_silent_error_hinders_those_behind_it():
+    text = "R 0\nE(0.5) X0 X00\nELSE_CORRELATED_ERROR(0.25) Y0 Z0\nM 0\nDETECTOR rec[-1]\n"
+    assert close(mechanisms(stabsim.error_model(text)), {"D0": 0.125})
+
+
+def test_a_chain_is_of_lines_side_by_side():
+    for between in ("TICK", "X_ERROR(0.1) 0", "REPEAT 2 {\nTICK\n}"):
+        with pytest.raises(stabsim.UnsupportedNoise, match="follows E"):
+            stabsim.error_model(f"E(0.1) X0\n{between}\nELSE_CORRELATED_ERROR(0.1) X0\nM 0\n")
+    text = "R 0\nE(0.1) X0\n# a comment\n\nELSE_CORRELATED_ERROR(0.5) X0\nE(0.2) X0\nM 0\nDETECTOR rec[-1]\n"
+    assert close(mechanisms(stabsim.error_model(text)), {"D0": 0.55 * 0.8 + 0.45 * 0.2})
+
+
+def test_a_refusal_shows_a_line_of_a_chain_as_it_is_written():
+    with pytest.raises(stabsim.Refused) as told:
+        stabsim.error_model("R 0\nE(0.1) X0\n\tELSE_CORRELATED_ERROR[a](0.1) X0\tZ1024 # far\n")
+    assert told.value.line == 3
+    quoted, marks = told.value.explanation.split("\n")[:2]
+    assert quoted == "3:  ELSE_CORRELATED_ERROR[a](0.1) X0 Z1024 # far" and quoted.index("Z1024") + 1 == marks.index("^")
+
+
+EXPLAINED = """R 0 1 2
+REPEAT 2 {
+    X_ERROR(0.1) 0 1
+    REPEAT 3 {
+        DEPOLARIZE2(0.15) 0 1
+        M(0.01) 0 2
+        DETECTOR rec[-2]
+    }
+}
+MPP(0.02) Z1*Z2 Z1
+DETECTOR rec[-1]
+E(0.3) X1
+M 1
+OBSERVABLE_INCLUDE(0) rec[-1]
+"""
+
+
+def test_a_mechanism_is_explained_by_lines_and_rounds():
+    model = stabsim.error_model(EXPLAINED)
+    number = {name: at for at, name in enumerate(mechanisms(model))}
+    each = (1 - (1 - 16 * 0.15 / 15) ** 0.125) / 2
+    # A wrong record alone: of the third round of the inner block in the first of the outer.
+    assert model.explain(number["D2"]) == [(6, "M", "record of 0", 0.01, (0, 2))]
+    # A wrong record of the product, and the last error, whose qubit no detector looks at any more.
+    assert model.explain(number["D6"]) == [(10, "MPP", "record of Z1", 0.02, ())]
+    assert model.explain(number["L0"]) == [(12, "E", "X1", 0.3, ())]
+    # What flips the last detector of the blocks alone comes in its round; D5 of qubit 0 has letters on qubit 1 that nothing sees.
+    found = model.explain(number["D5"])
+    assert [(cause.line, cause.error, cause.rounds) for cause in found] == [
+        *((5, error, (1, 2)) for error in ("X0", "X0*Z1", "Y0", "Y0*Z1")), (6, "record of 0", (1, 2))]
+    assert all(cause.chance == pytest.approx(each) for cause in found[:-1])
+    # All of both blocks flip the end by qubit 1.
+    ends = model.explain(number["D6 L0"])
+    assert [cause.rounds for cause in ends if cause.line == 3] == [(0,), (1,)] and {cause.error for cause in ends} == {"X1", "Y1", "Z0*X1", "Z0*Y1"}
+    assert len(ends) == 2 + 6 * 4
+
+
+@pytest.mark.parametrize("name", NOISY)
+def test_what_explains_a_mechanism_has_its_chance_together(name):
+    model = stabsim.error_model(NOISY[name])
+    for mechanism, chance in enumerate(model.chances):
+        total = 0.0
+        for cause in model.explain(mechanism):
+            total = total * (1 - cause.chance) + cause.chance * (1 - total)
+        assert math.isclose(total, chance, rel_tol=1e-9)
+    with pytest.raises(IndexError):
+        model.explain(len(model))
+
+
+def test_sparse_matrices_are_the_dense_ones():
+    scipy = pytest.importorskip("scipy.sparse")
+    model = stabsim.error_model(codes.surface_code(3, 2, noise=codes.Noise.uniform(0.02)))
+    for form, kind in (("csr", scipy.csr_matrix), ("csc", scipy.csc_matrix)):
+        for dense, sparse in zip(model.check_matrices(), model.sparse_check_matrices(form)):
+            assert sparse.form == form and sparse.shape == dense.shape and np.array_equal(sparse.dense(), dense)
+            made = sparse.to_scipy()
+            assert isinstance(made, kind) and made.has_canonical_format and np.array_equal(made.toarray(), dense)
+    with pytest.raises(ValueError, match="csr or csc"):
+        model.sparse_check_matrices("coo")
+
+
+def test_sparse_matrices_need_no_scipy():
+    code = ("import sys; sys.modules['scipy'] = None; import stabsim; "
+            "print(stabsim.ErrorModel.from_dem('error(0.1) D1 L0').sparse_check_matrices()[0].indices.tolist())")
+    assert subprocess.run([sys.executable, "-c", code], capture_output=True, text=True, check=True).stdout == "[1]\n"
+
+
 @pytest.mark.parametrize("line", [
-    "ELSE_CORRELATED_ERROR(0.1) X0", "HERALDED_ERASE(0.1) 0", "I_ERROR(0.1) 0", "DEPOLARIZE1(0.8) 0", "DEPOLARIZE2(0.1) 0",
+    "ELSE_CORRELATED_ERROR(0.1) X0", "HERALDED_ERASE(0.1) 0", "DEPOLARIZE1(0.8) 0", "DEPOLARIZE2(0.1) 0",
     "X_ERROR 0", "X_ERROR(1.5) 0", "X_ERROR(x) 0", "M(0.1, 0.2) 0", "PAULI_CHANNEL_1(0.5, 0.4, 0.2) 0", "E(0.1) 0",
 ])
 def test_other_noise_is_told_with_its_line(line):
@@ -226,6 +340,23 @@ def test_any_split_of_the_shots_is_the_same():
         for bits, split in zip(whole, zip(*parts)):
             assert np.array_equal(bits, np.concatenate(split))
     assert not np.array_equal(whole[0], model.sample(4000, seed=1, first_shot=500)[0])
+
+
+def test_chunks_are_the_shots_one_after_another():
+    model = stabsim.error_model(codes.surface_code(3, 2, noise=codes.Noise.uniform(0.02)))
+    whole = model.sample(3000, seed=7, first_shot=100)
+    for chunk in (1, 1024, 1500, 5000):
+        parts = list(model.iter_sample(3000 if chunk > 1 else 3, chunk, seed=7, first_shot=100))
+        assert max(len(detectors) for detectors, _ in parts) <= chunk
+        for bits, split in zip(whole, zip(*parts)):
+            assert np.array_equal(bits if chunk > 1 else bits[:3], np.concatenate(split))
+    packed = list(zip(*model.iter_sample(3000, 700, seed=7, first_shot=100, bit_packed=True)))
+    for bits, split in zip(whole, packed):
+        assert np.array_equal(np.packbits(bits, axis=1, bitorder="little"), np.concatenate(split))
+    # What is wrong is told by the call, and not by the first chunk.
+    for wrong in ((-1, 5), (5, 0)):
+        with pytest.raises(ValueError):
+            model.iter_sample(*wrong, seed=1)
 
 
 def test_an_error_is_drawn_always_or_never_at_the_ends_of_chance():

@@ -55,3 +55,30 @@ def test_parts_are_all_of_the_shots_in_their_order():
             assert sum(it.count for it in split) == count
             assert [it.first for it in split] == [10 + sum(other.count for other in split[:place]) for place in range(len(split))]
             assert len(split) <= max(count, 1)
+
+
+def test_packed_shots_and_chunks_are_the_same_bits():
+    circuit = stabsim.Circuit(codes.surface_code(3, 2) + "H 0\nM 0\nDETECTOR rec[-1]\n")
+    records = circuit.sample(100, seed=3, first_shot=5)
+    detectors, observables = circuit.detect(100, seed=3, first_shot=5, separate_observables=True)
+    assert detectors.any() and np.array_equal(detectors, circuit.detect(100, seed=3, first_shot=5))
+
+    def packed(bits):
+        return np.packbits(bits, axis=1, bitorder="little")
+
+    found = circuit.sample(100, seed=3, first_shot=5, bit_packed=True)
+    assert found.dtype == np.uint8 and found.seed == 3 and np.array_equal(found, packed(records))
+    assert np.array_equal(circuit.detect(100, seed=3, first_shot=5, bit_packed=True), packed(detectors))
+    both = circuit.detect(100, seed=3, first_shot=5, separate_observables=True, bit_packed=True)
+    assert np.array_equal(both[0], packed(detectors)) and np.array_equal(both[1], packed(observables))
+    for chunk in (1, 33, 100, 200):
+        parts = list(circuit.iter_sample(100, chunk, seed=3, first_shot=5))
+        assert np.array_equal(np.concatenate(parts), records) and max(map(len, parts)) <= chunk
+        assert np.array_equal(np.concatenate(list(circuit.iter_sample(100, chunk, seed=3, first_shot=5, bit_packed=True))), packed(records))
+        pairs = list(zip(*circuit.iter_detect(100, chunk, seed=3, first_shot=5)))
+        assert np.array_equal(np.concatenate(pairs[0]), detectors) and np.array_equal(np.concatenate(pairs[1]), observables)
+    # All chunks are of one seed, also if it is drawn afresh.
+    drawn = list(circuit.iter_sample(10, 3))
+    assert np.array_equal(np.concatenate(drawn), circuit.sample(10, seed=drawn[0].seed))
+    with pytest.raises(ValueError):
+        circuit.iter_sample(10, 0)

@@ -24,6 +24,37 @@ def counts() -> dict[str, int]:
     return {name: it.errors for name, it in sums.items()}
 
 
+def rates(path: str) -> list[stabsim.Rate]:
+    masks = {"3": np.zeros(4, dtype=np.bool_)}
+    with collect({"3": stabsim.ErrorModel.from_file(path)}, ("none", no_decoder), errors=5, seed=1, metadata={"3": {"d": 3}}, postselect=masks) as counting:
+        found: list[stabsim.Sums] = list(counting)
+    stabsim.plot(found, x="d", group=lambda it: it.decoder)
+    rate: stabsim.Rate = stabsim.fit_rate(found[-1].kept, found[-1].errors).per_round(3)
+    return [it.rate() for it in stabsim.combine("one.csv", "other.csv")] + [rate]
+
+
+def matrices(model: ErrorModel) -> NDArray[np.bool_]:
+    checks, observables = model.sparse_check_matrices("csr")
+    causes: list[stabsim.Cause] = model.explain(0)
+    print(observables.data.sum(), [cause.line for cause in causes])
+    packed: NDArray[np.uint8] = model.sample(10, seed=1, bit_packed=True)[0]
+    for detectors, _ in model.iter_sample(10, 5, seed=1):
+        print(detectors.shape, packed.shape)
+    return checks.dense()
+
+
+def files(circuit: Circuit) -> NDArray[np.bool_]:
+    records = stabsim.read_shots("records.b8", format="b8", num_measurements=9, bit_packed=True)
+    stabsim.write_shots("records.01", records, format="01", num_measurements=9)
+    detectors, _ = stabsim.m2d(circuit, records, separate_observables=True)
+    return detectors
+
+
+def codes_of() -> list[str]:
+    code = codes.CssCode([[1, 1]], np.array([[1, 1]]))
+    return [codes.css_code([[1, 1]], [[1, 1]], 2), codes.toric_code(3, 2, basis="X"), codes.bivariate_bicycle_code(3, 3, [(0, 1)], [(1, 0)], 2), repr(code)]
+
+
 def flipped(circuit: Circuit, path: stabsim.Path, text: str) -> NDArray[np.int64]:
     with circuit.edit() as session:
         try:
@@ -32,6 +63,23 @@ def flipped(circuit: Circuit, path: stabsim.Path, text: str) -> NDArray[np.int64
             print(refused.number, refused.line, refused.explanation)
         changed: stabsim.Changed = session.changed()
         return changed.detectors
+
+
+def measured(circuit: Circuit) -> dict[str, tuple[str, ...]]:
+    twice: Circuit = circuit + 2 * circuit
+    print(twice.num_qubits, [block.repeat for block in twice if isinstance(block, stabsim.Block)])
+    return {item.path: item.targets for item in twice.walk() if item.name == "M"}
+
+
+def noisy(text: str) -> int:
+    read: stabsim.StimCircuit = stabsim.from_stim(text)
+    chances: list[float] = [chance for channel in read.noise for chance in channel.numbers()]
+    shots: stabsim.Seeded[np.bool_] = read.sample(10)
+    detectors, _ = read.detect(10, seed=shots.seed, separate_observables=True)
+    with read.edit() as session:
+        records: NDArray[np.bool_] = session.records()
+    print(chances, detectors.seed, records.sum(), read.items_of_line[1][0], error_model(read).dem)
+    return read.line_of_item["0"]
 
 
 def main() -> None:

@@ -3,6 +3,8 @@
     python3 -m stabsim.codes surface_code --distance 3 --rounds 2
     python3 -m stabsim.codes surface_code --distance 21 --deepest --written-out
     python3 -m stabsim.codes surface_code --distance 5 --rounds 5 --noise 0.001
+    python3 -m stabsim.codes unrotated_surface_code --distance 5 --rounds 5 --basis X
+    python3 -m stabsim.codes toric_code --distance 5 --rounds 5
     python3 -m stabsim.codes repetition_code --distance 5 --rounds 10
     python3 -m stabsim.codes colour_code --distance 5 --rounds 10
     python3 -m stabsim.codes bacon_shor_code --distance 5 --rounds 10

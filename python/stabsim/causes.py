@@ -1,0 +1,61 @@
+"""What of a circuit's noise makes a mechanism of its error model."""
+
+from dataclasses import dataclass
+from typing import NamedTuple
+
+import numpy as np
+from numpy.typing import NDArray
+
+from stabsim.combining import starts_of
+from stabsim.marking import Source
+
+
+class Cause(NamedTuple):
+    """One error of one line of a circuit's noise.
+
+    line: int, counted from 1, and name: str, of the instruction; error: str, Paulis as `X3*Z5`, or of a wrong record `record of 3`;
+    chance: float, of this error by itself; rounds: of each block around the line, the outermost first, in which round it is, from 0.
+
+    >>> import stabsim
+    >>> model = stabsim.error_model("R 0\\nREPEAT 2 {\\nX_ERROR(0.1) 0\\n}\\nM 0\\nDETECTOR rec[-1]\\n")
+    >>> model.explain(0)[1]
+    Cause(line=3, name='X_ERROR', error='X0', chance=0.1, rounds=(1,))
+    """
+
+    line: int
+    name: str
+    error: str
+    chance: float
+    rounds: tuple[int, ...]
+
+
+@dataclass(frozen=True, eq=False)
+class Causes:
+    """Which errors of a circuit each mechanism is made of.
+
+    sources: the errors by instruction, one after another; mechanisms: int32 (errors,), the mechanism of each error, in the order of the
+    sources and of all of their times, -1 of one that flips nothing.
+    """
+
+    sources: tuple[Source, ...]
+    mechanisms: NDArray[np.int32]
+
+    def of(self, mechanism: int) -> list[Cause]:
+        """The errors that make a mechanism, by their lines."""
+        firsts = starts_of(np.array([source.times() for source in self.sources], dtype=np.int64))
+        errors = np.flatnonzero(self.mechanisms == mechanism)
+        numbers = np.searchsorted(firsts, errors, side="right") - 1
+        found = [cause_of(self.sources[number], error - int(firsts[number])) for number, error in zip(numbers.tolist(), errors.tolist())]
+        return sorted(found, key=lambda cause: (cause.line, cause.rounds, cause.error))
+
+
+def cause_of(source: Source, time: int) -> Cause:
+    """One of all times of a source."""
+    *rounds, at = map(int, np.unravel_index(time, (*(count for count, _ in reversed(source.blocks)), len(source.marks))))
+    if source.is_record:
+        error = f"record of {source.targets[at]}"
+    else:
+        each = len(source.letters)
+        qubits = source.targets[at * each : (at + 1) * each]
+        error = "*".join(letter + qubit for letter, qubit in zip(source.letters, qubits) if letter != "I")
+    return Cause(source.line, source.name, error, source.chance, tuple(rounds))

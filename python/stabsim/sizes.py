@@ -1,0 +1,64 @@
+"""How much there is of a circuit, counted from its items with blocks written out."""
+
+import re
+from collections.abc import Iterable
+from dataclasses import dataclass
+
+from stabsim import names
+from stabsim.errors import Refused
+from stabsim.reading import Block, Instruction, Item
+
+QUBIT = re.compile(r"(?<!\d)\d+")
+
+
+@dataclass(frozen=True)
+class Sizes:
+    """How many qubits, records, detectors, observables and ticks there are: of qubits and observables, one more than the greatest
+    number that is named."""
+
+    qubits: int = 0
+    records: int = 0
+    detectors: int = 0
+    observables: int = 0
+    ticks: int = 0
+
+    def before(self, later: "Sizes", rounds: int) -> "Sizes":
+        """With so many rounds of others behind."""
+        return Sizes(max(self.qubits, later.qubits), self.records + rounds * later.records, self.detectors + rounds * later.detectors,
+                     max(self.observables, later.observables), self.ticks + rounds * later.ticks)
+
+
+def sizes_of(items: Iterable[Item]) -> Sizes:
+    """The sizes of items. Raises Refused at an instruction that the program does not read."""
+    total = Sizes()
+    for item in items:
+        if isinstance(item, Block):
+            total = total.before(sizes_of(item.items), item.repeat)
+        else:
+            total = total.before(sizes_of_one(item), 1)
+    return total
+
+
+def sizes_of_one(item: Instruction) -> Sizes:
+    """The sizes of one instruction."""
+    if item.name not in names.READ:
+        raise Refused(1, "UnsupportedName", item.line, f"{item.name} is not read; stabsim.from_stim reads all of Stim's instructions.")
+    if item.name == "DETECTOR":
+        return Sizes(detectors=1)
+    if item.name == "OBSERVABLE_INCLUDE":
+        return Sizes(observables=observable_of(item) + 1)
+    records = len(item.targets) if item.name in names.MEASUREMENTS else 0
+    return Sizes(qubits=most_of(item.targets) + 1, records=records, ticks=int(item.name == "TICK"))
+
+
+def observable_of(item: Instruction) -> int:
+    """The number of an observable."""
+    numbers = item.numbers()
+    if len(numbers) != 1 or numbers[0] < 0 or numbers[0] % 1:
+        raise Refused(2, "BadArguments", item.line, "OBSERVABLE_INCLUDE wants the number of its observable.")
+    return int(numbers[0])
+
+
+def most_of(targets: Iterable[str]) -> int:
+    """The greatest qubit that targets name, -1 if they name none."""
+    return max((int(number) for target in targets if not target.startswith("rec[") for number in QUBIT.findall(target)), default=-1)

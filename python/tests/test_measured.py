@@ -1,0 +1,57 @@
+"""Detectors of given records: parities by hand, and those of the program."""
+
+import numpy as np
+import pytest
+import stabsim
+from stabsim import codes
+
+NESTED = """
+H 0
+M 0 !1
+REPEAT 3 {
+    MR 0
+    DETECTOR rec[-1] rec[-3]
+    REPEAT 2 {
+        MPP X0*Z1 Z0 # two records
+        DETECTOR rec[-1] rec[-1] rec[-2]
+        OBSERVABLE_INCLUDE(1) rec[-4]
+        DETECTOR
+    }
+}
+REPEAT 1000000000000 {
+    TICK
+}
+OBSERVABLE_INCLUDE(0) rec[-1] rec[-17]
+"""
+
+
+@pytest.mark.parametrize("text", [NESTED, codes.surface_code(3, 5), codes.colour_code(3, 3), codes.dense_circuit(9, 3000, 4)],
+                         ids=["nested blocks", "surface code", "products", "dense"])
+def test_detectors_of_sampled_records_are_those_of_the_program(text):
+    circuit = stabsim.Circuit(text)
+    records = circuit.sample(100, seed=5)
+    detectors, observables = stabsim.m2d(circuit, records, separate_observables=True)
+    wanted = circuit.detect(100, seed=5, separate_observables=True)
+    assert np.array_equal(detectors, wanted[0]) and np.array_equal(observables, wanted[1])
+    assert np.array_equal(stabsim.m2d(circuit, np.packbits(records, axis=1, bitorder="little")), wanted[0])
+
+
+def test_records_need_not_be_those_of_a_run():
+    # Both are 0 without noise, and the machine says else.
+    circuit = stabsim.Circuit("R 0 1\nM 0 1\nDETECTOR rec[-1]\nDETECTOR rec[-1] rec[-2]\nDETECTOR\nOBSERVABLE_INCLUDE(2) rec[-2]\n")
+    records = np.array([[0, 0], [0, 1], [1, 0], [1, 1]], dtype=bool)
+    detectors, observables = stabsim.m2d(circuit, records, separate_observables=True)
+    assert detectors.astype(int).tolist() == [[0, 0, 0], [1, 1, 0], [0, 1, 0], [1, 0, 0]]
+    assert observables.astype(int).tolist() == [[0, 0, 0], [0, 0, 0], [0, 0, 1], [0, 0, 1]]
+
+
+def test_many_shots_are_taken_in_parts():
+    circuit = stabsim.Circuit("M 0 1 2\nDETECTOR rec[-1] rec[-3]\n")
+    records = np.random.default_rng(3).random((20_001, 3)) < 0.5
+    assert np.array_equal(stabsim.m2d(circuit, records)[:, 0], records[:, 0] ^ records[:, 2])
+    assert stabsim.m2d(circuit, records[:0]).shape == (0, 1)
+
+
+def test_records_of_another_circuit_are_refused():
+    with pytest.raises(ValueError, match="records is a bool array"):
+        stabsim.m2d(stabsim.Circuit("M 0\n"), np.zeros((3, 2), dtype=bool))

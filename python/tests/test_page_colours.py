@@ -1,0 +1,66 @@
+"""The contrast of the page's colours, by the formula of WCAG 2: 4.5 for text and 3 for marks, on each ground on which they are drawn."""
+
+import json
+import pathlib
+import re
+
+import pytest
+from stabsim import page
+
+FOLDER = pathlib.Path(page.__file__).parent / "static"
+LEAST = {"text": 4.5, "mark": 3.0}
+# On which grounds each colour is drawn, as text and as a mark.
+GROUNDS = {
+    "text": {
+        "ink": "sheet paper well hover chosen flip-soft", "quiet": "sheet paper well hover chosen", "accent": "sheet well hover chosen", "bad": "sheet",
+        "flip": "sheet well", "x": "sheet x-soft op-soft", "y": "sheet y-soft op-soft", "z": "sheet z-soft op-soft", "op": "sheet op-soft",
+        "on-accent": "accent", "on-measure": "measure", "on-pauli": "x y z", "sheet": "ink",
+    },
+    "mark": {
+        "qubit": "sheet x-soft z-soft op-soft", "edge": "sheet well", "zero": "sheet well hover chosen", "one": "sheet well hover chosen",
+        "wire": "sheet x-soft z-soft op-soft", "accent": "sheet well hover x-soft z-soft", "flip": "sheet well hover chosen",
+        "x": "sheet well hover chosen x-soft z-soft", "y": "sheet well hover chosen x-soft z-soft", "z": "sheet well hover chosen x-soft z-soft",
+        "measure": "sheet x-soft z-soft", "quiet": "sheet well hover chosen", "ink": "sheet well hover chosen",
+    },
+}
+
+
+def themes():
+    """The colours of both themes; what the dark one does not name is as in the light one."""
+    light, dark = ((FOLDER / "colours.css").read_text()).split(':root[data-theme="dark"]')
+    found = [dict(re.findall(r"--([\w-]+): (#[0-9a-f]{6})", part)) for part in (light, dark)]
+    return {"light": found[0], "dark": found[0] | found[1]}
+
+
+def luminance(colour):
+    parts = [int(colour[place : place + 2], 16) / 255 for place in (1, 3, 5)]
+    linear = [part / 12.92 if part <= 0.03928 else ((part + 0.055) / 1.055) ** 2.4 for part in parts]
+    return 0.2126 * linear[0] + 0.7152 * linear[1] + 0.0722 * linear[2]
+
+
+def contrast(one, other):
+    low, high = sorted((luminance(one), luminance(other)))
+    return (high + 0.05) / (low + 0.05)
+
+
+def test_the_formula_gives_what_is_known():
+    assert contrast("#000000", "#ffffff") == pytest.approx(21)
+    # The lightest grey that is text on white.
+    assert contrast("#767676", "#ffffff") == pytest.approx(4.54, abs=0.01)
+
+
+@pytest.mark.parametrize("kind", GROUNDS)
+@pytest.mark.parametrize("theme", ["light", "dark"])
+def test_colours_stand_out_from_their_grounds(theme, kind):
+    colours = themes()[theme]
+    low = {
+        f"{name} on {ground}": round(contrast(colours[name], colours[ground]), 2)
+        for name, grounds in GROUNDS[kind].items() for ground in grounds.split() if contrast(colours[name], colours[ground]) < LEAST[kind]
+    }
+    assert low == {}
+
+
+def test_each_role_of_the_shapes_is_measured():
+    shapes = json.loads((FOLDER / "shapes.json").read_text())
+    solid = {role[0] for role in shapes["roles"].values()} - {"op"}
+    assert solid <= set(GROUNDS["mark"])

@@ -1,0 +1,328 @@
+"""Circuits that are drawn on the page by mouse and keys, by events that the browser itself makes."""
+
+import http.client
+import urllib.parse
+import xml.etree.ElementTree
+
+import pytest
+from browsing import Keys, needs_browser
+from stabsim import codes
+
+pytestmark = needs_browser
+
+# Two rounds of a repetition code of distance 3, as it is drawn below; the second round is a block of its own in the test after it.
+REPETITION = """QUBIT_COORDS(0, 1) 0
+QUBIT_COORDS(1, 1) 1
+QUBIT_COORDS(2, 1) 2
+QUBIT_COORDS(3, 1) 3
+QUBIT_COORDS(4, 1) 4
+R 0 1 2 3 4
+TICK
+CX 0 1 2 3
+TICK
+CX 2 1 4 3
+TICK
+MR 1 3
+DETECTOR(1, 1, 3) rec[-2]
+DETECTOR(3, 1, 3) rec[-1]
+TICK
+CX 0 1 2 3
+TICK
+CX 2 1 4 3
+TICK
+MR 1 3
+DETECTOR(1, 1, 6) rec[-2] rec[-4]
+DETECTOR(3, 1, 6) rec[-1] rec[-3]
+TICK
+M 0 2 4
+DETECTOR(1, 1, 7) rec[-3] rec[-2] rec[-5]
+OBSERVABLE_INCLUDE(0) rec[-3]
+"""
+FOUR = "QUBIT_COORDS(0, 0) 0\nQUBIT_COORDS(1, 0) 1\nQUBIT_COORDS(0, 1) 2\nQUBIT_COORDS(1, 1) 3\nR 0 1 2 3\nTICK\nCX 0 1 2 3\nTICK\nM 0 1\n"
+PLACES = FOUR.splitlines()[:4]
+
+
+@pytest.fixture
+def page(open_page):
+    return open_page(FOUR)
+
+
+def do(page, *keys, held=()):
+    """Presses keys that make one entry of the history, and waits for it."""
+    count = len(page.history())
+    page.press(*keys, held=held)
+    page.wait(lambda: len(page.history()) > count)
+
+
+def body(page):
+    """The items behind the places of qubits, without ticks at the end."""
+    return page.circuit().splitlines()[4:]
+
+
+def test_a_repetition_code_is_drawn_from_nothing(open_page):
+    page = open_page(None)
+    page.press("q")
+    for column in range(5):
+        page.point_at("#picture", *page.ask("page.views.layout.spot(words)", column, 1)).click().perform()
+        page.wait(lambda: len(page.history()) == column + 2)
+    page.press(Keys.ESCAPE)
+    page.choose_qubit(*range(5))
+    do(page, "r")
+    for _ in range(2):
+        do(page, "t")
+        page.choose_qubit(0, 1, 2, 3)
+        do(page, "c")
+        do(page, "t")
+        # Of one chosen qubit the gate waits for the other.
+        page.choose_qubit(2)
+        page.press("c")
+        page.choose_qubit(1)
+        page.choose_qubit(4)
+        page.choose_qubit(3)
+        page.press(Keys.ESCAPE)
+        do(page, "t")
+        page.choose_qubit(1, 3)
+        do(page, "n")
+        do(page, "D")
+    do(page, "t")
+    page.choose_qubit(0, 2, 4)
+    do(page, "m")
+    page.choose_qubit(0, 2, 1)
+    do(page, "d")
+    page.choose_qubit(0)
+    do(page, "o")
+    assert page.circuit() == REPETITION
+    page.wait(lambda: page.ask("page.shown.state.sure ? [...page.shown.state.sure] : []") == [1] * 6)
+
+
+TOOLS = {"R": "r", "H": "h", "CX": "c", "MR": "n", "M": "m"}
+
+
+def lines_of(code, renumbered):
+    """The instructions of a code without coordinates, as name, qubits by other numbers, and records in their order."""
+    found = []
+    for line in code.splitlines():
+        name, *targets = line.partition("(")[0].split(" ") if "(" not in line else [line.partition("(")[0], *line.partition(") ")[2].split(" ")]
+        if name not in ("#", "QUBIT_COORDS", "SHIFT_COORDS"):
+            found.append((name, [renumbered(int(target)) for target in targets if target.isdigit()], sorted(target for target in targets if target[0] == "r")))
+    return found
+
+
+def draw_detectors(page, code, measured):
+    """Draws detectors by the qubits of their records, where `measured` has the qubit of each record before them."""
+    for name, _, records in code:
+        page.choose_qubit(*dict.fromkeys(measured[int(record[4:-1])] for record in records))
+        do(page, "o" if name == "OBSERVABLE_INCLUDE" else "d")
+
+
+def test_a_surface_code_is_drawn_from_nothing(open_page):
+    code = codes.surface_code(3, 2, written_out=True)
+    placed = [line[13:].split(") ") for line in code.splitlines() if line.startswith("QUBIT_COORDS")]
+    number = {int(qubit): drawn for drawn, (_, qubit) in enumerate(placed)}
+    wanted = lines_of(code, number.get)
+    page = open_page(None)
+    page.press("q")
+    for place, _ in placed:
+        page.point_at("#picture", *page.ask("page.views.layout.spot(words)", *map(float, place.split(", ")))).click().perform()
+    page.wait(lambda: len(page.history()) == 1 + len(placed))
+    page.press(Keys.ESCAPE)
+    measured = []
+    for at, (name, qubits, records) in enumerate(wanted):
+        if name == "TICK":
+            do(page, "t")
+        elif name in TOOLS:
+            page.choose_qubit(*qubits)
+            do(page, TOOLS[name])
+            measured += qubits if "M" in name else []
+        elif len(records) == 2 and wanted[at - 1][0] == "MR":
+            # Each ancilla's record with the one before it, by one key.
+            page.choose_qubit(*wanted[at - 1][1])
+            do(page, "D")
+        elif not (len(records) == 2 and len(wanted[at - 1][2]) == 2):
+            draw_detectors(page, [wanted[at]], measured)
+    assert lines_of(page.circuit(), int) == wanted
+    page.wait(lambda: page.ask("page.shown.state.sure ? page.shown.state.sure.every((it) => it === 1) : false"))
+
+
+def test_a_gate_acts_on_what_is_chosen_and_joins_the_one_before_it(page):
+    page.choose_qubit(0)
+    do(page, "h")
+    page.choose_qubit(2, 1)
+    do(page, "h")
+    assert body(page)[:3] == ["R 0 1 2 3", "H 0 2 1", "TICK"]
+    # Both act on qubits of the R, so they are a moment of their own.
+    assert page.find("moment-said").text == "tick 0.2"
+    assert ["gate", "H"] in page.glyphs() and ["reset", "0"] not in page.glyphs()
+
+
+def test_shift_and_the_palette_choose_other_gates(page):
+    page.go_to(1)
+    page.choose_qubit(0)
+    do(page, "m", held=[Keys.SHIFT])
+    page.choose_qubit(1, 2)
+    do(page, "v")
+    page.press(Keys.ESCAPE)
+    page.point_at("#palette [data-tool='SQRT_X']").click().perform()
+    page.choose_qubit(3)
+    page.wait(lambda: len(page.history()) == 4)
+    added = [line for line in body(page) if line not in FOUR.splitlines()]
+    assert added == ["MX 0", "CZ 1 2", "SQRT_X 3"]
+
+
+def test_a_product_is_measured_on_the_chosen_qubits(page):
+    page.go_to(1)
+    page.choose_qubit(0, 1, 3)
+    page.press("p")
+    page.wait(lambda: page.find("choice").is_displayed())
+    do(page, "x")
+    assert "MPP X0*X1*X3" in body(page)
+    page.wait(lambda: [it for it in page.glyphs() if it[0] == "factor"] == [["factor", "X"]] * 3)
+
+
+def test_qubits_are_chosen_by_a_box(page):
+    corner = [page.spot(0)[0] - 30, page.spot(0)[1] - 30]
+    end = page.spot(2)
+    page.point_at("#picture", *corner).key_down(Keys.SHIFT).click_and_hold().perform()
+    page.point_at("#picture", end[0] + 30, end[1] + 30).release().key_up(Keys.SHIFT).perform()
+    assert page.chosen() == [0, 2]
+
+
+def test_delete_takes_out_what_acts_on_a_qubit_with_its_pair(page):
+    page.go_to(1)
+    page.choose_qubit(1)
+    do(page, Keys.DELETE)
+    assert body(page)[2] == "CX 2 3"
+    assert page.history()[-1].startswith("replace 6 CX 2 3")
+
+
+def test_ticks_are_put_in_and_taken_out_and_gates_moved(page):
+    page.go_to(1)
+    do(page, "t")
+    assert body(page) == ["R 0 1 2 3", "TICK", "CX 0 1 2 3", "TICK", "TICK", "M 0 1"] and page.find("moment-said").text == "tick 2"
+    page.go_to(1)
+    page.choose_qubit(0)
+    do(page, ">", held=[Keys.SHIFT])
+    assert body(page) == ["R 0 1 2 3", "TICK", "CX 2 3", "TICK", "CX 0 1", "TICK", "M 0 1"]
+    do(page, "<", held=[Keys.SHIFT])
+    assert body(page) == ["R 0 1 2 3", "TICK", "CX 2 3", "CX 0 1", "TICK", "TICK", "M 0 1"]
+    do(page, "t", held=[Keys.SHIFT])
+    assert body(page) == ["R 0 1 2 3", "TICK", "CX 2 3", "CX 0 1", "TICK", "M 0 1"]
+
+
+def test_an_edit_of_several_parts_is_refused_whole(open_page):
+    page = open_page(FOUR + "DETECTOR rec[-1]\nDETECTOR rec[-2]\n")
+    before = page.circuit()
+    page.go_to(2)
+    # Without the records the detectors would look back too far.
+    page.choose_qubit(0, 1)
+    page.press(Keys.DELETE)
+    page.wait(lambda: "refused 8 LookbackTooFar" in page.find("message").text)
+    assert page.circuit() == before and page.history() == ["opened"]
+
+
+def test_in_a_block_a_gate_is_put_into_each_round_and_an_error_into_one(open_page):
+    page = open_page("R 0 1\nREPEAT 3 {\n    TICK\n    CX 0 1\n    TICK\n    MR 1\n}\nTICK\nM 0\n")
+    page.go_to(3)
+    page.choose_qubit(0)
+    do(page, "s")
+    assert page.history()[-1] == "insert 1/2 S 0"
+    assert page.find("round-said").text == "round 2 of 3 in block 1"
+    do(page, "z")
+    assert page.history()[-1] == "insert 2/3 Z 0, in round 1 of 1 alone"
+
+
+def test_arrows_move_between_qubits_and_shift_takes_more(page):
+    page.choose_qubit(0)
+    page.press(Keys.ARROW_RIGHT, Keys.ARROW_DOWN)
+    assert page.chosen() == [3]
+    page.press(Keys.ARROW_LEFT, held=[Keys.SHIFT])
+    assert page.chosen() == [3, 2]
+    page.press(Keys.F6)
+    assert page.browser.switch_to.active_element.get_attribute("id") != "picture"
+
+
+def test_the_wheel_zooms_at_the_pointer_and_a_drag_pans(page):
+    spot = page.spot(3)
+    page.browser.execute_cdp_cmd("Input.dispatchMouseEvent", wheel(page, spot, -400))
+    page.wait(lambda: page.find("scale").text != "100%")
+    assert page.spot(3) == pytest.approx(spot, abs=2) and page.spot(0)[0] < spot[0] - 150
+    page.point_at("#picture", 20, 20).click_and_hold().perform()
+    page.point_at("#picture", 70, 40).release().perform()
+    assert page.spot(3) == pytest.approx([spot[0] + 50, spot[1] + 20], abs=2)
+    page.press("0")
+    page.wait(lambda: page.find("scale").text == "100%")
+
+
+def wheel(page, spot, turned):
+    box = page.find("picture").rect
+    return {"type": "mouseWheel", "x": box["x"] + spot[0], "y": box["y"] + spot[1], "deltaX": 0, "deltaY": turned}
+
+
+def test_a_circuit_is_pasted_and_undo_brings_the_old_one_back(page):
+    page.browser.execute_script(
+        "const data = new DataTransfer(); data.setData('text', arguments[0]);"
+        "document.body.dispatchEvent(new ClipboardEvent('paste', {clipboardData: data, bubbles: true, cancelable: true}));", "H 5\nX_ERROR(0.1) 5\nM 5\n")
+    page.wait(lambda: page.history() == ["opened", "open pasted.stim"])
+    assert page.circuit() == "H 5\nM 5\n" and page.find("left-out").text.startswith("The noise of 1 line")
+    page.click("#undo")
+    page.wait(lambda: page.circuit() == FOUR)
+    assert not page.find("left-out").is_displayed()
+
+
+def test_a_link_holds_the_circuit(page, open_page):
+    page.go_to(1)
+    page.type_on(2, "y")
+    page.wait(lambda: len(page.history()) == 2)
+    page.click("#link")
+    page.wait(lambda: "#circuit=" in page.browser.current_url)
+    letters = urllib.parse.urlsplit(page.browser.current_url).fragment
+    drawn = page.circuit()
+    other = open_page("H 0\n")
+    page.browser.execute_script("location.hash = arguments[0]; location.reload()", letters)
+    other.wait(lambda: other.history() == ["opened", "open linked.stim"] and other.circuit() == drawn)
+    assert "circuit=" not in other.browser.current_url
+
+
+def test_what_is_seen_is_exported_as_svg_and_without_a_file_the_browser_saves(page):
+    def given(*clicks):
+        made = page.browser.execute_async_script(
+            "const done = arguments[1]; const make = URL.createObjectURL;"
+            "URL.createObjectURL = (blob) => { blob.text().then(done); URL.createObjectURL = make; return make(blob); };"
+            "for (const find of arguments[0]) [...document.querySelectorAll('button')].find((it) => it.textContent.startsWith(find)).click();", list(clicks))
+        return made
+
+    page.go_to(1)
+    svg = xml.etree.ElementTree.fromstring(given("Export", "SVG"))
+    words = [text.text for text in svg.iter("{http://www.w3.org/2000/svg}text")]
+    # The numbers of the qubits; coordinates stand at the edges.
+    assert {"0", "1", "2", "3"} <= set(words) and len(list(svg)) > 20
+    assert given("Save") == FOUR
+
+
+def test_answers_are_guarded(page):
+    parts = urllib.parse.urlsplit(page.address)
+    for path in (f"/?{parts.query}", "/static/main.js", "/nothing"):
+        connection = http.client.HTTPConnection(parts.hostname, parts.port)
+        connection.request("GET", path)
+        headers = connection.getresponse().headers
+        connection.close()
+        assert headers["X-Content-Type-Options"] == "nosniff" and headers["Referrer-Policy"] == "no-referrer"
+        assert headers["X-Frame-Options"] == "DENY" and "script-src 'self';" in headers["Content-Security-Policy"]
+
+
+def test_by_a_public_port_the_page_is_open_to_its_tunnel(open_page):
+    page = open_page(FOUR, "--public-port", "1", is_opened=False)
+    assert page.address.startswith("http://127.0.0.1:1/?token=")
+
+
+def test_nothing_jumps(page):
+    boxes = "['text', 'entry', 'picture', 'timeline', 'about-detector', 'edits', 'message'].map((id) => { const it = document.getElementById(id).getBoundingClientRect(); return [it.x, it.y, it.width, it.height]; })"
+    before = page.ask(boxes)
+    page.choose_qubit(0)
+    page.press("y")
+    page.wait(lambda: len(page.history()) == 2)
+    page.choose("6")
+    page.press("i")
+    page.press("DETECTOR rec[-9]", Keys.ENTER)
+    page.wait(lambda: page.texts("#refusal") == ["refused 8 LookbackTooFar"])
+    assert page.ask(boxes) == before
