@@ -31,8 +31,8 @@ WORDS_WITHOUT_CONTENTS = 1500
 MOST_WORDS_ELSE = 1500
 MOST_WORDS = {
     "CHANGELOG.md": 1100,
-    "docs/DECISIONS.md": 3000,
-    "docs/architecture.md": 1400,
+    "docs/DECISIONS.md": 3100,
+    "docs/architecture.md": 1450,
     "docs/believe.md": 6200,
     "docs/benchmarks.md": 2500,
     "docs/circuit-text.md": 1600,
@@ -47,9 +47,9 @@ MOST_WORDS = {
     "docs/refusals.md": 1900,
     "docs/result-formats.md": 700,
     "docs/robustness.md": 1250,
-    "docs/scaling.md": 2000,
+    "docs/scaling.md": 2150,
     "docs/stabilisers.md": 900,
-    "docs/stim.md": 1000,
+    "docs/stim.md": 1100,
     "docs/tested.md": 900,
     "docs/trusted.md": 1100,
     "docs/wrong-bodies.md": 700,

@@ -5,7 +5,7 @@
 
 - A clean copy of what git keeps answers the examples of the README.
 - The wheel, the tar and the Debian package, each unpacked into a folder of its own, answer its first example.
-- `pip install ./python` into a fresh virtual environment brings the commands `stabsim` and `stabsim-page`, the man page and completions.
+- `pip install ./python` into a fresh virtual environment brings the commands `stabsim`, `stabsim-page` and `stabsim-collect`, the man page and completions.
 
 It needs dpkg-deb and a Python with pip, setuptools, wheel, venv, numpy and aiohttp: without one it says so, and tries nothing.
 """
@@ -136,6 +136,10 @@ def try_environment(top: Path, folder: Path, python: str) -> None:
     pages: list[list[str | Path]] = [[here / "bin" / "stabsim-page"], [here / "bin" / "python", "-m", "stabsim.page"]]
     for page in pages:
         expect(f"{page[0]} serves the page", first_page([*page, circuit], folder), "<!doctype html>")
+    counts = folder / "counts.csv"
+    counts.write_text("name,decoder,model,seed,first_shot,shots,errors,seconds,discards,metadata\nd=3,matching,a1,5,0,1024,8,0.5,0,\n")
+    added = output_of([here / "bin" / "stabsim-collect", "--combine", counts], folder, HOME=str(folder))
+    expect("stabsim-collect of the environment", added.partition("\n")[2][:32], "d=3,matching,1024,0,8,0.0078125,")
     for name in ("man/man1/stabsim.1", "bash-completion/completions/stabsim.bash", "zsh/site-functions/_stabsim"):
         expect(f"the environment: {name}", (here / "share" / name).is_file(), True)
 
