@@ -1,5 +1,5 @@
 //! What a circuit is, by its numbers, or what is wrong with it.
-ghost use Rattle.std.specs.Prelude.{◌≡◌, ◌⊎◌, None, IfOk, IfErr};
+ghost use Rattle.std.specs.Prelude.{◌≡◌, ◌⊎◌, None, IfOk, IfErr, length};
 ghost use Rattle.std.specs.List.{flat_map};
 ghost use Rattle.stab_io.specs.Devices.{WritesAll};
 ghost use Rattle.stab_io.specs.Refusals.{whole};
@@ -80,6 +80,14 @@ fn count_steps(alloc: Global, circuit: &Circuit) -> Result<Tally, Refusal>
     Ok(all)
 }
 
+/// How many items the outermost list has.
+fn count_items(circuit: &Circuit) -> usize
+    ensures value { result ≡ length circuit.now }
+{
+    let items = circuit.items();
+    items.len()
+}
+
 /// The numbers of a circuit.
 fn count(alloc: Global, circuit: &Circuit) -> Result<Numbers, Refusal>
     requires checked { check_of (circuit_items circuit.now) ≡ None }
@@ -89,7 +97,7 @@ fn count(alloc: Global, circuit: &Circuit) -> Result<Numbers, Refusal>
     let tally = count_steps(alloc, circuit)?;
     Ok(Numbers {
         qubits: circuit.qubits(),
-        items: circuit.items().len(),
+        items: count_items(circuit),
         steps: circuit.steps(),
         records: circuit.records(),
         detectors: tally.detectors,
