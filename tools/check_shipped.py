@@ -40,7 +40,7 @@ def said_by(*words: str | Path, folder: Path = TOP) -> str:
 
 def facts(top: Path) -> dict[str, str]:
     """What shipped.txt has to say of the sources and the toolchain."""
-    version = re.search(r'^version = "(.*)"$', (top / "python/pyproject.toml").read_text(), re.MULTILINE)
+    version = re.search(r'^__version__ = "(.*)"$', (top / "python/stabsim/__init__.py").read_text(), re.MULTILINE)
     sources = said_by(top / "tools/sum_sources.sh")
     return {"version": version[1] if version else "", "sources": sources, "toolchain": said_by("rt", "version")}
 

@@ -10,8 +10,8 @@ if ! grep -q -F "\\nproved in the logic $logic of Rattle\"" "$words"; then
     echo "check_version: --version does not say: proved in the logic $logic of Rattle" >&2
     exit 1
 fi
-version=$(sed -n 's/^version = "\(.*\)"$/\1/p' "$top/python/pyproject.toml")
+version=$(sed -n 's/^__version__ = "\(.*\)"$/\1/p' "$top/python/stabsim/__init__.py")
 if ! grep -q -F "= \"$version\\nproved in" "$words"; then
-    echo "check_version: python/pyproject.toml has version $version, and --version says another" >&2
+    echo "check_version: python/stabsim/__init__.py has version $version, and --version says another" >&2
     exit 1
 fi

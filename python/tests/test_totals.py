@@ -48,7 +48,7 @@ def test_a_line_that_was_cut_off_counts_for_nothing(tmp_path):
 def test_counts_that_do_not_fit_are_refused(tmp_path):
     first, other = tmp_path / "first.csv", tmp_path / "other.csv"
     count(first, shots=2048, seed=4)
-    for change in (lambda text: text.replace(MODELS["d=3"].fingerprint, "0" * 16), 
+    for change in (lambda text: text.replace(MODELS["d=3"].fingerprint, "0" * 16),
                    lambda text: text.replace(",1024,1024,", ",512,1024,")):
         other.write_text(change(first.read_text()))
         assert other.read_text() != first.read_text()
