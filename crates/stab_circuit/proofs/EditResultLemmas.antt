@@ -1,5 +1,5 @@
 -- What a list of items comes to by an edit.
-use Rattle.std.proofs.Common.{◌≡◌, ◌≤◌, refl, ap, sym, ◌∙◌, subst, ℕ, ◌+◌, min, List, [], ◌∷◌, ◌++◌, length, take, drop, arith, append_assoc, append-nil, nat_le, nat_lt, All, Result, Ok, Err, OnOk, IfOk}
+use Rattle.std.proofs.Common.{◌≡◌, ◌≤◌, refl, ap, sym, ◌∙◌, subst, ℕ, ◌+◌, min, List, [], ◌∷◌, ◌++◌, length, take, drop, arith, append_assoc, append-nil, nat_le, nat_lt, All, Some, Result, Ok, Err, OnOk, IfOk}
 use Rattle.std.proofs.lemmas.List.{length-append, length-take-le, take_at, take-take, take-append-drop}
 use Rattle.std.proofs.lemmas.List.Elements.{All-append}
 use Rattle.std.specs.Prelude.{slice_get}
@@ -13,10 +13,13 @@ use Rattle.stab_circuit.specs.declared.edit.Edit.TheVariants.{Insert, Replace, D
 use Rattle.stab_items.specs.Items.{OneItem, listed}
 use Rattle.stab_items.specs.Steps.{Step, unroll}
 use Rattle.stab_circuit.specs.Cursors.{IsApart}
-use Rattle.stab_circuit.specs.Edits.{edited_inside, edit_path, edited_in, steps_in, behind_taken, behind_put, outermost}
-use Rattle.stab_items.specs.inner.Summaries.{summary_of, followed_by, IsSummary}
+use Rattle.stab_circuit.specs.Edits.{edited_inside, edit_path, edited_in, edited, steps_in, behind_taken, behind_put, outermost}
+use Rattle.stab_items.specs.inner.Summaries.{summary_of, followed_by, IsSummary, IsSumOf}
 use Rattle.stab_circuit.specs.inner.Splices.{Splice, splice_at, splice_block, splice_of, spliced, IsWithin}
 use Rattle.stab_circuit.specs.inner.Judgements.{judgement_of, BeginsWith}
+use Rattle.stab_circuit.specs.declared.circuit.stretches.Stretch.{Stretch}
+use Rattle.stab_circuit.specs.Paths.{numbers}
+use Rattle.stab_circuit.specs.inner.Stretches.{AreStretches, WereStretches}
 use Rattle.stab_circuit.specs.inner.EditResults.{steps_within, PutsApart, AreApart, edit_result_by, IsEditResult}
 use Rattle.stab_circuit.proofs.EditLemmas.{if_ok, steps-append}
 use Rattle.stab_circuit.proofs.SpliceLemmas.{edited_spliced, splice_within}
@@ -74,6 +77,33 @@ taken_block b (Err r) s e = absurd (cc)
 pub taken_is : (edit : Edit) (bs : List ℕ) (xs : List OneItem) (s : Splice) → splice_of edit bs xs ≡ Ok s → outermost (behind_taken edit) bs ≡ s.behind
 taken_is edit [] xs s e = (taken_at edit (length xs) s e).0
 taken_is edit (b ∷ bs) xs s e = (taken_block b (edited_inside (edited_in edit bs) (slice_get xs b)) s e).0
+
+-- at most the item at the first place of the path is taken out of the outermost list
+at_most_one : (edit : Edit) → behind_taken edit ≤ (edit_path edit).place + 1
+at_most_one (Insert at x) = omega arith
+at_most_one (Replace at x) = omega arith
+at_most_one (Delete at) = omega arith
+
+first_place : (edit : Edit) (bs : List ℕ) (xs : List OneItem) (s : Splice) (first : ℕ) → splice_of edit bs xs ≡ Ok s → slice_get (bs ++ (edit_path edit).place ∷ []) 0 ≡ Some first → (s.first ≡ first) × (s.behind ≤ first + 1)
+first_place edit [] xs s first e f =
+    let at = taken_at edit (length xs) s e in
+    let same : (edit_path edit).place ≡ first = cc in
+    (sym at.1 ∙ same, omega (arith, at.0, same, at_most_one edit))
+first_place edit (b ∷ bs) xs s first e f =
+    let at = taken_block b (edited_inside (edited_in edit bs) (slice_get xs b)) s e in
+    let same : b ≡ first = cc in
+    (sym at.1 ∙ same, omega (arith, at.0, same))
+
+spliced_ok : (xs ys : List OneItem) (q : Result Splice Refusal) → spliced xs q ≡ Ok ys → (s : Splice) × (q ≡ Ok s) × (spliced xs (Ok s) ≡ Ok ys)
+spliced_ok xs ys (Ok s) e = (s, refl, e)
+spliced_ok xs ys (Err r) e = absurd (cc)
+
+pub were_stretches : (ss : List Stretch) (edit : Edit) (xs ys : List OneItem) (first : ℕ) → AreStretches ss xs → edited edit xs ≡ Ok ys → slice_get (numbers (edit_path edit)) 0 ≡ Some first → WereStretches ss first (length xs) ys
+were_stretches ss edit xs ys first are e f =
+    let bs = (edit_path edit).blocks in
+    let found = spliced_ok xs ys (splice_of edit bs xs) (sym (edited_spliced edit bs xs) ∙ e) in
+    let lies = first_place edit bs xs found.0 first found.1 f in
+    record { old = xs; are = are; long = refl; splice = found.0; within = splice_within edit bs xs found.0 found.1; first = lies.0; one = lies.1; left = found.2 }
 
 -- the steps before the place are those before what leaves the list, and those within that
 first_is : (edit : Edit) (bs : List ℕ) (xs : List OneItem) (s : Splice) → splice_of edit bs xs ≡ Ok s → steps_in bs (edit_path edit).place xs ≡ unroll (listed (take s.first xs)) ++ steps_within bs (edit_path edit).place xs
@@ -142,51 +172,45 @@ unfolding left_by
 edited_left edit blocks xs s e = edited_spliced edit blocks xs ∙ ap (spliced xs) e
 
 -- what a list comes to by an edit that is judged
-pub edit_result_is : (edit : Edit) (blocks : List ℕ) (xs taken front gone back : List OneItem) (j : Judgement) (before of behind : Summary) (o : EditResult)
+pub edit_result_is : (edit : Edit) (blocks : List ℕ) (xs : List OneItem) (j : Judgement) (before of behind : Summary) (o : EditResult)
     → Ok j ≡ judgement_of (min (length (steps_within blocks (edit_path edit).place xs)) 1048577) (splice_of edit blocks xs)
     → IsSummary j.put
     → BeginsWith (steps_in blocks (edit_path edit).place xs) (unroll (listed xs))
     → IfOk (splice_of edit blocks xs) PutsApart
-    → taken ≡ take j.behind xs
-    → back ≡ drop j.behind xs
-    → front ≡ take j.first taken
-    → gone ≡ drop j.first taken
-    → before ≡ summary_of (listed front)
-    → of ≡ summary_of (listed gone)
-    → behind ≡ summary_of (listed back)
-    → IsSummary behind
+    → IsSumOf (listed (take j.first xs)) before
+    → IsSumOf (listed (drop j.first (take j.behind xs))) of
+    → IsSumOf (listed (drop j.behind xs)) behind
     → j.within ≤ j.put.steps
     → j.within ≤ length (unroll (listed (drop j.first (take j.behind xs))))
-    → AreApart front
-    → AreApart back
     → o ≡ edit_result_by j before of behind
     → IsSummary o.total
     → IsEditResult edit blocks xs o
-edit_result_is edit blocks xs taken front gone back j before of behind o e small begins puts t b f g hf hg hb far put_long gone_long af ab is all =
+edit_result_is edit blocks xs j before of behind o e small begins puts f g b put_long gone_long is all =
     let w = min (length (steps_within blocks (edit_path edit).place xs)) 1048577 in
+    let front = take j.first xs in
+    let gone = drop j.first (take j.behind xs) in
+    let back = drop j.behind xs in
     let lies = judged_within edit blocks w xs j e in
     let found = judged_splice (splice_of edit blocks xs) w j e in
     let s = found.0 in
     let same = found.2 in
-    let first : front ≡ take j.first xs = f ∙ ap (take j.first) t ∙ take-take j.first j.behind xs lies.0 in
-    let first' : front ≡ take s.first xs = first ∙ ap (λ v. take v.first xs) same in
-    let back' : back ≡ drop s.behind xs = b ∙ ap (λ v. drop v.behind xs) same in
-    let whole : take s.behind xs ≡ front ++ gone = ap (λ v. take v.behind xs) (sym same) ∙ sym t ∙ sym (take-append-drop j.first taken) ∙ ap (λ l. l ++ drop j.first taken) (sym f) ∙ ap (λ l. front ++ l) (sym g) in
+    let first : front ≡ take s.first xs = ap (λ v. take v.first xs) same in
+    let rest : back ≡ drop s.behind xs = ap (λ v. drop v.behind xs) same in
+    let whole : take s.behind xs ≡ front ++ gone = ap (λ v. take v.behind xs) (sym same) ∙ sym (take-append-drop j.first (take j.behind xs)) ∙ ap (λ l. l ++ gone) (take-take j.first j.behind xs lies.0) in
     let left = edited_left edit blocks xs s found.1 in
-    let long : j.within ≤ length (unroll (listed gone)) = subst (λ l. j.within ≤ length (unroll (listed l))) (ap (drop j.first) (sym t) ∙ sym g) gone_long in
     let at_first = ap (λ v. v.first) is in
     record {
-      total = summed_around edit blocks w xs front back j o.total e small first b (omega (arith, far.reach, ap (λ v. v.reach) hb))
-          (ap (λ v. v.total) is ∙ ap (λ v. followed_by v (followed_by j.put behind)) hf ∙ ap (λ v. followed_by (summary_of (listed front)) (followed_by j.put v)) hb);
+      total = summed_around edit blocks w xs front back j o.total e small refl refl (omega (arith, b.small.reach, ap (λ v. v.reach) b.value))
+          (ap (λ v. v.total) is ∙ ap (λ v. followed_by v (followed_by j.put behind)) f.value ∙ ap (λ v. followed_by (summary_of (listed front)) (followed_by j.put v)) b.value);
       small = all;
-      first = ends_first edit blocks xs front s before.steps j.within o.first found.1 first' (ap (λ v. v.steps) hf) (ap (λ v. v.within) same) (ap (λ v. v.first) is);
+      first = ends_first edit blocks xs front s before.steps j.within o.first found.1 first (ap (λ v. v.steps) f.value) (ap (λ v. v.within) same) (ap (λ v. v.first) is);
       front = begins;
-      old_end = ends_old edit blocks xs front gone s before.steps of.steps o.old_end found.1 whole (ap (λ v. v.steps) hf) (ap (λ v. v.steps) hg) (ap (λ v. v.old_end) is);
+      old_end = ends_old edit blocks xs front gone s before.steps of.steps o.old_end found.1 whole (ap (λ v. v.steps) f.value) (ap (λ v. v.steps) g.value) (ap (λ v. v.old_end) is);
       new_end =
           subst (λ r. IfOk r (λ new. o.new_end ≡ min (length (unroll (listed (take (outermost (behind_put edit) blocks) new)))) 1048577)) (sym left)
-          (ends_new edit blocks xs front s before.steps j.put.steps o.new_end found.1 first' (ap (λ v. v.steps) hf) (ap (λ v. v.put.steps) same) (ap (λ v. v.new_end) is));
-      apart = subst (λ r. IfOk r AreApart) (sym left) (left_apart xs front back s first' back' af (subst (λ r. IfOk r PutsApart) found.1 puts) ab);
-      old_order = omega (arith, at_first, ap (λ v. v.old_end) is, ap (λ v. v.steps) hg, long, ap (λ v. v.within) same);
+          (ends_new edit blocks xs front s before.steps j.put.steps o.new_end found.1 first (ap (λ v. v.steps) f.value) (ap (λ v. v.put.steps) same) (ap (λ v. v.new_end) is));
+      apart = subst (λ r. IfOk r AreApart) (sym left) (left_apart xs front back s first rest f.apart (subst (λ r. IfOk r PutsApart) found.1 puts) b.apart);
+      old_order = omega (arith, at_first, ap (λ v. v.old_end) is, ap (λ v. v.steps) g.value, gone_long, ap (λ v. v.within) same);
       new_order = omega (arith, at_first, ap (λ v. v.new_end) is, put_long);
       order = omega (arith, at_first, ap (λ v. v.total.steps) is, put_long);
     }

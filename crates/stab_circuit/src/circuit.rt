@@ -9,7 +9,7 @@ mod places;
 mod repeats;
 mod splits;
 mod step_items;
-mod stretches;
+pub(crate) mod stretches;
 
 use crate::input::{MOST_BYTES, read_text};
 pub use repeats::Repeat;
@@ -25,7 +25,7 @@ use stretches::{Stretch, stretches_of};
 /// What is known of them all is kept, so that no call walks over them for it.
 pub struct Circuit {
     items: Vec<Item>,
-    /// How many steps parts of the items make, by which a step is found.
+    /// The summaries of parts of the items, by which a step is found and an edit is judged.
     stretches: Vec<Stretch>,
     total: Summary,
 }

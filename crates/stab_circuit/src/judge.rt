@@ -5,11 +5,13 @@ ghost use Rattle.stab_circuit.specs.Edits.{edited_in, edited, edit_path, inner, 
 ghost use Rattle.stab_items.specs.inner.Summaries.{IsSummary};
 ghost use Rattle.stab_circuit.specs.inner.Splices.{splice_of, splice_at};
 ghost use Rattle.stab_circuit.specs.inner.Judgements.{judgement_of, shown_item, IsBlockAt, BeginsWith};
+ghost use Rattle.stab_circuit.specs.inner.Stretches.{AreStretches};
 ghost use Rattle.stab_circuit.specs.inner.EditResults.{steps_within, PutsApart, edit_result_by, IsEditResult};
 
+use crate::circuit::stretches::{Stretch, summary_between};
 use crate::edit::Edit;
 use stab_io::Refusal;
-use stab_items::{Item, Part, STEPS_CAP, Summary, items_summary};
+use stab_items::{Item, Part, STEPS_CAP, Summary};
 use stab_lines::Count;
 
 /// What an edit comes to in a list of items: which items leave it, from the first up to the one
@@ -113,7 +115,7 @@ fn judge(items: &[Item], blocks: &[usize], edit: &Edit) -> Result<Judgement, Ref
         None => judge_at(items.len(), edit),
         Some((block, others)) => match block_at(items, *block) {
             Err(refusal) => Err(refusal),
-            Ok(inner) => match edit_result_in(inner.body, others, edit) {
+            Ok(inner) => match edit_result_in(inner.body, &[], others, edit) {
                 Err(refusal) => Err(refusal),
                 Ok(round) => Ok(Judgement {
                     first: *block,
@@ -148,45 +150,59 @@ fn edit_result_of(judgement: Judgement, front: Summary, gone: Summary, back: Sum
     }
 }
 
-/// What a list comes to by an edit in nested blocks. Each list on the way is added up once.
+/// What a list with these stretches comes to by an edit in nested blocks. The body of each block on
+/// the way is added up once.
 #[cycle(judging)]
-fn edit_result_in(items: &[Item], blocks: &[usize], edit: &Edit) -> Result<EditResult, Refusal>
+fn edit_result_in(
+    items: &[Item],
+    stretches: &[Stretch],
+    blocks: &[usize],
+    edit: &Edit,
+) -> Result<EditResult, Refusal>
+    requires stretches { AreStretches stretches.now items.now }
     ensures ok { IfOk result (IsEditResult edit.now blocks.now items.now) }
     ensures refused { IfErr result (λ r. edited_in edit.now blocks.now items.now ≡ Err r) }
 {
     match judge(items, blocks, edit) {
         Err(refusal) => Err(refusal),
         Ok(judgement) => {
-            let (taken, back) = items.split_at(judgement.behind);
-            let (front, gone) = taken.split_at(judgement.first);
+            let first = judgement.first;
+            let behind = judgement.behind;
             Ok(edit_result_of(
                 judgement,
-                items_summary(front),
-                items_summary(gone),
-                items_summary(back),
+                summary_between(stretches, items, 0, first),
+                summary_between(stretches, items, first, behind),
+                summary_between(stretches, items, behind, items.len()),
             ))
         }
     }
 }
 
-/// What a list comes to by an edit.
-pub(crate) fn judged_edit(items: &[Item], edit: &Edit) -> Result<EditResult, Refusal>
+/// What a list with these stretches comes to by an edit.
+pub(crate) fn judged_edit(
+    items: &[Item],
+    stretches: &[Stretch],
+    edit: &Edit,
+) -> Result<EditResult, Refusal>
+    requires stretches { AreStretches stretches.now items.now }
     ensures ok { IfOk result (IsEditResult edit.now (edit_path edit.now).blocks items.now) }
     ensures refused { IfErr result (λ r. edited edit.now items.now ≡ Err r) }
 {
     let path = edit.path();
-    edit_result_in(items, path.blocks(), edit)
+    edit_result_in(items, stretches, path.blocks(), edit)
 }
 
-/// How many steps stand before a place in nested blocks, or 1,048,577 where there are more.
+/// How many steps stand before a place in nested blocks of a list with these stretches, or 1,048,577
+/// where there are more.
 #[cycle(counting)]
-pub(crate) fn steps_in(items: &[Item], blocks: &[usize], place: usize) -> u32
+pub(crate) fn steps_in(items: &[Item], stretches: &[Stretch], blocks: &[usize], place: usize) -> u32
+    requires stretches { AreStretches stretches.now items.now }
     ensures value { result ≡ min (length (steps_of_place blocks.now place items.now)) steps_cap }
 {
     match blocks.split_first() {
-        None => steps_up_to(items, place),
+        None => summary_between(stretches, items, 0, place).steps,
         Some((block, others)) => {
-            let front = steps_up_to(items, *block);
+            let front = summary_between(stretches, items, 0, *block).steps;
             (front + steps_inside(items, *block, others, place)).min(STEPS_CAP)
         }
     }
@@ -200,14 +216,6 @@ fn steps_inside(items: &[Item], block: usize, others: &[usize], place: usize) ->
 {
     match block_at(items, block) {
         Err(_) => 0,
-        Ok(found) => steps_in(found.body, others, place),
+        Ok(found) => steps_in(found.body, &[], others, place),
     }
-}
-
-/// How many steps the items before a place make, or 1,048,577 where they make more.
-fn steps_up_to(items: &[Item], place: usize) -> u32
-    ensures value { result ≡ min (length (unroll (listed (take place items.now)))) steps_cap }
-{
-    let (front, _) = items.split_at(place.min(items.len()));
-    items_summary(front).steps
 }

@@ -3,7 +3,7 @@ ghost use Rattle.stab_io.specs.declared.refusal.Refusal.TheVariants.{QubitOutOfR
 ghost use Rattle.stab_items.specs.inner.Summaries.{judged};
 
 use super::Circuit;
-use super::stretches::renew_stretches;
+use super::stretches::renew_stretch;
 use crate::commit::commit;
 use crate::edit::{Edit, Refused, Span};
 use crate::judge::{EditResult, judged_edit, steps_in};
@@ -37,7 +37,12 @@ impl Circuit {
     pub fn steps_before(&self, path: Path) -> usize
         ensures value { result ≡ min (length (steps_before path self.now)) steps_cap }
     {
-        steps_in(self.items(), path.blocks(), path.place()) as usize
+        steps_in(
+            self.items(),
+            self.stretches.as_slice(),
+            path.blocks(),
+            path.place(),
+        ) as usize
     }
 
     /// What the circuit comes to by an edit, or what refuses that: its path, and then the depth of
@@ -48,7 +53,7 @@ impl Circuit {
         ensures allowed { OnOk result (edit_refusal edit.now self.now ≡ None) }
         ensures refused { IfErr result (λ r. edit_refusal edit.now self.now ≡ Some r) }
     {
-        let edit_result = judged_edit(self.items(), edit)?;
+        let edit_result = judged_edit(self.items(), self.stretches.as_slice(), edit)?;
         if edit_result.total.depth > 16 {
             return Err(Refusal::TooDeep);
         }
@@ -67,10 +72,16 @@ impl Circuit {
         ensures memory { OnErr result (IsInsert edit) }
     {
         let path = edit.path();
+        let len = self.items.len();
         match commit(&mut self.items, path.blocks(), edit) {
             Ok(taken) => {
                 self.total = edit_result.total;
-                renew_stretches(&mut self.stretches, self.items.as_slice());
+                renew_stretch(
+                    &mut self.stretches,
+                    path.first(),
+                    len,
+                    self.items.as_slice(),
+                );
                 Ok(taken)
             }
             Err(edit) => Err(edit.refused(Refusal::OutOfMemory)),

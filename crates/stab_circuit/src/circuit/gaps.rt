@@ -149,7 +149,7 @@ fn gaps_inside(
     match gaps_in(alloc, block.body, others, place)? {
         None => Ok(None),
         Some(round) => {
-            let lead = steps_in(block.body, others, place);
+            let lead = steps_in(block.body, &[], others, place);
             gaps_of_rounds(alloc, round, count, lead as usize)
         }
     }

@@ -1,19 +1,20 @@
-ghost use Rattle.std.specs.Prelude.{◌≡◌, ◌<◌, length, slice_index_or, IfOk};
-ghost use Rattle.stab_circuit.specs.inner.Stretches.{AreStretches};
+ghost use Rattle.std.specs.Prelude.{◌≡◌, ◌<◌, ◌≤◌, ◌+◌, ◌^◌, max, length, take, drop, slice_index_or, IfOk};
+ghost use Rattle.stab_items.specs.Items.{listed};
+ghost use Rattle.stab_items.specs.inner.Summaries.{IsSumOf};
+ghost use Rattle.stab_circuit.specs.inner.Stretches.{AreStretches, WereStretches};
 
 use super::Circuit;
-use stab_items::{Item, items_summary};
+use stab_items::{Item, Summary, items_summary};
 use std::alloc::{AllocError, Global};
 
-/// How many items a stretch has.
+/// How many items a stretch of a circuit that was read has.
 const LENGTH: usize = 512;
 
-/// Items that stand one behind the other in a list: how many, and how many steps they make, or
-/// 1,048,577 where they make more.
+/// Items that stand one behind the other in a list: how many, and their summary.
 #[derive(Clone, Copy)]
 pub(crate) struct Stretch {
     pub(crate) items: usize,
-    pub(crate) steps: u32,
+    pub(crate) summary: Summary,
 }
 
 /// A place in a list, and how many steps are left out from there on.
@@ -21,6 +22,17 @@ pub(crate) struct Stretch {
 pub(crate) struct StepPlace {
     pub(crate) place: usize,
     pub(crate) steps: u32,
+}
+
+/// The stretch that these items are.
+fn stretch_of(items: &[Item]) -> Stretch
+    ensures items { result.items ≡ length items.now }
+    ensures sum { IsSumOf (listed items.now) result.summary }
+{
+    Stretch {
+        items: items.len(),
+        summary: items_summary(items),
+    }
 }
 
 /// The stretches of a list, of so many items each. The items behind the last are of none.
@@ -31,33 +43,10 @@ pub(super) fn stretches_of(alloc: Global, items: &[Item]) -> Result<Vec<Stretch>
     let mut rest = items;
     'stretches: while rest.len() > LENGTH {
         let (front, behind) = rest.split_at(LENGTH);
-        all.push(Stretch {
-            items: LENGTH,
-            steps: items_summary(front).steps,
-        })?;
+        all.push(stretch_of(front))?;
         rest = behind;
     }
     Ok(all)
-}
-
-/// Makes stretches those of a changed list, at most as many as there were. It takes no memory: there is room for these.
-pub(super) fn renew_stretches(stretches: &mut Vec<Stretch>, items: &[Item])
-    ensures are { AreStretches stretches.new.items items.now }
-{
-    let most = stretches.len();
-    stretches.clear();
-    let mut rest = items;
-    'renewing: while rest.len() > LENGTH && stretches.len() < most {
-        let (front, behind) = rest.split_at(LENGTH);
-        let stretch = Stretch {
-            items: LENGTH,
-            steps: items_summary(front).steps,
-        };
-        match stretches.push(stretch) {
-            Ok(()) => rest = behind,
-            Err(_) => return,
-        }
-    }
 }
 
 /// The stretch of this number.
@@ -66,6 +55,75 @@ fn stretch_at(stretches: &[Stretch], number: usize) -> Stretch
     ensures value { result ≡ slice_index_or stretches.now number result }
 {
     stretches[number]
+}
+
+/// The items of a list before a place.
+fn items_up_to(items: &[Item], place: usize) -> &[Item]
+    ensures value { result.now ≡ take place items.now }
+{
+    items.split_at(place.min(items.len())).0
+}
+
+/// The items of a list from a place on.
+fn items_from(items: &[Item], place: usize) -> &[Item]
+    ensures value { result.now ≡ drop place items.now }
+{
+    items.split_at(place.min(items.len())).1
+}
+
+/// The summary of those items of a stretch, which begins at a place of a list, that stand in a front
+/// of the list and from another place on.
+fn summary_within(stretch: Stretch, place: usize, front: &[Item], first: usize) -> Summary
+    requires room { place + stretch.items < 2 ^ 64 }
+    requires sum { place + stretch.items ≤ length front.now → IsSumOf (listed (take stretch.items (drop place front.now))) stretch.summary }
+    ensures sum { IsSumOf (listed (drop (max first place) (take (place + stretch.items) front.now))) result }
+{
+    let end = place + stretch.items;
+    if first <= place && end <= front.len() {
+        return stretch.summary;
+    }
+    items_summary(items_from(items_up_to(front, end), first.max(place)))
+}
+
+/// The summary of the items of a list from one place up to another, by its stretches.
+pub(crate) fn summary_between(
+    stretches: &[Stretch],
+    items: &[Item],
+    first: usize,
+    end: usize,
+) -> Summary
+    requires are { AreStretches stretches.now items.now }
+    ensures sum { IsSumOf (listed (drop first (take end items.now))) result }
+{
+    let front = items_up_to(items, end);
+    let mut all = Summary::NONE;
+    let mut place = 0;
+    'stretches: for number in 0..stretches.len() {
+        let stretch = stretch_at(stretches, number);
+        all = all.then(summary_within(stretch, place, front, first));
+        place += stretch.items;
+    }
+    all.then(items_summary(items_from(front, first.max(place))))
+}
+
+/// Renews the stretch in which a list that had so many items was edited at a place, if there is one:
+/// behind the last stretch, none. It takes no memory: the stretch has what was put in too, without a
+/// limit, and stays where its last item was taken out.
+pub(super) fn renew_stretch(stretches: &mut Vec<Stretch>, place: usize, len: usize, items: &[Item])
+    requires were { WereStretches stretches.old.items place len items.now }
+    ensures are { AreStretches stretches.new.items items.now }
+{
+    let mut first = 0;
+    'stretches: for number in 0..stretches.len() {
+        let stretch = stretches[number];
+        let end = first + stretch.items;
+        if place < end {
+            let front = items_up_to(items, items.len() - (len - end));
+            stretches[number] = stretch_of(items_from(front, first));
+            return;
+        }
+        first = end;
+    }
 }
 
 impl Circuit {
@@ -84,11 +142,11 @@ impl Circuit {
         let parts = self.stretches.as_slice();
         'stretches: for number in 0..parts.len() {
             let stretch = stretch_at(parts, number);
-            if left < stretch.steps {
+            if left < stretch.summary.steps {
                 return StepPlace { place, steps: left };
             }
             place += stretch.items;
-            left -= stretch.steps;
+            left -= stretch.summary.steps;
         }
         StepPlace { place, steps: left }
     }

@@ -1,7 +1,8 @@
-use Rattle.std.proofs.Common.{◌≡◌, ◌∙◌, ap, Ok, ◌+◌, min, length, arith}
+use Rattle.std.proofs.Common.{◌≡◌, ◌∙◌, ap, Ok, ◌+◌, min, length, drop, subst, arith}
+use Rattle.std.proofs.Math.Seq.{take-length}
 use Rattle.std.proofs.lemmas.Option.{slice_get_within}
 use Rattle.stab_items.specs.Items.{repeat, listed}
-use Rattle.stab_items.specs.inner.Summaries.{repeated}
+use Rattle.stab_items.specs.inner.Summaries.{repeated, IsSumOf}
 use Rattle.stab_circuit.specs.Edits.{edit_path}
 use Rattle.stab_circuit.specs.inner.EditResults.{steps_within}
 use Rattle.stab_circuit.proofs.JudgementLemmas.{judged_err, judged_ok, judged_apart, begins_at, begins_block, gone_block, put_block, edit_refused}
@@ -64,9 +65,11 @@ judge-returns-in-Ok-edit_result_in-clause-within_gone t c =
 pub edit_result_in-returns-in-Ok-clause-ok : goal.edit_result_in-returns-in-Ok-clause-ok
 edit_result_in-returns-in-Ok-clause-ok t c =
     let j = c.in-Ok.ensures in
-    edit_result_is c.args.edit.now c.args.blocks.now c.args.items.now _ _ _ _ c.in-Ok.judgement c.items_summary.result c.items_summary-in-Ok.result c.items_summary-in-Ok-2.result c.edit_result_of.result j.value j.small j.front j.apart
-    c.split_at.ensures.front c.split_at.ensures.back c.split_at-in-Ok.ensures.front c.split_at-in-Ok.ensures.back c.items_summary.ensures.value c.items_summary-in-Ok.ensures.value c.items_summary-in-Ok-2.ensures.value
-    c.items_summary-in-Ok-2.ensures.small j.within_put j.within_gone c.items_summary.ensures.apart c.items_summary-in-Ok-2.ensures.apart c.edit_result_of.ensures.value c.edit_result_of.ensures.small
+    let xs = c.args.items.now in
+    let last = c.summary_between-in-Ok-2 in
+    let back = subst (λ l. IsSumOf (listed (drop c.in-Ok.judgement.behind l)) last.result) (take-length xs) last.ensures.sum in
+    edit_result_is c.args.edit.now c.args.blocks.now xs c.in-Ok.judgement c.summary_between.result c.summary_between-in-Ok.result last.result c.edit_result_of.result j.value j.small j.front j.apart
+    c.summary_between.ensures.sum c.summary_between-in-Ok.ensures.sum back j.within_put j.within_gone c.edit_result_of.ensures.value c.edit_result_of.ensures.small
 
 pub edit_result_in-returns-in-Err-clause-refused : goal.edit_result_in-returns-in-Err-clause-refused
 edit_result_in-returns-in-Err-clause-refused t c =

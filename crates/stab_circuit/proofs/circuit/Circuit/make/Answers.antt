@@ -1,10 +1,13 @@
-use Rattle.std.proofs.Common.{◌≡◌, ◌∙◌, ap, sym, subst, Ok, IfOk}
+use Rattle.std.proofs.Common.{◌≡◌, ◌∙◌, ap, sym, subst, length, Some, Ok, IfOk}
+use Rattle.std.specs.Prelude.{slice_get}
 use Rattle.stab_items.specs.Items.{listed}
 use Rattle.stab_items.specs.inner.Summaries.{summary_of}
 use Rattle.stab_circuit.specs.Edits.{edited_in, edit_path, edited, taken_in}
+use Rattle.stab_circuit.specs.Paths.{numbers}
 use Rattle.stab_circuit.specs.inner.Judgements.{summed, IsShallow}
 use Rattle.stab_circuit.specs.inner.EditResults.{AreApart}
-use Rattle.stab_circuit.specs.inner.Stretches.{AreStretches}
+use Rattle.stab_circuit.specs.inner.Stretches.{AreStretches, WereStretches}
+use Rattle.stab_circuit.proofs.EditResultLemmas.{were_stretches}
 use Rattle.stab_circuit.proofs.EditingLemmas.{result_shallow}
 use Rattle.stab_circuit.proofs.circuit.Circuit.make.Goals as goal
 
@@ -15,6 +18,18 @@ commit-requires c =
     record {
       allowed = subst IsShallow (λ i. edited_in e (sym blocks i) (sym c.self.view_is i)) (result_shallow (edited e c.args.self.now) c.args.edit_result.total c.requires.judged.total c.requires.shallow);
     }
+
+pub renew_stretch-requires : goal.renew_stretch-requires
+renew_stretch-requires c =
+    let e = c.args.edit in
+    let ss = c.self.inside.stretches.items in
+    let first = c.first.result in
+    let blocks : c.blocks-2.result.now ≡ (edit_path e).blocks = c.blocks-2.ensures.value ∙ ap (λ q. q.blocks) c.path-path.ensures.value in
+    let new : edited e c.args.self.now ≡ Ok c.commit.new.items.items = (λ i. edited_in e (sym blocks i) (sym c.self.view_is i)) ∙ c.in-Ok.ensures.ok in
+    let at = subst (λ p. slice_get (numbers p) 0 ≡ Some first) c.path-path.ensures.value c.first.ensures.value in
+    let were = were_stretches ss e c.args.self.now c.commit.new.items.items first (subst (AreStretches ss) c.self.view_is c.self.invariant.4) new at in
+    let long : length c.args.self.now ≡ c.len-len.result = ap length (sym c.self.view_is) ∙ sym c.self.inside.items.ok.0 ∙ sym c.len-len.ensures in
+    record { were = subst (λ n. WereStretches ss first n c.as_slice.result.now) long (subst (WereStretches ss first (length c.args.self.now)) (sym c.as_slice.ensures.value) were) }
 
 pub returns-in-Ok-clause-ok : goal.returns-in-Ok-clause-ok
 returns-in-Ok-clause-ok c =
@@ -38,7 +53,7 @@ invariant_of-self c =
       c.requires.judged.small,
       c.requires.shallow,
       subst (λ r. IfOk r AreApart) new c.requires.judged.apart,
-      subst (AreStretches c.renew_stretches.new.stretches.items) c.as_slice.ensures.value c.renew_stretches.ensures.are,
+      subst (AreStretches c.renew_stretch.new.stretches.items) c.as_slice.ensures.value c.renew_stretch.ensures.are,
     )
 
 pub returns-in-Err-clause-unchanged : goal.returns-in-Err-clause-unchanged

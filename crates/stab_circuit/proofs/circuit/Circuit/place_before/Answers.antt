@@ -1,4 +1,4 @@
-use Rattle.std.proofs.Common.{◌+◌, sym, subst, drop, arith}
+use Rattle.std.proofs.Common.{◌+◌, ap, sym, subst, drop, arith}
 use Rattle.std.proofs.lemmas.List.{drop-drop, length-drop}
 use Rattle.stab_circuit.specs.inner.Stretches.{AreStretches}
 use Rattle.stab_circuit.proofs.StretchLemmas.{stretch_here, steps_further}
@@ -20,5 +20,5 @@ stretches-preserved c =
     record {
       within = omega (arith, here.0, length-drop c.stretches.place xs, at.within);
       are = subst (λ l. AreStretches (drop (c.stretches.number + 1) c.as_slice-parts.result.now) l) (drop-drop s.items c.stretches.place xs) here.2;
-      steps = steps_further xs c.stretches.place s.items s.steps c.stretches.left c.args.step here.1 (omega (arith, c.if-left-stretch.false)) c.requires.few at.steps;
+      steps = steps_further xs c.stretches.place s.items s.summary.steps c.stretches.left c.args.step (ap (λ q. q.steps) here.1.value) (omega (arith, c.if-left-stretch.false)) c.requires.few at.steps;
     }
