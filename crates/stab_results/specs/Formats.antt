@@ -6,7 +6,7 @@ use Rattle.std.specs.Fmt.{decimal}
 use Rattle.stab_results.specs.declared.format.Format.{Format}
 use Rattle.stab_results.specs.declared.format.Format.TheVariants.{F01, B8, R8, Hits, Dets}
 use Rattle.stab_results.specs.declared.format.Kinds.{Kinds}
-use Rattle.stab_results.specs.declared.format.Kinds.TheVariants.{Measurements, Detectors}
+use Rattle.stab_results.specs.declared.format.Kinds.TheVariants.{Measurements, Detectors, Whole}
 
 -- the places of the 1 bits, ascending, where the first bit has the given place
 abbrev pub one_places_from : ℕ → List Bool → List ℕ
@@ -60,10 +60,15 @@ comma = 44
 abbrev pub hits_bytes : List Bool → List ℕ
 hits_bytes bits = join_with_byte comma (map decimal (one_places bits)) ++ codes "\n"
 
+-- the entry of a 1 bit among so many detectors and then observables
+abbrev pub detected_entry : (count place : ℕ) → List ℕ
+detected_entry count place = if nat_lt place count then codes " D" ++ decimal place else codes " L" ++ decimal (place - count)
+
 -- the entry of a 1 bit: a space, the prefix of its kind, and its number within its kind
 abbrev pub entry : Kinds → ℕ → List ℕ
 entry Measurements place = codes " M" ++ decimal place
-entry (Detectors count) place = if nat_lt place count then codes " D" ++ decimal place else codes " L" ++ decimal (place - count)
+entry (Detectors count) place = detected_entry count place
+entry (Whole records detectors) place = if nat_lt place records then codes " M" ++ decimal place else detected_entry detectors (place - records)
 
 -- dets: `shot`, then the entry of each 1 bit, then a line end
 abbrev pub dets_bytes : Kinds → List Bool → List ℕ
@@ -81,3 +86,4 @@ shot_bytes Dets kinds bits = dets_bytes kinds bits
 abbrev pub detectors_of : Kinds → ℕ
 detectors_of Measurements = 0
 detectors_of (Detectors count) = count
+detectors_of (Whole records detectors) = detectors

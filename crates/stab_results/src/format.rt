@@ -20,4 +20,6 @@ pub enum Kinds {
     Measurements,
     /// So many bits are detectors, and the rest are observables.
     Detectors(usize),
+    /// So many bits are measurements, the next so many detectors, and the rest observables.
+    Whole { records: usize, detectors: usize },
 }

@@ -1,7 +1,7 @@
 ghost use Rattle.std.specs.Prelude.{◌≡◌, ◌≤◌, ◌∷◌, [], ◌++◌, length};
 ghost use Rattle.std.specs.Fmt.{decimal};
 ghost use Rattle.std.specs.List.{flat_map};
-ghost use Rattle.stab_results.specs.Formats.{digit, f01_bytes, number, b8_bytes, run_bytes, r8_bytes, hits_bytes, entry, dets_bytes, shot_bytes};
+ghost use Rattle.stab_results.specs.Formats.{digit, f01_bytes, number, b8_bytes, run_bytes, r8_bytes, hits_bytes, one_places, detected_entry, entry, dets_bytes, shot_bytes};
 
 use crate::byte_buffer::ByteBuffer;
 use crate::format::{Format, Kinds};
@@ -27,14 +27,26 @@ fn number(bits: &[bool]) -> u8
     value
 }
 
+/// The entry of a 1 bit among so many detectors and then observables, in dets.
+fn detected_entry(count: usize, place: usize) -> (&'static [u8], usize)
+    ensures value { detected_entry count place ≡ result.0.now ++ decimal result.1 }
+{
+    if place < count {
+        (b" D", place)
+    } else {
+        (b" L", place - count)
+    }
+}
+
 /// The entry of a 1 bit in dets: a space with the prefix of its kind, and its number.
 fn entry(kinds: Kinds, place: usize) -> (&'static [u8], usize)
     ensures value { entry kinds place ≡ result.0.now ++ decimal result.1 }
 {
     match kinds {
         Kinds::Measurements => (b" M", place),
-        Kinds::Detectors(count) if place < count => (b" D", place),
-        Kinds::Detectors(count) => (b" L", place - count),
+        Kinds::Detectors(count) => detected_entry(count, place),
+        Kinds::Whole { records, .. } if place < records => (b" M", place),
+        Kinds::Whole { records, detectors } => detected_entry(detectors, place - records),
     }
 }
 
@@ -119,10 +131,23 @@ impl ByteBuffer {
         ensures puts { Puts (O.seen out.old) (O.seen out.new) self.old self.new (dets_bytes kinds bits.now) result }
     {
         self.put(out, b"shot")?;
+        self.put_ones(out, kinds, bits)?;
+        self.push(out, b'\n')
+    }
+
+    /// Puts the entries of all 1 bits, in dets.
+    pub(crate) fn put_ones<O: Output>(
+        &mut self,
+        out: &mut O,
+        kinds: Kinds,
+        bits: &[bool],
+    ) -> Result<(), Refusal>
+        ensures puts { Puts (O.seen out.old) (O.seen out.new) self.old self.new (flat_map (entry kinds) (one_places bits.now)) result }
+    {
         for place in OnePlaces::new(bits) {
             self.put_entry(out, kinds, place)?;
         }
-        self.push(out, b'\n')
+        Ok(())
     }
 
     /// Puts the entries of the 1 bits at some places, in dets.

@@ -4,12 +4,12 @@
 //! - `byte_buffer`: bytes gathered on their way to an output, which then gets many at a time.
 //! - `one_places`: the places of the 1 bits, one after another.
 //! - `formats`: a shot in each of the formats.
-//! - `shot`: `write_shot` and `write_entries`, which the other crates call.
+//! - `shot`: `write_shot`, `write_entries` and `write_ones`, which the other crates call.
 //!
 //! Source: Stim's documentation of its result formats, of which `ptb64` is left out: a call writes one
 //! shot.
 //!
-//! Proved: `write_shot` and `write_entries` write exactly the bytes of `specs/Formats.antt`, or a
+//! Proved: `write_shot`, `write_entries` and `write_ones` write exactly the bytes of `specs/Formats.antt`, or a
 //! prefix of them where the output failed, and never flush.
 #![tactic(auto)]
 
@@ -20,4 +20,4 @@ mod one_places;
 mod shot;
 
 pub use format::{Format, Kinds};
-pub use shot::{write_entries, write_shot};
+pub use shot::{write_entries, write_ones, write_shot};

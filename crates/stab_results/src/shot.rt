@@ -1,7 +1,7 @@
 ghost use Rattle.std.specs.Prelude.{◌≤◌, [], length};
 ghost use Rattle.std.specs.List.{flat_map};
 ghost use Rattle.stab_io.specs.Devices.{WritesAll, WritesAllOrFault};
-ghost use Rattle.stab_results.specs.Formats.{entry, shot_bytes, detectors_of};
+ghost use Rattle.stab_results.specs.Formats.{entry, one_places, shot_bytes, detectors_of};
 ghost use Rattle.stab_results.specs.inner.ByteBuffer.{Puts};
 
 use crate::byte_buffer::ByteBuffer;
@@ -68,4 +68,20 @@ pub fn write_entries<O: Output>(out: &mut O, kinds: Kinds, places: &[u32]) -> Re
     ensures writes { WritesAll (O.seen out.old) (O.seen out.new) (flat_map (entry kinds) places.now) result }
 {
     send_entries(out, kinds, places)
+}
+
+/// Gathers the entries of all 1 bits, and sends them.
+fn send_ones<O: Output>(out: &mut O, kinds: Kinds, bits: &[bool]) -> Result<(), Refusal>
+    ensures puts { Puts (O.seen out.old) (O.seen out.new) [] [] (flat_map (entry kinds) (one_places bits.now)) result }
+{
+    let mut byte_buffer = ByteBuffer::new();
+    byte_buffer.put_ones(out, kinds, bits)?;
+    byte_buffer.send(out)
+}
+
+/// Writes the entries of the 1 bits of a shot as `write_entries` does.
+pub fn write_ones<O: Output>(out: &mut O, kinds: Kinds, bits: &[bool]) -> Result<(), Refusal>
+    ensures writes { WritesAll (O.seen out.old) (O.seen out.new) (flat_map (entry kinds) (one_places bits.now)) result }
+{
+    send_ones(out, kinds, bits)
 }

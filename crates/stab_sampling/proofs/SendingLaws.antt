@@ -53,11 +53,6 @@ parts_join bytes_of first n (suc m) =
     ap₂ (λ sent shot. sent ++ bytes_of shot) (parts_join bytes_of first n m) (regroup first n m) in
     sym (append_assoc before (of_shots bytes_of (first + n) m) (bytes_of ((first + n) + m))) ∙ (whole ∙ ap (of_shots bytes_of first) (sym (next n m)))
 
--- a call that writes one text
-pub sends_text : (old new : OutputView) (text bytes : List ℕ) (r : Result (Unit {0}) Fault) → text ≡ bytes → WritesAllOrFault old new text r → SendsUnflushed bytes old new r
-sends_text old new text bytes (Ok u) same writes = subst (λ l. Took old new l) same writes
-sends_text old new text bytes (Err f) same writes = inl (writes.0, subst (λ l. TookAndFailed old new l) same writes.1)
-
 -- memory was refused before anything was written
 pub sends_none : (old : OutputView) (bytes : List ℕ) (r : Result (Unit {0}) Fault) → IsErrAnd r (λ f. f ≡ whole OutOfMemory) → SendsUnflushed bytes old old r
 sends_none old bytes (Ok u) is = absurd is

@@ -95,10 +95,6 @@ pub rest_sent : (old mid new : OutputView) (bytes_of : ℕ → List ℕ) (first 
 rest_sent old mid new bytes_of first n m shots (Ok u) e before sent = subst (λ k. Took old new (of_shots bytes_of first k)) e (sent_batch bytes_of first n m before sent)
 rest_sent old mid new bytes_of first n m shots (Err f) e before cut = batches_break_off bytes_of first n m shots f (Err f) (omega (arith, e)) before cut refl
 
--- one shot is the first
-pub one_shot : (bytes_of : ℕ → List ℕ) (first : ℕ) → of_shots (λ shot. bytes_of first) first 1 ≡ of_shots bytes_of first 1
-one_shot bytes_of first = ap bytes_of (sym (add-zero first))
-
 -- a number of a shot that is below 2^64 stays what it is
 pub no_wrap : (first shots l : ℕ) → first + shots ≤ 18446744073709551616 → l < shots → (first + l) % 2 ^ 64 ≡ first + l
 no_wrap first shots l within less = small (first + l) (omega arith)

@@ -1,9 +1,9 @@
 //! The shots of a circuit, written one after another.
 //!
-//! All shots of a list of coins are the same run, which is made once. Shots of a seed are run by batches of lanes, led by what is
-//! noted of a run. Where there is more than one batch, all are led by the whole of that run, unless its notes take too much
-//! memory; else each batch has a run made for it, which is noted by stretches. A shot that is alone is run alone, and so are few
-//! shots, one after another, where most of each gives again what rounds before gave.
+//! All shots of a list of coins are the same run, which is made once. Shots of a seed go one after another as long as that is less
+//! work than lanes are: most of a shot gives again what rounds before gave. Others are run by batches of lanes, led by what is
+//! noted of a run. If there is more than one batch, all are led by the whole of that run, unless its notes take too much
+//! memory; else each batch has a run made for it, which is noted by stretches.
 ghost use Rattle.std.specs.Prelude.{◌≡◌, ℕ, ◌+◌, ◌<◌, ◌≤◌, None, IfOk, IfSome, IfErr};
 ghost use Rattle.stab_io.specs.Refusals.{whole};
 ghost use Rattle.stab_io.specs.declared.refusal.Refusal.TheVariants.{OutOfMemory};
@@ -20,7 +20,7 @@ ghost use Rattle.stab_sampling.specs.Sendings.{SendsUnflushed, shots_of, shown_b
 use crate::bits::{Shown, write_shown};
 use crate::lanes::send_lanes;
 use crate::singly::send_singly;
-use crate::widths::{most_steps_singly, shots_at_once};
+use crate::widths::{share_of, shots_at_once};
 use stab_circuit::Circuit;
 use stab_io::{Fault, Output};
 use stab_jobs::{Shots, Source};
@@ -160,68 +160,6 @@ fn send_wide<O: Output>(
     }
 }
 
-/// Runs so many shots of a seed, at most 1,024, from a first one on, in one batch, and writes what is shown of each.
-fn send_rest<O: Output>(
-    alloc: Global,
-    circuit: &Circuit,
-    reference: Option<&Reference>,
-    out: &mut O,
-    format: Format,
-    shown: Shown,
-    seed: u64,
-    first: u64,
-    shots: usize,
-) -> Result<(), Fault>
-    requires checked { check_of (circuit_items circuit.now) ≡ None }
-    requires reference { IfSome reference (λ r. IsReference (qubits_of (circuit_items circuit.now)) (circuit_items circuit.now) r.now) }
-    requires few { shots ≤ 1024 }
-    requires in_range { first + shots ≤ shots_of_seed }
-    ensures sends { SendsUnflushed (of_shots (λ shot. shown_bytes format shown (run_of (qubits_of (circuit_items circuit.now)) (seed_coin seed shot) (circuit_items circuit.now))) first shots) (O.seen out.old) (O.seen out.new) result }
-{
-    match shots {
-        0 => Ok(()),
-        1 => {
-            let mut coins = SeedCoins::new(seed, first);
-            send_copies(alloc, circuit, out, format, shown, &mut coins, 1)
-        }
-        _ => {
-            send_wide(
-                alloc, circuit, reference, out, format, shown, seed, first, shots, shots,
-            )
-        }
-    }
-}
-
-/// Runs so many shots of a seed, at most 1,024, from a first one on, and writes what is shown of each: one after another where
-/// that is less work, and else in one batch.
-fn send_few<O: Output>(
-    alloc: Global,
-    circuit: &Circuit,
-    out: &mut O,
-    format: Format,
-    shown: Shown,
-    seed: u64,
-    first: u64,
-    shots: usize,
-) -> Result<(), Fault>
-    requires checked { check_of (circuit_items circuit.now) ≡ None }
-    requires few { shots ≤ 1024 }
-    requires in_range { first + shots ≤ shots_of_seed }
-    ensures sends { SendsUnflushed (of_shots (λ shot. shown_bytes format shown (run_of (qubits_of (circuit_items circuit.now)) (seed_coin seed shot) (circuit_items circuit.now))) first shots) (O.seen out.old) (O.seen out.new) result }
-{
-    let most = most_steps_singly(circuit, shots);
-    if most == 0 {
-        return send_rest(alloc, circuit, None, out, format, shown, seed, first, shots);
-    }
-    let sent = send_singly(alloc, circuit, out, format, shown, seed, first, shots, most)?;
-    if sent == shots {
-        return Ok(());
-    }
-    let next = first + sent as u64;
-    let rest = shots - sent;
-    send_rest(alloc, circuit, None, out, format, shown, seed, next, rest)
-}
-
 /// The reference of a circuit, where it has one and there is more than one batch to be led by it.
 fn reference_of(alloc: Global, circuit: &Circuit, many: bool) -> Result<Option<Reference>, Fault>
     requires checked { check_of (circuit_items circuit.now) ≡ None }
@@ -234,8 +172,49 @@ fn reference_of(alloc: Global, circuit: &Circuit, many: bool) -> Result<Option<R
     Reference::of(alloc, circuit, circuit.qubits())
 }
 
-/// Runs so many shots of a seed from a first one on, and writes what is shown of each. A shot that is alone is run alone, and
-/// shots that fill no batch go in no more lanes than they need.
+/// Runs so many shots of a seed from a first one on, in so many lanes at once, and writes what is shown of each. Shots that fill
+/// no batch go in no more lanes than they need.
+fn send_in_lanes<O: Output>(
+    alloc: Global,
+    circuit: &Circuit,
+    out: &mut O,
+    format: Format,
+    shown: Shown,
+    seed: u64,
+    first: u64,
+    shots: usize,
+    lanes: usize,
+) -> Result<(), Fault>
+    requires checked { check_of (circuit_items circuit.now) ≡ None }
+    requires some { 0 < shots }
+    requires some_lanes { 0 < lanes }
+    requires few { lanes ≤ 1024 }
+    requires in_range { first + shots ≤ shots_of_seed }
+    ensures sends { SendsUnflushed (of_shots (λ shot. shown_bytes format shown (run_of (qubits_of (circuit_items circuit.now)) (seed_coin seed shot) (circuit_items circuit.now))) first shots) (O.seen out.old) (O.seen out.new) result }
+{
+    let full = shots - shots % lanes;
+    if full == 0 {
+        return send_wide(
+            alloc, circuit, None, out, format, shown, seed, first, shots, shots,
+        );
+    }
+    let found = reference_of(alloc, circuit, lanes < shots)?;
+    let reference = found.as_ref();
+    send_wide(
+        alloc, circuit, reference, out, format, shown, seed, first, full, lanes,
+    )?;
+    if full == shots {
+        return Ok(());
+    }
+    let next = first + full as u64;
+    let rest = shots - full;
+    send_wide(
+        alloc, circuit, reference, out, format, shown, seed, next, rest, rest,
+    )
+}
+
+/// Runs so many shots of a seed from a first one on, and writes what is shown of each: one after another as long as that is
+/// less work than lanes are, and the others in lanes.
 fn send_seeded<O: Output>(
     alloc: Global,
     circuit: &Circuit,
@@ -250,24 +229,17 @@ fn send_seeded<O: Output>(
     requires in_range { first + shots ≤ shots_of_seed }
     ensures sends { SendsUnflushed (of_shots (λ shot. shown_bytes format shown (run_of (qubits_of (circuit_items circuit.now)) (seed_coin seed shot) (circuit_items circuit.now))) first shots) (O.seen out.old) (O.seen out.new) result }
 {
-    let most = shots_at_once(alloc, circuit, shots)?;
-    let full = shots - shots % most;
-    if full == 0 {
-        return send_few(alloc, circuit, out, format, shown, seed, first, shots);
-    }
-    let found = reference_of(alloc, circuit, most < shots)?;
-    let reference = found.as_ref();
-    send_wide(
-        alloc, circuit, reference, out, format, shown, seed, first, full, most,
+    let lanes = shots_at_once(alloc, circuit, shots)?;
+    let share = share_of(circuit, shots, lanes);
+    let sent = send_singly(
+        alloc, circuit, out, format, shown, seed, first, shots, share,
     )?;
-    if full == shots {
+    if sent == shots {
         return Ok(());
     }
-    let next = first + full as u64;
-    let rest = shots - full;
-    send_rest(
-        alloc, circuit, reference, out, format, shown, seed, next, rest,
-    )
+    let next = first + sent as u64;
+    let rest = shots - sent;
+    send_in_lanes(alloc, circuit, out, format, shown, seed, next, rest, lanes)
 }
 
 /// Runs these shots of a circuit that nothing refuses, and writes what is shown of each, without a flush.

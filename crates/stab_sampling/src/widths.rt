@@ -60,19 +60,33 @@ fn most_lanes(bits: usize) -> usize
     64
 }
 
-/// How many shots go one after another at most: each costs more than a lane for each bit that it gives.
-const MOST_SINGLY: usize = 16;
-
-/// Which part of a circuit's steps such shots carry out together at most: lanes carry out all, but once.
+/// A step that is carried out costs up to so many times what a pass of lanes over it costs, and a coin that decides at least such a
+/// part of that: a frame goes over the rounds in which one does.
 const SINGLY: usize = 4;
 
-/// How many steps a shot carries out at most that is one of so many which go one after another. It is 0 where a shot is alone or
-/// there are too many.
-pub(crate) fn most_steps_singly(circuit: &Circuit, shots: usize) -> usize {
-    if shots < 2 || shots > MOST_SINGLY {
-        return 0;
+/// What a shot costs at most that is run by itself: its part of a pass of lanes, which goes over all steps.
+#[derive(Clone, Copy)]
+pub(crate) struct Share {
+    /// So many steps are carried out.
+    pub(crate) steps: usize,
+    /// So many coins decide.
+    pub(crate) coins: usize,
+}
+
+/// The share of each of so many shots, which go in so many lanes at once. A shot that is alone may carry out all steps.
+pub(crate) fn share_of(circuit: &Circuit, shots: usize, lanes: usize) -> Share {
+    let steps = circuit.steps();
+    let shots = shots.min(lanes).max(1);
+    if shots == 1 {
+        return Share {
+            steps,
+            coins: usize::MAX,
+        };
     }
-    circuit.steps() / SINGLY / shots
+    Share {
+        steps: steps / SINGLY / shots,
+        coins: steps.saturating_mul(SINGLY) / shots,
+    }
 }
 
 /// How many shots go through a circuit at once, where so many are asked for.

@@ -11,6 +11,7 @@ pub mod LaneLemmas
 pub mod PlaceLemmas
 pub mod SeedLemmas
 pub mod SeedByteLemmas
+pub mod UnitLemmas
 pub mod BatchLemmas
 pub mod FollowLemmas
 pub mod NoteLemmas

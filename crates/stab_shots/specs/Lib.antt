@@ -2,6 +2,7 @@ pub mod Words
 pub mod Lanes
 pub mod Shots
 pub mod Seeds
+pub mod Units
 pub mod Bytes
 pub mod Blocks
 pub mod Noted

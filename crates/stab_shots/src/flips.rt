@@ -22,8 +22,8 @@ fn flip_where<W: Word>(bit: bool, flips: &mut Vec<W>, place: usize)
     }
 }
 
-/// Makes of flips the bits of all lanes, by those of the reference.
-fn flip_bits<W: Word>(bits: &[bool], flips: &mut Vec<W>)
+/// Flips the bits of all lanes where those of one shot are 1: what lanes flip gives their bits, and their bits what they flip.
+pub fn flip_bits<W: Word>(bits: &[bool], flips: &mut Vec<W>)
     ensures value { (l : ℕ) → l < W.lanes → length (lane_bits W.at l flips.old.items) ≡ length bits.now → lane_bits W.at l flips.new.items ≡ flipped bits.now (lane_bits W.at l flips.old.items) }
 {
     for place in 0..bits.len().min(flips.len()) {

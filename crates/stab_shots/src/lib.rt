@@ -14,6 +14,7 @@
 //! - `lanes`: what each lane has flipped so far.
 //! - `streams`: the words of a shot's stream, whose lowest bits are its coins.
 //! - `coins`, `seeds`, `wide_seeds`: what is drawn in all lanes; the coins of 64 or 64 N shots of a seed.
+//! - `units`: words of which one lane is 1, and coins of which each lane has one that is 1.
 //! - `columns`: the words of 64 lanes, and the bytes of eight, out of wider ones.
 //! - `blocks`: the bits of 64 lanes as bytes, one lane after another.
 //! - `measure`: one measurement, on all lanes: the rule by which they differ from the run.
@@ -49,6 +50,7 @@ mod shots;
 mod step;
 mod steps;
 mod streams;
+mod units;
 mod wide;
 mod wide_seeds;
 mod word;
@@ -57,11 +59,13 @@ pub use batches::run_shots;
 pub use blocks::{write_blocks, write_row};
 pub use coins::{Draw, LaneCoins};
 pub use columns::{write_bytes, write_part};
+pub use flips::flip_bits;
 pub use lanes::write_lane;
 pub use reference::Reference;
 pub use run::run_lanes;
 pub use seeds::SeedLanes;
 pub use shots::Shots;
+pub use units::{UnitLanes, UnitWord};
 pub use wide::Wide;
 pub use wide_seeds::WideSeedLanes;
 pub use word::Word;

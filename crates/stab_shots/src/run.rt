@@ -14,7 +14,7 @@ ghost use Rattle.stab_shots.specs.Recordings.{IsSized, IsRecording};
 ghost use Rattle.stab_shots.specs.Differences.{lane_difference, Follows, IsLane};
 ghost use Rattle.stab_frames.specs.Limits.{most_strings};
 
-use crate::coins::{Draw, LaneCoins};
+use crate::coins::Draw;
 use crate::flips::shots_of;
 use crate::lanes::Lanes;
 use crate::measure::Noted;
@@ -84,7 +84,7 @@ fn pass_part<W: Word, D: Draw<W>>(
 }
 
 /// Runs a circuit once in each lane by a reference of it, and puts what the shots give in place of what the lists had.
-fn run_noted<W: Word, C: LaneCoins<W>>(
+fn run_noted<W: Word, C: Draw<W>>(
     alloc: Global,
     circuit: &Circuit,
     n: usize,
@@ -140,7 +140,7 @@ fn pass_recorded<W: Word, D: Draw<W>>(
 }
 
 /// Runs a circuit that nothing refuses once in each lane, led by a run of its own of which at most 4 MiB are noted at once.
-fn run_recorded<W: Word, C: LaneCoins<W>>(
+fn run_recorded<W: Word, C: Draw<W>>(
     alloc: Global,
     circuit: &Circuit,
     n: usize,
@@ -170,7 +170,7 @@ fn run_recorded<W: Word, C: LaneCoins<W>>(
 }
 
 /// Runs a circuit that nothing refuses once in each lane, by a reference of it where there is one.
-pub(crate) fn run_checked_batch<W: Word, C: LaneCoins<W>>(
+pub(crate) fn run_checked_batch<W: Word, C: Draw<W>>(
     alloc: Global,
     circuit: &Circuit,
     n: usize,
@@ -197,7 +197,7 @@ pub(crate) fn run_checked_batch<W: Word, C: LaneCoins<W>>(
 /// Each lane is the run that `stab_run::run_once` makes with these coins. By a reference of the circuit no tableau goes through
 /// it; without one a tableau does so once, however many lanes there are, and is noted on its way. Refused as `Circuit::check` refuses, else
 /// `OutOfMemory`, always with line 0; nothing is said of the lists then.
-pub fn run_lanes<W: Word, C: LaneCoins<W>>(
+pub fn run_lanes<W: Word, C: Draw<W>>(
     alloc: Global,
     circuit: &Circuit,
     n: usize,
