@@ -1,0 +1,4 @@
+pub mod BitLemmas
+pub mod TurnedLemmas
+pub mod RowLemmas
+pub mod PlaceLemmas

@@ -1,0 +1,227 @@
+-- Places of coins: those that flags tell, one after another, and the steps that take them.
+use Rattle.std.proofs.Common.{◌≡◌, ℕ, zero, suc, ◌+◌, ◌-◌, ◌<◌, ◌≤◌, ◌==◌, refl, sym, ◌∙◌, ap, subst, Bool, true, false, ◌&&◌, nat_lt, List, [], ◌∷◌, ◌++◌, append-nil, length, take, drop, map, get_or, arith}
+use Rattle.std.specs.Prelude.{if◌then◌else◌}
+use Rattle.std.proofs.lemmas.Bool.Decides.{nat_tests}
+use Rattle.std.proofs.lemmas.List.{length-append, map-append, length-drop, take_all}
+use Rattle.stab_circuit.specs.Items.{Items}
+use Rattle.stab_circuit.specs.Steps.{Step, unroll, observables_of}
+use Rattle.stab_run.specs.Runs.{State, start, run_of}
+use Rattle.stab_run.specs.Points.{Point, origin, coins_of, all_coins_of, given, next_point, outputs}
+use Rattle.stab_laws.proofs.StateLemmas.{run-state}
+use Rattle.stab_laws.proofs.PointLemmas.{flags-given}
+use Rattle.stab_laws.proofs.CoinLemmas.{coins-one}
+use Rattle.stab_results.specs.Formats.{one_places_from, one_places}
+use Rattle.stab_letters.proofs.ParityLemmas.{parity-false}
+use Rattle.stab_shots.specs.Units.{AreAscending, unit_coin}
+use Rattle.stab_shots.proofs.RecordingLemmas.{run-items}
+use Rattle.stab_coins.specs.Coins.{turned, zero_coins}
+use Rattle.stab_coins.specs.Places.{steps_before_coin, step_of_coin}
+
+-- the places of 1 bits
+
+places-next : (place : ℕ) (bits : List Bool) (k : ℕ)
+    → one_places_from place (take (suc k) bits) ≡ one_places_from place (take k bits) ++ (if get_or bits k false then (place + k) ∷ [] else [])
+places-next place [] zero = refl
+places-next place [] (suc k) = refl
+places-next place (false ∷ bits) zero = refl
+places-next place (true ∷ bits) zero = ap (λ m. m ∷ []) (omega arith)
+places-next place (false ∷ bits) (suc k) =
+    places-next (place + 1) bits k
+    ∙ ap (λ m. one_places_from (place + 1) (take k bits) ++ (if get_or bits k false then m ∷ [] else [])) {x = place + 1 + k} {y = place + suc k} (omega arith)
+places-next place (true ∷ bits) (suc k) =
+    ap (λ l. place ∷ l)
+    (places-next (place + 1) bits k
+    ∙ ap (λ m. one_places_from (place + 1) (take k bits) ++ (if get_or bits k false then m ∷ [] else [])) {x = place + 1 + k} {y = place + suc k} (omega arith))
+
+places-from : (place : ℕ) (bits : List Bool) (i : ℕ) → i < length (one_places_from place bits) → place ≤ get_or (one_places_from place bits) i 0
+places-from place [] i lt = absurd (omega (arith, lt))
+places-from place (false ∷ bits) i lt = let h = places-from (place + 1) bits i lt in omega (arith, h)
+places-from place (true ∷ bits) zero lt = omega arith
+places-from place (true ∷ bits) (suc i) lt = let h = places-from (place + 1) bits i (omega (arith, lt)) in omega (arith, h)
+
+places-ascend : (place : ℕ) (bits : List Bool) → AreAscending (one_places_from place bits)
+places-ascend place [] i j lt within = absurd (omega (arith, within))
+places-ascend place (false ∷ bits) i j lt within = places-ascend (place + 1) bits i j lt within
+places-ascend place (true ∷ bits) i zero lt within = absurd (omega (arith, lt))
+places-ascend place (true ∷ bits) zero (suc j) lt within = let h = places-from (place + 1) bits j (omega (arith, within)) in omega (arith, h)
+places-ascend place (true ∷ bits) (suc i) (suc j) lt within = places-ascend (place + 1) bits i j (omega (arith, lt)) (omega (arith, within))
+
+pub ascending : (bits : List Bool) → AreAscending (one_places bits)
+ascending bits = places-ascend 0 bits
+
+get_or-drop : (xs : List ℕ) (k i : ℕ) → get_or (drop k xs) i 0 ≡ get_or xs (k + i) 0
+get_or-drop xs zero i = ap (λ m. get_or xs m 0) (omega arith)
+get_or-drop [] (suc k) i = refl
+get_or-drop (x ∷ xs) (suc k) i = get_or-drop xs k i ∙ ap (λ m. get_or (x ∷ xs) m 0) {x = suc (k + i)} {y = suc k + i} (omega arith)
+
+pub ascending-rest : (numbers : List ℕ) (k : ℕ) → AreAscending numbers → AreAscending (drop k numbers)
+ascending-rest numbers k up i j lt within =
+    subst (λ x. x)
+    (λ r. sym (get_or-drop numbers k i) r < sym (get_or-drop numbers k j) r)
+    (up (k + i) (k + j) (omega (arith, lt)) (omega (arith, within, length-drop k numbers)))
+
+pub at-rest : (numbers : List ℕ) (k l : ℕ) → get_or (drop k numbers) l 0 ≡ get_or numbers (k + l) 0
+at-rest numbers k l = get_or-drop numbers k l
+
+-- the step that takes a coin
+
+pub step-at : (k : ℕ) (xs : List Step) (x : Step) (rest : List Step) → drop k xs ≡ x ∷ rest → coins_of x ≡ 1 → step_of_coin xs (all_coins_of (take k xs)) ≡ k
+step-at zero xs x rest e one =
+    ap (λ ys. step_of_coin ys 0) e
+    ∙ ap (λ c. length (if nat_lt 0 c then [] else x ∷ steps_before_coin (0 - c) rest)) one
+step-at (suc k) [] x rest e one = absurd (cc)
+step-at (suc k) (y ∷ ys) x rest e one =
+    let c = coins_of y in
+    let r = all_coins_of (take k ys) in
+    ap (λ b. length (if b then [] else y ∷ steps_before_coin ((c + r) - c) ys)) (not_less c r)
+    ∙ ap (λ m. suc (length (steps_before_coin m ys))) (minus c r)
+    ∙ ap suc (step-at k ys x rest e one)
+  where
+    not_less : (c r : ℕ) → nat_lt (c + r) c ≡ false
+    not_less c r = grind (arith, nat_tests)
+
+    minus : (c r : ℕ) → (c + r) - c ≡ r
+    minus c r = omega arith
+
+-- what is gathered of the coins of the first steps
+pub record AreGathered (free : List Bool) (xs : List Step) (number coin : ℕ) (numbers steps : List ℕ) : Type 0 where
+  pub coin_is : coin ≡ all_coins_of (take number xs)
+  pub numbers_are : numbers ≡ one_places (take coin free)
+  pub steps_are : steps ≡ map (step_of_coin xs) (one_places (take coin free))
+
+-- whether a step's coin decides
+abbrev pub decides : List Bool → Step → ℕ → Bool
+decides free x coin = (coins_of x == 1) && get_or free coin false
+
+coins-more : (k : ℕ) (xs : List Step) (x : Step) (rest : List Step) → drop k xs ≡ x ∷ rest → all_coins_of (take (suc k) xs) ≡ all_coins_of (take k xs) + coins_of x
+coins-more zero xs x rest e = ap (λ ys. all_coins_of (take 1 ys)) e ∙ omega arith
+coins-more (suc k) [] x rest e = absurd (cc)
+coins-more (suc k) (y ∷ ys) x rest e = let h = coins-more k ys x rest e in omega (arith, h)
+
+next : (k : ℕ) → k + 1 ≡ suc k
+next k = omega arith
+
+none : (k : ℕ) → k + 0 ≡ k
+none k = omega arith
+
+module _ (free : List Bool) (xs : List Step) (number coin : ℕ) (x : Step) (rest : List Step) (at : drop number xs ≡ x ∷ rest) (is : coin ≡ all_coins_of (take number xs)) where
+  places-more : (c : ℕ) → coins_of x ≡ c → c ≤ 1
+      → one_places (take (coin + coins_of x) free) ≡ one_places (take coin free) ++ (if decides free x coin then coin ∷ [] else [])
+  places-more zero e few =
+      ap (λ c. one_places (take (coin + c) free)) e
+      ∙ ap (λ k. one_places (take k free)) (none coin)
+      ∙ sym (append-nil (one_places (take coin free)))
+      ∙ ap (λ c. one_places (take coin free) ++ (if (c == 1) && get_or free coin false then coin ∷ [] else [])) (sym e)
+  places-more (suc zero) e few =
+      ap (λ c. one_places (take (coin + c) free)) e
+      ∙ ap (λ k. one_places (take k free)) (next coin)
+      ∙ places-next 0 free coin
+      ∙ ap (λ k. one_places (take coin free) ++ (if get_or free coin false then k ∷ [] else [])) {x = 0 + coin} {y = coin} (omega arith)
+      ∙ ap (λ c. one_places (take coin free) ++ (if (c == 1) && get_or free coin false then coin ∷ [] else [])) (sym e)
+  places-more (suc (suc c)) e few = absurd (omega (arith, few))
+
+  step-here : (b : Bool) → decides free x coin ≡ b → map (step_of_coin xs) (if b then coin ∷ [] else []) ≡ (if b then number ∷ [] else [])
+  step-here false e = refl
+  step-here true e = ap (λ k. k ∷ []) (ap (step_of_coin xs) is ∙ step-at number xs x rest at (takes (coins_of x) refl (coins-one x)))
+    where
+      takes : (c : ℕ) → coins_of x ≡ c → c ≤ 1 → coins_of x ≡ 1
+      takes zero none' few =
+          let not' : false ≡ true = ap (λ c. (c == 1) && get_or free coin false) (sym none') ∙ e in
+          absurd (cc)
+      takes (suc zero) one few = one
+      takes (suc (suc c)) many few = absurd (omega (arith, few))
+
+  gathered-next : (numbers steps more further : List ℕ) → AreGathered free xs number coin numbers steps
+      → more ≡ numbers ++ (if decides free x coin then coin ∷ [] else []) → further ≡ steps ++ (if decides free x coin then number ∷ [] else [])
+      → AreGathered free xs (number + 1) (coin + coins_of x) more further
+  gathered-next numbers steps more further are puts goes =
+      let places = places-more (coins_of x) refl (coins-one x) in
+      record {
+        coin_is = ap (λ k. k + coins_of x) is ∙ sym (coins-more number xs x rest at) ∙ ap (λ k. all_coins_of (take k xs)) (sym (next number));
+        numbers_are = puts ∙ ap (λ l. l ++ (if decides free x coin then coin ∷ [] else [])) are.numbers_are ∙ sym places;
+        steps_are =
+            goes
+            ∙ (λ i. are.steps_are i ++ sym (step-here (decides free x coin) refl) i)
+            ∙ sym (map-append (step_of_coin xs) (one_places (take coin free)) (if decides free x coin then coin ∷ [] else []))
+            ∙ ap (map (step_of_coin xs)) (sym places);
+      }
+
+  pub gathered-with : (k : ℕ) → k ≡ coins_of x → (numbers steps more further : List ℕ) → AreGathered free xs number coin numbers steps
+      → more ≡ numbers ++ (if decides free x coin then coin ∷ [] else []) → further ≡ steps ++ (if decides free x coin then number ∷ [] else [])
+      → AreGathered free xs (number + 1) (coin + k) more further
+  gathered-with k e numbers steps more further are puts goes =
+      subst (λ m. AreGathered free xs (number + 1) (coin + m) more further) (sym e) (gathered-next numbers steps more further are puts goes)
+
+-- all are gathered when no step is left
+pub gathered-all : (free : List Bool) (xs : List Step) (number coin : ℕ) (numbers steps : List ℕ) → drop number xs ≡ [] → length free ≡ all_coins_of xs
+    → AreGathered free xs number coin numbers steps → (numbers ≡ one_places free) × (steps ≡ map (step_of_coin xs) (one_places free))
+gathered-all free xs number coin numbers steps none' flags are =
+    let long : length xs ≤ number = omega (arith, length-drop number xs, ap length none') in
+    let all : take coin free ≡ free = take_all coin free (omega (arith, are.coin_is, flags, ap all_coins_of (take_all number xs long))) in
+    (are.numbers_are ∙ ap one_places all, are.steps_are ∙ ap (λ l. map (step_of_coin xs) (one_places l)) all)
+
+-- a coin that decides is one that a step takes
+
+places-below : (place : ℕ) (bits : List Bool) (i : ℕ) → i < length (one_places_from place bits) → get_or (one_places_from place bits) i 0 < place + length bits
+places-below place [] i lt = absurd (omega (arith, lt))
+places-below place (false ∷ bits) i lt = let h = places-below (place + 1) bits i lt in omega (arith, h)
+places-below place (true ∷ bits) zero lt = omega arith
+places-below place (true ∷ bits) (suc i) lt = let h = places-below (place + 1) bits i (omega (arith, lt)) in omega (arith, h)
+
+step-within : (t : ℕ) (xs : List Step) → t < all_coins_of xs → step_of_coin xs t < length xs
+step-within t [] lt = absurd (omega (arith, lt))
+step-within t (x ∷ xs) lt = by_test (nat_lt t (coins_of x)) refl (step-within (t - coins_of x) xs)
+  where
+    by_test : (b : Bool) → nat_lt t (coins_of x) ≡ b → (t - coins_of x < all_coins_of xs → step_of_coin xs (t - coins_of x) < length xs)
+        → length (if b then [] else x ∷ steps_before_coin (t - coins_of x) xs) < suc (length xs)
+    by_test true e later = omega arith
+    by_test false e later = let h = later (rest e) in omega (arith, h)
+      where
+        rest : nat_lt t (coins_of x) ≡ false → t - coins_of x < all_coins_of xs
+        rest test = grind (arith, nat_tests, lt, test)
+
+pub free-step-within : (free : List Bool) (xs : List Step) (i : ℕ) → length free ≡ all_coins_of xs → i < length (one_places free)
+    → step_of_coin xs (get_or (one_places free) i 0) < length xs
+free-step-within free xs i flags lt = step-within (get_or (one_places free) i 0) xs (omega (arith, flags, places-below 0 free i lt))
+
+-- a run has a flag for each coin that its steps take
+
+flags-counted : (n : ℕ) (coins : ℕ → Bool) (xs : List Step) (a : Point) → length (outputs n coins xs a).free ≡ all_coins_of xs
+flags-counted n coins [] a = refl
+flags-counted n coins (x ∷ xs) a =
+    let later = flags-counted n coins xs (next_point n coins x a) in
+    omega (arith, later, flags-given n coins x a, length-append (given n coins x a).free (outputs n coins xs (next_point n coins x a)).free)
+
+pub flags-of-run : (n : ℕ) (coins : ℕ → Bool) (items : Items) → length (run_of n coins items).free ≡ all_coins_of (unroll items)
+flags-of-run n coins items =
+    ap (λ (s : State). length s.free)
+    (sym (run-items n coins items (unroll items) (observables_of items) refl refl) ∙ run-state n coins (unroll items) (start (observables_of items)))
+    ∙ flags-counted n coins (unroll items) origin
+
+-- the steps behind the next
+
+drop-suc : (k : ℕ) (xs : List Step) (x : Step) (rest : List Step) → drop k xs ≡ x ∷ rest → drop (suc k) xs ≡ rest
+drop-suc zero [] x rest e = absurd (cc)
+drop-suc zero (y ∷ ys) x rest e = ap (drop 1) e
+drop-suc (suc k) [] x rest e = absurd (cc)
+drop-suc (suc k) (y ∷ ys) x rest e = drop-suc k ys x rest e
+
+pub drop-next : (k : ℕ) (xs : List Step) (x : Step) (rest : List Step) → drop k xs ≡ x ∷ rest → drop (k + 1) xs ≡ rest
+drop-next k xs x rest e = ap (λ m. drop m xs) (next k) ∙ drop-suc k xs x rest e
+
+-- the coin that is 1 in a lane
+pub unit-turned : (numbers : List ℕ) (first l s : ℕ) → first + l < length numbers
+    → unit_coin (drop first numbers) l s ≡ turned (get_or numbers (first + l) 0) zero_coins s
+unit-turned numbers first l s within =
+    (λ i. is_less i && ((get_or-drop numbers first l i) == s))
+    ∙ either (get_or numbers (first + l) 0) s
+    ∙ sym (parity-false (s == get_or numbers (first + l) 0))
+  where
+    long : length (drop first numbers) ≡ length numbers - first
+    long = length-drop first numbers
+
+    is_less : nat_lt l (length (drop first numbers)) ≡ true
+    is_less = grind (arith, nat_tests, long, within)
+
+    either : (a b : ℕ) → (a == b) ≡ (b == a)
+    either a b = grind (arith, nat_tests)

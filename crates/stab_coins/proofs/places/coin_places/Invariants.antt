@@ -1,0 +1,15 @@
+use Rattle.std.proofs.Common.{◌≡◌, ◌+◌, length, drop}
+use Rattle.stab_circuit.specs.Steps.{unroll}
+use Rattle.stab_circuit.specs.Views.{circuit_items}
+use Rattle.stab_coins.proofs.PlaceLemmas.{AreGathered}
+use Rattle.stab_coins.proofs.places.coin_places.Given as goal
+
+abbrev pub invariant-steps : goal.invariant-steps
+invariant-steps l = record {
+  left : drop l.number (unroll (circuit_items l.circuit)) ≡ l.cursor.left;
+  count : l.number + length l.cursor.left ≡ length (unroll (circuit_items l.circuit));
+  gathered : AreGathered l.free (unroll (circuit_items l.circuit)) l.number l.coin l.numbers.items l.steps.items;
+}
+
+abbrev pub decreases-steps : goal.decreases-steps
+decreases-steps l = length l.cursor.left

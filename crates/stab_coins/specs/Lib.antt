@@ -1,0 +1,5 @@
+pub mod Coins
+pub mod Tables
+pub mod CoinLaws
+pub mod Places
+pub mod Runs
