@@ -1,0 +1,14 @@
+-- Equal lists: those that a comparison finds equal.
+use Rattle.std.proofs.Common.{◌≡◌, ℕ, true, List, [], ◌∷◌, eqb}
+use Rattle.std.specs.Cmp.Lexicographic.{pointwise}
+use Rattle.std.proofs.lemmas.Bool.{eqb-true, false≢true, and_parts}
+
+pub pointwise-true : (xs ys : List ℕ) → pointwise eqb xs ys ≡ true → xs ≡ ys
+pointwise-true [] [] e = λ i. []
+pointwise-true [] (y ∷ ys) e = absurd (false≢true e)
+pointwise-true (x ∷ xs) [] e = absurd (false≢true e)
+pointwise-true (x ∷ xs) (y ∷ ys) e =
+    let parts = and_parts (eqb x y) (pointwise eqb xs ys) e in
+    let here = eqb-true x y parts.0 in
+    let later = pointwise-true xs ys parts.1 in
+    λ i. here i ∷ later i

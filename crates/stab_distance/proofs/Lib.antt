@@ -1,0 +1,12 @@
+pub mod ListLemmas
+pub mod Totals
+pub mod AscendingLemmas
+pub mod MergeLemmas
+pub mod FlipLemmas
+pub mod IndexLemmas
+pub mod ReachLemmas
+pub mod EndLemmas
+pub mod CertificateLemmas
+pub mod DistinctLemmas
+pub mod ShortestLemmas
+pub mod EqualLemmas

@@ -1,0 +1,7 @@
+use Rattle.std.proofs.Common.{◌≡◌, ℕ, ◌<◌, false}
+use Rattle.stab_distance.specs.Tables.{row}
+use Rattle.stab_distance.specs.inner.Certificates.{odd_members}
+use Rattle.stab_distance.proofs.certificate.are_even.Given as goal
+
+abbrev pub invariant-rows : goal.invariant-rows
+invariant-rows l = (q : ℕ) → q < l.r → odd_members l.members (row l.rows q) ≡ false

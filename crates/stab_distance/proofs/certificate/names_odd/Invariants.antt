@@ -1,0 +1,7 @@
+use Rattle.std.proofs.Common.{◌≡◌, drop}
+use Rattle.stab_letters.specs.Letters.{◌⊕◌}
+use Rattle.stab_distance.specs.inner.Certificates.{odd_members}
+use Rattle.stab_distance.proofs.certificate.names_odd.Given as goal
+
+abbrev pub invariant-each : goal.invariant-each
+invariant-each l = l.odd ⊕ odd_members l.members (drop l.i-index l.numbers) ≡ odd_members l.members l.numbers

@@ -1,0 +1,12 @@
+use Rattle.std.proofs.Common.{◌≤◌, length}
+use Rattle.stab_distance.specs.inner.Errors.{FlipNoObservable}
+use Rattle.stab_distance.proofs.errors.Errors.observing.Given as goal
+
+abbrev pub invariant-unobserved : goal.invariant-unobserved
+invariant-unobserved l = record {
+  within : l.n ≤ length l.self.table.rows;
+  others : FlipNoObservable l.self.table l.n;
+}
+
+abbrev pub decreases-unobserved : goal.decreases-unobserved
+decreases-unobserved l = l.n

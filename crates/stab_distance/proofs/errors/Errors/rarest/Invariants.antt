@@ -1,0 +1,9 @@
+use Rattle.std.proofs.Common.{◌≡◌, ◌<◌, true}
+use Rattle.stab_distance.specs.inner.Lists.{has}
+use Rattle.stab_distance.proofs.errors.Errors.rarest.Given as goal
+
+abbrev pub invariant-each : goal.invariant-each
+invariant-each l = record {
+  among : has l.best l.flipped ≡ true;
+  detector : l.best < l.self.table.detectors;
+}

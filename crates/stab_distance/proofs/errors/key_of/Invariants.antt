@@ -1,0 +1,7 @@
+use Rattle.std.proofs.Common.{◌≡◌, drop}
+use Rattle.std.specs.Prelude.{bit_xor}
+use Rattle.stab_distance.specs.inner.Errors.{key_of}
+use Rattle.stab_distance.proofs.errors.key_of.Given as goal
+
+abbrev pub invariant-each : goal.invariant-each
+invariant-each l = bit_xor l.key (key_of l.numbers (drop l.d-index l.detectors)) ≡ key_of l.numbers l.detectors

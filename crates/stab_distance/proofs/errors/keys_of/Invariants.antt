@@ -1,0 +1,10 @@
+use Rattle.std.proofs.Common.{◌≡◌, ℕ, ◌<◌, length, get_or}
+use Rattle.stab_distance.specs.Tables.{row}
+use Rattle.stab_distance.specs.inner.Errors.{key_of}
+use Rattle.stab_distance.proofs.errors.keys_of.Given as goal
+
+abbrev pub invariant-rows : goal.invariant-rows
+invariant-rows l = record {
+  made : length l.keys.items ≡ l.r;
+  each : (q : ℕ) → q < l.r → get_or l.keys.items q 0 ≡ key_of l.numbers (row l.rows q);
+}

@@ -1,0 +1,5 @@
+use Rattle.std.proofs.Common.{◌≡◌, length}
+use Rattle.stab_distance.proofs.errors.numbers_of.Given as goal
+
+abbrev pub invariant-each : goal.invariant-each
+invariant-each l = length l.numbers.items ≡ l.d

@@ -1,0 +1,7 @@
+use Rattle.std.proofs.Common.{ℕ, ◌<◌}
+use Rattle.stab_distance.specs.Tables.{row}
+use Rattle.stab_distance.specs.inner.Ends.{NoEnds}
+use Rattle.stab_distance.proofs.least.of_one_more.Given as goal
+
+abbrev pub invariant-firsts : goal.invariant-firsts
+invariant-firsts l = (f : ℕ) → f < l.first → NoEnds l.errors.table f (row l.errors.table.rows f) l.left

@@ -1,0 +1,5 @@
+use Rattle.stab_distance.specs.LogicalErrors.{HasNoneWithin}
+use Rattle.stab_distance.proofs.least.shortest.Given as goal
+
+abbrev pub invariant-sizes : goal.invariant-sizes
+invariant-sizes g l = HasNoneWithin l.errors.table l.left

@@ -1,0 +1,12 @@
+use Rattle.std.proofs.Common.{sym, subst, ℕ, List, ◌+◌}
+use Rattle.stab_distance.specs.inner.Ends.{EndsWithin}
+use Rattle.stab_distance.specs.inner.Shortest.{IsLogicalWithin}
+use Rattle.stab_distance.proofs.ShortestLemmas.{begun}
+use Rattle.stab_distance.proofs.least.with_first.Goals as goal
+
+pub returns-in_ok-push-in-Some-clause-some : goal.returns-in_ok-push-in-Some-clause-some
+returns-in_ok-push-in-Some-clause-some c =
+    subst (IsLogicalWithin c.args.errors.now.table (c.args.left + 1)) (sym c.in_ok-push-in-Some.ensures.items)
+    (begun c.args.errors.now.table c.args.first c.args.left c.in-Some.rest.items c.requires.inside
+    (subst (λ (xs : List ℕ). EndsWithin c.args.errors.now.table c.args.first xs c.args.left c.in-Some.rest.items) c.row-flipped.ensures.value
+    (rw c.in-Some.is at c.in_ok-search.ensures.some)))

@@ -1,0 +1,9 @@
+use Rattle.std.proofs.Common.{◌≡◌, length}
+use Rattle.stab_distance.specs.inner.Reach.{IsReach}
+use Rattle.stab_distance.proofs.reach.reach_of.Given as goal
+
+abbrev pub invariant-classes : goal.invariant-classes
+invariant-classes l = record {
+  made : length l.reach.items ≡ l.k;
+  reach : IsReach l.rows l.classes l.reach.items;
+}

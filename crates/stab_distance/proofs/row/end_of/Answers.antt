@@ -1,0 +1,11 @@
+use Rattle.std.proofs.Common.{◌≢◌, ◌-◌, length, sym, arith}
+use Rattle.std.proofs.lemmas.Bool.{eqb-false}
+use Rattle.stab_distance.proofs.AscendingLemmas.{odd-beyond}
+use Rattle.stab_distance.proofs.row.end_of.Goals as goal
+
+pub returns : goal.returns
+returns c = record {
+  end = λ i le.
+      let some : length c.args.numbers.now ≢ 0 = eqb-false (length c.args.numbers.now) 0 (sym c.if-is_empty.ensures) in
+      odd-beyond c.args.numbers.now (length c.args.numbers.now - 1) i c.requires.ascending (omega arith) le;
+}

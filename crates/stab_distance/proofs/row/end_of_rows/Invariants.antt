@@ -1,0 +1,6 @@
+use Rattle.std.proofs.Common.{◌≡◌, ℕ, ◌<◌, ◌≤◌, false}
+use Rattle.stab_distance.specs.Tables.{odd, row}
+use Rattle.stab_distance.proofs.row.end_of_rows.Given as goal
+
+abbrev pub invariant-rows : goal.invariant-rows
+invariant-rows l = (q i : ℕ) → q < l.r → l.end ≤ i → odd i (row l.rows q) ≡ false

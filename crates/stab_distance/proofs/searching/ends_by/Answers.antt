@@ -1,0 +1,39 @@
+use Rattle.std.proofs.Common.{◌≢◌, ℕ, length, ◌∙◌, ap, sym, subst, arith, List}
+use Rattle.std.proofs.lemmas.Bool.{eqb-true, eqb-false, leb-true, leb-false}
+use Rattle.std.proofs.lemmas.List.{nil_from_length}
+use Rattle.stab_letters.specs.Letters.{◌⊕◌}
+use Rattle.stab_distance.specs.Ascending.{IsAscending}
+use Rattle.stab_distance.specs.Tables.{odd}
+use Rattle.stab_distance.proofs.EndLemmas.{no_end-before, no_end-alone, ends-alone, ends-nothing, ends-detected, ends-observed}
+use Rattle.stab_distance.proofs.searching.ends_by.Goals as goal
+
+pub returns-then-g-first-clause-not : goal.returns-then-g-first-clause-not
+returns-then-g-first-clause-not c = λ no. no_end-before c.args.errors.now.table c.args.first c.args.flipped.now 1 c.args.g c.if-g-first.true
+
+pub returns-then-is_empty-clause-not : goal.returns-then-is_empty-clause-not
+returns-then-is_empty-clause-not c = λ no.
+    let next = c.as_slice-flips.result.now in
+    no_end-alone c.args.errors.now.table c.args.first c.args.flipped.now next c.args.g
+    (λ d. ap (odd d) c.as_slice-flips.ensures.value ∙ c.in_ok-merge_into.ensures.odd d ∙ ap (λ (xs : List ℕ). odd d c.args.flipped.now ⊕ odd d xs) c.row.ensures.value)
+    (λ e. ends-nothing c.args.errors.now.table c.args.first next e (nil_from_length next (eqb-true (length next) 0 (sym c.if-is_empty.ensures))))
+
+pub returns-clause-yes : goal.returns-clause-yes
+returns-clause-yes c = λ yes.
+    let next = c.as_slice-flips.result.now in
+    let some : length next ≢ 0 = eqb-false (length next) 0 (sym c.if-is_empty.ensures) in
+    let le = leb-true _ _ yes in
+    ends-alone c.args.errors.now.table c.args.first c.args.flipped.now next c.args.g
+    (λ d. ap (odd d) c.as_slice-flips.ensures.value ∙ c.in_ok-merge_into.ensures.odd d ∙ ap (λ (xs : List ℕ). odd d c.args.flipped.now ⊕ odd d xs) c.row.ensures.value)
+    c.requires.inside (omega (arith, c.if-g-first.false))
+    (ends-observed c.args.errors.now.table c.args.first next (subst IsAscending (sym c.as_slice-flips.ensures.value) c.in_ok-merge_into.ensures.ascending) (omega (arith, some))
+    (omega (arith, le, c.detectors.ensures.value)))
+
+pub returns-clause-not : goal.returns-clause-not
+returns-clause-not c = λ no.
+    let next = c.as_slice-flips.result.now in
+    let some : length next ≢ 0 = eqb-false (length next) 0 (sym c.if-is_empty.ensures) in
+    let lt = leb-false _ _ no in
+    no_end-alone c.args.errors.now.table c.args.first c.args.flipped.now next c.args.g
+    (λ d. ap (odd d) c.as_slice-flips.ensures.value ∙ c.in_ok-merge_into.ensures.odd d ∙ ap (λ (xs : List ℕ). odd d c.args.flipped.now ⊕ odd d xs) c.row.ensures.value)
+    (ends-detected c.args.errors.now.table c.args.first next (subst IsAscending (sym c.as_slice-flips.ensures.value) c.in_ok-merge_into.ensures.ascending) (omega (arith, some))
+    (omega (arith, lt, c.detectors.ensures.value)))

@@ -1,0 +1,6 @@
+use Rattle.std.proofs.Common.{ℕ, ◌<◌, get_or}
+use Rattle.stab_distance.specs.inner.Ends.{NoEndsBy}
+use Rattle.stab_distance.proofs.searching.last_error.Given as goal
+
+abbrev pub invariant-tries : goal.invariant-tries
+invariant-tries l = (k : ℕ) → k < l.g-index → NoEndsBy l.errors.table l.first l.flipped 1 (get_or l.with_key k 0)

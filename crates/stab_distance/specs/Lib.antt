@@ -1,0 +1,4 @@
+pub mod Ascending
+pub mod Tables
+pub mod LogicalErrors
+pub mod inner

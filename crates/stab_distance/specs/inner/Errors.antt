@@ -1,0 +1,41 @@
+-- Errors ready for a search: their table, and numbers of detectors, of which the keys of rows are made.
+use Rattle.std.specs.Prelude.{◌≡◌, ℕ, ◌<◌, ◌≤◌, List, [], ◌∷◌, false, length, slice_index, bit_xor}
+use Rattle.std.specs.Global.{Vec}
+use Rattle.stab_distance.specs.Tables.{ErrorTable, odd, row}
+use Rattle.stab_distance.specs.inner.Indexes.{ListsDetectors}
+use Rattle.stab_distance.specs.inner.Reach.{IsReach}
+
+-- a table, and a number for each of its detectors
+pub record Keyed : Type 0 where
+  pub table : ErrorTable
+  pub numbers : List ℕ
+
+-- the key of a row: the exclusive or of its detectors' numbers
+abbrev pub key_of : List ℕ → List ℕ → ℕ
+key_of numbers [] = 0
+key_of numbers (d ∷ ds) = bit_xor (slice_index numbers d) (key_of numbers ds)
+
+-- the keys of rows
+abbrev pub AreKeys : List ℕ → List (List ℕ) → List ℕ → Type 0
+AreKeys numbers rows keys = (length keys ≡ length rows) × ((r : ℕ) → r < length rows → slice_index keys r ≡ key_of numbers (row rows r))
+
+-- only detectors have numbers and classes; the keys, the index and the reach are those of the rows
+pub record IsReady (detectors : ℕ) (rows : List (List ℕ)) (numbers keys : List ℕ) (index : List (Vec ℕ)) (classes reach : List ℕ) : Type 0 where
+  pub numbered : length numbers ≤ detectors
+  pub keyed : AreKeys numbers rows keys
+  pub listed : ListsDetectors rows index
+  pub classed : length classes ≤ detectors
+  pub reached : IsReach rows classes reach
+
+-- rows from a number on flip no observable
+abbrev pub FlipNoObservable : ErrorTable → ℕ → Type 0
+FlipNoObservable t from = (r o : ℕ) → from ≤ r → t.detectors ≤ o → odd o (row t.rows r) ≡ false
+
+-- rows chosen from a table: row k is row `numbers` k of the table
+pub record AreRowsOf (rows chosen : List (List ℕ)) (numbers : List ℕ) : Type 0 where
+  pub count : length numbers ≡ length chosen
+  pub same : (k : ℕ) → k < length chosen → (slice_index numbers k < length rows) × (row chosen k ≡ row rows (slice_index numbers k))
+
+-- one of the rows has these numbers
+abbrev pub HasRow : List (List ℕ) → List ℕ → Type 0
+HasRow rows numbers = (k : ℕ) × (k < length rows) × (row rows k ≡ numbers)

@@ -1,0 +1,93 @@
+ghost use Rattle.std.specs.Prelude.{◌≡◌, ℕ, ◌<◌, true, List, length, IfOk, IfSome, OnOk};
+ghost use Rattle.stab_distance.specs.Ascending.{IsAscending};
+ghost use Rattle.stab_distance.specs.Tables.{row};
+ghost use Rattle.stab_distance.specs.inner.Errors.{AreRowsOf, HasRow};
+
+use crate::index::{list, rows_at};
+use crate::row::{Row, end_of};
+use crate::table::Table;
+use std::alloc::{AllocError, Global};
+
+/// Rows of a table that differ, with their numbers in it.
+#[derive(Drop)]
+pub struct Distinct {
+    pub rows: Vec<Row>,
+    pub numbers: Vec<usize>,
+}
+
+/// The rows of a table, each once. Those that flip an observable come first.
+pub fn distinct_rows(alloc: Global, table: &Table) -> Result<Distinct, AllocError>
+    ensures rows { IfOk result (λ x. AreRowsOf table.now.rows x.rows.items x.numbers.items) }
+    ensures all { IfOk result (λ x. (r : ℕ) → r < length table.now.rows → HasRow x.rows.items (row table.now.rows r)) }
+{
+    let mut distinct = Distinct {
+        rows: Vec::new(alloc),
+        numbers: Vec::new(alloc),
+    };
+    let mut index = Vec::new(alloc);
+    let size = table.len();
+    'observed: for r in 0..size {
+        let numbers = table.row(r);
+        if end_of(numbers) > table.detectors() {
+            take(alloc, &mut distinct, &mut index, numbers, r, size)?;
+        }
+    }
+    'all: for r in 0..size {
+        take(alloc, &mut distinct, &mut index, table.row(r), r, size)?;
+    }
+    Ok(distinct)
+}
+
+/// Takes a row at the end, if no row is the same. `index` lists the rows by their hashes.
+fn take(
+    alloc: Global,
+    distinct: &mut Distinct,
+    index: &mut Vec<Vec<usize>>,
+    numbers: &[u32],
+    r: usize,
+    size: usize,
+) -> Result<(), AllocError>
+    requires ascending { IsAscending numbers.now }
+    ensures rows { OnOk result ((rows : List (List ℕ)) → r < length rows → row rows r ≡ numbers.now → AreRowsOf rows distinct.old.rows.items distinct.old.numbers.items → AreRowsOf rows distinct.new.rows.items distinct.new.numbers.items) }
+    ensures there { OnOk result (HasRow distinct.new.rows.items numbers.now) }
+    ensures others { OnOk result ((others : List ℕ) → HasRow distinct.old.rows.items others → HasRow distinct.new.rows.items others) }
+{
+    let place = place_of(numbers, size);
+    if has_row(
+        distinct.rows.as_slice(),
+        rows_at(index.as_slice(), place),
+        numbers,
+    ) {
+        return Ok(());
+    }
+    list(alloc, index, place, distinct.rows.len())?;
+    let row = Row::copied(alloc, numbers)?;
+    distinct.numbers.push(r)?;
+    distinct.rows.push(row)?;
+    Ok(())
+}
+
+/// Whether one of the candidates is this row.
+fn has_row(rows: &[Row], candidates: &[usize], numbers: &[u32]) -> bool
+    ensures yes { result ≡ true → HasRow rows.now numbers.now }
+{
+    'candidates: for k in candidates {
+        if *k < rows.len() {
+            let row = &rows[*k];
+            if row.numbers() == numbers {
+                return true;
+            }
+        }
+    }
+    false
+}
+
+/// The place at which rows of these numbers are listed, below the number of rows.
+fn place_of(numbers: &[u32], size: usize) -> usize {
+    let mut hash: u64 = 0;
+    for n in numbers {
+        hash = (hash ^ u64::from(*n)).wrapping_mul(0x9e3779b97f4a7c15);
+        hash ^= hash >> 29;
+    }
+    if size == 0 { 0 } else { hash as usize % size }
+}

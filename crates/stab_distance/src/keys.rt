@@ -1,0 +1,127 @@
+ghost use Rattle.std.specs.Prelude.{◌≡◌, ◌≢◌, ℕ, ◌<◌, true, false, length, slice_index, slice_index_or, bit_and, IfOk};
+ghost use Rattle.stab_distance.specs.inner.Lists.{Each, has};
+ghost use Rattle.stab_distance.specs.inner.Indexes.{listed};
+
+use crate::index::{list, rows_at};
+use std::alloc::{AllocError, Global};
+use std::marker::Model;
+
+/// The keys of rows, and the rows by their keys.
+#[derive(Drop)]
+pub struct Keys {
+    keys: Vec<u64>,
+    mask: u64,
+    signs: Vec<bool>,
+    index: Vec<Vec<usize>>,
+}
+
+impl Model for Keys {
+    ghost use Rattle.std.specs.Prelude.{ℕ, List};
+    ghost use Rattle.stab_distance.specs.inner.Indexes.{ListsKeys};
+
+    ghost Value = { List ℕ };
+
+    ghost view = { λ k. k.keys.items };
+
+    ghost invariant = { λ k. ListsKeys k.keys.items k.mask k.signs.items k.index.items };
+}
+
+impl Keys {
+    ghost use Rattle.std.specs.Prelude.{◌≡◌, ◌≢◌, ℕ, ◌<◌, true, false, length, slice_index, IfOk};
+    ghost use Rattle.stab_distance.specs.inner.Lists.{Each, has};
+
+    /// The rows with these keys, by their numbers.
+    pub fn new(alloc: Global, keys: Vec<u64>) -> Result<Keys, AllocError>
+        ensures value { IfOk result (λ k. k ≡ keys.items) }
+    {
+        let mask = mask_for(keys.len());
+        let signs = signs_of(alloc, keys.as_slice(), mask)?;
+        let index = rows_by_key(alloc, keys.as_slice(), mask)?;
+        Ok(Keys {
+            keys,
+            mask,
+            signs,
+            index,
+        })
+    }
+
+    /// The key of row r.
+    pub fn key(&self, r: usize) -> u64
+        requires inside { r < length self.now }
+        ensures value { result ≡ slice_index self.now r }
+    {
+        self.keys[r]
+    }
+
+    /// Whether some row has this key.
+    pub fn has(&self, key: u64) -> bool
+        ensures not { result ≡ false → (r : ℕ) → r < length self.now → slice_index self.now r ≢ key }
+    {
+        let place = (key & self.mask) as usize;
+        if place < self.signs.len() && !self.signs[place] {
+            return false;
+        }
+        has_key(self.keys.as_slice(), self.rows_with(key), key)
+    }
+
+    /// Some rows, among them each with this key.
+    pub fn rows_with(&self, key: u64) -> &[usize]
+        ensures inside { Each (λ r. r < length self.now) result.now }
+        ensures complete { (r : ℕ) → r < length self.now → slice_index self.now r ≡ key → has r result.now ≡ true }
+    {
+        rows_at(self.index.as_slice(), (key & self.mask) as usize)
+    }
+}
+
+/// The least number of places for each row.
+const PLACES: u64 = 8;
+
+/// The low bits of a key by which rows are listed: one less than a power of two, from 255 to 2^20 - 1.
+fn mask_for(rows: usize) -> u64 {
+    let wanted = (rows as u64).saturating_mul(PLACES);
+    let mut mask: u64 = 255;
+    for _ in 0..12 {
+        if mask < wanted {
+            mask = mask.wrapping_mul(2).wrapping_add(1);
+        }
+    }
+    mask
+}
+
+/// For each value of the low bits whether a key has it.
+fn signs_of(alloc: Global, keys: &[u64], mask: u64) -> Result<Vec<bool>, AllocError>
+    ensures signed { IfOk result (λ v. (r : ℕ) → r < length keys.now → slice_index_or v.items (bit_and (slice_index keys.now r) mask) true ≡ true) }
+{
+    let mut signs = vec![in alloc; false; mask.saturating_add(1) as usize]?;
+    'keys: for key in keys {
+        let place = (*key & mask) as usize;
+        if place < signs.len() {
+            signs[place] = true;
+        }
+    }
+    Ok(signs)
+}
+
+/// For each value of the low bits the rows whose keys have it.
+fn rows_by_key(alloc: Global, keys: &[u64], mask: u64) -> Result<Vec<Vec<usize>>, AllocError>
+    ensures inside { IfOk result (λ v. (place : ℕ) → Each (λ r. r < length keys.now) (listed v.items place)) }
+    ensures complete { IfOk result (λ v. (r : ℕ) → r < length keys.now → has r (listed v.items (bit_and (slice_index keys.now r) mask)) ≡ true) }
+{
+    let mut index = Vec::new(alloc);
+    'keys: for r in 0..keys.len() {
+        list(alloc, &mut index, (keys[r] & mask) as usize, r)?;
+    }
+    Ok(index)
+}
+
+/// Whether one of the candidates has this key.
+fn has_key(keys: &[u64], candidates: &[usize], key: u64) -> bool
+    ensures not { result ≡ false → (r : ℕ) → has r candidates.now ≡ true → r < length keys.now → slice_index keys.now r ≢ key }
+{
+    'candidates: for r in candidates {
+        if *r < keys.len() && keys[*r] == key {
+            return true;
+        }
+    }
+    false
+}

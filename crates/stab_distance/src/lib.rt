@@ -1,0 +1,37 @@
+//! The least number of errors that flip an observable and no detector: an exact search over a table of errors.
+//!
+//! - `row`, `table`: what each error flips. `answer`: the answers, and the trait that reports progress.
+//! - `least`: the call, which tries one error, then two, and so on. `distinct`: errors that flip the same count once.
+//! - `searching`: the search itself. `merging`: what errors flip together.
+//! - `errors`: the errors ready for a search. `index`, `keys`: which errors to try. `reach`, `classes`: when to give up a branch.
+//! - `certificate`, `elimination`: a proof that no logical error exists.
+//!
+//! Source: C. Gidney, Stim: a fast stabilizer circuit simulator (2021), for detectors, observables and tables of
+//! errors.
+//!
+//! Proved: the answer is as `specs/LogicalErrors.antt` says: a shortest logical error, or that each one has more
+//! errors than asked for, or that none exists.
+#![tactic(auto)]
+
+mod answer;
+mod certificate;
+mod classes;
+mod distinct;
+mod elimination;
+mod errors;
+mod index;
+mod keys;
+mod least;
+mod merging;
+mod reach;
+mod row;
+mod searching;
+mod table;
+
+pub use answer::{Answer, Progress, Unwatched};
+pub use least::least_logical_error;
+pub use merging::merge_into;
+pub use table::Table;
+
+#[cfg(test)]
+mod tests;
