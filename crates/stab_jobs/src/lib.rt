@@ -3,6 +3,7 @@
 //! In the order in which data flows; each module uses only those before it:
 //!
 //! - `source`: where the coins of a command come from.
+//! - `error_letters`: of which letters the errors of a circuit are made.
 //! - `fault_layout`: how a command writes a table of faults.
 //! - `job`: which shots, qubits and checkpoints, the commands, and the job that the words of a command line
 //!   ask for.
@@ -16,10 +17,12 @@
 //! (`specs/Limits.antt`), so that no command asks for them anew; and which job reads a script.
 #![tactic(auto)]
 
+mod error_letters;
 mod fault_layout;
 mod job;
 mod source;
 
+pub use error_letters::ErrorLetters;
 pub use fault_layout::FaultLayout;
 pub use job::{Command, Job, QubitCount, Shots, Stride};
 pub use source::Source;

@@ -50,7 +50,7 @@ odd-next f i k m others (inr other) =
     ∙ ap (λ c. c ⊕ odd m (numbers_where f (i + 1) k)) (and-false (f i))
     ∙ others other
 
-odd-where : (f : ℕ → Bool) (i k m : ℕ) → i ≤ m → m < i + k → odd m (numbers_where f i k) ≡ f m
+pub odd-where : (f : ℕ → Bool) (i k m : ℕ) → i ≤ m → m < i + k → odd m (numbers_where f i k) ≡ f m
 odd-where f i zero m le lt = absurd (omega (arith, le, lt))
 odd-where f i (suc k) m le lt =
     odd-step f i k m (f i) refl
@@ -70,7 +70,7 @@ sites-fit end t (s ∷ ss) le =
     All-cons (λ f. f.before ≤ end) (fault_on t s letter.X) (fault_on t s letter.Z ∷ rest) here
     (All-cons (λ f. f.before ≤ end) (fault_on t s letter.Z) rest here (sites-fit end t ss le))
 
-places-fit : (everywhere : Bool) (end t : ℕ) (xs : List Step) → t + length xs ≤ end → All (λ f. f.before ≤ end) (faults_from everywhere t xs)
+pub places-fit : (everywhere : Bool) (end t : ℕ) (xs : List Step) → t + length xs ≤ end → All (λ f. f.before ≤ end) (faults_from everywhere t xs)
 places-fit everywhere end t [] le = All-nil (λ f. f.before ≤ end)
 places-fit everywhere end t (x ∷ xs) le =
     All-append (λ f. f.before ≤ end) (flat_map (faults_on t) (sites_at everywhere x)) (faults_from everywhere (t + 1) xs)
@@ -78,7 +78,7 @@ places-fit everywhere end t (x ∷ xs) le =
     (places-fit everywhere end (t + 1) xs (omega (arith, le)))
 
 -- and so does the fault of a number
-fault-fits : (n : ℕ) (everywhere : Bool) (xs : List Step) (k : ℕ) → All (StepFits n) xs → k < length (faults_of everywhere xs) → FaultFits n xs (fault_at everywhere xs k)
+pub fault-fits : (n : ℕ) (everywhere : Bool) (xs : List Step) (k : ℕ) → All (StepFits n) xs → k < length (faults_of everywhere xs) → FaultFits n xs (fault_at everywhere xs k)
 fault-fits n everywhere xs k fits lt = record {
   qubit = All-get_or (λ f. f.qubit < n) (faults_of everywhere xs) k (fault_on 0 (in_front 0) letter.X) lt (faults-within n everywhere 0 xs fits);
   before =
@@ -104,7 +104,7 @@ module _ (n : ℕ) (everywhere : Bool) (items : Items) (sure : List Bool) (rows 
 
   module _ (i : ℕ) (lt : i < bits_in items) (same : IsSure n items i) (coins : ℕ → Bool) where
     -- a row names a sure bit where its fault flips it
-    row-names : (k : ℕ) → k < length rows → flips n items coins (fault_at everywhere (unroll items) k) i ≡ odd i (row rows k)
+    pub row-names : (k : ℕ) → k < length rows → flips n items coins (fault_at everywhere (unroll items) k) i ≡ odd i (row rows k)
     row-names k within =
         let f : FaultPlace = fault_at everywhere (unroll items) k in
         let is_row : row rows k ≡ flipped n items sure coins f =

@@ -1,4 +1,4 @@
-mod ShowLemmas
+pub mod ShowLemmas
 mod LookRowLemmas
 mod PairLemmas
 mod MultiplyLemmas
@@ -15,15 +15,15 @@ mod TouchLemmas
 mod UnsureLemmas
 mod DetectorLemmas
 mod ParityLemmas
-mod MoveLemmas
+pub mod MoveLemmas
 mod PlaceLemmas
 mod ObservableLemmas
 mod TableLemmas
 mod FaultLemmas
 mod StoredRowLemmas
 mod SiteLemmas
-mod AscentLemmas
-mod InsertedLemmas
+pub mod AscentLemmas
+pub mod InsertedLemmas
 mod SweepLemmas
 mod BelowLemmas
 mod FaultTableLemmas
@@ -31,4 +31,4 @@ mod BitLemmas
 mod FaultBitLemmas
 mod TwoFaultLemmas
 mod ManyFaultLemmas
-mod FaultSumLemmas
+pub mod FaultSumLemmas

@@ -14,7 +14,7 @@ use Rattle.stab_regions.specs.Rows.{odd, row, bits_at, ShowsLetters, MovesLetter
 
 -- what a letter flips
 
-bits-letter : (i : ℕ) (l m : Letter) (by_x by_z : List ℕ) → odd i by_x ≡ letters_anticommute X m → odd i by_z ≡ letters_anticommute Z m → bits_at i l by_x by_z ≡ letters_anticommute l m
+pub bits-letter : (i : ℕ) (l m : Letter) (by_x by_z : List ℕ) → odd i by_x ≡ letters_anticommute X m → odd i by_z ≡ letters_anticommute Z m → bits_at i l by_x by_z ≡ letters_anticommute l m
 bits-letter i I m by_x by_z ex ez = refl
 bits-letter i X m by_x by_z ex ez = ex
 bits-letter i Y m by_x by_z ex ez = (λ k. ex k ⊕ ez k) ∙ both m

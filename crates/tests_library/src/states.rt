@@ -1,7 +1,7 @@
 //! Stabiliser states: groups that are the same, also of copies and of states that are reset, and the rows of a
 //! Bell pair.
 //!
-//! What gates, measurements and resets make of states is tried by `tools/try_states.py`, which runs the
+//! What gates, measurements and resets make of states is tried by `tools/fuzz.py --states`, which runs the
 //! program; here stand the calls that no command makes, or whose answers none shows.
 mod calls;
 mod kept;

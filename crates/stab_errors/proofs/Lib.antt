@@ -1,0 +1,9 @@
+mod AddingLemmas
+mod MarkLemmas
+mod MarkedLemmas
+mod EverywhereLemmas
+mod RowLemmas
+mod FlipLemmas
+mod UnseenLemmas
+mod AnswerLemmas
+mod StepLemmas

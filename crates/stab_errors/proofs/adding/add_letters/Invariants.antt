@@ -1,0 +1,8 @@
+use Rattle.std.proofs.Common.{take}
+use Rattle.stab_errors.specs.Errors.{each_letter}
+use Rattle.stab_errors.specs.Placed.{letter_at}
+use Rattle.stab_errors.specs.inner.Adding.{Adds, Stands}
+use Rattle.stab_errors.proofs.adding.add_letters.Given as goal
+
+abbrev pub invariant-letters : goal.invariant-letters
+invariant-letters l = Adds (Stands l.place) (each_letter (take l.letter-index l.letters) (letter_at l.place)) l.initial.errors.items l.errors.items

@@ -1,0 +1,12 @@
+use Rattle.std.proofs.Common.{◌≡◌, map, take}
+use Rattle.stab_errors.specs.Errors.{product_at, pairs_asked}
+use Rattle.stab_errors.specs.Placed.{letter_at}
+use Rattle.stab_errors.specs.inner.Adding.{Adds, Stands}
+use Rattle.stab_errors.proofs.adding.add_products.Given as goal
+
+abbrev pub invariant-pairs : goal.invariant-pairs
+invariant-pairs l = record {
+  is : l.pair-items ≡ pairs_asked l.fn.letters;
+  adds : Adds (λ faults. Stands l.first faults × Stands l.second faults)
+      (map (λ p. product_at (letter_at l.first) (letter_at l.second) p.first p.second) (take l.pair-index l.pair-items)) l.initial.errors.items l.errors.items;
+}

@@ -1,0 +1,9 @@
+use Rattle.std.proofs.Common.{◌≡◌, take}
+use Rattle.stab_errors.specs.inner.ErrorRows.{AreRowsOf}
+use Rattle.stab_errors.proofs.error_table.rows_of.Given as goal
+
+abbrev pub invariant-errors : goal.invariant-errors
+invariant-errors l = record {
+  rows : AreRowsOf l.faults.rows (take l.error-index l.errors) l.table.rows;
+  detectors : l.table.detectors ≡ l.detectors;
+}

@@ -1,0 +1,26 @@
+use Rattle.std.proofs.Common.{[], ◌∷◌, ◌++◌}
+use Rattle.stab_run.specs.Runs.{flip_of}
+use Rattle.stab_errors.specs.Errors.{each_letter, wrong_record}
+use Rattle.stab_errors.specs.Placed.{letter_at}
+use Rattle.stab_errors.specs.inner.Adding.{Stands}
+use Rattle.stab_errors.specs.inner.Everywhere.{back_of, reset_errors}
+use Rattle.stab_errors.proofs.AddingLemmas.{adds-more, adds-weaker}
+use Rattle.stab_errors.proofs.everywhere.add_measured.Goals as goal
+
+pub returns : goal.returns
+returns c =
+    let front = c.args.front in
+    let behind = c.args.behind in
+    let flip = flip_of c.args.letter in
+    let first = each_letter c.args.letters.now (letter_at front) in
+    let one = wrong_record c.args.number (letter_at front flip) (back_of c.args.resets (letter_at behind flip)) ∷ [] in
+    let last = reset_errors c.args.letters.now (letter_at behind) c.args.resets in
+    let old = c.args.errors.now.items in
+    let a = c.add_letters.new.errors.items in
+    let b = c.add_record.new.errors.items in
+    let new = c.add_reset.new.errors.items in record {
+      adds = adds-more (λ faults. Stands front faults × Stands behind faults) first (one ++ last) old a new
+          (adds-weaker (Stands front) (λ faults. Stands front faults × Stands behind faults) first old a (λ faults stand. stand.0) c.in_ok-add_letters.ensures.adds)
+          (adds-more (λ faults. Stands front faults × Stands behind faults) one last a b new c.in_ok-add_record.ensures.adds
+          (adds-weaker (Stands behind) (λ faults. Stands front faults × Stands behind faults) last b new (λ faults stand. stand.1) c.in_ok-add_reset.ensures.adds));
+    }

@@ -1,0 +1,36 @@
+use Rattle.std.proofs.Common.{◌≡◌, ◌∙◌, ◌<◌, ◌∷◌, [], false, sym, ap, subst, drop, length, arith}
+use Rattle.std.specs.Prelude.{◌==◌}
+use Rattle.std.proofs.lemmas.Bool.Decides.{nat_tests}
+use Rattle.std.proofs.lemmas.List.{drop_more}
+use Rattle.stab_lines.specs.Axes.{letter_of}
+use Rattle.stab_run.specs.Runs.{flip_of}
+use Rattle.stab_regions.specs.Faults.{in_front, behind, fault_on}
+use Rattle.stab_errors.specs.Errors.{wrong_product, wrong_record}
+use Rattle.stab_errors.specs.Placed.{letter_at}
+use Rattle.stab_errors.specs.inner.Adding.{Adds, HasFrom, Stands}
+use Rattle.stab_errors.specs.inner.Everywhere.{factor_faults}
+use Rattle.stab_errors.proofs.EverywhereLemmas.{record-at}
+use Rattle.stab_errors.proofs.everywhere.add_product_record.Goals as goal
+
+pub returns : goal.returns
+returns c =
+    let t = c.args.step in
+    let m = c.args.number in
+    let factors = c.args.factors.now in
+    let f = c.index-factors-0.result in
+    let p = c.in_front-front.result in
+    let r = c.behind-behind.result in
+    let old = c.args.errors.now.items in
+    let new = c.add_record.new.errors.items in
+    let empty : c.is_empty.result ≡ (length factors == 0) = c.is_empty.ensures in
+    let off : c.is_empty.result ≡ false = c.if-is_empty.false in
+    let some : 0 < length factors = grind (arith, nat_tests, empty, off) in
+    let split : factors ≡ f ∷ drop 1 factors = drop_more factors 0 f some ∙ ap (λ y. y ∷ drop 1 factors) (sym c.index-factors-0.is) in
+    record {
+      adds = subst (λ fs. Adds (HasFrom c.args.row (factor_faults t fs)) (wrong_product t m fs) old new) (sym split)
+          (record-at p r c.args.row t m f.qubit (flip_of (letter_of f.letter)) (factor_faults t (drop 1 factors)) old new c.in_front-front.ensures.row c.behind-behind.ensures.row
+          (λ l. c.in_front-front.ensures.value l ∙ ap (λ q. fault_on t (in_front q) l) c.number-qubit.ensures.value)
+          (λ l. c.behind-behind.ensures.value l ∙ ap (λ q. fault_on t (behind q) l) c.number-qubit.ensures.value)
+          (subst (λ l. Adds (λ faults. Stands p faults × Stands r faults) (wrong_record m (letter_at p (flip_of l)) (letter_at r (flip_of l) ∷ []) ∷ []) old new)
+          c.letter.ensures.value c.in_ok-add_record.ensures.adds));
+    }

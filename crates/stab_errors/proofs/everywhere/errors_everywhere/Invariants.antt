@@ -1,0 +1,19 @@
+use Rattle.std.proofs.Common.{◌≡◌, ◌+◌, ◌≤◌, length, [], true}
+use Rattle.stab_circuit.specs.Steps.{unroll}
+use Rattle.stab_circuit.specs.Views.{circuit_items}
+use Rattle.stab_regions.specs.Faults.{faults_from, faults_of}
+use Rattle.stab_errors.specs.Errors.{errors_from}
+use Rattle.stab_errors.specs.inner.Adding.{HasFrom, IsUnderWay}
+use Rattle.stab_errors.proofs.everywhere.errors_everywhere.Given as goal
+
+abbrev pub invariant-steps : goal.invariant-steps
+invariant-steps l = record {
+  count : l.number + length l.cursor.left ≡ length (unroll (circuit_items l.circuit));
+  records : l.records ≤ l.number;
+  rows : l.row + length (faults_from true l.number l.cursor.left) ≡ l.faults;
+  way : IsUnderWay (HasFrom 0 (faults_of true (unroll (circuit_items l.circuit)))) (errors_from l.letters 0 0 (unroll (circuit_items l.circuit)))
+      (errors_from l.letters l.number l.records l.cursor.left) l.row (faults_from true l.number l.cursor.left) [] l.errors.items;
+}
+
+abbrev pub decreases-steps : goal.decreases-steps
+decreases-steps l = length l.cursor.left

@@ -1,0 +1,10 @@
+use Rattle.std.proofs.Common.{◌+◌, ◌*◌, drop}
+use Rattle.stab_errors.specs.Errors.{each_target}
+use Rattle.stab_errors.specs.inner.Adding.{HasFrom, IsUnderWay}
+use Rattle.stab_errors.specs.inner.Marked.{target_faults}
+use Rattle.stab_errors.proofs.marked.add_targets.Given as goal
+
+abbrev pub invariant-targets : goal.invariant-targets
+invariant-targets l =
+    IsUnderWay (HasFrom l.row (target_faults l.step l.qubits)) (each_target l.letters l.step l.qubits) (each_target l.letters (l.step + l.k) (drop l.k l.qubits))
+    (l.row + 2 * l.k) (target_faults (l.step + l.k) (drop l.k l.qubits)) l.initial.errors.items l.errors.items

@@ -1,0 +1,4 @@
+pub mod Adding
+pub mod Marked
+pub mod Everywhere
+pub mod ErrorRows

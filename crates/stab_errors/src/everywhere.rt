@@ -1,0 +1,235 @@
+//! The errors at each step of a circuit.
+ghost use Rattle.std.specs.Prelude.{◌≡◌, ◌≤◌, ◌+◌, ◌*◌, ◌^◌, ◌<◌, ◌∷◌, [], None, true, ℕ, map, length, OnOk, IfOk, IfErr, IfSome, All};
+ghost use Rattle.stab_io.specs.declared.refusal.Refusal.TheVariants.{OutOfMemory};
+ghost use Rattle.stab_circuit.specs.Cursors.{step_shown};
+ghost use Rattle.stab_circuit.specs.Views.{circuit_items};
+ghost use Rattle.stab_circuit.specs.Steps.{check_of, most_steps, makes, unroll};
+ghost use Rattle.stab_run.specs.Runs.{flip_of};
+ghost use Rattle.stab_regions.specs.Faults.{faults_of};
+ghost use Rattle.stab_errors.specs.Errors.{errors_at, errors_from, wrong_product, wrong_record};
+ghost use Rattle.stab_errors.specs.Placed.{error_shown, faults_shown, letter_at};
+ghost use Rattle.stab_errors.specs.inner.Adding.{Adds, ErrorStands, HasFrom, Stands};
+ghost use Rattle.stab_errors.specs.inner.Everywhere.{back_of, reset_errors, measured_errors, factor_errors, factor_faults, step_faults};
+
+use crate::adding::{add_error, add_letters, add_products};
+use crate::letters::letters_asked;
+use crate::placed::{Error, Place, PlacedLetter};
+use stab_circuit::{Circuit, Cursor, Factor, Step};
+use stab_io::Refusal;
+use stab_jobs::ErrorLetters;
+use stab_letters::Letter;
+use stab_steps::flip;
+use std::alloc::{AllocError, Global};
+
+/// The letter that takes a flip of a qubit back behind its measurement, unless the qubit is reset.
+fn taken_back(flip: Letter, behind: Place, resets: bool) -> Option<PlacedLetter>
+    ensures value { faults_shown result ≡ back_of resets (letter_at behind flip) }
+    ensures place { IfSome result (λ f. f.place ≡ behind) }
+{
+    if resets {
+        None
+    } else {
+        Some(behind.with(flip))
+    }
+}
+
+/// Adds the letters behind a measurement, if it resets.
+fn add_reset(
+    errors: &mut Vec<Error>,
+    letters: &[Letter],
+    behind: Place,
+    resets: bool,
+) -> Result<(), AllocError>
+    ensures adds { OnOk result (Adds (Stands behind) (reset_errors letters.now (letter_at behind) resets) errors.old.items errors.new.items) }
+{
+    if resets {
+        add_letters(errors, letters, behind)?;
+    }
+    Ok(())
+}
+
+/// Adds the record of this number by itself, of a letter that is measured between two places.
+fn add_record(
+    errors: &mut Vec<Error>,
+    letter: Letter,
+    front: Place,
+    behind: Place,
+    resets: bool,
+    number: usize,
+) -> Result<(), AllocError>
+    ensures adds { OnOk result (Adds (λ faults. Stands front faults × Stands behind faults) (wrong_record number (letter_at front (flip_of letter)) (back_of resets (letter_at behind (flip_of letter))) ∷ []) errors.old.items errors.new.items) }
+{
+    let flip = flip(letter);
+    let error = Error::Record {
+        number,
+        flip: front.with(flip),
+        back: taken_back(flip, behind, resets),
+    };
+    add_error(errors, error)?;
+    Ok(())
+}
+
+/// Adds the errors at a measurement of a letter between two places, which makes the record of this number.
+fn add_measured(
+    errors: &mut Vec<Error>,
+    letters: &[Letter],
+    letter: Letter,
+    front: Place,
+    behind: Place,
+    resets: bool,
+    number: usize,
+) -> Result<(), AllocError>
+    ensures adds { OnOk result (Adds (λ faults. Stands front faults × Stands behind faults) (measured_errors letters.now letter (letter_at front) (letter_at behind) resets number) errors.old.items errors.new.items) }
+{
+    add_letters(errors, letters, front)?;
+    add_record(errors, letter, front, behind, resets, number)?;
+    add_reset(errors, letters, behind, resets)?;
+    Ok(())
+}
+
+/// Adds the letters in front of each factor of a product, of which the first has this row.
+fn add_factors(
+    errors: &mut Vec<Error>,
+    letters: &[Letter],
+    factors: &[Factor],
+    step: usize,
+    row: usize,
+) -> Result<(), AllocError>
+    requires rows { row + length (factor_faults step factors.now) < 2 ^ 64 }
+    ensures adds { OnOk result (Adds (HasFrom row (factor_faults step factors.now)) (factor_errors letters.now step factors.now) errors.old.items errors.new.items) }
+{
+    'factors: for k in 0..factors.len() {
+        let front = Place::in_front(factors[k].qubit.number(), step, row + 4 * k);
+        add_letters(errors, letters, front)?;
+    }
+    Ok(())
+}
+
+/// Adds the record of a product by itself, by its first factor, which has this row.
+fn add_product_record(
+    errors: &mut Vec<Error>,
+    factors: &[Factor],
+    step: usize,
+    row: usize,
+    number: usize,
+) -> Result<(), AllocError>
+    requires few { step ≤ most_steps }
+    requires rows { row + length (factor_faults step factors.now) < 2 ^ 64 }
+    ensures adds { OnOk result (Adds (HasFrom row (factor_faults step factors.now)) (wrong_product step number factors.now) errors.old.items errors.new.items) }
+{
+    if factors.is_empty() {
+        return Ok(());
+    }
+    let factor = factors[0];
+    let qubit = factor.qubit.number();
+    let front = Place::in_front(qubit, step, row);
+    let behind = Place::behind(qubit, step, row + 2);
+    add_record(errors, factor.letter.letter(), front, behind, false, number)?;
+    Ok(())
+}
+
+/// Adds the errors at a step of this number, with so many records before it, whose first fault has this row.
+fn add_step(
+    errors: &mut Vec<Error>,
+    letters: ErrorLetters,
+    step: Step,
+    number: usize,
+    records: usize,
+    row: usize,
+) -> Result<(), AllocError>
+    requires few { number ≤ most_steps }
+    requires rows { row + length (step_faults number (step_shown step)) < 2 ^ 64 }
+    ensures adds { OnOk result (Adds (HasFrom row (step_faults number (step_shown step.entry))) (errors_at letters number records (step_shown step.entry)) errors.old.items errors.new.items) }
+{
+    let asked = letters_asked(letters);
+    match step {
+        Step::One(_, qubit) => {
+            add_letters(errors, asked, Place::behind(qubit, number, row))?;
+            Ok(())
+        }
+        Step::Controlled(_, _, qubit) => {
+            add_letters(errors, asked, Place::behind(qubit, number, row))?;
+            Ok(())
+        }
+        Step::Two(_, first, second) => {
+            let first = Place::behind(first, number, row);
+            let second = Place::behind(second, number, row + 2);
+            add_products(errors, letters, first, second)?;
+            Ok(())
+        }
+        Step::Collapse {
+            letter,
+            qubit,
+            recorded,
+            reset,
+            ..
+        } => {
+            if recorded {
+                let front = Place::in_front(qubit, number, row);
+                let behind = Place::behind(qubit, number, row + 2);
+                add_measured(errors, asked, letter, front, behind, reset, records)?;
+                Ok(())
+            } else {
+                add_letters(errors, asked, Place::behind(qubit, number, row))?;
+                Ok(())
+            }
+        }
+        Step::Product { factors, .. } => {
+            add_factors(errors, asked, factors, number, row)?;
+            add_product_record(errors, factors, number, row, records)?;
+            Ok(())
+        }
+        Step::Detector(_) | Step::Observable(_, _) => Ok(()),
+    }
+}
+
+/// How many faults there are at a step.
+fn faults_at(step: Step) -> usize
+    ensures value { (t : ℕ) → result ≡ length (step_faults t (step_shown step.entry)) }
+{
+    match step {
+        Step::One(_, _) | Step::Controlled(_, _, _) => 2,
+        Step::Two(_, _, _) => 4,
+        Step::Collapse { recorded: true, .. } => 4,
+        Step::Collapse { .. } => 2,
+        Step::Product { factors, .. } => 4 * factors.len(),
+        Step::Detector(_) | Step::Observable(_, _) => 0,
+    }
+}
+
+/// How many records a step makes.
+fn records_made(step: Step) -> usize
+    ensures value { result ≡ makes (step_shown step.entry) }
+{
+    match step {
+        Step::Collapse { recorded: true, .. } | Step::Product { .. } => 1,
+        _ => 0,
+    }
+}
+
+/// The errors of a circuit everywhere, of which so many faults are in the table.
+pub(crate) fn errors_everywhere(
+    alloc: Global,
+    circuit: &Circuit,
+    letters: ErrorLetters,
+    faults: usize,
+) -> Result<Vec<Error>, Refusal>
+    requires checked { check_of (circuit_items circuit.now) ≡ None }
+    requires faults { faults ≡ length (faults_of true (unroll (circuit_items circuit.now))) }
+    ensures errors { IfOk result (λ v. map error_shown v.items ≡ errors_from letters 0 0 (unroll (circuit_items circuit.now))) }
+    ensures stand { IfOk result (λ v. All (ErrorStands (faults_of true (unroll (circuit_items circuit.now)))) v.items) }
+    ensures err { IfErr result (λ r. r ≡ OutOfMemory) }
+{
+    let mut errors = Vec::new(alloc);
+    let mut cursor = Cursor::at(alloc, circuit, 0)?;
+    let mut number = 0;
+    let mut records = 0;
+    let mut row = 0;
+    'steps: while let Some(step) = cursor.next() {
+        add_step(&mut errors, letters, step, number, records, row)?;
+        number += 1;
+        records += records_made(step);
+        row += faults_at(step);
+    }
+    Ok(errors)
+}

@@ -1,0 +1,37 @@
+//! Errors: what goes wrong at once in a circuit, what each error flips, and the least number of them that
+//! flip an observable and no detector.
+//!
+//! In the order in which data flows; each module uses only those before it:
+//!
+//! - `letters`: of which letters errors are made.
+//! - `placed`: letters at places, and errors of them.
+//! - `adding`: errors at one or two places, put behind others.
+//! - `tags`, `marks`, `marked`: where a circuit marks errors, and the errors that it marks.
+//! - `everywhere`: the errors at each step.
+//! - `rows`: what an error flips, by the table of faults.
+//! - `error_table`: the errors of a circuit, and their table.
+//! - `search`: the least number of errors that are unseen.
+//!
+//! Source: this project's own.
+//!
+//! Proved: the errors are those of `specs/Errors.antt`, in order; and each one's row names exactly the
+//! bits that are the same whatever the coins and that the run with all of its faults put in has otherwise,
+//! whatever the coins (`specs/ErrorTables.antt`).
+#![tactic(auto)]
+
+mod adding;
+mod error_table;
+mod everywhere;
+mod letters;
+mod marked;
+mod marks;
+mod placed;
+mod rows;
+mod search;
+mod tags;
+
+pub use error_table::{ErrorTable, errors};
+pub use placed::{Error, PlacedLetter};
+pub use search::distance;
+pub use stab_distance::{Answer, Progress, Unwatched};
+pub use stab_jobs::ErrorLetters;
