@@ -162,14 +162,27 @@ class Page:
             self.browser.execute_cdp_cmd("Input.dispatchKeyEvent", {"type": kind, "autoRepeat": repeat > 0, **key})
         self.browser.execute_cdp_cmd("Input.dispatchKeyEvent", {"type": "keyUp", **{word: key[word] for word in key if word != "text"}})
 
-    def point_at(self, selector, left=None, top=None):
-        """Moves the pointer to the middle of an element, or so many pixels from its upper left corner."""
+    def point_at(self, selector, left=None, top=None, chain=None):
+        """Moves the pointer to the middle of an element, or so many pixels from its upper left corner; goes on with a chain of events."""
         element = self.browser.find_element(By.CSS_SELECTOR, selector)
-        chain = ActionChains(self.browser, duration=0)
+        chain = chain or ActionChains(self.browser, duration=0)
         if left is None:
             return chain.move_to_element(element)
         width, height = element.rect["width"], element.rect["height"]
         return chain.move_to_element_with_offset(element, round(left - width / 2), round(top - height / 2))
+
+    def drag(self, *spots, held=None, last="#picture"):
+        """Drags over the picture from one spot to others, the last of which may be on another element, with a key held down."""
+        chain = self.point_at("#picture", *spots[0])
+        if held:
+            chain.key_down(held)
+        chain.click_and_hold()
+        for place, spot in enumerate(spots[1:], start=2):
+            self.point_at(last if place == len(spots) else "#picture", *spot, chain=chain)
+        chain.release()
+        if held:
+            chain.key_up(held)
+        chain.perform()
 
 
 def open_browser():

@@ -70,8 +70,9 @@ def test_a_repetition_code_is_drawn_from_nothing(open_page):
     do(page, "r")
     for _ in range(2):
         do(page, "t")
+        # Of four the second c takes them as pairs.
         page.choose_qubit(0, 1, 2, 3)
-        do(page, "c")
+        do(page, "c", "c")
         do(page, "t")
         # Of one chosen qubit the gate waits for the other.
         page.choose_qubit(2)
@@ -132,7 +133,7 @@ def test_a_surface_code_is_drawn_from_nothing(open_page):
             do(page, "t")
         elif name in TOOLS:
             page.choose_qubit(*qubits)
-            do(page, TOOLS[name])
+            do(page, *(TOOLS[name] * (2 if name == "CX" and len(qubits) > 2 else 1)))
             measured += qubits if "M" in name else []
         elif len(records) == 2 and wanted[at - 1][0] == "MR":
             # Each ancilla's record with the one before it, by one key.
@@ -180,11 +181,71 @@ def test_a_product_is_measured_on_the_chosen_qubits(page):
 
 
 def test_qubits_are_chosen_by_a_box(page):
-    corner = [page.spot(0)[0] - 30, page.spot(0)[1] - 30]
-    end = page.spot(2)
-    page.point_at("#picture", *corner).key_down(Keys.SHIFT).click_and_hold().perform()
-    page.point_at("#picture", end[0] + 30, end[1] + 30).release().key_up(Keys.SHIFT).perform()
+    [left, top], [right, bottom] = page.spot(0), page.spot(2)
+    page.drag([left - 30, top - 30], [right + 30, bottom + 30])
     assert page.chosen() == [0, 2]
+    page.drag([page.spot(1)[0] - 20, top - 30], [page.spot(1)[0] + 30, top + 30], held=Keys.SHIFT)
+    assert page.chosen() == [0, 2, 1]
+    page.press("a", held=[Keys.CONTROL])
+    assert page.chosen() == [0, 1, 2, 3]
+
+
+def test_a_gate_on_two_is_led_from_one_qubit_to_another(page):
+    page.go_to(1)
+    page.press("v")
+    page.drag(page.spot(1), page.spot(3))
+    page.wait(lambda: "CZ 1 3" in body(page))
+    page.press("c")
+    # With Shift the first is the target.
+    page.drag(page.spot(0), page.spot(2), held=Keys.SHIFT)
+    page.wait(lambda: "CX 2 0" in body(page))
+
+
+def test_of_several_qubits_each_goes_with_the_one_that_stands_alike(page):
+    page.go_to(1)
+    page.choose_qubit(0, 2, 1)
+    page.press("v")
+    page.point_at("#picture", *page.spot(3)).click().perform()
+    page.wait(lambda: "CZ 0 2 1 3" in body(page))
+    assert page.find("message").text == "1 of the chosen has no qubit there"
+
+
+def test_a_tool_puts_a_qubit_where_there_is_none(open_page):
+    page = open_page(None)
+    page.press("r")
+    page.point_at("#picture", *page.ask("page.views.layout.spot(words)", 2, 3)).click().perform()
+    page.wait(lambda: page.circuit() == "QUBIT_COORDS(2, 3) 0\nR 0\n")
+    page.press("c")
+    page.press(Keys.ESCAPE, "q")
+    # With Shift each second place of the box, and none that is taken.
+    page.drag(page.ask("page.views.layout.spot(words)", 2, 3), page.ask("page.views.layout.spot(words)", 6, 5), held=Keys.SHIFT)
+    page.wait(lambda: page.chosen() == [1, 2, 3, 4, 5])
+    placed = [line.split(") ")[0] for line in page.circuit().splitlines()[1:6]]
+    assert placed == [f"QUBIT_COORDS({place}" for place in ("4, 3", "6, 3", "2, 5", "4, 5", "6, 5")]
+    assert len(page.history()) == 3
+
+
+def test_what_acts_is_copied_to_another_tick(page):
+    page.go_to(1)
+    page.choose_qubit(1)
+    page.press("c", held=[Keys.CONTROL])
+    page.go_to(0)
+    page.press("v", held=[Keys.CONTROL])
+    page.wait(lambda: body(page) == ["R 0 1 2 3", "CX 0 1", "TICK", "CX 0 1 2 3", "TICK", "M 0 1"])
+    page.press("x", held=[Keys.CONTROL])
+    page.wait(lambda: body(page)[1] == "TICK")
+
+
+def test_a_gate_is_dragged_to_another_tick(page):
+    page.go_to(1)
+    def column(moment):
+        return page.ask("page.views.timeline.columnOf(words[0])", moment)
+    page.drag(page.spot(2), page.spot(0), column(2), last="#timeline")
+    page.wait(lambda: body(page) == ["R 0 1 2 3", "TICK", "CX 0 1", "TICK", "CX 2 3", "M 0 1"])
+    assert page.find("moment-said").text == "tick 2" and not page.find("tip").is_displayed()
+    # On no tick nothing is moved.
+    page.drag(page.spot(2), page.spot(0))
+    assert "nothing is moved" in page.find("message").text and len(page.history()) == 2
 
 
 def test_delete_takes_out_what_acts_on_a_qubit_with_its_pair(page):
@@ -241,14 +302,15 @@ def test_arrows_move_between_qubits_and_shift_takes_more(page):
     assert page.browser.switch_to.active_element.get_attribute("id") != "picture"
 
 
-def test_the_wheel_zooms_at_the_pointer_and_a_drag_pans(page):
+def test_the_wheel_zooms_at_the_pointer_and_with_ctrl_a_drag_pans(page):
     spot = page.spot(3)
     page.browser.execute_cdp_cmd("Input.dispatchMouseEvent", wheel(page, spot, -400))
     page.wait(lambda: page.find("scale").text != "100%")
     assert page.spot(3) == pytest.approx(spot, abs=2) and page.spot(0)[0] < spot[0] - 150
-    page.point_at("#picture", 20, 20).click_and_hold().perform()
-    page.point_at("#picture", 70, 40).release().perform()
+    page.drag([20, 20], [70, 40], held=Keys.CONTROL)
     assert page.spot(3) == pytest.approx([spot[0] + 50, spot[1] + 20], abs=2)
+    page.press(Keys.ARROW_LEFT, held=[Keys.CONTROL])
+    assert page.spot(3) == pytest.approx([spot[0] + 110, spot[1] + 20], abs=2)
     page.press("0")
     page.wait(lambda: page.find("scale").text == "100%")
 

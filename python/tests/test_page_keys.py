@@ -44,10 +44,10 @@ def test_ctrl_z_and_ctrl_y_on_a_qubit_undo_and_redo(page):
     assert page.history() == ["opened", "insert 1 X 0"]
 
 
-def test_a_letter_with_another_key_held_is_no_pauli(page):
+def test_a_letter_with_another_key_held_is_no_gate(page):
     page.choose_qubit(0)
     for held in (Keys.CONTROL, Keys.ALT, Keys.META):
-        page.press("x", held=[held])
+        page.press("m", held=[held])
     assert put_z_last(page) == ["opened", "insert 1 Z 3"]
 
 

@@ -109,3 +109,30 @@ def test_what_was_left_out_of_a_noisy_file_stays_in_sight(open_page):
 
 def test_of_a_file_without_noise_nothing_is_said(page):
     assert not page.find("left-out").is_displayed()
+
+
+def test_the_way_of_an_error_is_shown_tick_by_tick(open_page):
+    # By hand: X on the control is X on both behind the CX; the measured one is taken out of the way by its reset.
+    page = open_page("R 0 1\nTICK\nCX 0 1\nTICK\nMR 1\nDETECTOR rec[-1]\nTICK\nM 0\nDETECTOR rec[-1]\n")
+    way = "Object.entries(page.shown.way?.letters ?? {}).map(([moment, on]) => `${moment} ` + Object.entries(on).map((it) => it.reverse().join('')).join(' '))"
+    page.choose_qubit(0)
+    page.wait(lambda: page.browser.execute_script("return !document.querySelector('.follow').disabled"))
+    page.click("[data-letter=X] .follow")
+    page.wait(lambda: page.ask(way) == ["0 X0", "1 X0 X1", "2 X0"])
+    page.go_to(1)
+    assert [it for it in page.glyphs() if it[0] == "X"] == [["X", "X"]] * 2
+    page.press(Keys.ESCAPE)
+    assert page.ask(way) == []
+    # That of an error which is put in comes by itself.
+    page.press("z")
+    page.wait(lambda: page.ask("page.shown.way?.letter") == "Z")
+
+
+def test_detectors_are_chosen_by_keys(page):
+    page.focus("#timeline")
+    page.press(".")
+    assert page.ask("page.shown.bit") == "D0"
+    page.press(".", ".")
+    assert page.ask("page.shown.bit") == "D1"
+    page.press(",")
+    assert page.ask("page.shown.bit") == "D0"

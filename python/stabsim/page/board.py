@@ -166,8 +166,10 @@ class Board:
     def _make_room(self, edits: list[Edit]) -> None:
         """Opens the session anew on more qubits, where edits name some that it has not. The history stays, and each bit: a coin
         is told by its place in the circuit and not by the qubits that there are."""
-        now = self.session.numbers().qubits
-        room = room_for(max((qubits_named(edit.item) for edit in edits if edit.kind in ("insert", "replace")), default=0), now)
+        now = room = self.session.numbers().qubits
+        for edit in edits:
+            if edit.kind in ("insert", "replace"):
+                room = room_for(qubits_named(edit.item), room)
         if room > now:
             self._take(stabsim.Circuit(self.session.circuit()).edit(seed=self.seed, qubits=room))
 

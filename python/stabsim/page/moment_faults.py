@@ -1,6 +1,7 @@
 """What a Pauli on each qubit at the end of each moment would flip."""
 
 import dataclasses
+import functools
 import re
 
 import numpy as np
@@ -8,7 +9,10 @@ from numpy.typing import NDArray
 
 import stabsim
 from stabsim.page import moments
-from stabsim.reading import lines_of
+from stabsim.reading import Instruction, lines_of
+
+# Letters X, Y and Z on qubits.
+Letters = dict[int, str]
 
 # What stands for a mark until the circuit's own are taken away: a comment that no circuit of a session has.
 PLACE = "# mark"
@@ -23,24 +27,41 @@ class MomentFaults:
     detectors: int
     indptr: NDArray[np.int64]
     indices: NDArray[np.int64]
+    text: str = ""
 
     @classmethod
     def of_circuit(cls, text: str) -> "MomentFaults":
         """The table of a circuit; raises stabsim.Refused where its marks would be too many steps."""
         numbers = stabsim.Circuit(text).numbers()
         if not numbers.qubits:
-            return cls(0, numbers.detectors, np.zeros(1, dtype=np.int64), np.zeros(0, dtype=np.int64))
+            return cls(0, numbers.detectors, np.zeros(1, dtype=np.int64), np.zeros(0, dtype=np.int64), text)
         mark = "I " + " ".join(map(str, range(numbers.qubits)))
         table = stabsim.Circuit(marked_text(text, mark)).faults(sure_only=True)
-        return cls(numbers.qubits, numbers.detectors, table.indptr, table.indices)
+        return cls(numbers.qubits, numbers.detectors, table.indptr, table.indices, text)
+
+    @functools.cached_property
+    def acting(self) -> list[list[Instruction]]:
+        """What acts in each moment."""
+        return moments.acting(self.text)
 
     def flips(self, moment: int, qubit: int) -> dict[str, list[str]]:
         """What X, Y and Z on a qubit at the end of a moment flip, as `D3` and `L0`."""
-        first = 2 * (moment * self.qubits + qubit)
-        if not 0 <= qubit < self.qubits or first + 2 >= len(self.indptr):
+        if not 0 <= qubit < self.qubits or not 0 <= moment < self.moments:
             return {}
-        x, z = (set(self.indices[self.indptr[row]:self.indptr[row + 1]].tolist()) for row in (first, first + 1))
-        return {letter: [self.name(place) for place in sorted(places)] for letter, places in (("X", x), ("Y", x ^ z), ("Z", z))}
+        return {letter: [self.name(place) for place in sorted(self.flipped(moment, {qubit: letter}))] for letter in "XYZ"}
+
+    @property
+    def moments(self) -> int:
+        return (len(self.indptr) - 1) // (2 * self.qubits) if self.qubits else 0
+
+    def flipped(self, moment: int, letters: Letters) -> set[int]:
+        """The places of the bits that letters X, Y and Z on qubits, or I, at the end of a moment flip."""
+        places: set[int] = set()
+        for qubit, letter in letters.items():
+            first = 2 * (moment * self.qubits + qubit)
+            for row in {"X": (first,), "Y": (first, first + 1), "Z": (first + 1,)}.get(letter, ()):
+                places.symmetric_difference_update(self.indices[self.indptr[row]:self.indptr[row + 1]].tolist())
+        return places
 
     def region(self, bit: str) -> dict[int, dict[int, str]]:
         """The detecting region of a detector or observable, as `D3` or `L0`: at the end of each moment where it has letters, the

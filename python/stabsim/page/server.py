@@ -17,6 +17,7 @@ from stabsim.page.board import Board, Message, sure_line
 from stabsim.page.edits import Edit
 from stabsim.page.moment_faults import MomentFaults
 from stabsim.page.tabs import Tab
+from stabsim.page.ways import way_of
 
 HOST = "127.0.0.1"
 # The greatest message that a tab may send: a circuit, an item's text, or a question.
@@ -166,6 +167,8 @@ class Server:
             return {"sign": "0+-"[await self.call(self.board.session.sign, str(question["pauli"]))]}
         if asked == "faults":
             return self.flips_at(int(question["moment"]), int(question["qubit"]))
+        if asked == "way":
+            return await self.way_of(int(question["moment"]), int(question["qubit"]), str(question["letter"]))
         if asked == "region":
             return await self.region_of(str(question["bit"]))
         if asked == "slice":
@@ -234,6 +237,13 @@ class Server:
             return {"why": self.faults}
         return {"region": await asyncio.to_thread(self.faults.region, bit)}
 
+    async def way_of(self, moment: int, qubit: int, letter: str) -> Message:
+        """The way of a Pauli, or why there is none to be told."""
+        if isinstance(self.faults, str):
+            return {"why": self.faults}
+        if letter not in ("X", "Y", "Z") or not 0 <= qubit < self.faults.qubits or not 0 <= moment < self.faults.moments:
+            raise ValueError("there is no such place for a Pauli")
+        return {"way": await asyncio.to_thread(way_of, self.faults, moment, qubit, letter)}
 
     async def slice_at(self, moment: int) -> Message:
         """All regions at the end of a moment, or why none can be told."""

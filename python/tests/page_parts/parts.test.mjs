@@ -7,7 +7,7 @@ import { arranged } from "../../stabsim/page/static/arranging.js";
 import { parseCircuit } from "../../stabsim/page/static/circuit.js";
 import { completed } from "../../stabsim/page/static/completion.js";
 import { drawingOf } from "../../stabsim/page/static/drawing.js";
-import { moveBy, putIn, putQubit, takeOut } from "../../stabsim/page/static/editing.js";
+import { moveTo, putIn, putQubits, takeOut, withQubits } from "../../stabsim/page/static/editing.js";
 import { elementsOf, hull } from "../../stabsim/page/static/glyphs.js";
 import { facesOf, neighboursOf } from "../../stabsim/page/static/knowledge.js";
 import { momentAt } from "../../stabsim/page/static/moments.js";
@@ -132,13 +132,17 @@ test("what is taken out or moved takes its pair with it", () => {
   const items = parseCircuit("CX 0 1 2 3\nS 4\nTICK\nH 4\n");
   const edits = [{ kind: "delete", place: "1" }, { kind: "replace", place: "0", item: "CX 2 3" }];
   assert.deepEqual(takeOut(items, 0, [1, 4]).edits, edits);
-  assert.deepEqual(moveBy(items, 0, [1], 1).edits, [{ kind: "insert", place: "3", item: "CX 0 1" }, { kind: "replace", place: "0", item: "CX 2 3" }]);
-  assert.ok(moveBy(items, 0, [1], -1).why);
+  assert.deepEqual(moveTo(items, 0, [1], 1).edits, [{ kind: "insert", place: "3", item: "CX 0 1" }, { kind: "replace", place: "0", item: "CX 2 3" }]);
+  assert.ok(moveTo(items, 0, [1], -1).why);
 });
 
 test("a new qubit has the least number that is free, behind the places of the others", () => {
-  const made = putQubit(parseCircuit("QUBIT_COORDS(0, 0) 0\nQUBIT_COORDS(1, 0) 2\nH 0\n"), [3, 4], new Set([0, 2]));
-  assert.deepEqual(made.edits, [{ kind: "insert", place: "2", item: "QUBIT_COORDS(3, 4) 1" }]);
+  const placement = { places: new Map([[0, [0, 0]], [2, [1, 0]]]), hasCoordinates: true };
+  const made = putQubits(parseCircuit("QUBIT_COORDS(0, 0) 0\nQUBIT_COORDS(1, 0) 2\nH 0\n"), [[3, 4], [5, 6]], placement);
+  const put = (place, item) => ({ kind: "insert", place, item });
+  assert.deepEqual(made.edits, [put("2", "QUBIT_COORDS(3, 4) 1"), put("3", "QUBIT_COORDS(5, 6) 3")]);
+  const gate = withQubits(putIn(parseCircuit("TICK\n"), 1, "H", [7]), { edits: made.edits });
+  assert.deepEqual([gate.edits[0].place, gate.shown.path], ["1", [3]]);
 });
 
 test("a detector compares the last records of qubits, over rounds too", () => {

@@ -14,6 +14,7 @@ export class CanvasPen {
   #hatches = new Map();
   #theme = null;
   #ratio = 1;
+  #kept = null;
 
   constructor(canvas) {
     this.#canvas = canvas;
@@ -43,6 +44,22 @@ export class CanvasPen {
       else if (element.path) this.#path(this.#pen, element);
       else this.#words(this.#pen, element);
     }
+  }
+
+  // Keeps what was drawn, so that it can be shown again.
+  keep() {
+    const { width, height } = this.#canvas;
+    if (this.#kept?.width !== width || this.#kept?.height !== height) this.#kept = new OffscreenCanvas(width, height);
+    const pen = this.#kept.getContext("2d");
+    pen.clearRect(0, 0, width, height);
+    pen.drawImage(this.#canvas, 0, 0);
+  }
+
+  // Shows what was kept, moved and stretched, on a canvas that is as large as it is shown.
+  showKept(left, top, part) {
+    const [width, height] = [this.#canvas.width / this.#ratio, this.#canvas.height / this.#ratio];
+    this.#pen.clearRect(0, 0, width, height);
+    this.#pen.drawImage(this.#kept, left, top, width * part, height * part);
   }
 
   // A picture of elements by themselves, which `draw` takes as {picture, width, height}.

@@ -1,12 +1,13 @@
 // The drawing of a moment, as elements (glyphs.js): what is measured where, gates, and over them what is known of detectors.
 //
-// A scene is {places, ancillas, box, hasCoordinates, instructions, recordName, faces, region, neighbours, chosen}, with what is drawn for
-// the pointer: {pending, spot, frame}; a view says where a place is seen: {scale, x, y, width, height, near}. A drawing follows from
+// A scene is {places, ancillas, box, hasCoordinates, instructions, recordName, faces, region, way, neighbours, chosen}, with what is drawn
+// for the pointer: {pending, spots, frame}; a view says where a place is seen: {scale, x, y, width, height, near}. A drawing follows from
 // both, wherever it is written.
 
-import { PITCH, circle, gates, outline, pairs } from "./glyphs.js";
+import { PITCH, gates, outline, pairs } from "./glyphs.js";
+import { groundElements } from "./ground_drawing.js";
 import { factorsOf, isPair, isRecord, pairsOf, qubitOf, qubitsOf } from "./instructions.js";
-import { faceElements, letterElements, neighbourElements, plateAt, regionElements } from "./region_drawing.js";
+import { faceElements, letterElements, neighbourElements, plateAt, regionElements, wayElements } from "./region_drawing.js";
 
 const NUMBERS_FROM = 40;
 const LABELS_FROM = 16;
@@ -34,39 +35,13 @@ export function drawingOf(scene, view) {
     ...choiceElements(sheet),
     ...letterElements(sheet, operations.busy),
     ...[...operations.plates].flatMap(([qubit, letters]) => plateElements(sheet, qubit, letters)),
+    ...wayElements(sheet),
   ];
 }
 
 function isSeen({ view, side }, [x, y]) {
   const margin = side * MARGIN;
   return x > -margin && y > -margin && x < view.width + margin && y < view.height + margin;
-}
-
-// A dot where a qubit could stand, and the coordinates at the edges.
-function groundElements({ side, scene: { box, hasCoordinates }, view }) {
-  const { scale, x, y, width, height } = view;
-  const [left, right] = [Math.max(Math.ceil(-x / scale), box.left - 1), Math.min(Math.floor((width - x) / scale), box.right + 1)];
-  const [top, bottom] = [Math.max(Math.ceil(-y / scale), box.top - 1), Math.min(Math.floor((height - y) / scale), box.bottom + 1)];
-  const elements = [];
-  if (scale >= 14) {
-    for (let across = Math.ceil(left); across <= right; across += 1) {
-      const path = [];
-      for (let down = Math.ceil(top); down <= bottom; down += 1) path.push(...circle(x + across * scale, y + down * scale, 1));
-      if (path.length) elements.push({ path, fill: "edge", alpha: 0.45 });
-    }
-  }
-  if (!hasCoordinates) return elements;
-  const step = [1, 2, 5, 10, 20, 50].find((it) => it * scale >= 24) ?? 100;
-  const said = { size: 10, fill: "quiet" };
-  const above = Math.max(12, y + box.top * scale - side - 12);
-  const beside = Math.max(20, x + box.left * scale - side - 12);
-  for (let across = Math.max(left, Math.ceil(box.left)); across <= Math.min(right, box.right); across += 1) {
-    if (across % step === 0) elements.push({ ...said, words: String(across), x: x + across * scale, y: above });
-  }
-  for (let down = Math.max(top, Math.ceil(box.top)); down <= Math.min(bottom, box.bottom); down += 1) {
-    if (down % step === 0) elements.push({ ...said, words: String(down), x: beside, y: y + down * scale, align: "right" });
-  }
-  return elements;
 }
 
 // What the instructions of the moment draw: under and over the qubits, which qubits they act on, and the Paulis that stand after
@@ -173,7 +148,7 @@ function plateElements({ at, side }, qubit, letters) {
 }
 
 // Corners, so that what is chosen is not taken for a ring; and what the next click would do.
-function choiceElements({ at, side, scene: { chosen, pending, spot, frame } }) {
+function choiceElements({ at, side, scene: { chosen, pending = [], spots = [], frame } }) {
   const radius = Math.max(9, side * 1.08);
   const elements = [];
   for (const qubit of chosen) {
@@ -182,13 +157,13 @@ function choiceElements({ at, side, scene: { chosen, pending, spot, frame } }) {
     const path = cornersOf(place, radius);
     elements.push({ path, stroke: "sheet", width: 4 }, { path, stroke: "accent", width: 2.5 });
   }
-  if (pending) elements.push({ path: [["M", ...pending[0]], ["L", ...pending[1]]], stroke: "accent", width: 2, dash: [5, 4] });
+  for (const [from, to] of pending) elements.push({ path: [["M", ...from], ["L", ...to]], stroke: "accent", width: 2, dash: [5, 4] });
   if (frame) {
     const [[left, top], [right, bottom]] = frame;
     const path = [["M", left, top], ["L", right, top], ["L", right, bottom], ["L", left, bottom], ["Z"]];
     elements.push({ path, fill: "chosen", alpha: 0.4 }, { path, stroke: "accent", dash: [3, 3] });
   }
-  if (spot) elements.push({ glyph: "data", x: spot[0], y: spot[1], side: side * 0.78, role: "accent" });
+  for (const [x, y] of spots) elements.push({ glyph: "data", x, y, side: side * 0.78, role: "accent" });
   return elements;
 }
 

@@ -4,7 +4,7 @@
 
 import { itemAt } from "./circuit.js";
 import { PAULIS, groupsOf, isPair, isSingle, qubitsOf } from "./instructions.js";
-import { beginOf, endOf, momentAt } from "./moments.js";
+import { beginOf, endOf, momentAt, momentsOf } from "./moments.js";
 
 const inBlock = ({ rounds }) => rounds.length > 0;
 
@@ -58,7 +58,7 @@ export function measureProduct(items, moment, letter, qubits, alone) {
 // Takes out what acts on qubits at a moment, with the other qubits of its pair or product; where nothing does, the places of qubits
 // on which nothing acts at all.
 export function takeOut(items, moment, qubits, alone, isUsed) {
-  const touched = momentAt(items, moment).filter(({ item }) => qubitsOf(item).some((qubit) => qubits.includes(qubit)));
+  const touched = touching(items, moment, qubits);
   if (!touched.length) return takePlaces(items, qubits.filter((qubit) => !isUsed(qubit)));
   if (new Set(touched.map(({ path, rounds }) => `${path[0]} ${rounds.join("/")}`)).size > 1 && touched.some(inBlock) && alone) {
     return { why: "these stand in several rounds: have the edit made in each round" };
@@ -98,26 +98,43 @@ function takePlaces(items, qubits) {
   return edits.length ? { edits, round: null, shown: null } : { why: "nothing acts on these qubits here" };
 }
 
-// Moves what acts on qubits at a moment to the end of the one before it (by = -1), or the beginning of the next (by = 1).
-export function moveBy(items, moment, qubits, by) {
-  const touched = momentAt(items, moment).filter(({ item }) => qubitsOf(item).some((qubit) => qubits.includes(qubit)));
+// What acts on qubits at a moment, as the text of items that act on no others than go with them.
+export function actingOn(items, moment, qubits) {
+  return touching(items, moment, qubits).map(({ item }) => partOf(item, qubits));
+}
+
+const touching = (items, moment, qubits) => momentAt(items, moment).filter(({ item }) => qubitsOf(item).some((qubit) => qubits.includes(qubit)));
+
+function partOf(item, qubits) {
+  const groups = groupsOf(item).filter((group) => group.qubits.some((qubit) => qubits.includes(qubit)));
+  return `${headOf(item)} ${groups.flatMap(({ words }) => words).join(" ")}`;
+}
+
+// Moves what acts on qubits at a moment to another: to the end of an earlier one, or to the beginning of a later one.
+export function moveTo(items, moment, qubits, target) {
+  const touched = touching(items, moment, qubits);
   if (!touched.length) return { why: "nothing acts on these qubits here" };
-  const to = by < 0 ? (moment > 0 ? endOf(items, moment - 1) : null) : nextBegin(items, moment);
-  if (!to) return { why: "there is no such tick" };
+  if (target < 0 || target >= momentsOf(items)) return { why: "there is no such tick" };
+  if (target === moment) return { why: "it stands at this tick already" };
+  const to = target < moment || isCutFrom(items, target) ? endOf(items, target) : beginOf(items, target);
   const isElsewhere = touched.some(({ path, rounds }) => path.slice(0, -1).join() !== to.path.slice(0, -1).join() || rounds.join() !== to.rounds.join());
   if (isElsewhere) return { why: "the tick is not in the same round" };
   const taken = lastFirst(touched).map(({ item, path }) => without(item, path, qubits));
-  const put = touched.map(({ item }) => `${headOf(item)} ${groupsOf(item).filter((group) => group.qubits.some((qubit) => qubits.includes(qubit))).flatMap(({ words }) => words).join(" ")}`);
+  const put = touched.map(({ item }) => partOf(item, qubits));
   // Each list keeps its places in front of where it is changed, so the later change is made first.
-  if (by < 0) return { edits: [...taken, ...put.reverse().map((item) => ({ kind: "insert", place: to.path.join("/"), item }))], round: null, shown: to };
+  if (target < moment) return { edits: [...taken, ...put.reverse().map((item) => ({ kind: "insert", place: to.path.join("/"), item }))], round: null, shown: to };
   const gone = taken.filter(({ kind }) => kind === "delete").length;
   const path = [...to.path.slice(0, -1), to.path.at(-1) - gone];
   return { edits: [...put.reverse().map((item) => ({ kind: "insert", place: to.path.join("/"), item })), ...taken], round: null, shown: { ...to, path } };
 }
 
-function nextBegin(items, moment) {
-  const end = endOf(items, moment);
-  return itemAt(items, end.path) ? beginOf(items, moment + 1) : null;
+// Whether no TICK stands between a moment and the one before it.
+const isCutFrom = (items, moment) => itemAt(items, endOf(items, moment - 1).path)?.name !== "TICK";
+
+// Puts lines in at the end of a moment.
+export function putLines(items, moment, lines) {
+  const where = endOf(items, moment);
+  return { edits: [...lines].reverse().map((item) => ({ kind: "insert", place: where.path.join("/"), item })), round: null, shown: where };
 }
 
 // Puts a tick in at the end of a moment: what comes later stands in a tick of its own.
@@ -133,11 +150,22 @@ export function takeTick(items, moment) {
   return { edits: [{ kind: "delete", place: path.join("/") }], round: null, shown: null };
 }
 
-// Puts a qubit on a place of the grid: its line stands behind those of the qubits before it.
-export function putQubit(items, [x, y], taken) {
-  let qubit = 0;
-  while (taken.has(qubit)) qubit += 1;
+// Puts qubits on places of the grid: their lines stand behind those of the qubits before them. Where qubits stand by their gates alone,
+// their places are written down too, so that they stay.
+export function putQubits(items, places, placement) {
+  const qubits = [];
+  for (let qubit = 0; qubits.length < places.length; qubit += 1) if (!placement.places.has(qubit)) qubits.push(qubit);
   const first = items.findIndex((item) => item.name !== "QUBIT_COORDS");
   const place = first < 0 ? items.length : first;
-  return { edits: [{ kind: "insert", place: String(place), item: `QUBIT_COORDS(${x}, ${y}) ${qubit}` }], round: null, shown: null, qubit };
+  const standing = placement.hasCoordinates ? [] : [...placement.places];
+  const edits = [...standing, ...qubits.map((qubit, i) => [qubit, places[i]])].map(([qubit, at], i) => (
+    { kind: "insert", place: String(place + i), item: `QUBIT_COORDS(${at.join(", ")}) ${qubit}` }));
+  return { edits, round: null, shown: null, qubits };
+}
+
+// Puts in what acts on new qubits, and then their places, which stand in front of it.
+export function withQubits(acting, { edits }) {
+  if (acting.why) return acting;
+  const { path, rounds } = acting.shown;
+  return { ...acting, edits: [...acting.edits, ...edits], shown: { path: [path[0] + edits.length, ...path.slice(1)], rounds } };
 }

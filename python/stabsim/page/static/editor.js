@@ -4,6 +4,7 @@ import * as editing from "./editing.js";
 import { PAULIS, isPair, isSingle } from "./instructions.js";
 import { nameOf } from "./moments.js";
 import { titleOf, toolOf } from "./palette.js";
+import { partnersOf } from "./pairing.js";
 import { putDetector, putObservable } from "./records.js";
 
 export class Editor {
@@ -40,27 +41,68 @@ export class Editor {
     if (name === "TICK") return this.make(({ items }, moment) => editing.putTick(items, moment));
     if (name === "DETECTOR") return this.#detector(false);
     if (name === "MPP") return this.#product();
-    if (isPair(name) && chosen.length % 2 === 0 && chosen.length) return this.put(name, chosen);
-    if (isSingle(name) && chosen.length) return this.put(name, chosen);
-    this.#shown.takeTool(name, isPair(name) ? (chosen[0] ?? null) : null);
-    const asks = name === "qubit" ? "click where a qubit shall stand" : isPair(name) && chosen.length ? `click the qubit that goes with ${chosen[0]}` : "click a qubit";
-    if (name !== "pick") this.#act.say(`${titleOf(name)}: ${asks}; Esc lets go`);
+    if (isPair(name) ? this.#isPaired(name) : isSingle(name) && chosen.length) {
+      this.#shown.takeTool("pick");
+      return this.put(name, chosen);
+    }
+    this.#shown.takeTool(name, isPair(name) ? chosen : []);
+    if (name !== "pick") this.#act.say(`${titleOf(name)}: ${asked(name, chosen)}; Esc lets go`);
     return undefined;
   }
 
-  // Uses the tool at hand on a qubit.
-  async use(qubit) {
-    const { tool, waiting } = this.#shown;
-    if (!isPair(tool)) return this.put(tool, [qubit]);
-    if (waiting === null || waiting === qubit) return this.#shown.takeTool(tool, waiting === qubit ? null : qubit);
-    this.#shown.takeTool(tool, null);
-    return this.put(tool, [waiting, qubit]);
+  // Whether the chosen qubits are pairs as they are: two of them, or those for which the gate is asked for again.
+  #isPaired(name) {
+    const { chosen, tool, waiting } = this.#shown;
+    return chosen.length === 2 || (chosen.length > 0 && chosen.length % 2 === 0 && tool === name && waiting.length === chosen.length);
   }
 
-  // Puts a gate, measurement or reset on qubits at the end of the moment. What an error flips is then chosen, with its region.
+  // Uses the tool at hand on a qubit; `isTurned` has what waits for it be the target, or where nothing waits chooses one more.
+  use(qubit, isTurned) {
+    const { tool, waiting } = this.#shown;
+    if (isTurned && !waiting.length) return this.#shown.choose(qubit, true);
+    if (!isPair(tool)) return this.put(tool, [qubit]);
+    if (!waiting.length) return this.#shown.takeTool(tool, [qubit]);
+    if (waiting.at(-1) === qubit) return this.#shown.takeTool(tool);
+    return this.#pair(waiting, waiting.at(-1), qubit, isTurned);
+  }
+
+  // Leads the gate at hand from one qubit to another, and so from each that waits if the first is one of them.
+  lead(first, second, isTurned) {
+    const { waiting } = this.#shown;
+    return this.#pair(waiting.includes(first) ? waiting : [first], first, second, isTurned);
+  }
+
+  async #pair(qubits, from, to, isTurned) {
+    const { tool, state } = this.#shown;
+    const { pairs, missing } = partnersOf(state.placement.places, qubits, from, to);
+    this.#shown.takeTool(tool);
+    const isDone = await this.put(tool, pairs.flatMap((pair) => (isTurned ? pair.reverse() : pair)));
+    if (isDone && missing) this.#act.say(`${missing} of the chosen ${missing === 1 ? "has" : "have"} no qubit there`);
+  }
+
+  // Uses the tool at hand on a place of the grid, on which a qubit is put.
+  async useAt(place) {
+    const { tool, waiting } = this.#shown;
+    if (waiting.length > 1) return this.#act.say("no qubit stands there", true);
+    const isFirst = isPair(tool) && !waiting.length;
+    let qubit = null;
+    const isDone = await this.make(({ items, placement }, moment) => {
+      const made = editing.putQubits(items, [place], placement);
+      [qubit] = made.qubits;
+      return isFirst ? made : editing.withQubits(editing.putIn(items, moment, tool, [...waiting, qubit], this.#isAlone(tool)), made);
+    });
+    if (isDone) this.#shown.takeTool(tool, isFirst ? [qubit] : []);
+    return isDone;
+  }
+
+  // Puts a gate, measurement or reset on qubits at the end of the moment. What an error flips is then chosen, with its region, and its way is shown.
   async put(name, qubits, alone = this.#isAlone(name)) {
     const isDone = await this.make(({ items }, moment) => editing.putIn(items, moment, name, qubits, alone));
-    if (isDone && PAULIS.includes(name)) this.#shown.chooseBit([...this.#shown.state.flipped][0] ?? null);
+    if (isDone && PAULIS.includes(name)) {
+      this.#shown.chooseBit([...this.#shown.state.flipped][0] ?? null);
+      if (qubits.length === 1) this.#shown.follow(qubits[0], name);
+    }
+    return isDone;
   }
 
   // Whether an edit in a block is made in the round that is seen alone.
@@ -69,14 +111,24 @@ export class Editor {
     return which === "alone" || (which === "errors" && PAULIS.includes(name));
   }
 
-  async place(spot) {
-    let qubit = null;
+  // Puts qubits on places, and chooses them.
+  async place(places) {
+    let qubits = [];
     const isDone = await this.make(({ items, placement }) => {
-      const made = editing.putQubit(items, spot, new Set(placement.places.keys()));
-      qubit = made.qubit;
-      return made;
+      const made = editing.putQubits(items, places, placement);
+      qubits = made.qubits;
+      return qubits.length ? made : { why: "no place is free there" };
     });
-    if (isDone) this.#shown.choose(qubit);
+    if (isDone) this.#shown.chooseAll(qubits);
+  }
+
+  // Puts in what was copied.
+  paste(lines) {
+    return this.make(({ items }, moment) => (lines.length ? editing.putLines(items, moment, lines) : { why: "nothing was copied" }));
+  }
+
+  moveTo(qubits, target) {
+    return this.make(({ items }, moment) => editing.moveTo(items, moment, qubits, target));
   }
 
   // The actions of keys on what is chosen; answers whether there is one.
@@ -89,8 +141,8 @@ export class Editor {
       T: () => this.make(({ items }, moment) => editing.takeTick(items, moment)),
       D: () => this.#detector(true),
       o: () => chosen.length && this.make(({ items }, moment) => putObservable(items, moment, chosen, 0)),
-      "<": () => chosen.length && this.make(({ items }, moment) => editing.moveBy(items, moment, chosen, -1)),
-      ">": () => chosen.length && this.make(({ items }, moment) => editing.moveBy(items, moment, chosen, 1)),
+      "<": () => chosen.length && this.moveTo(chosen, this.#shown.moment - 1),
+      ">": () => chosen.length && this.moveTo(chosen, this.#shown.moment + 1),
     };
     if (tool) this.take(tool);
     else if (keys[letter]) keys[letter]();
@@ -134,6 +186,13 @@ export class Editor {
   #chosenWith(qubit) {
     return this.#shown.chosen.includes(qubit) ? this.#shown.chosen : [qubit];
   }
+}
+
+function asked(name, chosen) {
+  if (name === "qubit") return "click where a qubit shall stand, or drag over places; with Shift each second one";
+  if (isPair(name) && chosen.length > 2) return `click what goes with ${chosen.at(-1)}, and the others go alike; with Shift the other way round`;
+  if (isPair(name)) return chosen.length ? `click the qubit that goes with ${chosen[0]}` : "click a qubit and then another, or drag from one to the other";
+  return "click a qubit, or a place for one";
 }
 
 const hasShift = (items) => items.some((item) => item.name === "SHIFT_COORDS" || (item.items && hasShift(item.items)));

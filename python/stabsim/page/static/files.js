@@ -13,8 +13,8 @@ export function download(name, contents, type = "text/plain") {
 }
 
 // Has `open(text, name)` called for a file that is chosen in a field or dropped on the page, and for a circuit that is pasted outside
-// of fields.
-export function takeFiles(field, open) {
+// of fields, except where `put(text)` answers that it takes it.
+export function takeFiles(field, open, put) {
   field.addEventListener("change", async () => {
     const [file] = field.files;
     if (file) open(await file.text(), file.name);
@@ -37,7 +37,7 @@ export function takeFiles(field, open) {
     const given = event.clipboardData.getData("text");
     if (!given.trim()) return;
     event.preventDefault();
-    open(await textOfPasted(given), "pasted.stim");
+    if (!put(given)) open(await textOfPasted(given), "pasted.stim");
   });
 }
 

@@ -9,7 +9,7 @@ export class Inspector {
   #boxes;
   #act;
 
-  // `act` has choose(bit) and select(path).
+  // `act` has choose(bit), select(path), and follow(letter), which shows the way of an error on the qubit.
   constructor(boxes, act) {
     this.#boxes = boxes;
     this.#act = act;
@@ -30,10 +30,21 @@ export class Inspector {
       const row = document.createElement("p");
       row.className = "error";
       row.dataset.letter = letter;
-      row.append(icon(letter, 15, letter.toLowerCase(), letter), ...this.#names(flips?.[letter], why));
+      row.append(this.#follower(letter, flips), ...this.#names(flips?.[letter], why));
       return row;
     });
     fill(this.#boxes.errors, title("An error here would flip"), ...rows);
+  }
+
+  // A button that shows the way of an error, where its way is known.
+  #follower(letter, flips) {
+    const button = document.createElement("button");
+    button.className = "follow";
+    button.disabled = !flips;
+    button.title = button.ariaLabel = `the way of ${letter} from here`;
+    button.append(icon(letter, 15, letter.toLowerCase(), letter));
+    button.addEventListener("click", () => this.#act.follow(letter));
+    return button;
   }
 
   #names(names, why) {

@@ -9,12 +9,15 @@ const PANES = ["tools", "text", "words", "palette", "picture", "view", "timeline
 const ROVING = ["tools", "palette", "view"];
 const ARROWS = { ArrowLeft: [-1, 0], ArrowRight: [1, 0], ArrowUp: [0, -1], ArrowDown: [0, 1] };
 
+// How far a key pans, in pixels.
+const PAN = 60;
+
 const by = (id) => document.getElementById(id);
 
 export class Keyboard {
   #page;
 
-  // `page` has shown, editor, menu, layout, openMenu(qubit) and press(id), which clicks a button.
+  // `page` has shown, editor, menu, layout, openMenu(qubit), chooseBit(bit) and press(id), which clicks a button.
   constructor(page) {
     this.#page = page;
     document.addEventListener("keydown", (event) => this.#key(event));
@@ -28,7 +31,8 @@ export class Keyboard {
     const command = commandOf(event);
     if (command && !(isField(event.target) && command !== "save" && command !== "open")) {
       event.preventDefault();
-      this.#page.press(command);
+      if (command === "all") this.#page.shown.chooseAll(this.#page.shown.state.placement.places.keys());
+      else this.#page.press(command);
     } else if (!isField(event.target) && !this.#page.menu.isOpen) this.#act(event);
     else if (event.key === "Escape") this.#page.menu.close();
   }
@@ -45,6 +49,7 @@ export class Keyboard {
     const keys = {
       "[": () => shown.goTo(shown.moment - 1), "]": () => shown.goTo(shown.moment + 1), "+": () => this.#page.press("greater"), "=": () => this.#page.press("greater"),
       "-": () => this.#page.press("smaller"), 0: () => this.#page.press("fit"), "?": () => by("keys").showModal(), Escape: () => this.#letGo(),
+      ",": () => this.#bit(-1), ".": () => this.#bit(1),
     };
     if (!Object.hasOwn(keys, key)) return false;
     keys[key]();
@@ -61,8 +66,18 @@ export class Keyboard {
     return true;
   }
 
+  // The next detector, or the one before.
+  #bit(by_) {
+    const bit = this.#page.shown.bitBeside(by_);
+    if (bit !== null) this.#page.chooseBit(bit);
+  }
+
   #onPicture(event) {
     const { shown } = this.#page;
+    if (ARROWS[event.key] && (event.ctrlKey || event.metaKey)) {
+      this.#page.layout.pan(...ARROWS[event.key].map((step) => -step * PAN));
+      return true;
+    }
     if (ARROWS[event.key]) {
       const { places, box } = shown.state.placement;
       const from = places.get(shown.chosen.at(-1)) ?? [box.left - 1, box.top];
@@ -108,7 +123,8 @@ export class Keyboard {
   // Escape lets go of one thing after another.
   #letGo() {
     const { shown } = this.#page;
-    if (shown.tool !== "pick" || shown.waiting !== null) shown.takeTool("pick");
+    if (shown.tool !== "pick" || shown.waiting.length) shown.takeTool("pick");
+    else if (shown.way !== null) shown.follow(null);
     else if (shown.bit !== null) shown.chooseBit(null);
     else shown.choose(null);
   }

@@ -11,12 +11,12 @@ export function letterOf(event) {
   return isHeld ? "" : event.key;
 }
 
-// What a key asks for together with Ctrl, or with Meta on a Mac: "undo", "redo", "save", "open" or "".
+// What a key asks for together with Ctrl, or with Meta on a Mac: "undo", "redo", "save", "open", "all" or "".
 export function commandOf(event) {
   if (event.repeat || event.altKey || !(event.ctrlKey || event.metaKey)) return "";
   const letter = event.key.toLowerCase();
   if (letter === "z") return event.shiftKey ? "redo" : "undo";
-  return event.shiftKey ? "" : { y: "redo", s: "save", o: "open" }[letter] ?? "";
+  return event.shiftKey ? "" : { y: "redo", s: "save", o: "open", a: "all" }[letter] ?? "";
 }
 
 // Whether an element takes what is typed for itself.
@@ -25,13 +25,15 @@ export const isField = (element) => element.matches("textarea, input:not([type='
 // All keys, for the page that says them.
 export const ALL_KEYS = [
   ["[ ]", "the tick before, the next"], ["← ↑ → ↓", "the nearest qubit that way; with Shift one more"],
+  ["drag", "choose the qubits in a box; with Shift more"], ["Ctrl-A", "choose all qubits"],
   ["h s x y z", "H, S, a Pauli"], ["X Y C", "√X, √Y, C_XYZ"],
-  ["m M, r R, n", "M, MX; R, RX; MR"], ["c v V w", "CX, CZ, CY, SWAP of the chosen two, or with the next"],
+  ["m M, r R, n", "M, MX; R, RX; MR"], ["c v V w", "CX, CZ, CY, SWAP of the chosen two; of others with what is clicked next"],
   ["p", "measure the product of the chosen"], ["Delete", "take out what acts on them here"],
-  ["t T", "a tick put in here, the one that ends this taken out"], ["< >", "move what acts on them a tick back, on"],
+  ["t T", "a tick put in here, the one that ends this taken out"], ["< >", "move what acts on them a tick back, on; or drag it to a tick"],
+  ["Ctrl-C X V", "copy what acts on them, cut it, put it in at another tick"], [", .", "the detector before, the next"],
   ["d D", "a detector of the chosen records; one for each, with the record before"], ["o", "the chosen records go into observable 0"],
   ["q", "put qubits on the grid"], ["Enter", "what else there is for a qubit"],
-  ["+ - 0", "greater, smaller, all; the wheel zooms, a drag pans"], ["Shift-drag", "choose the qubits in a box"],
+  ["+ - 0", "greater, smaller, all; the wheel zooms"], ["Ctrl-drag", "pan; also by the right button, or Ctrl and an arrow"],
   ["Ctrl-Z Ctrl-Y", "undo, redo"], ["Ctrl-O Ctrl-S", "open, save"],
   ["i a", "in the text: put an item in before, behind"], ["F6", "the next pane"],
   ["Page ↑ ↓", "on the timeline: the same tick of another round"], ["Esc", "let go: of a tool, a region, what is chosen"],

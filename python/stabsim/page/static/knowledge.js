@@ -30,6 +30,12 @@ export class Knowledge {
     return { region: answer.region ?? {}, why: answer.why ?? "" };
   }
 
+  // What an error on a qubit at the end of a moment becomes, {letters} by moments, or {why} that is not known.
+  async way(moment, qubit, letter) {
+    const answer = await this.#ask({ ask: "way", moment, qubit, letter }).catch(() => ({}));
+    return { letters: answer.way ?? {}, why: answer.why ?? answer.refused ?? "" };
+  }
+
   // What X, Y and Z on a qubit at the end of a moment would flip; null until the table is there.
   flips(moment, qubit) {
     return this.#kept(this.#flips, `${moment} ${qubit}`, { ask: "faults", moment, qubit }, (answer) => answer.flips ?? null);

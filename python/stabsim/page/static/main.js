@@ -1,6 +1,8 @@
 // The page: what the server says goes into the views, and what a person does goes to the server.
 
+import { Carrier } from "./carrying.js";
 import { pathOf, textOf } from "./circuit.js";
+import { isCopied, linesOf, takeCopies } from "./clipboard.js";
 import { exchangeThemes, followSystem } from "./colours.js";
 import { Editor } from "./editor.js";
 import { pathOfRound } from "./editing.js";
@@ -36,15 +38,19 @@ const views = {
   layout: new LayoutView(by("picture"), {
     choose: (qubit, isMore) => shown.choose(qubit, isMore),
     box: (qubits, isMore) => shown.chooseAll(qubits, isMore),
-    use: (qubit) => editor.use(qubit),
-    place: (spot) => editor.place(spot),
+    use: (qubit, isTurned) => editor.use(qubit, isTurned),
+    lead: (first, second, isTurned) => editor.lead(first, second, isTurned),
+    useAt: (place) => editor.useAt(place),
+    place: (places) => editor.place(places),
+    carry: (qubit, place) => carrier.carry(qubit, place),
+    drop: (qubit, place) => carrier.drop(qubit, place),
     hover: (qubit) => shown.hover(qubit),
     menu: openMenu,
     zoomed: (part) => { by("scale").textContent = `${Math.round(part * 100)}%`; },
     tool: () => shown.tool,
   }),
   timeline: new TimelineView(by("timeline"), { goTo: (moment) => shown.goTo(moment), choose: chooseBit, tip: showTip }),
-  inspector: new Inspector({ qubit: by("about-qubit"), errors: by("about-errors"), detector: by("about-detector") }, { choose: chooseBit, select: (path) => shown.select(path) }),
+  inspector: new Inspector({ qubit: by("about-qubit"), errors: by("about-errors"), detector: by("about-detector") }, { choose: chooseBit, select: (path) => shown.select(path), follow: (letter) => shown.follow(shown.inspected, letter) }),
   history: new HistoryView(by("edits"), (position) => ask({ ask: "go", position })),
   palette: new Palette(by("palette"), (name) => editor.take(name)),
 };
@@ -53,7 +59,8 @@ const link = new Link(hear, (reason) => say(reason || GONE, true));
 const knowledge = new Knowledge((question) => link.ask(question));
 const shown = new Shown(views, knowledge);
 const editor = new Editor(shown, { send, say, menu: (qubit, offers) => menu.open(by("picture"), placeOf(qubit), offers) });
-new Keyboard({ shown, editor, menu, layout: views.layout, openMenu, press: (id) => by(id).click() });
+const carrier = new Carrier({ shown, editor, timeline: views.timeline, tip: showWords, say });
+new Keyboard({ shown, editor, menu, layout: views.layout, openMenu, chooseBit, press: (id) => by(id).click() });
 
 function hear(event) {
   const started = performance.now();
@@ -177,9 +184,13 @@ function chooseBit(bit) {
 }
 
 function showTip(bit, place) {
-  by("tip").hidden = !bit;
-  if (!bit) return;
-  by("tip").textContent = saidOfBit(bit, shown.state).words;
+  showWords(bit && saidOfBit(bit, shown.state).words, place);
+}
+
+function showWords(words, place) {
+  by("tip").hidden = !words;
+  if (!words) return;
+  by("tip").textContent = words;
   by("tip").style.left = `${Math.min(place.left + 14, innerWidth - by("tip").offsetWidth - 4)}px`;
   by("tip").style.top = `${Math.min(place.top + 14, innerHeight - by("tip").offsetHeight - 4)}px`;
 }
@@ -231,7 +242,8 @@ const clicks = {
 };
 for (const [id, act] of Object.entries(clicks)) by(id).addEventListener("click", act);
 by("since").addEventListener("change", (event) => shown.showSince(event.target.value));
-takeFiles(by("file"), openText);
+takeFiles(by("file"), openText, (text) => isCopied(text) && Boolean(editor.paste(linesOf(text))));
+takeCopies({ shown, editor, say });
 showLegend(by("legend"));
 
 // For tests: what is shown, and where it is seen.

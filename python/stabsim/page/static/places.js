@@ -18,7 +18,7 @@ export function placesOf(coordinates, used, joined, known = new Map()) {
     if (at.length) places.set(qubit, apart([at[0], at[1] ?? 0], taken));
     else (used.has(qubit) ? homeless : drawer).push(qubit);
   });
-  const hasCoordinates = places.size > 0;
+  const hasCoordinates = places.size > 0 || homeless.length === 0;
   const rest = hasCoordinates || (homeless.length <= MOST_IN_ROW && !known.size) ? rowOf(homeless) : arrangedOnce(homeless, joined, known);
   const given = boxOf(places);
   for (const [qubit, [x, y]] of rest) places.set(qubit, hasCoordinates ? [given.left + x, given.bottom + 1 + y] : [x, y]);

@@ -9,22 +9,32 @@ const roleOf = (letter) => letter.toLowerCase();
 export function faceElements({ at, side, scene: { faces, box }, view }) {
   const middle = [view.x + ((box.left + box.right) / 2) * view.scale, view.y + ((box.top + box.bottom) / 2) * view.scale];
   const elements = [];
+  const gap = Math.max(0.5, side / 20);
   for (const { qubits, kind } of faces) {
     const points = qubits.map(at);
     if (points.some((point) => !point) || points.every(([x, y]) => x < 0 || y < 0 || x > view.width || y > view.height)) continue;
-    const path = points.length === 2 ? lune(...points, middle) : outline(points, 0.01);
-    elements.push({ path, fill: `${kind}-soft`, stroke: "sheet", width: Math.max(1, side / 10) });
+    elements.push({ path: points.length === 2 ? lune(...points, middle, gap) : outline(smaller(points, gap), 0.01), fill: `${kind}-soft` });
   }
   return elements;
 }
 
+// Corners, a little towards their middle, so that faces do not touch.
+function smaller(points, gap) {
+  const middle = [0, 1].map((axis) => points.reduce((sum, point) => sum + point[axis], 0) / points.length);
+  return points.map(([x, y]) => {
+    const part = 1 - (gap * Math.SQRT2) / Math.max(1, Math.hypot(x - middle[0], y - middle[1]));
+    return [middle[0] + (x - middle[0]) * part, middle[1] + (y - middle[1]) * part];
+  });
+}
+
 // A check of two qubits is a half disc on the outer side.
-function lune(a, b, middle) {
+function lune(a, b, middle, gap) {
   const centre = [(a[0] + b[0]) / 2, (a[1] + b[1]) / 2];
   let angle = Math.atan2(b[1] - a[1], b[0] - a[0]);
   const out = [Math.cos(angle + Math.PI / 2), Math.sin(angle + Math.PI / 2)];
   if (out[0] * (centre[0] - middle[0]) + out[1] * (centre[1] - middle[1]) < 0) angle += Math.PI;
-  const radius = Math.hypot(a[0] - b[0], a[1] - b[1]) / 2;
+  const radius = Math.hypot(a[0] - b[0], a[1] - b[1]) / 2 - gap;
+  [0, 1].forEach((axis) => { centre[axis] += gap * [Math.cos(angle + Math.PI / 2), Math.sin(angle + Math.PI / 2)][axis]; });
   const start = [centre[0] + radius * Math.cos(angle), centre[1] + radius * Math.sin(angle)];
   return [["M", ...start], ["A", ...centre, radius, angle, angle + Math.PI], ["Z"]];
 }
@@ -71,6 +81,20 @@ export function letterElements({ at, side, scene: { region } }, busy) {
     if (!place) return [];
     const away = side >= 12 && busy.has(qubit) ? side * 0.58 : 0;
     return plateAt(letter, place[0] - away, place[1] - away, size);
+  });
+}
+
+// The error that is followed: a ring round each of its qubits, with its letter above on the right.
+export function wayElements({ at, side, scene: { way } }) {
+  if (!way) return [];
+  const radius = Math.max(7, side * 0.86);
+  const size = Math.max(9, Math.min(26, side * 0.8));
+  const away = side >= 12 ? side * 0.6 : 0;
+  return [...way].filter(([qubit]) => at(qubit)).flatMap(([qubit, letter]) => {
+    const [x, y] = at(qubit);
+    return [
+      { path: circle(x, y, radius), stroke: "sheet", width: 4 }, { path: circle(x, y, radius), stroke: "ink", width: 1.75 }, ...plateAt(letter, x + away, y - away, size),
+    ];
   });
 }
 

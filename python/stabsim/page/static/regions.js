@@ -12,3 +12,6 @@ export function saidOfRegion(bit, region, name, moment) {
   const here = letters.length ? letters.slice(0, MOST_LETTERS).join(" ") + more : "nothing here";
   return `region of ${bit}: ${here}; ticks ${name(moments[0])} to ${name(moments.at(-1))}`;
 }
+
+// Letters by qubits, as a map; null where there are none.
+export const mapOf = (letters) => (letters ? new Map(Object.entries(letters).map(([qubit, letter]) => [Number(qubit), letter])) : null);

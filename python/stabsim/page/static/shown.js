@@ -1,12 +1,13 @@
 // What this tab shows of the circuit: a moment, the qubits and the detector that are chosen, and the tool at hand; drawn by the views.
 
-import { pathOf } from "./circuit.js";
+import { blocksAround, itemAt, pathOf } from "./circuit.js";
+import { Followed } from "./followed.js";
 import { acts, qubitsOf } from "./instructions.js";
-import { endOf, momentAt, momentOf, momentsOf, nameOf } from "./moments.js";
+import { endOf, momentAt, momentOf, momentsOf, momentsOfDetectors, nameOf } from "./moments.js";
 import { sayNumbers } from "./numbers.js";
 import { nameOfRecord } from "./records.js";
-import { saidOfRegion } from "./regions.js";
-import { roundOf } from "./timeline.js";
+import { mapOf, saidOfRegion } from "./regions.js";
+import { sayMoment, saySeen } from "./saying.js";
 
 const by = (id) => document.getElementById(id);
 
@@ -19,16 +20,13 @@ export class Shown {
   // Qubits in the order in which they were chosen.
   chosen = [];
   tool = "pick";
-  // The first qubit of a gate on two, whose second is waited for.
-  waiting = null;
-  // The detector or observable whose region is shown, as D3 or L0.
-  bit = null;
+  // The first qubits of gates on two, whose second ones are waited for.
+  waiting = [];
   since = "edit";
   instructions = [];
   #views;
   #knowledge;
-  #region = {};
-  #why = "";
+  #followed;
   #faces = [];
   #neighbours = [];
   #hovered = null;
@@ -37,6 +35,17 @@ export class Shown {
   constructor(views, knowledge) {
     this.#views = views;
     this.#knowledge = knowledge;
+    this.#followed = new Followed(knowledge, () => this.#drawAll());
+  }
+
+  // The detector or observable whose region is shown, as D3 or L0.
+  get bit() {
+    return this.#followed.bit;
+  }
+
+  // The error whose way is shown, or null.
+  get way() {
+    return this.#followed.way;
   }
 
   // Shows what an event changed: another circuit, edits, or no more than bits.
@@ -48,6 +57,7 @@ export class Shown {
       this.chosen = this.chosen.filter((qubit) => state.placement.places.has(qubit));
       this.moment = Math.min(this.moment, momentsOf(state.items) - 1);
       this.#neighbours = [];
+      this.#followed.way = null;
       this.#views.text.show(state.items, (first, behind) => this.#flagOf(first, behind));
       this.#showEntry(kind === "opened");
       sayNumbers(state);
@@ -95,7 +105,7 @@ export class Shown {
     if (path) this.select(path, false);
   }
 
-  takeTool(name, waiting = null) {
+  takeTool(name, waiting = []) {
     [this.tool, this.waiting] = [name, waiting];
     this.#views.palette.show(name);
     by("picture").classList.toggle("armed", name !== "pick");
@@ -114,15 +124,10 @@ export class Shown {
     if (goes) this.goTo(momentOf(this.state.items, path));
   }
 
-  // Has the entry line show an item.
+  // Has the entry line show an item; answers how many rounds the block around it has, or 0.
   showItem(path) {
-    let list = this.state.items;
-    let count = 0;
-    for (const place of path.slice(0, -1)) {
-      count = list[place].count;
-      list = list[place].items;
-    }
-    this.#views.entry.show(path, list[path.at(-1)] ?? null, count);
+    const count = blocksAround(this.state.items, path).at(-1)?.count ?? 0;
+    this.#views.entry.show(path, itemAt(this.state.items, path) ?? null, count);
     return count;
   }
 
@@ -136,21 +141,27 @@ export class Shown {
   }
 
   // Shows the region of a bit, or with null that of none.
-  async chooseBit(bit) {
-    this.bit = bit;
-    [this.#region, this.#why] = [{}, bit === null ? "" : "its region is asked for"];
-    this.#drawAll();
+  chooseBit(bit) {
+    const done = this.#followed.chooseBit(bit);
     this.learn();
-    if (bit === null) return;
-    const found = await this.#knowledge.region(bit);
-    if (this.bit !== bit) return;
-    [this.#region, this.#why] = [found.region, found.why];
-    this.#drawAll();
+    return done;
+  }
+
+  // Shows the way of an error on a qubit at this moment, or with null that of none.
+  follow(qubit, letter) {
+    return this.#followed.follow(letter && { moment: this.moment, qubit, letter });
+  }
+
+  // The detector beside the chosen one by its number, or the first one from this moment on; null where there is none.
+  bitBeside(by_) {
+    const number = this.bit?.startsWith("D") ? Number(this.bit.slice(1)) + by_ : momentsOfDetectors(this.state.items).findIndex((moment) => moment >= this.moment);
+    return this.state.detectors[number] === undefined ? null : `D${number}`;
   }
 
   // The table of faults has come.
   known() {
-    this.chooseBit(this.bit);
+    this.#followed.known();
+    this.learn();
     this.#inspect();
   }
 
@@ -174,7 +185,7 @@ export class Shown {
     this.#views.text.mark(this.instructions.filter(({ item }) => acts(item.name)).map(({ path }) => path));
     this.drawLayout(isFresh);
     this.#drawTime(isEdited);
-    this.#sayMoment();
+    this.where = sayMoment(this);
     this.#inspect();
     this.#sayBit();
   }
@@ -194,14 +205,14 @@ export class Shown {
   // What drawing.js draws, with what is chosen.
   scene() {
     const { state, moment } = this;
-    const letters = this.#region[moment];
     return {
       ...state.placement,
       ancillas: state.ancillas,
       instructions: this.instructions,
       recordName: ({ path }, target) => nameOfRecord(state.items, moment, path, Number(/-?\d+/.exec(target)[0])),
       faces: this.#faces,
-      region: letters ? new Map(Object.entries(letters).map(([qubit, letter]) => [Number(qubit), letter])) : null,
+      region: mapOf(this.#followed.region[moment]),
+      way: mapOf(this.way?.letters[moment]),
       neighbours: this.#neighbours,
       chosen: this.chosen,
       waiting: this.waiting,
@@ -211,7 +222,7 @@ export class Shown {
   #drawTime(isEdited) {
     const { state, moment, bit } = this;
     this.#views.timeline.show({
-      items: state.items, moments: momentsOf(state.items), moment, bit, region: this.#region, observables: state.observables,
+      items: state.items, moments: momentsOf(state.items), moment, bit, region: this.#followed.region, way: this.way, observables: state.observables,
       coordinates: state.coordinates, kindOf: (it) => this.#kindOf(it), isTold: (number) => state.isTold(number, this.#flips()),
     }, isEdited);
   }
@@ -250,24 +261,14 @@ export class Shown {
     return rounds.length ? { path, rounds } : null;
   }
 
-  #sayMoment() {
-    const { name } = nameOf(this.state.items, this.moment);
-    const { path, rounds } = roundOf(this.instructions);
-    const block = path.slice(0, rounds.length).reduce((list, place) => (list.items ?? list)[place], this.state.items);
-    const said = rounds.length ? `round ${rounds.at(-1) + 1} of ${block.count} in block ${path.slice(0, rounds.length).join("/")}` : "outside blocks";
-    this.where = `tick ${name} · ${said}`;
-    by("moment-said").textContent = `tick ${name}`;
-    by("round-said").textContent = rounds.length ? said : "";
-    by("alone").disabled = this.round === null;
-    const slider = by("timeline");
-    slider.ariaValueMax = momentsOf(this.state.items) - 1;
-    slider.ariaValueNow = this.moment;
-    slider.ariaValueText = this.where.replace(" · ", ", ");
+  // The qubit that is inspected: the one under the pointer, else the one that was chosen last.
+  get inspected() {
+    return this.#hovered ?? this.chosen.at(-1) ?? null;
   }
 
   // Says what is known of the qubit under the pointer, else of the one that was chosen last.
   async #inspect() {
-    const qubit = this.#hovered ?? this.chosen.at(-1) ?? null;
+    const qubit = this.inspected;
     const { inspector } = this.#views;
     const found = qubit === null ? null : this.#itemOn(qubit);
     const at = qubit === null ? null : this.state.qubitCoordinates[qubit];
@@ -275,21 +276,20 @@ export class Shown {
       qubit, kind: this.state.ancillas.has(qubit) ? "ancilla" : "data", at: at?.length ? at : null, item: found?.item, path: found?.path,
       more: this.#hovered === null ? this.chosen.length - 1 : 0,
     }, this.where);
-    const letter = qubit === null ? undefined : this.#region[this.moment]?.[qubit];
-    by("seen").textContent = qubit === null ? this.where : `qubit ${qubit}${found ? `, ${found.item.name}` : ""}${letter ? `, region ${letter}` : ""}; ${this.where}`;
+    saySeen(this.where, qubit, found?.item.name, this.#followed.region[this.moment]?.[qubit]);
     if (qubit === null) return void inspector.errors(null, "—");
     const { moment } = this;
     const flips = await this.#knowledge.flips(moment, qubit);
-    if (this.moment === moment && qubit === (this.#hovered ?? this.chosen.at(-1))) inspector.errors(flips, "not known yet");
+    if (this.moment === moment && qubit === this.inspected) inspector.errors(flips, "not known yet");
     return undefined;
   }
 
   #sayBit() {
     const { state, bit, moment } = this;
     let region = "";
-    if (bit !== null && this.#why) region = this.#why;
+    if (bit !== null && this.#followed.why) region = this.#followed.why;
     else if (bit !== null && state.isRandom(bit)) region = "a coin decides it, so that nothing flips it";
-    else if (bit !== null) region = saidOfRegion(bit, this.#region, (it) => nameOf(state.items, it).name, moment);
+    else if (bit !== null) region = saidOfRegion(bit, this.#followed.region, (it) => nameOf(state.items, it).name, moment);
     const kind = bit === null ? "" : this.#kindOf(bit);
     this.#views.inspector.detector(bit, state, { kind, region });
   }

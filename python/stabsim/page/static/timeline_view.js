@@ -3,15 +3,9 @@
 
 import { CanvasPen } from "./canvas_pen.js";
 import { theme } from "./colours.js";
-import { circle, gates, pairs } from "./glyphs.js";
-import { isPair, isRecord } from "./instructions.js";
 import { Timeline } from "./timeline.js";
+import { LEFT, OPERATIONS, TOP, groundOf, timelineOf } from "./timeline_drawing.js";
 
-const LEFT = 76;
-const TOP = 64;
-const ROUNDS = 11;
-const TICKS = 30;
-const OPERATIONS = 49;
 const RIGHT = 14;
 const MOST_STEP = 44;
 const LEAST_STEP = 5;
@@ -29,6 +23,8 @@ export class TimelineView {
   #step = MOST_STEP;
   #offset = 0;
   #frame = 0;
+  // The moment to which something is dragged.
+  #aim = null;
   // All detectors as they are if nothing is known of them, drawn once for as long as they stand where they do.
   #ground = null;
 
@@ -48,9 +44,9 @@ export class TimelineView {
     }).observe(canvas);
   }
 
-  // state: {items, moments, moment, observables, coordinates, isTold, kindOf, bit, region}: `kindOf(bit)` says how a bit is drawn
-  // (state.js), `isTold(number)` whether a detector is drawn otherwise than as 0, `bit` is the chosen one and `region` has its letters
-  // by moment.
+  // state: {items, moments, moment, observables, coordinates, isTold, kindOf, bit, region, way}: `kindOf(bit)` says how a bit is drawn
+  // (state.js), `isTold(number)` whether a detector is drawn otherwise than as 0, `bit` is the chosen one, and `region` has its letters
+  // by moment, as `way.letters` has those of an error; `way` may be null.
   show(state, isFresh) {
     const isOther = this.#shown?.items !== state.items;
     if (isFresh || !this.#line) {
@@ -68,6 +64,23 @@ export class TimelineView {
   at(bit) {
     const number = Number(bit.slice(1));
     return bit.startsWith("D") ? [this.#dotX(number), this.#dotY(number)] : this.#observableAt(number);
+  }
+
+  // The moment under a place of the window; null where that is not on the timeline.
+  momentUnder({ left, top }) {
+    const box = this.#canvas.getBoundingClientRect();
+    const isOver = this.#shown && left >= box.left + LEFT && left < box.right && top >= box.top && top < box.bottom;
+    return isOver ? this.#momentAt(left - box.left) : null;
+  }
+
+  // Where the column of a moment is seen.
+  columnOf(moment) {
+    return [this.#x(moment), OPERATIONS];
+  }
+
+  aim(moment) {
+    this.#aim = moment;
+    this.draw();
   }
 
   bringIntoSight(moment) {
@@ -88,7 +101,8 @@ export class TimelineView {
   drawNow() {
     if (!this.#line) return;
     this.#pen.begin(...this.#size);
-    this.#pen.draw(this.#elements());
+    const sheet = this.#sheet();
+    this.#pen.draw(timelineOf({ ...sheet, ground: this.#groundOf(sheet) }));
   }
 
   #measure() {
@@ -162,131 +176,17 @@ export class TimelineView {
     if (this.#shown) this.#scrollBy(event.deltaX + event.deltaY);
   }
 
-  #elements() {
+  #sheet() {
     const [width, height] = this.#size;
-    const first = this.#momentAt(LEFT);
-    const last = this.#momentAt(width);
-    const { moment } = this.#shown;
-    const head = { path: box(this.#x(moment) - Math.max(3, this.#step / 2), 20.5, Math.max(6, this.#step), height - 25) };
-    return [
-      ...this.#bands(first, last, height),
-      { ...head, fill: "chosen" },
-      ...this.#ticks(first, last),
-      ...this.#thread(first, last),
-      ...this.#dots(first, last),
-      { ...head, stroke: "accent", width: 1.5 },
-      { path: box(0, 0, LEFT - 4, height), fill: "sheet" },
-      ...this.#names(),
-      ...this.#observables(),
-    ];
+    return {
+      line: this.#line, shown: this.#shown, width, height, step: this.#step, first: this.#momentAt(LEFT), last: this.#momentAt(width), aim: this.#aim,
+      x: (moment) => this.#x(moment), at: (bit) => this.at(bit), rowHeight: this.#rowHeight(),
+    };
   }
 
-  #names() {
-    const names = [["rounds", ROUNDS], ["ticks", TICKS], ["operations", OPERATIONS], ["detectors", TOP + 14]];
-    return names.map(([words, y]) => ({ words, x: 10, y, size: 11, fill: "quiet", align: "left" }));
-  }
-
-  // Rounds as bands, each with the block and how many of its rounds it is; what stands in no block is between them.
-  #bands(first, last, height) {
-    const elements = [];
-    for (const { from, to, label, short, isOdd, isBlock } of this.#line.bands(first, last)) {
-      const [left, right] = [this.#x(from) - this.#step / 2, this.#x(to) - this.#step / 2];
-      if (isBlock) elements.push({ path: box(left, 0, right - left, height), fill: isOdd ? "hover" : "well" });
-      elements.push({ path: [["M", left, 0], ["L", left, height]], stroke: "hair" });
-      const seen = Math.max(left, LEFT);
-      const words = right - seen > 6.2 * label.length + 8 ? label : right - seen > 6.2 * short.length + 8 ? short : "";
-      if (words) elements.push({ words, x: seen + 5, y: ROUNDS, size: 11, fill: "ink", align: "left" });
-    }
-    return elements;
-  }
-
-  #ticks(first, last) {
-    const every = [1, 2, 5, 10, 20, 50, 100].find((it) => it * this.#step >= 26) ?? 200;
-    const side = Math.min(18, this.#step * 0.84);
-    const elements = [];
-    for (let moment = first; moment <= last; moment += 1) {
-      const isNow = moment === this.#shown.moment;
-      const { tick, name } = this.#line.name(moment);
-      const isClear = Math.abs(moment - this.#shown.moment) * this.#step > 22;
-      if (isNow || (tick % every === 0 && isClear && !name.includes(".")) || (name.endsWith(".1") && isClear && every === 1)) {
-        elements.push({ words: name, x: this.#x(moment), y: TICKS, size: 10, fill: isNow ? "ink" : "quiet", weight: isNow ? 700 : 400 });
-      }
-      const glyph = glyphOf(this.#line.operation(moment), side);
-      if (glyph) elements.push({ ...glyph, x: this.#x(moment), y: OPERATIONS, side });
-    }
-    return elements;
-  }
-
-  // The region of the chosen bit through time: at each moment the letters that it has there.
-  #thread(first, last) {
-    const { bit, region } = this.#shown;
-    const moments = Object.keys(region).map(Number);
-    if (bit === null || !moments.length) return [];
-    const [end, y] = bit.startsWith("D") ? this.at(bit) : [this.#x(moments.at(-1)), this.#size[1] - 26];
-    const elements = [{ path: [["M", this.#x(moments[0]) - this.#step / 2, y], ["L", end, y]], stroke: "ink", width: 1.5 }];
-    for (const moment of moments) {
-      if (moment < first || moment > last) continue;
-      const letters = [...new Set(Object.values(region[moment]))].sort();
-      letters.forEach((letter, i) => elements.push({
-        glyph: letter, x: this.#x(moment), y: y + (i - (letters.length - 1) / 2) * 7, side: Math.max(5, Math.min(9, this.#step * 0.6)), role: letter.toLowerCase(),
-      }));
-    }
-    return elements;
-  }
-
-  // Those that are 1, flipped, or decided by a coin are drawn over the others, and the last two are never small.
-  #dots(first, last) {
-    const size = this.#dotSize();
-    const told = [...this.#line.between(first - 1, last + 1)].filter((number) => this.#shown.isTold(number));
-    const dots = told.map((number) => {
-      const kind = this.#shown.kindOf(`D${number}`);
-      return { ...dotOf(kind), x: this.#dotX(number), y: this.#dotY(number), side: kind === "bit1" ? size : Math.max(9, size), isLate: kind !== "bit1" };
-    });
-    const chosen = this.#shown.bit?.startsWith("D") ? [{ path: circle(...this.at(this.#shown.bit), 8), stroke: "accent", width: 2 }] : [];
-    return [this.#groundOf(first, last), ...dots.filter(({ isLate }) => !isLate), ...dots.filter(({ isLate }) => isLate), ...chosen];
-  }
-
-  #dotSize() {
-    return Math.max(3.5, Math.min(9, this.#rowHeight() * 0.8, this.#step * 0.8));
-  }
-
-  #groundOf(first, last) {
+  #groundOf(sheet) {
     const key = [theme(), devicePixelRatio, ...this.#size, this.#offset, this.#step].join();
-    if (this.#ground?.key !== key) this.#ground = { key, picture: this.#pen.pictureOf(this.#plainDots(first, last), ...this.#size) };
-    return { picture: this.#ground.picture, width: this.#size[0], height: this.#size[1] };
+    if (this.#ground?.key !== key) this.#ground = { key, picture: this.#pen.pictureOf(groundOf(sheet), ...this.#size) };
+    return this.#ground.picture;
   }
-
-  #plainDots(first, last) {
-    const size = this.#dotSize();
-    const numbers = [...this.#line.between(first - 1, last + 1)];
-    if (size >= 5) return numbers.map((number) => ({ ...dotOf("bit0"), x: this.#dotX(number), y: this.#dotY(number), side: size }));
-    const height = Math.min(3, Math.max(1.2, this.#rowHeight() * 0.75));
-    return [{ path: numbers.flatMap((number) => box(this.#dotX(number) - 1.5, this.#dotY(number) - height / 2, 3, height)), fill: "zero" }];
-  }
-
-  #observables() {
-    const elements = [{ path: box(0, this.#size[1] - 22, this.#size[0], 22), fill: "sheet" }];
-    this.#shown.observables.forEach((_, number) => {
-      const [x, y] = this.#observableAt(number);
-      elements.push({ ...dotOf(this.#shown.kindOf(`L${number}`)), x, y, side: 10 }, { words: `L${number}`, x: x - 10, y, size: 11, fill: "quiet", align: "right" });
-      if (this.#shown.bit === `L${number}`) elements.push({ path: circle(x, y, 8), stroke: "accent", width: 2 });
-    });
-    return this.#shown.observables.length ? elements : [];
-  }
-}
-
-const ROLES = { random: "quiet", flipped: "flip", bit1: "one", bit0: "zero" };
-const dotOf = (kind) => ({ glyph: kind, role: ROLES[kind] });
-
-const box = (x, y, width, height) => [["M", x, y], ["L", x + width, y], ["L", x + width, y + height], ["L", x, y + height], ["Z"]];
-
-function glyphOf(item, side) {
-  if (!item) return null;
-  if (item.name === "MPP") return { glyph: "factor", role: "wire", label: side >= 12 ? "P" : "" };
-  if (isPair(item.name)) {
-    const letter = item.name.slice(1);
-    return item.targets.some(isRecord) ? { glyph: "gate", role: letter.toLowerCase(), label: letter } : { glyph: pairs[item.name][1], role: "wire" };
-  }
-  const [glyph, label, , role] = gates[item.name];
-  return { glyph, role, label };
 }

@@ -1,0 +1,111 @@
+// Where places of the grid are seen on a picture: all of them fitted in, or zoomed and panned.
+
+const MARGIN = { left: 48, right: 40, top: 44, bottom: 34 };
+// How far apart neighbouring qubits stand at most when all are fitted in, and at any zoom, in pixels.
+const MOST_FITTED = 104;
+const MOST = 200;
+// Which part of a picture has to be seen still at least, across and down, so that it is shown for another.
+const LEAST_SEEN = 0.5;
+
+export class Sight {
+  #size = [0, 0];
+  #box = null;
+  #near = 1;
+  #scale = 0;
+  #at = [0, 0];
+  #fitted = 1;
+
+  // Whether anything can be seen: there are places, and a picture of some size.
+  get isThere() {
+    return this.#scale > 0;
+  }
+
+  get size() {
+    return this.#size;
+  }
+
+  // By how much it is zoomed: 1 where all is fitted in.
+  get part() {
+    return this.#scale / this.#fitted;
+  }
+
+  // How far apart neighbouring qubits are seen.
+  get pitch() {
+    return this.#scale * this.#near;
+  }
+
+  // What drawing.js takes.
+  get view() {
+    return { scale: this.#scale, x: this.#at[0], y: this.#at[1], width: this.#size[0], height: this.#size[1], near: this.#near };
+  }
+
+  // Takes where places are (places.js); with `isFresh` all are fitted in.
+  take({ box, near }, isFresh) {
+    [this.#box, this.#near] = [box, near];
+    if (isFresh || !this.isThere) this.fit();
+  }
+
+  fit() {
+    const [width, height] = this.#size;
+    if (!this.#box || !width) return;
+    const { left, right, top, bottom } = this.#box;
+    const room = [width - MARGIN.left - MARGIN.right, height - MARGIN.top - MARGIN.bottom];
+    this.#fitted = Math.max(1e-3, Math.min(room[0] / (right - left || 1), room[1] / (bottom - top || 1), MOST_FITTED / this.#near));
+    this.#scale = this.#fitted;
+    this.#at = [
+      (width + MARGIN.left - MARGIN.right - this.#fitted * (left + right)) / 2, (height + MARGIN.top - MARGIN.bottom - this.#fitted * (top + bottom)) / 2,
+    ];
+  }
+
+  // Zooms by a factor, so that the spot given stays where it is.
+  zoom(factor, x = this.#size[0] / 2, y = this.#size[1] / 2) {
+    const scale = Math.max(this.#fitted / 2, Math.min(MOST / this.#near, this.#scale * factor));
+    const part = scale / this.#scale;
+    this.#at = [x - (x - this.#at[0]) * part, y - (y - this.#at[1]) * part];
+    this.#scale = scale;
+  }
+
+  pan(across, down) {
+    this.#at = [this.#at[0] + across, this.#at[1] + down];
+  }
+
+  // Pans just so far that a spot is in sight.
+  bringIntoSight([x, y]) {
+    const [width, height] = this.#size;
+    const into = (value, most) => Math.min(0, most - 24 - value) + Math.max(0, 24 - value);
+    this.pan(into(x, width), into(y, height));
+  }
+
+  resize(size) {
+    const before = this.#size;
+    const isFitted = !this.isThere || this.#scale === this.#fitted;
+    this.#size = size;
+    if (isFitted) this.fit();
+    else this.pan((size[0] - before[0]) / 2, (size[1] - before[1]) / 2);
+  }
+
+  // How a picture of another view lies in this one: how far it is moved, and by which part it is stretched.
+  shiftFrom({ scale, x, y }) {
+    const part = this.#scale / scale;
+    return [this.#at[0] - part * x, this.#at[1] - part * y, part];
+  }
+
+  // Whether a picture of another view would show most of what is seen here.
+  isLike(view) {
+    const [left, top, part] = this.shiftFrom(view);
+    const [width, height] = this.#size;
+    if (view.width !== width || view.height !== height || part < 0.55 || part > 2.4) return false;
+    const overlap = (from, length) => Math.min(length, from + part * length) - Math.max(0, from);
+    return overlap(left, width) > LEAST_SEEN * width && overlap(top, height) > LEAST_SEEN * height;
+  }
+
+  // Where a place is seen.
+  seen([x, y]) {
+    return [this.#at[0] + x * this.#scale, this.#at[1] + y * this.#scale];
+  }
+
+  // The whole place that is nearest to a spot.
+  placeAt([x, y]) {
+    return [Math.round((x - this.#at[0]) / this.#scale), Math.round((y - this.#at[1]) / this.#scale)];
+  }
+}

@@ -1,0 +1,149 @@
+// The drawing of a timeline, as elements (glyphs.js).
+//
+// A sheet says what is shown and where: {line, shown, width, height, step, first, last, aim, x(moment), at(bit), rowHeight, ground}, with
+// the moments in sight from `first` to `last`, the one to which something is dragged as `aim`, and the picture of all detectors as they
+// are if nothing is known of them as `ground`.
+
+import { circle, gates, pairs } from "./glyphs.js";
+import { isPair, isRecord } from "./instructions.js";
+
+export const LEFT = 76;
+export const TOP = 82;
+const ROUNDS = 11;
+const TICKS = 30;
+export const OPERATIONS = 49;
+const ERROR = 68;
+
+export function timelineOf(sheet) {
+  const { shown, width, height, aim } = sheet;
+  const columnOf = (moment) => ({ path: box(sheet.x(moment) - Math.max(3, sheet.step / 2), 20.5, Math.max(6, sheet.step), height - 25) });
+  const head = columnOf(shown.moment);
+  return [
+    ...bands(sheet),
+    { ...head, fill: "chosen" },
+    ...ticks(sheet),
+    ...wayElements(sheet),
+    ...thread(sheet),
+    ...dots(sheet),
+    { ...head, stroke: "accent", width: 1.5 },
+    ...(aim === null ? [] : [{ ...columnOf(aim), stroke: "accent", width: 2, dash: [4, 3] }]),
+    { path: box(0, 0, LEFT - 4, height), fill: "sheet" },
+    ...names(),
+    ...observables(sheet, width, height),
+  ];
+}
+
+function names() {
+  const said = [["rounds", ROUNDS], ["ticks", TICKS], ["operations", OPERATIONS], ["error", ERROR], ["detectors", TOP + 14]];
+  return said.map(([words, y]) => ({ words, x: 10, y, size: 11, fill: "quiet", align: "left" }));
+}
+
+// Rounds as bands, each with the block and how many of its rounds it is; what stands in no block is between them.
+function bands({ line, first, last, x, step, height }) {
+  const elements = [];
+  for (const { from, to, label, short, isOdd, isBlock } of line.bands(first, last)) {
+    const [left, right] = [x(from) - step / 2, x(to) - step / 2];
+    if (isBlock) elements.push({ path: box(left, 0, right - left, height), fill: isOdd ? "hover" : "well" });
+    elements.push({ path: [["M", left, 0], ["L", left, height]], stroke: "hair" });
+    const seen = Math.max(left, LEFT);
+    const words = right - seen > 6.2 * label.length + 8 ? label : right - seen > 6.2 * short.length + 8 ? short : "";
+    if (words) elements.push({ words, x: seen + 5, y: ROUNDS, size: 11, fill: "ink", align: "left" });
+  }
+  return elements;
+}
+
+function ticks({ line, shown, first, last, x, step }) {
+  const every = [1, 2, 5, 10, 20, 50, 100].find((it) => it * step >= 26) ?? 200;
+  const side = Math.min(18, step * 0.84);
+  const elements = [];
+  for (let moment = first; moment <= last; moment += 1) {
+    const isNow = moment === shown.moment;
+    const { tick, name } = line.name(moment);
+    const isClear = Math.abs(moment - shown.moment) * step > 22;
+    if (isNow || (tick % every === 0 && isClear && !name.includes(".")) || (name.endsWith(".1") && isClear && every === 1)) {
+      elements.push({ words: name, x: x(moment), y: TICKS, size: 10, fill: isNow ? "ink" : "quiet", weight: isNow ? 700 : 400 });
+    }
+    const glyph = glyphOf(line.operation(moment), side);
+    if (glyph) elements.push({ ...glyph, x: x(moment), y: OPERATIONS, side });
+  }
+  return elements;
+}
+
+// The way of an error: at each moment its letter, or a grey mark for several, and on how many qubits it is.
+function wayElements({ shown: { way }, first, last, x, step }) {
+  const side = Math.max(5, Math.min(16, step * 0.84));
+  return Object.entries(way?.letters ?? {}).map(([moment, letters]) => [Number(moment), Object.values(letters)])
+    .filter(([moment]) => moment >= first && moment <= last).map(([moment, letters]) => {
+      const isOne = new Set(letters).size === 1;
+      const label = side < 12 ? "" : letters.length > 1 ? String(letters.length) : letters[0];
+      return { glyph: isOne ? letters[0] : "gate", role: isOne ? letters[0].toLowerCase() : "op", x: x(moment), y: ERROR, side, label };
+    });
+}
+
+// The region of the chosen bit through time: at each moment the letters that it has there.
+function thread({ shown: { bit, region }, first, last, x, at, step, height }) {
+  const moments = Object.keys(region).map(Number);
+  if (bit === null || !moments.length) return [];
+  const [end, y] = bit.startsWith("D") ? at(bit) : [x(moments.at(-1)), height - 26];
+  const elements = [{ path: [["M", x(moments[0]) - step / 2, y], ["L", end, y]], stroke: "ink", width: 1.5 }];
+  for (const moment of moments) {
+    if (moment < first || moment > last) continue;
+    const letters = [...new Set(Object.values(region[moment]))].sort();
+    letters.forEach((letter, i) => elements.push({
+      glyph: letter, x: x(moment), y: y + (i - (letters.length - 1) / 2) * 7, side: Math.max(5, Math.min(9, step * 0.6)), role: letter.toLowerCase(),
+    }));
+  }
+  return elements;
+}
+
+const sizeOfDots = ({ rowHeight, step }) => Math.max(3.5, Math.min(9, rowHeight * 0.8, step * 0.8));
+
+// Those that are 1, flipped, or decided by a coin are drawn over the others, and the last two are never small.
+function dots(sheet) {
+  const { line, shown, first, last, at, ground, width, height } = sheet;
+  const size = sizeOfDots(sheet);
+  const told = [...line.between(first - 1, last + 1)].filter((number) => shown.isTold(number));
+  const marks = told.map((number) => {
+    const kind = shown.kindOf(`D${number}`);
+    const [x, y] = at(`D${number}`);
+    return { ...dotOf(kind), x, y, side: kind === "bit1" ? size : Math.max(9, size), isLate: kind !== "bit1" };
+  });
+  const chosen = shown.bit?.startsWith("D") ? [{ path: circle(...at(shown.bit), 8), stroke: "accent", width: 2 }] : [];
+  return [{ picture: ground, width, height }, ...marks.filter(({ isLate }) => !isLate), ...marks.filter(({ isLate }) => isLate), ...chosen];
+}
+
+// All detectors as they are if nothing is known of them.
+export function groundOf(sheet) {
+  const { line, first, last, at, rowHeight } = sheet;
+  const size = sizeOfDots(sheet);
+  const spots = [...line.between(first - 1, last + 1)].map((number) => at(`D${number}`));
+  if (size >= 5) return spots.map(([x, y]) => ({ ...dotOf("bit0"), x, y, side: size }));
+  const height = Math.min(3, Math.max(1.2, rowHeight * 0.75));
+  return [{ path: spots.flatMap(([x, y]) => box(x - 1.5, y - height / 2, 3, height)), fill: "zero" }];
+}
+
+function observables({ shown, at }, width, height) {
+  const elements = [{ path: box(0, height - 22, width, 22), fill: "sheet" }];
+  shown.observables.forEach((_, number) => {
+    const [x, y] = at(`L${number}`);
+    elements.push({ ...dotOf(shown.kindOf(`L${number}`)), x, y, side: 10 }, { words: `L${number}`, x: x - 10, y, size: 11, fill: "quiet", align: "right" });
+    if (shown.bit === `L${number}`) elements.push({ path: circle(x, y, 8), stroke: "accent", width: 2 });
+  });
+  return shown.observables.length ? elements : [];
+}
+
+const ROLES = { random: "quiet", flipped: "flip", bit1: "one", bit0: "zero" };
+const dotOf = (kind) => ({ glyph: kind, role: ROLES[kind] });
+
+const box = (x, y, width, height) => [["M", x, y], ["L", x + width, y], ["L", x + width, y + height], ["L", x, y + height], ["Z"]];
+
+function glyphOf(item, side) {
+  if (!item) return null;
+  if (item.name === "MPP") return { glyph: "factor", role: "wire", label: side >= 12 ? "P" : "" };
+  if (isPair(item.name)) {
+    const letter = item.name.slice(1);
+    return item.targets.some(isRecord) ? { glyph: "gate", role: letter.toLowerCase(), label: letter } : { glyph: pairs[item.name][1], role: "wire" };
+  }
+  const [glyph, label, , role] = gates[item.name];
+  return { glyph, role, label };
+}
