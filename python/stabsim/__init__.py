@@ -17,7 +17,7 @@ from typing import TYPE_CHECKING
 __version__ = "0.2.0"
 
 __all__ = [
-    "BadErrorModel", "BadShots", "Block", "Cause", "Changed", "Circuit", "Collection", "Decoder", "ErrorModel", "FaultTable", "Instruction",
+    "BadErrorModel", "BadShots", "Block", "Cause", "Changed", "Circuit", "CircuitError", "Collection", "Decoder", "Diagram", "ErrorModel", "FaultTable", "Flow", "Instruction",
     "Item", "ItemSteps", "MissingProgram", "NotDecomposed", "Numbers", "OtherExperiment", "Path", "Predict", "ProgramFailed", "Rate",
     "Refused", "Seeded", "Session", "SessionEnded", "SessionNumbers", "SparseMatrix", "StabsimError", "StimCircuit", "Sums", "Sure",
     "UnsupportedNoise", "codes", "collect", "combine", "error_model", "find_program", "fit_rate", "from_stim", "m2d", "plot",
@@ -27,15 +27,19 @@ __all__ = [
 # A module is read when one of its names is asked for first, so that `stabsim.codes` needs no numpy.
 if TYPE_CHECKING:
     from stabsim import codes
+    from stabsim.asked import Numbers
     from stabsim.causes import Cause
-    from stabsim.circuit import Circuit, Numbers
+    from stabsim.circuit import Circuit
+    from stabsim.circuit_errors import CircuitError
     from stabsim.collecting import Collection, collect
     from stabsim.counting import Decoder, Predict
+    from stabsim.diagrams import Diagram
     from stabsim.errors import (
         BadErrorModel, BadShots, MissingProgram, NotDecomposed, OtherExperiment, ProgramFailed, Refused, SessionEnded, StabsimError,
         UnsupportedNoise,
     )
     from stabsim.faults import FaultTable
+    from stabsim.flows import Flow
     from stabsim.formats import read_shots, write_shots
     from stabsim.measured import m2d
     from stabsim.models import ErrorModel, error_model
@@ -46,7 +50,8 @@ if TYPE_CHECKING:
     from stabsim.reading import Block, Instruction, Item
     from stabsim.script import Path
     from stabsim.seeds import Seeded
-    from stabsim.session import Changed, ItemSteps, Session, SessionNumbers
+    from stabsim.session import Session
+    from stabsim.session_answers import Changed, ItemSteps, SessionNumbers
     from stabsim.sparse import SparseMatrix
     from stabsim.stim_circuit import StimCircuit, from_stim
     from stabsim.sums import Sums
@@ -55,13 +60,17 @@ if TYPE_CHECKING:
 else:
     # Where each name stands.
     HOMES = {
+        "asked": ("Numbers",),
         "causes": ("Cause",),
-        "circuit": ("Circuit", "Numbers"),
+        "circuit": ("Circuit",),
+        "circuit_errors": ("CircuitError",),
         "collecting": ("Collection", "collect"),
         "counting": ("Decoder", "Predict"),
+        "diagrams": ("Diagram",),
         "errors": ("BadErrorModel", "BadShots", "MissingProgram", "NotDecomposed", "OtherExperiment", "ProgramFailed", "Refused", "SessionEnded",
                    "StabsimError", "UnsupportedNoise"),
         "faults": ("FaultTable",),
+        "flows": ("Flow",),
         "formats": ("read_shots", "write_shots"),
         "measured": ("m2d",),
         "models": ("ErrorModel", "error_model"),
@@ -72,7 +81,8 @@ else:
         "reading": ("Block", "Instruction", "Item"),
         "script": ("Path",),
         "seeds": ("Seeded",),
-        "session": ("Changed", "ItemSteps", "Session", "SessionNumbers"),
+        "session": ("Session",),
+        "session_answers": ("Changed", "ItemSteps", "SessionNumbers"),
         "sparse": ("SparseMatrix",),
         "stim_circuit": ("StimCircuit", "from_stim"),
         "sums": ("Sums",),

@@ -3,44 +3,26 @@
 import functools
 import pathlib
 import warnings
-from collections.abc import Iterator
+from collections.abc import Iterable, Iterator
 from dataclasses import dataclass, field
 from os import PathLike
 
 import numpy as np
 from numpy.typing import NDArray
 
-from stabsim import bits, coordinates, program
+from stabsim import coordinates, program
+from stabsim.diagrams import Diagram, Kind, Ticks, diagram_of
 from stabsim.errors import Refused
-from stabsim.faults import FaultTable, table_of
+from stabsim.parities import Parity, detector_lines
 from stabsim.profile import profile_of
-from stabsim.reading import Item, indented, items_of, walk
-from stabsim.sampling import Sampled
+from stabsim.questions import Questioned
+from stabsim.reading import Item, closed_text, indented, items_of, walk
 from stabsim.session import Session
 from stabsim.sizes import Sizes, sizes_of
-from stabsim.sure import Sure, sure_of
-
-
-@dataclass(frozen=True)
-class Numbers:
-    """How many of each thing a circuit has, once all blocks are written out; `items` counts those of the outermost list.
-
-    >>> import stabsim
-    >>> stabsim.Circuit("H 0\\nREPEAT 5 {\\nM 0 1\\n}\\n").numbers()
-    Numbers(qubits=2, items=2, steps=11, records=10, detectors=0, observables=0, coins=10)
-    """
-
-    qubits: int
-    items: int
-    steps: int
-    records: int
-    detectors: int
-    observables: int
-    coins: int
 
 
 @dataclass(frozen=True, repr=False)
-class Circuit(Sampled):
+class Circuit(Questioned):
     """A circuit in Stim's circuit text without noise, which stays as it is.
 
     text: str; left_out: the lines of noise, counted from 1, that a file had and the text has not. Neither can be set.
@@ -62,7 +44,6 @@ class Circuit(Sampled):
     False
     """
 
-    text: str = ""
     left_out: tuple[int, ...] = field(default=(), compare=False)
 
     @classmethod
@@ -163,7 +144,7 @@ class Circuit(Sampled):
         """This circuit, and then another. Lookbacks of the other may reach into this one."""
         if not isinstance(other, Circuit):
             return NotImplemented
-        return Circuit(closed_text(self) + closed_text(other))
+        return Circuit(closed_text(self.text) + closed_text(other.text))
 
     def __mul__(self, count: int) -> "Circuit":
         """The circuit as a block of so many rounds; 1 and 0 of them need none."""
@@ -172,64 +153,23 @@ class Circuit(Sampled):
         if count < 0:
             raise ValueError(f"{count} rounds are fewer than none")
         if count < 2:
-            return Circuit(closed_text(self) * count)
-        return Circuit(f"REPEAT {count} {{\n{indented(closed_text(self))}}}\n")
+            return Circuit(closed_text(self.text) * count)
+        return Circuit(f"REPEAT {count} {{\n{indented(closed_text(self.text))}}}\n")
 
     __rmul__ = __mul__
 
+    def with_detectors(self, parities: Iterable[Parity | Iterable[int]]) -> "Circuit":
+        """This circuit with a DETECTOR at its end for each parity: for one of `missing_detectors`, or for records as numbers from 0.
+
+        >>> import stabsim
+        >>> print(stabsim.Circuit("MX 0\\nMX 0").with_detectors([(0, 1)]), end="")
+        MX 0
+        MX 0
+        DETECTOR rec[-2] rec[-1]
+        """
+        return Circuit(closed_text(self.text) + detector_lines(parities, self.num_records))
+
     # What is asked of the program.
-
-    def numbers(self) -> Numbers:
-        """How many qubits, items, steps, records, detectors, observables and coins the program counts, which judges the circuit."""
-        return self.known_numbers
-
-    @functools.cached_property
-    def known_numbers(self) -> Numbers:
-        """What `check` says, which is asked for once."""
-        lines = program.run(["check"], self.text).decode().split("\n")
-        return Numbers(**{name: int(number) for name, _, number in (line.partition(": ") for line in lines if line)})
-
-    def widths(self) -> tuple[int, int, int]:
-        """How many records, detectors and observables there are, as the program counts them."""
-        has = self.numbers()
-        return has.records, has.detectors, has.observables
-
-    def stabilisers(self, *, seed: int = 0) -> list[str]:
-        """The reduced rows of the group that stabilises the state after shot 0 of a seed: a signed string, as +XZ_, for each qubit.
-
-        >>> import stabsim
-        >>> stabsim.Circuit("H 0\\nCX 0 1\\nZ 0").stabilisers()
-        ['-XX', '+ZZ']
-        """
-        self.numbers()
-        return program.run(["stabilisers", *program.seed_words(seed)], self.text).decode().split()
-
-    def deterministic(self) -> Sure:
-        """Which detectors, bool (detectors,), and observables, bool (observables,), are the same for all coins.
-
-        >>> import stabsim
-        >>> sure = stabsim.Circuit("MX 0 0\\nDETECTOR rec[-1]\\nDETECTOR rec[-1] rec[-2]").deterministic()
-        >>> sure.detectors.tolist()
-        [False, True]
-        """
-        has = self.numbers()
-        written = program.run(["deterministic", "--out_format", "b8"], self.text)
-        return sure_of(bits.of_b8(written, 1, has.detectors + has.observables)[0], has.detectors)
-
-    def faults(self, *, everywhere: bool = False, sure_only: bool = False) -> FaultTable:
-        """Which detectors and observables each single fault flips: at the targets of `I` alone, or everywhere.
-
-        Raises stabsim.Refused, 18 NotDeterministic, where a detector or observable is not the same for all coins; with
-        sure_only such ones count as never flipped.
-
-        >>> import stabsim
-        >>> table = stabsim.Circuit("R 0\\nI 0\\nM 0\\nDETECTOR rec[-1]").faults()
-        >>> [(table.paulis[fault], table.qubits[fault], table.flipped(fault).tolist()) for fault in range(len(table))]
-        [('X', 0, [0]), ('Z', 0, [])]
-        """
-        has = self.numbers()
-        words = ["--everywhere"] * everywhere + ["--sure_only"] * sure_only
-        return table_of(program.run(["faults", *words], self.text), has.detectors, has.observables, everywhere)
 
     def detector_coordinates(self) -> NDArray[np.float64]:
         """The coordinates of each detector, float64 (detectors, width): width is the most that one has, and nan stands where
@@ -253,6 +193,23 @@ class Circuit(Sampled):
         """
         return coordinates.qubit_coordinates(self.text, self.numbers().qubits)
 
+    def diagram(self, kind: Kind, *, tick: Ticks | None = None, detectors: Iterable[int | str] | None = None) -> Diagram:
+        """A picture, which a notebook shows and `save` writes as SVG, in light and dark colours.
+
+        - `timeline`: a wire for each qubit; a block is drawn once.
+        - `timeslice`: what acts on the qubits, where they lie, behind the TICK of this number, or with tick=0 from the beginning on.
+        - `detslice`: the regions of detectors at that TICK: which Paulis there flip each. detectors: some alone, as 3, "D3" or "L0".
+        - `matchgraph`: detectors, and a line for each single fault of X or Z that flips one or two of them.
+
+        tick may be several, as range(3, 6). Detectors that coins decide have no region.
+
+        >>> import stabsim
+        >>> c = stabsim.Circuit("R 0 1 2\\nTICK\\nMPP Z0*Z1 Z1*Z2\\nDETECTOR rec[-1]\\nDETECTOR rec[-2]")
+        >>> c.diagram("detslice", tick=1, detectors=["D0"])
+        <stabsim.Diagram: detslice, 216 by 126 pixels>
+        """
+        return diagram_of(self, kind, tick, detectors)
+
     def edit(self, *, qubits: int | None = None, seed: int = 0, stride: int | None = None) -> Session:
         """An editing session that begins with this circuit; use it as a context manager, or close it.
 
@@ -271,10 +228,3 @@ class Circuit(Sampled):
             # Where the text itself is at fault, this raises the same in words.
             self.numbers()
             raise
-
-
-def closed_text(circuit: Circuit) -> str:
-    """The text of a circuit with an end of its last line. Raises stabsim.Refused if its blocks are not closed, since what is put behind
-    it would be in them."""
-    items_of(circuit.text)
-    return circuit.text if circuit.text.endswith("\n") or not circuit.text else circuit.text + "\n"

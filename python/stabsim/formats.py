@@ -12,7 +12,7 @@ from numpy.typing import NDArray
 from stabsim import bits
 from stabsim.combining import starts_of
 from stabsim.errors import BadShots
-from stabsim.faults import begins_of, numbers_in
+from stabsim.table_lines import begins_of, numbers_in
 
 Bits = NDArray[np.bool_]
 Packed = NDArray[np.uint8]

@@ -36,6 +36,13 @@ class History:
         self.done.append(change)
         self.to_redo.clear()
 
+    def join(self, first: int) -> None:
+        """Makes one change of those from a number on."""
+        parts = self.done[first:]
+        if parts:
+            forth = tuple(request for part in parts for request in part.forth)
+            self.done[first:] = [Change(forth, tuple(request for part in reversed(parts) for request in part.back))]
+
     def last_done(self) -> tuple[Request, ...]:
         return self.done[-1].back if self.done else ()
 

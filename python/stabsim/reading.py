@@ -258,6 +258,12 @@ def is_number(word: str) -> bool:
     return word.isascii() and word.isdigit()
 
 
+def closed_text(text: str) -> str:
+    """A text with an end of its last line. Raises Refused if its blocks are not closed, since what is put behind it would be in them."""
+    items_of(text)
+    return text if text.endswith("\n") or not text else text + "\n"
+
+
 def walk(items: Iterable[Item]) -> Iterator[Item]:
     """Items, each block in front of its own."""
     for item in items:

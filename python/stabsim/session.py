@@ -1,80 +1,24 @@
 """An editing session: a circuit that is run and kept, its edits, and what is asked of it."""
 
-from collections.abc import Callable
-from dataclasses import dataclass, field
+from collections.abc import Callable, Iterable
 from types import TracebackType
 
 import numpy as np
 from numpy.typing import NDArray
 
 from stabsim import bits, program
+from stabsim.circuit_errors import CircuitError
 from stabsim.errors import Refused
 from stabsim.explaining import explaining
 from stabsim.framed import FramedProcess
 from stabsim.history import Change, History, Request
+from stabsim.inserting import put_in
 from stabsim.rounds import longest_part, parts_of_block, place_behind
 from stabsim.script import Path, edit_lines, path_text
+from stabsim.session_answers import Changed, ItemSteps, SessionNumbers
 from stabsim.sure import Sure, sure_of
 
 Bits = NDArray[np.bool_]
-Places = NDArray[np.int64]
-
-
-@dataclass(frozen=True)
-class SessionNumbers:
-    """How many of each thing the circuit has, as it is now; of qubits, as many as the session has.
-
-    >>> import stabsim
-    >>> with stabsim.Circuit("M 0").edit(qubits=3) as session:
-    ...     session.numbers()
-    SessionNumbers(qubits=3, steps=1, records=1, detectors=0, observables=0)
-    """
-
-    qubits: int
-    steps: int
-    records: int
-    detectors: int
-    observables: int
-
-
-@dataclass(frozen=True)
-class ItemSteps:
-    """Which of all unrolled steps an item's are, and which records, detectors and coins are theirs: a range of numbers each.
-
-    In a block they are those of the first round of each block around the item. An item without steps, or with no records, has an
-    empty range, which begins where the next ones would.
-
-    >>> import stabsim
-    >>> with stabsim.Circuit("R 0 1\\nM 0 1").edit() as session:
-    ...     session.place(1)
-    ItemSteps(steps=range(2, 4), records=range(0, 2), detectors=range(0, 0), coins=range(2, 4))
-    """
-
-    steps: range
-    records: range
-    detectors: range
-    coins: range
-
-
-@dataclass(frozen=True)
-class Changed:
-    """What differs from the mark, place by place: numbers of detectors, observables and records, int64 (changed,) each.
-
-    lengths has, for each of the three whose number of places has changed, that number at the mark and now.
-
-    >>> import stabsim
-    >>> with stabsim.Circuit("M 0\\nDETECTOR rec[-1]").edit() as session:
-    ...     session.insert(0, "X 0")
-    ...     session.insert(3, "DETECTOR")
-    ...     changed = session.changed()
-    >>> changed.detectors.tolist(), changed.lengths
-    ([0], {'detectors': (1, 2)})
-    """
-
-    detectors: Places
-    observables: Places
-    records: Places
-    lengths: dict[str, tuple[int, int]] = field(default_factory=dict)
 
 
 class Session:
@@ -171,6 +115,40 @@ class Session:
         at = path_text(path)
         block = self.old_item(at)
         self.change(Change((Request(f"split {at} {round_number}\n".encode(), b""),), joining(at, block, round_number)))
+
+    def insert_errors(self, errors: Iterable[CircuitError]) -> None:
+        """Puts errors in, all by one edit: Paulis as gates at their steps, and wrong records as measurements that are inverted. Rounds
+        are split off blocks, and items cut in two, where errors are within them; steps and records of the circuit stay as they are.
+
+        errors: as `Circuit.distance` finds them. IndexError if the circuit has no such step or record.
+
+        >>> import stabsim
+        >>> with stabsim.Circuit("R 0 1\\nREPEAT 3 {\\n    MR 0 1\\n}").edit() as session:
+        ...     session.insert_errors([stabsim.CircuitError(5, "1/0", ((1, "X"),)), stabsim.CircuitError(4, "1/0", record=2)])
+        ...     print(session.circuit(), session.undo(), len(session.circuit().splitlines()))
+        R 0 1
+        REPEAT 1 {
+            MR 0 1
+        }
+        REPEAT 1 {
+            MR !0
+            X 1
+            MR 1
+        }
+        REPEAT 1 {
+            MR 0 1
+        }
+         True 4
+        """
+        before = len(self.history.done)
+        try:
+            put_in(self, errors)
+        except BaseException:
+            while len(self.history.done) > before and not self.process.ended:
+                self.undo()
+            self.history.to_redo.clear()
+            raise
+        self.history.join(before)
 
     def undo(self) -> bool:
         """Takes the last edit back, by the edit that is its inverse; False where there is none."""

@@ -1,12 +1,13 @@
 """Stim's whole circuit text: a circuit that the program reads, the noise beside it, and which lines are which."""
 
 import functools
-from collections.abc import Iterator, Mapping
+from collections.abc import Iterable, Iterator, Mapping
 from dataclasses import dataclass, field, replace
 from typing import Literal, overload
 
 from stabsim import names, noisy_shots
 from stabsim.circuit import Circuit
+from stabsim.diagrams import Diagram, Kind, Ticks, model_diagram, ticks_of_detectors
 from stabsim.judging import judged
 from stabsim.models import ErrorModel, error_model
 from stabsim.profile import Profile
@@ -118,6 +119,17 @@ class StimCircuit:
     def edit(self, *, qubits: int | None = None, seed: int = 0, stride: int | None = None) -> Session:
         """An editing session that begins with `circuit`, the one without noise, as by `Circuit.edit`."""
         return self.circuit.edit(qubits=qubits, seed=seed, stride=stride)
+
+    def diagram(self, kind: Kind, *, tick: Ticks | None = None, detectors: Iterable[int | str] | None = None) -> Diagram:
+        """A picture, as by `Circuit.diagram`: of `circuit`, the one without noise, or as a matchgraph of what the noise flips.
+
+        >>> import stabsim
+        >>> stabsim.from_stim("X_ERROR(0.1) 0\\nM 0\\nDETECTOR(0) rec[-1]").diagram("matchgraph")
+        <stabsim.Diagram: matchgraph, 168 by 140 pixels>
+        """
+        if kind == "matchgraph" and tick is None and detectors is None:
+            return model_diagram(self.known_model, ticks_of_detectors(self.circuit))
+        return self.circuit.diagram(kind, tick=tick, detectors=detectors)
 
     def noisy_items(self) -> tuple[Item, ...]:
         """The items of the circuit with its noise, each with the user's line that it comes from."""

@@ -20,7 +20,7 @@ MANY = "H 0\nX 1\nM 0 1\nREPEAT 5 {\nH 0 2\nM 0 1 2\nDETECTOR rec[-2]\nDETECTOR 
 
 def test_numbers_are_counted_with_blocks_written_out():
     has = stabsim.Circuit(MANY).numbers()
-    assert has == stabsim.circuit.Numbers(qubits=3, items=5, steps=4 + 5 * 7 + 1, records=17, detectors=10, observables=2, coins=17)
+    assert has == stabsim.Numbers(qubits=3, items=5, steps=4 + 5 * 7 + 1, records=17, detectors=10, observables=2, coins=17)
 
 
 def test_both_records_of_a_bell_pair_agree_and_come_both_ways():

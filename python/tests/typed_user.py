@@ -71,6 +71,14 @@ def measured(circuit: Circuit) -> dict[str, tuple[str, ...]]:
     return {item.path: item.targets for item in twice.walk() if item.name == "M"}
 
 
+def drawn(circuit: Circuit, flow: stabsim.Flow) -> bool:
+    picture: stabsim.Diagram = circuit.diagram("detslice", tick=range(3), detectors=[0, "L0"])
+    picture.save("picture.svg", "dark")
+    with circuit.edit() as session:
+        session.insert_errors([stabsim.CircuitError(3, "1", ((0, "X"),)), stabsim.CircuitError.of_line("4 1 M0")])
+    return circuit.with_detectors([(0, 1)]).has_flow(flow) and circuit.has_flow("X0 -> Z0 xor rec[-1]")
+
+
 def noisy(text: str) -> int:
     read: stabsim.StimCircuit = stabsim.from_stim(text)
     chances: list[float] = [chance for channel in read.noise for chance in channel.numbers()]

@@ -1,0 +1,145 @@
+"""Pictures of circuits: along time, at a tick, of regions of detectors, and of what errors flip. They look as the page does."""
+
+import functools
+import pathlib
+from collections.abc import Iterable, Sequence
+from dataclasses import dataclass, field
+from os import PathLike
+from typing import TYPE_CHECKING, Literal
+
+from stabsim.diagrams.elements import Element
+from stabsim.diagrams.matchgraph import Graph, drawn_graph, graph_of, rows_of_faults
+from stabsim.diagrams.places import places_of
+from stabsim.diagrams.regions import marked_text, regions_of
+from stabsim.diagrams.slices import Panel, layer_elements, regions_elements, side_by_side
+from stabsim.diagrams.svg import Theme, svg_of
+from stabsim.diagrams.ticks import Placed, layers_of, numbers_of, placed
+from stabsim.diagrams.timeline import drawn_timeline, qubits_of
+
+if TYPE_CHECKING:
+    from stabsim.circuit import Circuit
+    from stabsim.models import ErrorModel
+
+Kind = Literal["timeline", "timeslice", "detslice", "matchgraph"]
+Ticks = int | range | Sequence[int]
+
+
+@dataclass(frozen=True)
+class Diagram:
+    """A picture, made by `Circuit.diagram`. A notebook shows it where it is the last value of a cell.
+
+    kind: str; width, height: float, in pixels.
+
+    >>> import stabsim
+    >>> picture = stabsim.Circuit("H 0\\nCX 0 1\\nM 0 1").diagram("timeline")
+    >>> picture
+    <stabsim.Diagram: timeline, 198 by 178 pixels>
+    >>> picture.svg("dark")[:4], str(picture) == picture.svg()
+    ('<svg', True)
+    """
+
+    kind: Kind
+    width: float
+    height: float
+    elements: tuple[Element, ...] = field(repr=False)
+
+    def svg(self, theme: Theme = "auto") -> str:
+        """The picture as SVG in light or dark colours, or with auto in those that its reader's system has."""
+        return svg_of(self.elements, self.width, self.height, theme, f"{self.kind} of a circuit")
+
+    def save(self, path: str | PathLike[str], theme: Theme = "auto") -> None:
+        """Writes the SVG to a file, in the place of what it has.
+
+        >>> import os, tempfile
+        >>> import stabsim
+        >>> with tempfile.TemporaryDirectory() as folder:
+        ...     stabsim.Circuit("H 0").diagram("timeline").save(os.path.join(folder, "h.svg"), "light")
+        ...     os.listdir(folder)
+        ['h.svg']
+        """
+        pathlib.Path(path).write_text(self.svg(theme), encoding="utf-8")
+
+    def _repr_svg_(self) -> str:
+        return self.svg()
+
+    def __str__(self) -> str:
+        return self.svg()
+
+    def __repr__(self) -> str:
+        return f"<stabsim.Diagram: {self.kind}, {self.width:.0f} by {self.height:.0f} pixels>"
+
+
+def diagram_of(circuit: "Circuit", kind: Kind, tick: Ticks | None, detectors: Iterable[int | str] | None) -> Diagram:
+    """A picture of a circuit; the program judges that first."""
+    circuit.numbers()
+    if kind in ("timeslice", "detslice") and tick is None:
+        raise ValueError(f"a {kind} is of a tick: tick=3")
+    if kind in ("timeline", "matchgraph") and tick is not None or kind != "detslice" and detectors is not None:
+        raise ValueError(f"a {kind} is of the whole circuit" if tick is not None else f"a {kind} is not of some detectors")
+    if kind == "timeline":
+        return made(kind, drawn_timeline(circuit.items))
+    if kind == "matchgraph":
+        return made(kind, drawn_graph(faults_graph(circuit), circuit.detector_coordinates(), ticks_of_detectors(circuit)))
+    if kind not in ("timeslice", "detslice"):
+        raise ValueError(f"a picture is a timeline, timeslice, detslice or matchgraph, and not a {kind}")
+    ticks = numbers_of(0 if tick is None else tick, circuit.num_ticks)
+    panels = time_panels(circuit, ticks) if kind == "timeslice" else region_panels(circuit, ticks, detectors)
+    places = places_of(circuit.qubit_coordinates(), qubits_of(circuit.items))
+    return made(kind, side_by_side(panels, places))
+
+
+def made(kind: Kind, drawn: tuple[list[Element], float, float]) -> Diagram:
+    elements, width, height = drawn
+    return Diagram(kind, width, height, tuple(elements))
+
+
+def time_panels(circuit: "Circuit", ticks: list[int]) -> list[Panel]:
+    """What acts in some ticks, layer by layer."""
+    panels = []
+    for tick in ticks:
+        layers = layers_of(placed(circuit.items, range(tick, tick + 1)))
+        for number, layer in enumerate(layers, start=1):
+            part = f", layer {number} of {len(layers)}" * (len(layers) > 1)
+            panels.append(Panel(f"tick {tick}{part}", functools.partial(layer_elements, layer)))
+    return panels
+
+
+def region_panels(circuit: "Circuit", ticks: list[int], detectors: Iterable[int | str] | None) -> list[Panel]:
+    """The regions of detectors, all or some, at some ticks."""
+    numbers = circuit.numbers()
+    every = range(numbers.detectors)
+    wanted = set(every) if detectors is None else {bit_of(it, numbers.detectors, numbers.observables) for it in detectors}
+    panels = []
+    for tick in ticks:
+        table = type(circuit)(marked_text(circuit.items, tick, numbers.qubits)).faults(sure_only=True)
+        names = {bit: f"D{bit}" if bit in every else f"L{bit - numbers.detectors}" for bit in wanted}
+        shown = {names[bit]: letters for bit, letters in regions_of(table).items() if bit in names}
+        panels.append(Panel(f"at tick {tick}", functools.partial(regions_elements, shown)))
+    return panels
+
+
+def bit_of(name: int | str, detectors: int, observables: int) -> int:
+    """The place of a detector, as 3 or `D3`, or of an observable, as `L0`, among both."""
+    text = f"D{name}" if isinstance(name, int) else name
+    kind, number = text[:1], int(text[1:]) if text[1:].isdigit() else -1
+    if kind not in ("D", "L") or not 0 <= number < (detectors if kind == "D" else observables):
+        raise ValueError(f"{name} is no detector, as 3 or D3, and no observable, as L0, of {detectors} and {observables}")
+    return number if kind == "D" else detectors + number
+
+
+def faults_graph(circuit: "Circuit") -> Graph:
+    """What single faults of X and Z flip, anywhere in a circuit."""
+    table = circuit.faults(everywhere=True, sure_only=True)
+    return graph_of(rows_of_faults(table), table.detectors)
+
+
+def model_diagram(model: "ErrorModel", ticks: list[int]) -> Diagram:
+    """The matching graph of an error model."""
+    rows = [("", model.flipped(mechanism)) for mechanism in range(len(model))]
+    return made("matchgraph", drawn_graph(graph_of(rows, model.detectors), model.coordinates, ticks))
+
+
+def ticks_of_detectors(circuit: "Circuit") -> list[int]:
+    """The tick in which each detector is declared."""
+    every: Iterable[Placed] = placed(circuit.items, range(circuit.num_ticks + 1))
+    return [it.tick for it in every if it.item.name == "DETECTOR"]

@@ -1,0 +1,110 @@
+"""Errors put into a session at steps of the written out circuit, inside blocks and items too."""
+
+from collections.abc import Iterable
+from dataclasses import dataclass, replace
+from typing import TYPE_CHECKING
+
+from stabsim import names
+from stabsim.circuit_errors import CircuitError
+from stabsim.reading import Block, Instruction, Item, items_of
+
+if TYPE_CHECKING:
+    from stabsim.session import Session
+
+
+@dataclass(frozen=True)
+class Found:
+    """Where a step or a record is: the item at a path, how many of its own are in front within it, and of the outermost block of several
+    rounds around it the path and the round."""
+
+    path: str
+    item: Instruction | None
+    offset: int = 0
+    block: str = ""
+    round_number: int = 0
+
+
+def steps_of(item: Instruction) -> int:
+    """How many steps an instruction has: one for each target or pair, and one where it declares a detector or observable."""
+    if item.name in names.ANNOTATIONS:
+        return int(item.name in ("DETECTOR", "OBSERVABLE_INCLUDE"))
+    return len(item.targets) // (2 if item.name in names.TWO_QUBITS else 1)
+
+
+def records_of(item: Instruction) -> int:
+    """How many records an instruction makes."""
+    return len(item.targets) if item.name in names.MEASUREMENTS else 0
+
+
+def total(items: Iterable[Item], is_record: bool) -> int:
+    """How many steps, or records, items have."""
+    count = 0
+    for item in items:
+        if isinstance(item, Block):
+            count += item.repeat * total(item.items, is_record)
+        else:
+            count += records_of(item) if is_record else steps_of(item)
+    return count
+
+
+def located(items: tuple[Item, ...], number: int, is_record: bool, above: str = "") -> Found:
+    """Where the step, or record, of a number is, counted from 0: behind all of the steps it is behind all items. IndexError if there is
+    none."""
+    for place, item in enumerate(items):
+        path = f"{above}{place}"
+        once = total(item.items if isinstance(item, Block) else (item,), is_record)
+        if number >= once * (item.repeat or 1):
+            number -= once * (item.repeat or 1)
+        elif isinstance(item, Block):
+            inner = located(item.items, number % once, is_record, f"{path}/")
+            return replace(inner, block=path, round_number=number // once) if item.repeat > 1 else inner
+        else:
+            return Found(path, item, number)
+    if number or is_record:
+        raise IndexError(f"there {'is no such record' if is_record else 'are not so many steps'} in the circuit")
+    return Found(f"{above}{len(items)}", None)
+
+
+def by_itself(session: "Session", number: int, is_record: bool) -> Found:
+    """Where a step or record is, once the rounds around it are split off their blocks."""
+    found = located(items_of(session.circuit()), number, is_record)
+    while found.block:
+        session.split(found.block, found.round_number)
+        found = located(items_of(session.circuit()), number, is_record)
+    return found
+
+
+def put_in(session: "Session", errors: Iterable[CircuitError]) -> None:
+    """Puts errors in, the last one first, so that the places of the others stay."""
+    every = list(errors)
+    for error in sorted((it for it in every if it.record is None), key=lambda it: -it.steps):
+        put_paulis(session, error)
+    for error in every:
+        if error.record is not None:
+            invert(session, error.record)
+
+
+def put_paulis(session: "Session", error: CircuitError) -> None:
+    """Puts Paulis in, in front of a step. An item of which some steps come before is cut in two: its later part comes first, so that no
+    record is missing on the way."""
+    found = by_itself(session, error.steps, False)
+    path = found.path
+    if found.item and found.offset:
+        cut = found.offset * (2 if found.item.name in names.TWO_QUBITS else 1)
+        first, second = (str(replace(found.item, targets=its)) for its in (found.item.targets[:cut], found.item.targets[cut:]))
+        *outer, last = path.split("/")
+        path = "/".join([*outer, str(int(last) + 1)])
+        session.insert(path, second)
+        session.replace(found.path, first)
+    for qubit, letter in error.paulis:
+        session.insert(path, f"{letter} {qubit}")
+
+
+def invert(session: "Session", record: int) -> None:
+    """Inverts the target that makes a record."""
+    found = by_itself(session, record, True)
+    assert found.item, "a record is made by an item"
+    targets = list(found.item.targets)
+    target = targets[found.offset]
+    targets[found.offset] = target.removeprefix("!") if target.startswith("!") else f"!{target}"
+    session.replace(found.path, str(replace(found.item, targets=tuple(targets))))

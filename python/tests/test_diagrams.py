@@ -1,0 +1,231 @@
+"""Pictures: regions against errors that are put in, ticks against circuits that are written out, and what the SVG has."""
+
+import pathlib
+import re
+import xml.etree.ElementTree
+
+import numpy as np
+import pytest
+import stabsim
+from stabsim import codes
+from stabsim.diagrams import elements, matchgraph, places, regions, ticks
+from stabsim.diagrams.shapes import palettes, table
+from stabsim.diagrams.slices import most_frequent
+
+PICTURES = pathlib.Path(__file__).resolve().parent / "pictures"
+EXAMPLES = pathlib.Path(__file__).resolve().parents[2] / "examples"
+REPETITION = stabsim.Circuit(codes.repetition_code(3, 3))
+TELEPORTATION = stabsim.Circuit.from_file(EXAMPLES / "teleportation.stim")
+NESTED = stabsim.Circuit("""R 0 1
+TICK
+REPEAT 3 {
+    I 0
+    CX 0 1
+    REPEAT 2 {
+        TICK
+        S 1
+        M 0
+    }
+    TICK
+    MR 1
+    DETECTOR rec[-1] rec[-2]
+}
+H 0
+""")
+
+
+def written_out(items):
+    """The instructions of items with all rounds one after another."""
+    for item in items:
+        if item.repeat is None:
+            yield item
+        else:
+            for _ in range(item.repeat):
+                yield from written_out(item.items)
+
+
+def by_ticks(circuit):
+    """The texts of the instructions of each tick, the slow way."""
+    found = [[]]
+    for item in written_out(circuit.items):
+        if item.name == "TICK":
+            found.append([])
+        else:
+            found[-1].append(str(item))
+    return found
+
+
+@pytest.mark.parametrize("circuit", [REPETITION, TELEPORTATION, NESTED, stabsim.Circuit("")], ids=["repetition", "teleportation", "nested", "empty"])
+def test_a_tick_has_what_the_written_out_circuit_has_there(circuit):
+    slow = by_ticks(circuit)
+    assert len(slow) == circuit.num_ticks + 1
+    for tick, texts in enumerate(slow):
+        assert [str(it.item) for it in ticks.placed(circuit.items, range(tick, tick + 1))] == texts
+    every = list(ticks.placed(circuit.items, range(circuit.num_ticks + 1)))
+    records = 0
+    for it in every:
+        assert it.records == records
+        records += len(it.item.targets) if it.item.name in ("M", "MR", "MY") else 0
+
+
+@pytest.mark.parametrize("circuit", [REPETITION, NESTED], ids=["repetition", "nested"])
+def test_a_mark_stands_at_its_tick_alone(circuit):
+    for tick in range(circuit.num_ticks + 1):
+        lines = by_ticks(stabsim.Circuit("\n".join(ticks.cut_at(circuit.items, tick, "I 0 1"))))
+        # The idle gates of the circuit are left out, and the mark ends the tick before, or begins the circuit.
+        expected = [[line for line in its if not line.startswith("I ")] for its in by_ticks(circuit)]
+        if tick:
+            expected[tick - 1].append("I 0 1")
+        else:
+            expected[0].insert(0, "I 0 1")
+        assert lines == expected
+
+
+def region_by_errors(circuit, tick):
+    """The letters of each detector at a tick: X and Z are put in there, one by one, and the written out circuit is run again."""
+    lines = [str(item) for item in written_out(circuit.items)]
+    at = [place for place, line in enumerate(lines) if line == "TICK"][tick - 1] if tick else 0
+    found = {}
+    with stabsim.Circuit("\n".join(lines)).edit() as session:
+        for qubit in range(circuit.num_qubits):
+            for letter, shown in (("X", "Z"), ("Z", "X")):
+                session.insert(at, f"{letter} {qubit}")
+                changed = session.changed()
+                session.undo()
+                for bit in [*changed.detectors, *(changed.observables + circuit.num_detectors)]:
+                    its = found.setdefault(int(bit), {})
+                    its[qubit] = "Y" if qubit in its else shown
+    return found
+
+
+@pytest.mark.parametrize("circuit", [REPETITION, TELEPORTATION, stabsim.Circuit(codes.surface_code(2, 2)), stabsim.Circuit(codes.colour_code(3, 2))],
+                         ids=["repetition", "teleportation", "surface", "colour"])
+def test_regions_are_what_errors_at_a_tick_flip(circuit):
+    for tick in range(circuit.num_ticks + 1):
+        marked = stabsim.Circuit(regions.marked_text(circuit.items, tick, circuit.num_qubits))
+        assert regions.regions_of(marked.faults(sure_only=True)) == region_by_errors(circuit, tick)
+
+
+def test_regions_of_the_repetition_code_by_hand():
+    # In front of the first measurement of qubits 1 and 3 both of their neighbours are in the parity: the check is on qubit 1 alone, and
+    # the next round's on what it will be made of.
+    marked = stabsim.Circuit(regions.marked_text(REPETITION.items, 3, 5))
+    found = regions.regions_of(marked.faults())
+    assert found[0] == {1: "Z"} and found[1] == {3: "Z"}
+    assert found[2] == {0: "Z", 1: "Z", 2: "Z"}
+
+
+def test_products_of_one_instruction_share_a_layer_and_others_do_not():
+    def sizes(text):
+        return [len(layer) for layer in ticks.layers_of(ticks.placed(stabsim.Circuit(text).items, range(1)))]
+
+    assert sizes("MPP X0*X1 X1*X2") == [2]
+    assert sizes("MPP X0*X1\nMPP X1*X2") == [1, 1]
+    assert sizes("CX 0 1 1 2") == [1, 1]
+    # A Pauli may stand on a gate, and nothing on that.
+    assert sizes("H 0\nX 0\nH 0") == [2, 1]
+    with pytest.raises(ValueError, match="over 64 layers"):
+        sizes("REPEAT 1000000 {\nH 0\n}")
+
+
+def test_coordinates_say_where_qubits_are_and_others_stand_in_rows():
+    nan = np.nan
+    found = places.places_of(np.array([[0, 0], [3, 1], [nan, nan], [3, 1]]), {0, 1, 2})
+    step = found.pitch
+    x, y = found.at[0]
+    # Two qubits of one place stand a little apart, which is the nearest that two are.
+    assert found.at[1] != found.at[3] and found.at[1][0] == pytest.approx(x + 3 * step / np.hypot(0.3, 0.3))
+    assert found.at[2][0] == pytest.approx(x) and found.at[2][1] > y
+    plain = places.places_of(np.zeros((3, 0)), {0, 2})
+    assert set(plain.at) == {0, 2} and plain.at[0][1] == plain.at[2][1]
+
+
+def test_an_outline_goes_round_its_points():
+    for points in ([(0.0, 0.0)], [(0.0, 0.0), (10.0, 0.0)], [(0.0, 0.0), (5.0, 0.0), (10.0, 0.0)], [(0.0, 0.0), (10.0, 0.0), (5.0, 8.0), (5.0, 2.0)]):
+        numbers = [(float(x), float(y)) for x, y in re.findall(r"(-?[\d.]+) (-?[\d.]+)(?=[MLAZ]|$)", "".join(elements.outline(points, 3)))]
+        xs, ys = zip(*numbers)
+        assert min(xs) >= -3.01 and max(xs) <= 13.01 and min(ys) >= -3.01
+        # Each corner of the outline is as far away from the nearest point of the hull as the margin says.
+        for x, y in numbers:
+            assert min(np.hypot(x - a, y - b) for a, b in points) == pytest.approx(3, abs=0.02)
+
+
+def test_a_graph_has_an_edge_for_what_flips_one_or_two_detectors():
+    rows = [("X", np.array([0, 1])), ("Z", np.array([0, 1])), ("X", np.array([1, 3])), ("X", np.array([0, 1, 2])), ("Z", np.array([3]))]
+    found = matchgraph.graph_of(rows, 3)
+    assert {ends: edge.kinds for ends, edge in found.edges.items()} == {(0, 1): {"X", "Z"}, (1,): {"X"}}
+    assert found.edges[(1,)].observables == {frozenset([0])}
+    assert (found.more, found.unseen) == (1, 1)
+
+
+def test_the_colour_of_a_region_is_that_of_most_of_its_qubits():
+    assert most_frequent({0: "X", 1: "X", 2: "Z"}) == "X"
+    assert most_frequent({0: "X", 1: "Z"}) == ""
+
+
+ALL = [
+    REPETITION.diagram("timeline"), REPETITION.diagram("timeslice", tick=range(4)), REPETITION.diagram("detslice", tick=[2, 5], detectors=[0, "D3", "L0"]),
+    REPETITION.diagram("matchgraph"), TELEPORTATION.diagram("timeline"), TELEPORTATION.diagram("timeslice", tick=0), NESTED.diagram("timeline"),
+    stabsim.Circuit("").diagram("timeline"), stabsim.Circuit("").diagram("timeslice", tick=0), stabsim.Circuit("").diagram("matchgraph"),
+    stabsim.Circuit(codes.colour_code(3, 2)).diagram("timeslice", tick=1), stabsim.Circuit(codes.colour_code(3, 2)).diagram("detslice", tick=2),
+    stabsim.from_stim(codes.repetition_code(3, 2, noise=codes.Noise.uniform(0.01))).diagram("matchgraph"),
+]
+
+
+@pytest.mark.parametrize("theme", ["auto", "light", "dark"])
+@pytest.mark.parametrize("picture", ALL, ids=lambda it: it.kind)
+def test_a_picture_is_svg_whose_colours_are_those_of_its_theme(picture, theme):
+    text = picture.svg(theme)
+    root = xml.etree.ElementTree.fromstring(text)
+    assert root.get("width") == elements.number(picture.width)
+    light, dark = palettes()
+    used = {word.partition("-")[2] for words in re.findall(r'class="([^"]*)"', text) for word in words.split() if word.startswith(("fill-", "line-"))}
+    style = re.search("<style>(.*)</style>", text, re.DOTALL)[1]
+    for name in used:
+        assert (f"{name}{{fill:{light[name]}}}" in style or f"{name}{{stroke:{light[name]}}}" in style) == (theme != "dark" or light[name] == dark[name])
+        assert (f"{name}{{fill:{dark[name]}}}" in style or f"{name}{{stroke:{dark[name]}}}" in style) == (theme != "light" or light[name] == dark[name])
+    # What a pattern is asked for by is there.
+    assert set(re.findall(r"url\(#([^)]*)\)", text)) <= set(re.findall(r'pattern id="([^"]*)"', text))
+    assert not re.search(r"nan|inf|Growing", text)
+
+
+def test_letters_differ_by_shape_and_pattern_too():
+    shapes = {letter: str(table()["shapes"][letter]["parts"]) for letter in "XYZ"}
+    assert len(set(shapes.values())) == 3 and len({table()["hatch"][letter] for letter in "XYZ"}) == 3
+
+
+@pytest.mark.parametrize("name, picture", [
+    ("bell_timeline", stabsim.Circuit.from_file(EXAMPLES / "bell.stim").diagram("timeline")),
+    ("repetition_timeline", REPETITION.diagram("timeline")),
+    ("repetition_detslice", REPETITION.diagram("detslice", tick=5)),
+    ("repetition_matchgraph", REPETITION.diagram("matchgraph")),
+    ("teleportation_timeslice", TELEPORTATION.diagram("timeslice", tick=0)),
+])
+def test_a_small_picture_is_as_it_was_when_it_was_looked_at(name, picture, tmp_path):
+    picture.save(tmp_path / "picture.svg")
+    assert (tmp_path / "picture.svg").read_text() == (PICTURES / f"{name}.svg").read_text()
+
+
+def test_numbers_in_blocks_grow_with_their_rounds():
+    text = NESTED.diagram("timeline").svg("light")
+    words = re.findall(r">([^<>]+)</text>", text)
+    assert [word for word in words if word.startswith("M") and len(word) > 1] == ["M0+3k+j", "M2+3k"]
+    assert "D0+k: M2+3k M1+3k" in words and "REPEAT 3, round k" in words and "REPEAT 2, round j" in words
+    assert [word for word in words if word[0].isdigit() and len(word) > 1] == ["2+3k+j", "4+3k"]
+
+
+def test_what_is_asked_wrongly_is_said():
+    with pytest.raises(IndexError, match="tick 99 is not in 0..="):
+        REPETITION.diagram("timeslice", tick=99)
+    with pytest.raises(ValueError, match="of a tick"):
+        REPETITION.diagram("detslice")
+    with pytest.raises(ValueError, match="whole circuit"):
+        REPETITION.diagram("timeline", tick=1)
+    with pytest.raises(ValueError, match="D99 is no detector"):
+        REPETITION.diagram("detslice", tick=1, detectors=["D99"])
+    with pytest.raises(ValueError, match="not a pie"):
+        REPETITION.diagram("pie")
+    with pytest.raises(ValueError, match="theme is auto, light or dark"):
+        REPETITION.diagram("timeline").svg("pink")
+    with pytest.raises(stabsim.Refused):
+        stabsim.Circuit("NOPE 0").diagram("timeline")

@@ -1,0 +1,181 @@
+"""Flows, against the matrices of small circuits: a flow holds where it does for what each run does to a state."""
+
+import functools
+import itertools
+import random
+
+import numpy as np
+import pytest
+import stabsim
+from coins_by_runs import table_by_runs
+from stabsim import flow_group
+from stabsim.flows import Flow
+
+ONE = {"I": np.eye(2), "X": np.array([[0, 1], [1, 0]]), "Y": np.array([[0, -1j], [1j, 0]]), "Z": np.diag([1, -1])}
+GATES = {"H": (ONE["X"] + ONE["Z"]) / np.sqrt(2), "S": np.diag([1, 1j]), **{letter: ONE[letter] for letter in "XYZ"}}
+QUBITS = 2
+
+
+@functools.cache
+def pauli(letters):
+    """The matrix of letters, pairs of a qubit and a letter; qubit 0 is the first factor."""
+    return np.kron(ONE[dict(letters).get(0, "I")], ONE[dict(letters).get(1, "I")])
+
+
+def on(gate, qubit):
+    return np.kron(gate, np.eye(2)) if qubit == 0 else np.kron(np.eye(2), gate)
+
+
+def branches_of(text):
+    """What each run does: its records and the matrix that it multiplies a state by."""
+    branches = [((), np.eye(2**QUBITS))]
+    for line in text.splitlines():
+        name, *targets = line.split()
+        branches = [after for before in branches for after in step(name, targets, *before)]
+    return [(records, matrix) for records, matrix in branches if np.abs(matrix).max() > 1e-9]
+
+
+def step(name, targets, records, matrix):
+    if name in GATES:
+        yield records, on(GATES[name], int(targets[0])) @ matrix
+    elif name == "CX" and targets[0].startswith("rec"):
+        yield records, (on(ONE["X"], int(targets[1])) if records[int(targets[0][4:-1])] else np.eye(4)) @ matrix
+    elif name == "CX":
+        control, target = map(int, targets)
+        zero, one = (on(np.diag(its), control) for its in ([1, 0], [0, 1]))
+        yield records, (zero + one @ on(ONE["X"], target)) @ matrix
+    else:
+        factors = targets[0].split("*") if name == "MPP" else [("X" if name == "MX" else "Z") + targets[0]]
+        letters = tuple((int(it[1:]), it[0]) for it in factors)
+        for outcome in (0, 1):
+            after = (np.eye(4) + (-1) ** outcome * pauli(letters)) / 2 @ matrix
+            if name in ("R", "MR") and outcome:
+                after = on(ONE["X"], letters[0][0]) @ after
+            yield (records if name == "R" else (*records, outcome)), after
+
+
+def holds(flow, branches, count):
+    """Whether each run turns the input into the output, with the sign of its records."""
+    before, after = pauli(flow.input), pauli(flow.output)
+    for records, matrix in branches:
+        sign = (-1) ** (flow.is_negative + sum(records[place] for place in flow.placed(count)))
+        if np.abs(sign * after @ matrix - matrix @ before).max() > 1e-9:
+            return False
+    return True
+
+
+def all_flows(count):
+    """All flows of two qubits and so many records, without those with a minus."""
+    letters = [tuple((qubit, letter) for qubit, letter in enumerate(pair) if letter != "I") for pair in itertools.product("IXYZ", repeat=QUBITS)]
+    for before, after in itertools.product(letters, repeat=2):
+        for size in range(count + 1):
+            for records in itertools.combinations(range(-count, 0), size):
+                yield Flow(before, after, False, records)
+
+
+def random_text(seed, records):
+    numbers = random.Random(seed)
+    lines = []
+    while sum(line.startswith("M") for line in lines) < records or len(lines) < 5:
+        one, other = numbers.sample(range(2), 2)
+        choices = [f"H {one}", f"S {one}", f"CX {one} {other}", f"Y {one}"]
+        if sum(line.startswith("M") for line in lines) < records:
+            choices += [f"M {one}", f"MX {one}", f"MPP X{one}*Z{other}", f"MR {one}", f"R {one}"]
+        if any(line.startswith("M") for line in lines):
+            choices.append(f"CX rec[-1] {one}")
+        lines.append(numbers.choice(choices))
+    return "\n".join(lines)
+
+
+def opposite(flow):
+    return Flow(flow.input, flow.output, not flow.is_negative, flow.records)
+
+
+@pytest.mark.parametrize("seed", range(9))
+def test_flows_are_those_of_the_matrices(seed):
+    count = seed % 3
+    text = random_text(seed, count)
+    circuit, branches = stabsim.Circuit(text), branches_of(text)
+    true = [it for flow in all_flows(count) for it in (flow, opposite(flow)) if holds(it, branches, count)]
+    numbers = random.Random(seed)
+    for flow in numbers.sample(true, min(12, len(true))):
+        assert circuit.has_flow(flow) and not circuit.has_flow(opposite(flow))
+    others = [flow for flow in all_flows(count) if flow not in true and opposite(flow) not in true]
+    for flow in numbers.sample(others, min(6, len(others))):
+        assert not circuit.has_flow(flow) and not circuit.has_flow(opposite(flow))
+
+
+def generators(text, qubits=QUBITS):
+    """What `Circuit.flow_generators` answers, with coins by runs."""
+    rows = flow_group.joint_rows(stabsim.Circuit(flow_group.measured_text(text, [], qubits)).stabilisers(), qubits)
+    return flow_group.generators_of(table_by_runs(stabsim.Circuit(flow_group.measured_text(text, rows, qubits))), rows, qubits)
+
+
+@pytest.mark.parametrize("seed", range(16))
+def test_generators_make_all_flows_of_the_matrices(seed):
+    count = seed % 4
+    text = random_text(seed, count)
+    branches = branches_of(text)
+    found = generators(text)
+    assert all(holds(flow, branches, count) for flow in found)
+    true = [flow for flow in all_flows(count) if holds(flow, branches, count) or holds(opposite(flow), branches, count)]
+    assert len(true) == 2 ** len(found)
+    products = {flow_group.product_of_flows(some, QUBITS) for size in range(len(found) + 1) for some in itertools.combinations(found, size)}
+    assert len(products) == len(true)
+    assert all(holds(flow, branches, count) for flow in products)
+
+
+@pytest.mark.parametrize("seed", range(10))
+def test_flows_on_some_qubits_and_without_records_are_those_of_all_that_are(seed):
+    text = random_text(seed + 50, 2)
+    found = generators(text)
+    products = {flow_group.product_of_flows(some, QUBITS) for size in range(len(found) + 1) for some in itertools.combinations(found, size)}
+    for qubits, has_records in (([0], True), (None, False), ([1], False)):
+        some = flow_group.within(found, qubits, has_records, QUBITS)
+        made = {flow_group.product_of_flows(its, QUBITS) for size in range(len(some) + 1) for its in itertools.combinations(some, size)}
+        inside = set(range(QUBITS)) if qubits is None else set(qubits)
+        expected = {flow for flow in products if {qubit for qubit, _ in flow.input + flow.output} <= inside and (has_records or not flow.records)}
+        assert made == expected
+
+
+def test_flows_by_hand():
+    told = [str(flow) for flow in generators("MPP X0*X1")]
+    assert told == ["X0 -> X1 xor rec[-1]", "Z0*Z1 -> Z0*Z1", "X1 -> X1", "1 -> X0*X1 xor rec[-1]"]
+    assert [str(flow) for flow in generators("S 0\nX 1")] == ["X0 -> Y0", "Z0 -> Z0", "X1 -> X1", "Z1 -> -Z1"]
+    assert [str(flow) for flow in generators("R 0\nR 1")] == ["1 -> Z0", "1 -> Z1"]
+    # What a measurement repeats is a flow of records alone.
+    assert [str(flow) for flow in generators("M 0\nM 0\nR 1")][-1] == "1 -> rec[-2] xor rec[-1]"
+
+
+@pytest.mark.parametrize("text, again", [
+    ("X0*Z1 -> -Y2 xor rec[-1]", "X0*Z1 -> -Y2 xor rec[-1]"), ("_XY->-Z_", "X1*Y2 -> -Z0"), ("-X0 -> -1 xor rec[3]", "X0 -> rec[3]"),
+    ("1 -> rec[-1] xor rec[-1]", "1 -> 1"), ("+Z2 -> +X0*Y0*Z0*Y1*X1*Z1", "Z2 -> 1"), ("1 -> -1 xor rec[0] xor rec[-2]", "1 -> -1 xor rec[-2] xor rec[0]"),
+])
+def test_texts_of_flows(text, again):
+    assert str(Flow.of_text(text)) == again
+    assert Flow.of_text(again) == Flow.of_text(text)
+
+
+@pytest.mark.parametrize("text", ["X0", "X0 -> Q1", "X0 -> X0*Z0", "X0 -> Z0 xor rec[x]", "X0 -> !Z0", "-> Z0", "X0 -> Z0 xor D1"])
+def test_a_misspelt_flow_is_refused(text):
+    with pytest.raises(ValueError, match="is no"):
+        stabsim.Circuit("M 0").has_flow(text)
+
+
+def test_records_and_qubits_that_are_not_there_are_refused():
+    with pytest.raises(IndexError, match="none of 1"):
+        stabsim.Circuit("M 0").has_flow("Z0 -> rec[-2]")
+    with pytest.raises(ValueError, match="up to 512"):
+        stabsim.Circuit("M 600").has_flow("Z0 -> Z0")
+    # A circuit that opens a block and does not close it is refused, and none is put into it.
+    with pytest.raises(stabsim.Refused):
+        stabsim.Circuit("REPEAT 2 {\nM 0").has_flow("Z0 -> Z0")
+
+
+def test_qubits_that_a_circuit_does_not_name_stay_as_they_are():
+    assert stabsim.Circuit("").has_flow("X3 -> X3") and stabsim.Circuit("").has_flow("1 -> 1") and not stabsim.Circuit("").has_flow("1 -> -1")
+
+
+def test_many_qubits_have_flows():
+    circuit = stabsim.Circuit("H " + " ".join(map(str, range(512))))
+    assert circuit.has_flow("X511 -> Z511") and not circuit.has_flow("Y511 -> Y511") and circuit.has_flow("Y511 -> -Y511")

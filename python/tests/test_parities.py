@@ -1,0 +1,164 @@
+"""Parities that no coin decides, missing detectors and distributions, against brute force over all parities and all coins."""
+
+import itertools
+import random
+
+import numpy as np
+import pytest
+import stabsim
+from coins_by_runs import all_runs, table_by_runs
+from stabsim import codes, coins, parities
+
+
+def span_of(records):
+    return max(records) - min(records)
+
+
+def subsets(count):
+    """All sets of some of the first numbers, except the empty one."""
+    for size in range(1, count + 1):
+        yield from map(frozenset, itertools.combinations(range(count), size))
+
+
+def is_sure(records, columns):
+    total = 0
+    for record in records:
+        total ^= columns[record]
+    return not total
+
+
+def rank_of(sets):
+    rows = {}
+    for its in sets:
+        its = set(its)
+        while its and max(its) in rows:
+            its ^= rows[max(its)]
+        if its:
+            rows[max(its)] = its
+    return len(rows)
+
+
+def least_spans(columns, known):
+    """The spans of a basis of all sure parities beside known ones, each as little as can be, by looking through all of them."""
+    chosen, spans = list(known), []
+    for its in sorted(filter(lambda it: is_sure(it, columns), subsets(len(columns))), key=span_of):
+        if rank_of([*chosen, its]) > rank_of(chosen):
+            chosen.append(its)
+            spans.append(span_of(its))
+    return spans
+
+
+@pytest.mark.parametrize("seed", range(40))
+def test_local_parities_span_as_little_as_any_basis(seed):
+    numbers = random.Random(seed)
+    columns = [numbers.getrandbits(numbers.choice([1, 2, 3])) for _ in range(9)]
+    found = parities.local_parities(columns)
+    assert all(is_sure(its, columns) for its in found)
+    assert sorted(map(span_of, found)) == least_spans(columns, [])
+    # Each begins and ends where no other does.
+    assert len(set(map(min, found))) == len(set(map(max, found))) == len(found)
+
+
+@pytest.mark.parametrize("seed", range(40))
+def test_missing_parities_complete_the_known_ones_and_span_little(seed):
+    numbers = random.Random(seed)
+    columns = [numbers.getrandbits(3) for _ in range(8)]
+    sure = [it for it in subsets(8) if is_sure(it, columns)]
+    known = numbers.sample(sure, min(len(sure), 3)) + [frozenset(numbers.sample(range(8), 3))]
+    missing = parities.missing_parities(parities.local_parities(columns), known)
+    known = [it for it in known if it in sure]
+    assert all(it in sure for it in missing)
+    assert rank_of(missing + known) == rank_of(sure) == len(missing) + rank_of(known)
+    assert sorted(map(span_of, missing)) == least_spans(columns, known)
+
+
+def missing_of(circuit):
+    return parities.missing_of(table_by_runs(circuit), circuit.items)
+
+
+@pytest.mark.parametrize("text", [codes.surface_code(3, 2, written_out=True), codes.colour_code(3, 1, written_out=True),
+                                  codes.bacon_shor_code(2, 2, written_out=True), codes.repetition_code(3, 2, written_out=True)],
+                         ids=["surface", "colour", "Bacon-Shor", "repetition"])
+def test_a_detector_that_was_taken_out_is_found(text):
+    whole = stabsim.Circuit(text)
+    table = table_by_runs(whole)
+    missing = parities.missing_of(table, whole.items)
+    # At the end of the Bacon-Shor code each pair along a row is measured once more, by its two qubits, and not the product of a row alone.
+    assert missing == ([((7, 8, 9), False)] if "Bacon" in text else [])
+    lines = text.splitlines()
+    detectors = [place for place, line in enumerate(lines) if line.startswith("DETECTOR")]
+    each = parities.known_parities(whole.items)
+    for number, place in enumerate(detectors):
+        # The table has detectors that are none here, but its records are the same.
+        less = stabsim.Circuit("\n".join(lines[:place] + lines[place + 1 :]))
+        found = parities.missing_of(table, less.items)
+        assert len(found) == len(missing) + 1 and not any(it.value for it in found)
+        if not missing:
+            [[records, _]] = found
+            assert span_of(records) <= span_of(each[number])
+            assert len(records) <= len(each[number]) or span_of(records) < span_of(each[number])
+        mended = less.with_detectors(found)
+        assert mended.deterministic().detectors.all()
+        assert parities.missing_of(table, mended.items) == []
+
+
+def test_missing_detectors_by_hand():
+    assert missing_of(stabsim.Circuit("MX 0 0 0")) == [((0, 1), False), ((1, 2), False)]
+    assert missing_of(stabsim.Circuit("X 0\nM 0\nM 1")) == [((0,), True), ((1,), False)]
+    assert missing_of(stabsim.Circuit("MX 0 0 0\nDETECTOR rec[-1] rec[-3]")) == [((0, 1), False)]
+    # A detector that coins decide gives nothing, and an observable does.
+    assert missing_of(stabsim.Circuit("MX 0 0\nDETECTOR rec[-1]")) == [((0, 1), False)]
+    assert missing_of(stabsim.Circuit("MX 0 0\nOBSERVABLE_INCLUDE(2) rec[-1]\nOBSERVABLE_INCLUDE(2) rec[-2]")) == []
+    assert missing_of(stabsim.Circuit("REPEAT 2 {\nMX 0\n}\nREPEAT 1 {\nMX 0\nDETECTOR rec[-1] rec[-2]\n}")) == [((0, 1), False)]
+
+
+def test_records_of_detectors_are_those_of_the_written_out_circuit():
+    text = "REPEAT 2 {\nM 0\nREPEAT 2 {\nM 1 2\nDETECTOR rec[-1] rec[-2]\n}\nOBSERVABLE_INCLUDE(1) rec[-5] rec[-1]\n}\nDETECTOR rec[-1] rec[-1] rec[-3]"
+    assert parities.known_parities(stabsim.Circuit(text).items) == [{1, 2}, {3, 4}, {6, 7}, {8, 9}, {7}, {0, 4, 5, 9}]
+
+
+def random_circuit(seed, records=4):
+    numbers = random.Random(seed)
+    lines = []
+    while sum(line.startswith("M") for line in lines) < records:
+        one, other = numbers.sample(range(3), 2)
+        lines.append(numbers.choice([f"H {one}", f"S {one}", f"CX {one} {other}", f"M {one}", f"MX {one}", f"MPP X{one}*Z{other}", f"X {one}",
+                                     f"MR {one}", *[f"CX rec[-1] {one}"] * any(line.startswith("M") for line in lines)]))
+    return stabsim.Circuit("\n".join(lines))
+
+
+@pytest.mark.parametrize("seed", range(30))
+def test_distributions_are_the_same_if_the_runs_of_all_coins_are(seed):
+    first, second = random_circuit(seed, 3), random_circuit(seed + 1000, 3)
+    slow = [all_runs(circuit) for circuit in (first, second)]
+    found = parities.compared(table_by_runs(first), table_by_runs(second))
+    assert bool(found) == (slow[0] == slow[1])
+    if not found:
+        values = [{sum(run[place] for place in found.parity) % 2 for run in runs} for runs in slow]
+        assert [found.first, found.second] == [None if len(its) == 2 else bool(min(its)) for its in values]
+        assert found.first != found.second
+
+
+def test_a_measurement_is_like_one_by_another_qubit():
+    direct = stabsim.Circuit("R 0 1 2\nH 0\nMPP X0*X1\nM 0 1")
+    by_another = stabsim.Circuit("R 0 1 2\nH 0\nH 2\nCX 2 0 2 1\nH 2\nM 2\nM 0 1")
+    assert parities.compared(table_by_runs(direct), table_by_runs(by_another))
+    other = parities.compared(table_by_runs(direct), table_by_runs(stabsim.Circuit("R 0 1\nM 0 1\nM 0")))
+    assert not other and other.first is None and other.second is False
+    with pytest.raises(ValueError, match="in common"):
+        parities.compared(table_by_runs(direct), table_by_runs(stabsim.Circuit("M 0")))
+
+
+def test_the_lines_of_a_table_are_read():
+    table = coins.table_of(b"17 3/0 c12 M4 M9 D2 L0\n20 4 c14\n21 4 c15 D0\n", (10, 3, 1), np.zeros(14, dtype=bool))
+    assert table.steps.tolist() == [17, 20, 21] and table.paths.tolist() == ["3/0", "4", "4"] and table.numbers.tolist() == [12, 14, 15]
+    assert [table.flipped(row).tolist() for row in range(3)] == [[4, 9, 12, 13], [], [10]]
+    assert table.columns(14)[4] == 1 and table.columns(14)[10] == 4 and table.dense().sum() == 5
+    assert len(coins.table_of(b"", (2, 0, 0), np.zeros(2, dtype=bool))) == 0
+
+
+def test_detectors_are_put_in_behind_all_records():
+    text = stabsim.Circuit("REPEAT 3 {\n    MX 0\n}").with_detectors([(0, 1), parities.Parity((2,), False)]).text
+    assert text == "REPEAT 3 {\n    MX 0\n}\nDETECTOR rec[-3] rec[-2]\nDETECTOR rec[-1]\n"
+    with pytest.raises(ValueError, match="not all records"):
+        stabsim.Circuit("M 0").with_detectors([(1,)])
