@@ -4,16 +4,20 @@
     tools/fuzz.py --seconds 60
     tools/fuzz.py --laws --seconds 20
     tools/fuzz.py --faults --seconds 20
+    tools/fuzz.py --codes --seconds 20
+    tools/fuzz.py --states
+    tools/fuzz.py --edits
 
-The oracle (`tools/oracle`) is written from the definitions: it reads texts and scripts, asks backwards which strings stabilise
-a state of up to four qubits, and writes the result formats. Which bits are sure, and which of them faults flip, it finds by runs
-over amplitudes, with many lists of coins, and with each fault and without it. Larger circuits are undone again and must measure
+The oracle (`tools/oracle`) is written from the definitions: it reads texts and scripts, changes the amplitudes of up to four qubits
+by the matrices of gates, and writes the result formats. Which bits are sure, and which of them faults flip, it finds by runs with
+many lists of coins, and with each fault and without it. Larger circuits are undone again and must measure
 zeros, are edited and compared with a session opened anew and with other strides, and are written in each format; what `check`
 counts is compared with what a run writes, and the fault that it tells with that of a run; and what `faults` says is compared with
 edits that put the faults in. The first difference is cut down to a small text and printed with its seed, and the status is then 1.
 So it is where some way of comparing was never taken, also in a minute more. With `--laws` those of `tools/oracle/laws.py` are
 tried alone, which ask no oracle of states, and with `--faults` the tables of `faults` and `deterministic`. The same seed makes
-the same cases.
+the same cases. What the cases of `--codes`, `--states` and `--edits` are, `tools/oracle/code_cases.py` says, and the files beside it;
+each is told that goes wrong.
 """
 
 import argparse
@@ -25,23 +29,31 @@ import subprocess
 import sys
 import tempfile
 import time
+from collections.abc import Callable, Iterable
+from typing import Any
 
-from oracle import fault_making, faults, formats, making, numbers, scripts, script_making, states
+# It is first, since it makes the package be found.
+from program import find_program
+from oracle import code_cases, edit_cases, fault_making, faults, formats, making, numbers, scripts, script_making, state_cases, states
 from oracle.coins import seed_coins
 from oracle.laws import LAWS
-from oracle.reading import Refused, items_of
-from program import find_program
+from oracle.making import without_lines
+from oracle.program_runs import Ended, Wrong, try_each
+from oracle.reading import Items, Refused, items_of
 
 PROGRAM = find_program()
 TIME_LIMIT = 20
 # How many seconds more there are until each way of comparing was taken once.
-MOST_OVER = 60
+MOST_OVER = 240
 # What the oracle goes through in a moment: more is run, and only its status is looked at.
 MOST_QUBITS = 4
 MOST_STEPS = 300
 MOST_FAULT_STEPS = 60
 NO_MARKS = b"stabsim: no place is marked by I; --everywhere asks for all places\n"
 TABLES = ("deterministic", "faults")
+
+Settings = dict[str, Any]
+Counts = collections.Counter[str]
 
 
 class TooLarge(Exception):
@@ -51,25 +63,25 @@ class TooLarge(Exception):
 class Case:
     """A command's words, the circuit that it reads, and its script where it has one."""
 
-    def __init__(self, kind, words, text, settings, script=None):
+    def __init__(self, kind: str, words: list[str], text: bytes, settings: Any, script: bytes | None = None) -> None:
         self.kind = kind
         self.words = words
         self.text = text
         self.settings = settings
         self.script = script
 
-    def with_parts(self, text, script):
+    def with_parts(self, text: bytes, script: bytes | None) -> "Case":
         return Case(self.kind, self.words, text, self.settings, script)
 
 
 class Program:
     """The program, and a file for the circuits of its scripts."""
 
-    def __init__(self, path, folder):
+    def __init__(self, path: pathlib.Path, folder: str) -> None:
         self.path = str(path)
         self.circuit = pathlib.Path(folder) / "circuit.stim"
 
-    def run(self, words, text, script=None):
+    def run(self, words: list[str], text: bytes, script: bytes | None = None) -> Ended:
         """The status, what was written, and what was told of a fault."""
         if script is not None:
             self.circuit.write_bytes(text)
@@ -77,17 +89,17 @@ class Program:
         done = subprocess.run([self.path, *words], input=text, capture_output=True, timeout=TIME_LIMIT, check=False)
         return done.returncode, done.stdout, done.stderr
 
-    def kinds(self):
+    def kinds(self) -> list[str]:
         """The commands of the program that the oracle knows."""
         told = subprocess.run([self.path, "--help"], capture_output=True, text=True, check=True).stdout
         return [kind for kind in ("sample", "detect", "stabilisers", "edit", *TABLES) if f"\n  {kind} " in told]
 
 
-def refusal(refused):
+def refusal(refused: Refused) -> Ended:
     return 1, b"", refused.told()
 
 
-def coins_of(settings, shot, count):
+def coins_of(settings: Settings, shot: int, count: int) -> list[bool]:
     if settings["coins"] is not None:
         return [coin == "1" for coin in settings["coins"]]
     return seed_coins(settings["seed"], shot, count)
@@ -96,25 +108,25 @@ def coins_of(settings, shot, count):
 class SmallSession(scripts.Session):
     """A session that is not run where that would take long."""
 
-    def run(self):
+    def run(self) -> states.Run[states.Amplitudes]:
         if self.qubits > MOST_QUBITS or numbers.summary(self.items)[0] > MOST_STEPS:
             raise TooLarge
         return super().run()
 
-    def deterministic(self):
+    def deterministic(self) -> bytes:
         if numbers.qubits(self.items) > MOST_QUBITS or numbers.summary(self.items)[0] > MOST_FAULT_STEPS:
             raise TooLarge
         return super().deterministic()
 
 
-def session_of(items, settings):
+def session_of(items: Items, settings: Settings) -> SmallSession:
     qubits = numbers.qubits(items) if settings["qubits"] is None else settings["qubits"]
     if numbers.qubits(items) > qubits:
         raise Refused(6)
     return SmallSession(items, qubits, lambda steps: coins_of(settings, 0, steps), settings["framed"])
 
 
-def expected(case):
+def expected(case: Case) -> Ended | None:
     """What the definitions give, or None where a run is too large for the oracle."""
     try:
         items = items_of(case.text)
@@ -131,13 +143,13 @@ def expected(case):
         return None
 
 
-def expected_edits(case, items):
+def expected_edits(case: Case, items: Items) -> Ended:
     session = session_of(items, case.settings)
-    scripts.play(session, case.script)
+    scripts.play(session, case.script or b"")
     return 3 if session.refused else 0, b"".join(session.replies), b""
 
 
-def expected_table(case, items):
+def expected_table(case: Case, items: Items) -> Ended:
     if numbers.qubits(items) > MOST_QUBITS or numbers.summary(items)[0] > MOST_FAULT_STEPS:
         raise TooLarge
     settings = case.settings
@@ -150,7 +162,7 @@ def expected_table(case, items):
     return 0, table, NO_MARKS if is_told else b""
 
 
-def expected_shots(case, items):
+def expected_shots(case: Case, items: Items) -> Ended:
     n = numbers.qubits(items)
     steps = numbers.summary(items)[0]
     if n > MOST_QUBITS or steps > MOST_STEPS:
@@ -160,19 +172,19 @@ def expected_shots(case, items):
     return 0, b"".join(shot_of(case, items, n, steps, shot) for shot in shots), b""
 
 
-def shot_of(case, items, n, steps, shot):
+def shot_of(case: Case, items: Items, n: int, steps: int, shot: int) -> bytes:
     settings = case.settings
     # No step uses up more than one coin number.
-    run = states.Run(n, numbers.observables(items), list(numbers.unroll(items)), coins_of(settings, shot, steps))
+    run = states.Run(states.Amplitudes(n), numbers.observables(items), numbers.unroll(items), coins_of(settings, shot, steps))
     if case.kind == "stabilisers":
-        return states.rows_text(run)
+        return states.rows_text(run.state)
     if case.kind == "sample":
         return formats.shot(settings["format"], run.records)
-    bits = run.detectors + (run.observables if settings["append"] else [])
+    bits = run.bits() if settings["append"] else run.detectors
     return formats.shot(settings["format"], bits, len(run.detectors))
 
 
-def settings_of(dice):
+def settings_of(dice: random.Random) -> Settings:
     coins = "".join(dice.choice("01") for _ in range(dice.randint(0, 12))) if dice.random() < 0.6 else None
     # A first shot is one of a seed, and not beside coins.
     first_shot = dice.choice((None, 0, 1, 63, 2**32 - 2, 2**64 - 5, dice.randrange(2**64 - 5))) if coins is None else None
@@ -185,7 +197,7 @@ def settings_of(dice):
     }
 
 
-def table_words(kind, settings):
+def table_words(kind: str, settings: Settings) -> list[str]:
     words = [kind]
     if kind == "deterministic" or settings["in_shots"]:
         words += ["--out_format", settings["format"]]
@@ -194,7 +206,7 @@ def table_words(kind, settings):
     return words
 
 
-def words_of(kind, settings):
+def words_of(kind: str, settings: Settings) -> list[str]:
     if kind in TABLES:
         return table_words(kind, settings)
     words = [kind, "--seed", str(settings["seed"])]
@@ -211,7 +223,7 @@ def words_of(kind, settings):
     return words
 
 
-def command_case(dice, kinds, text):
+def command_case(dice: random.Random, kinds: list[str], text: bytes) -> Case:
     # A table of faults takes the oracle many runs.
     few = ("edit", "faults") if dice.random() < 0.97 else ("edit",)
     kind = dice.choice([kind for kind in kinds if kind not in few])
@@ -221,14 +233,14 @@ def command_case(dice, kinds, text):
     return Case(kind, words_of(kind, settings), text, settings)
 
 
-def table_case(dice, kinds):
+def table_case(dice: random.Random, kinds: list[str]) -> Case:
     """A table of a circuit that has marked places and sure parities."""
     kind = dice.choice([kind for kind in kinds if kind in TABLES])
     settings = settings_of(dice)
     return Case(kind, words_of(kind, settings), fault_making.fault_circuit(dice), settings)
 
 
-def script_case(dice, text):
+def script_case(dice: random.Random, text: bytes) -> Case:
     """A circuit with a script that suits it, which is sometimes damaged."""
     settings = settings_of(dice)
     try:
@@ -245,17 +257,17 @@ def script_case(dice, text):
 WAYS = ["by a script", "by the grammar", "damaged", "undone", "with sure parities", *LAWS]
 
 
-def law_case(seed, _):
+def law_case(seed: int, kinds: list[str]) -> tuple[str, Case]:
     """The laws one after another, each with random numbers of its own."""
     return list(LAWS)[seed % len(LAWS)], Case("law", [], b"", random.Random(seed))
 
 
-def fault_case(seed, kinds):
+def fault_case(seed: int, kinds: list[str]) -> tuple[str, Case]:
     """A table of a circuit made for it."""
     return "with sure parities", table_case(random.Random(seed), kinds)
 
 
-def make_case(seed, kinds):
+def make_case(seed: int, kinds: list[str]) -> tuple[str, Case]:
     """The case of a seed: a circuit by the grammar, a damaged one, one that is undone, a script, a table, or a law."""
     dice = random.Random(seed)
     way = dice.random()
@@ -274,14 +286,14 @@ def make_case(seed, kinds):
     return "undone", Case("sample", ["sample", "--seed", str(seed)], text, {"shots": 1})
 
 
-def right_answer(way, case):
+def right_answer(way: str, case: Case) -> Ended | None:
     if way == "undone":
         qubits = case.text.rsplit(b"M ", 1)[1].split()
         return 0, b"0" * len(qubits) + b"\n", b""
     return expected(case)
 
 
-def broken_law(program, way, case, counts):
+def broken_law(program: Program, way: str, case: Case, counts: Counts) -> Wrong:
     """What is wrong with the program's answers, or None, as where the law's circuit is refused. Counts those that were compared."""
     try:
         wrong = LAWS[way](case.settings, program.run)
@@ -291,7 +303,7 @@ def broken_law(program, way, case, counts):
     return wrong
 
 
-def difference(program, way, case, counts=None):
+def difference(program: Program, way: str, case: Case, counts: Counts) -> Wrong:
     """What is wrong with the program's answer, or None. Counts what was compared with what."""
     try:
         if way in LAWS:
@@ -300,81 +312,84 @@ def difference(program, way, case, counts=None):
     except subprocess.TimeoutExpired:
         return f"no answer within {TIME_LIMIT} seconds"
     right = right_answer(way, case)
-    if counts is not None:
-        counts["too large for the oracle" if right is None else "refused" if right[0] else "run"] += 1
+    counts["too large for the oracle" if right is None else "refused" if right[0] else "run"] += 1
     if right is None:
         return None if answer[0] in (0, 1, 3) else f"status {answer[0]} for a circuit too large for the oracle"
     return None if answer == right else f"the program: {answer}\nthe definitions: {right}"
 
 
-def without_lines(text, differs):
-    """A text with as many lines left out as still differ."""
-    lines = text.split(b"\n")
-    at = 0
-    while at < len(lines):
-        fewer = lines[:at] + lines[at + 1:]
-        if differs(b"\n".join(fewer)):
-            lines = fewer
-        else:
-            at += 1
-    return b"\n".join(lines)
-
-
-def cut_down(program, way, case):
+def cut_down(program: Program, way: str, case: Case) -> Case:
     """A small case that still differs. An undone circuit would lose its reason, and stays; so does a law."""
     if way == "undone" or way in LAWS:
         return case
-    if case.script is not None:
-        script = without_lines(case.script, lambda fewer: difference(program, way, case.with_parts(case.text, fewer)))
-        case = case.with_parts(case.text, script)
-    text = without_lines(case.text, lambda fewer: difference(program, way, case.with_parts(fewer, case.script)))
-    return case.with_parts(text, case.script)
+
+    def differs(text: bytes, script: bytes | None) -> Wrong:
+        return difference(program, way, case.with_parts(text, script), collections.Counter())
+
+    script, text = case.script, case.text
+    if script is not None:
+        script = without_lines(script, lambda fewer: differs(text, fewer))
+    return case.with_parts(without_lines(text, lambda fewer: differs(fewer, script)), script)
 
 
-def report(program, seed, way, case, wrong):
+def report(program: Program, seed: int, way: str, case: Case, wrong: str) -> None:
     if way in LAWS:
         print(f"seed {seed}, {way}: {wrong}")
         return
     small = cut_down(program, way, case)
     script = "" if small.script is None else f" with the script\n{small.script!r}"
-    print(f"seed {seed}, {way}: stabsim {' '.join(small.words)} on\n{small.text!r}{script}\n{difference(program, way, small)}")
+    print(f"seed {seed}, {way}: stabsim {' '.join(small.words)} on\n{small.text!r}{script}\n{difference(program, way, small, collections.Counter())}")
 
 
-def main():
-    words = argparse.ArgumentParser(description=__doc__, formatter_class=argparse.RawDescriptionHelpFormatter)
-    words.add_argument("--seconds", type=float, default=60, help="how long to go on (default 60)")
-    words.add_argument("--seed", type=int, default=0, help="the seed of the first case (default 0)")
-    words.add_argument("--laws", action="store_true", help="try the laws alone")
-    words.add_argument("--faults", action="store_true", help="try tables of faults and of sure bits alone")
-    words.add_argument("--program", default=PROGRAM, help="the program, where it is not the built one")
-    asked = words.parse_args()
-    make, ways = make_case, WAYS
-    if asked.laws:
-        make, ways = law_case, LAWS
-    elif asked.faults:
-        make, ways = fault_case, ["with sure parities"]
-    counts = collections.Counter()
+def try_random(asked: argparse.Namespace, program: Program, make: Callable[[int, list[str]], tuple[str, Case]], ways: Iterable[str]) -> int:
+    """Tries random cases for some seconds, up to the first that went wrong."""
+    counts: Counts = collections.Counter()
     end = time.monotonic() + asked.seconds
-    with tempfile.TemporaryDirectory() as folder:
-        program = Program(asked.program, folder)
-        kinds = program.kinds()
-        for seed in itertools.count(asked.seed):
-            over = time.monotonic() - end
-            if over > (0 if all(counts[way] for way in ways) else MOST_OVER):
-                break
-            way, case = make(seed, kinds)
-            wrong = difference(program, way, case, counts)
-            if wrong:
-                report(program, seed, way, case, wrong)
-                return 1
-            counts[case.kind] += 1
-            if way not in LAWS:
-                counts[way] += 1
+    kinds = program.kinds()
+    for seed in itertools.count(asked.seed):
+        over = time.monotonic() - end
+        if over > (0 if all(counts[way] for way in ways) else MOST_OVER):
+            break
+        way, case = make(seed, kinds)
+        wrong = difference(program, way, case, counts)
+        if wrong:
+            report(program, seed, way, case, wrong)
+            return 1
+        counts[case.kind] += 1
+        if way not in LAWS:
+            counts[way] += 1
     print(", ".join(f"{count} {what}" for what, count in sorted(counts.items())) + ": no difference")
     idle = [way for way in ways if not counts[way]]
     for way in idle:
         print(f"nothing was compared: {way}", file=sys.stderr)
     return 1 if idle else 0
+
+
+def main() -> int:
+    words = argparse.ArgumentParser(description=__doc__, formatter_class=argparse.RawDescriptionHelpFormatter)
+    words.add_argument("--seconds", type=float, default=60, help="how long to go on (default 60)")
+    words.add_argument("--seed", type=int, default=0, help="the seed of the first case (default 0)")
+    words.add_argument("--laws", action="store_true", help="try the laws alone")
+    words.add_argument("--faults", action="store_true", help="try tables of faults and of sure bits alone")
+    words.add_argument("--states", action="store_true", help="try states beside amplitudes, each case once")
+    words.add_argument("--edits", action="store_true", help="try each edit beside a session opened anew, each case once")
+    words.add_argument("--codes", action="store_true", help="try circuits of codes once, and then dense ones")
+    words.add_argument("--program", default=PROGRAM, help="the program, where it is not the built one")
+    asked = words.parse_args()
+    make, ways = make_case, WAYS
+    if asked.laws:
+        make, ways = law_case, list(LAWS)
+    elif asked.faults:
+        make, ways = fault_case, ["with sure parities"]
+    with tempfile.TemporaryDirectory() as folder:
+        program = Program(asked.program, folder)
+        if asked.states:
+            return try_each("states", state_cases.cases(program.run))
+        if asked.edits:
+            return try_each("edits", edit_cases.cases(program.run))
+        if asked.codes:
+            return try_each("codes", code_cases.cases(program.run, asked.seconds, asked.seed))
+        return try_random(asked, program, make, ways)
 
 
 if __name__ == "__main__":

@@ -1,8 +1,8 @@
 #!/usr/bin/env python3
 """Runs `rt ci`, or `rt` with the words given, and prints what each crate cost in processor seconds.
 
-    tools/gate_times.sh
-    tools/gate_times.sh must-fail stab_results
+    tools/gate_times.py
+    tools/gate_times.py must-fail stab_results
 
 The run is rt's own: its output passes through as it comes, and its status is the status of this call.
 Beside it the processes that it started are looked at twice a second, in /proc of Linux, where the

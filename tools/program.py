@@ -1,9 +1,10 @@
-"""The program that the tools try."""
+"""The program that the tools try. Who imports this finds the package stabsim of python/ too."""
 import subprocess
 import sys
 from pathlib import Path
 
 TOP = Path(__file__).resolve().parent.parent
+sys.path.insert(0, str(TOP / "python"))
 
 
 def find_program() -> Path:

@@ -12,19 +12,14 @@ tools/try_release.py
 tools/try_python.sh
 tools/try_docs.sh
 tools/try_scaling.sh
-tools/try_states.py
+tools/fuzz.py --states
 tools/try_rewritings.py
-tools/try_edits.py
-tools/try_hostile.py
+tools/fuzz.py --edits
 tools/refuse.sh
-tools/check_circuits.py
-tools/check_program.py --seconds 3
+tools/fuzz.py --codes --seconds 3
 tools/fuzz.py --seconds 8
 tools/fuzz.py --laws --seconds 5
 tools/fuzz.py --faults --seconds 8
-tools/try_files.py
-tools/try_help.py
-tools/try_drive.sh
 tools/wrong_bodies.py "$told/gate"
 tools/try_build.py
 tools/try_start.py

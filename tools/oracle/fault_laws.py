@@ -1,14 +1,19 @@
 """The law of faults on circuits too large for runs over amplitudes: a letter that an edit puts in flips what `faults` says."""
 
+from collections.abc import Sequence
+from random import Random
+
 from . import numbers
 from .making import Maker, lines_of, random_gates, undoing
-from .reading import items_of
+from .program_runs import Ended, Program, Wrong
+from .reading import Items, Operation, items_of
+from .scripts import item_at
 
 # How many places of a circuit are tried by edits.
 MOST_PLACES = 4
 
 
-def twice_measured(random, maker):
+def twice_measured(random: Random, maker: Maker) -> list[str]:
     """A product that is measured twice, with gates between that are undone again, a marked place among them, and a detector."""
     product = maker.product()
     gates = random_gates(random, maker.n, random.randint(0, 12))
@@ -17,7 +22,7 @@ def twice_measured(random, maker):
     return [f"MPP {product}", *between, f"MPP {product}", "DETECTOR rec[-1] rec[-2]"]
 
 
-def marked_circuit(random):
+def marked_circuit(random: Random) -> bytes:
     """The text of a circuit in which some detectors are sure and single qubits are marked, in blocks too."""
     maker = Maker(random, random.randint(5, 30))
     lines = []
@@ -28,29 +33,28 @@ def marked_circuit(random):
     return "\n".join(lines).encode()
 
 
-def item_at(items, path):
-    *above, place = map(int, path.split("/"))
-    for number in above:
-        items = items[number].body
-    return items[place]
+def is_on_one(items: Items, path: str) -> bool:
+    """Whether the item at a path is an instruction on one target."""
+    item = item_at(items, [int(number) for number in path.split("/")])
+    return isinstance(item, Operation) and len(item.targets) == 1
 
 
-def shown(random, run, text, edit):
+def shown(random: Random, run: Program, text: bytes, edit: bytes) -> Ended:
     """The detectors and then the observables of a circuit after an edit, with coins of any seed."""
     script = edit + b"show detectors\nshow observables\n"
     status, written, told = run(["edit", "--seed", str(random.randrange(2**32))], text, script)
     return status, told, written.removeprefix(b"ok\n").replace(b"\n", b"")
 
 
-def flipped(rows, first):
+def flipped(rows: Sequence[Sequence[str]], first: int) -> set[int]:
     """The numbers of the bits that rows flip together, where observables begin at `first`."""
-    found = set()
+    found: set[int] = set()
     for row in rows:
         found ^= {int(name[1:]) + (first if name[0] == "L" else 0) for name in row[3:]}
     return found
 
 
-def faults_as_edits(random, run):
+def faults_as_edits(random: Random, run: Program) -> Wrong:
     """What `faults` says of a marked place, in all its rounds together, against an edit that puts the letter there."""
     text = marked_circuit(random)
     items = items_of(text)
@@ -61,7 +65,7 @@ def faults_as_edits(random, run):
         return f"tables ended with {status}, {told!r} and {status_too}, {told_too!r}\n{text!r}"
     rows = [line.split(" ") for line in lines.decode().splitlines()]
     first = len(sure) - 1 - numbers.observables(items)
-    faults = sorted({(path, letter) for _, path, letter, *_ in rows if len(item_at(items, path).targets) == 1})
+    faults = sorted({(path, letter) for _, path, letter, *_ in rows if is_on_one(items, path)})
     for path, letter in random.sample(faults, min(len(faults), MOST_PLACES)):
         one = shown(random, run, text, b"")
         other = shown(random, run, text, f"replace {path} {letter[0]} {letter[1:]}\n".encode())

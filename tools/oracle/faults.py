@@ -1,20 +1,28 @@
 """Faults: where they are asked for, and which detectors and observables each flips, by runs with it and without it.
 
-A run is one over amplitudes (`vectors.py`), so that nothing here knows of strings that stabilise, nor of regions.
+A run is one over amplitudes (`states.py`), so that nothing here knows of strings that stabilise, nor of regions.
 """
 
+from collections.abc import Iterator, Sequence
 from itertools import product as all_of
 from random import Random
 
 from . import formats, numbers
-from .reading import Block
-from .vectors import VectorRun
+from .numbers import Step
+from .reading import Block, Items
+from .states import Amplitudes, Run
 
 # How many free outcomes are tried with all their coins. Of more, each coin is tried alone, and some lists by chance.
 MOST_FREE = 5
 SOME_LISTS = 20
 # With how many lists of coins each fault is run.
 FAULT_LISTS = 3
+
+
+# A step, with the path of its item.
+Placed = tuple[str, Step]
+# How many steps are in front of a fault, the path of the item that it is at, its letter and its qubit.
+Fault = tuple[int, str, str, int]
 
 
 class NotSure(Exception):
@@ -25,7 +33,7 @@ class Inconsistent(Exception):
     """A fault that flips a sure bit for some coins and not for others: then the definitions would be wrong."""
 
 
-def placed_steps(items, above=""):
+def placed_steps(items: Items, above: str = "") -> Iterator[Placed]:
     """The unrolled steps, each with the path of its item."""
     for place, item in enumerate(items):
         path = f"{above}{place}"
@@ -36,7 +44,7 @@ def placed_steps(items, above=""):
                 yield from placed_steps(item.body, f"{path}/")
 
 
-def sites(step, everywhere):
+def sites(step: Step, everywhere: bool) -> list[tuple[int, bool]]:
     """The places for faults at a step: a qubit, and whether it is behind the step."""
     kind = step[0]
     if not everywhere:
@@ -55,22 +63,18 @@ def sites(step, everywhere):
     return []
 
 
-def faults_of(placed, everywhere):
-    """Each fault in order: how many steps are in front of it, the path of the item that it is at, its letter and its qubit."""
+def faults_of(placed: Sequence[Placed], everywhere: bool) -> Iterator[Fault]:
+    """Each fault in order."""
     for number, (path, step) in enumerate(placed):
         for qubit, behind in sites(step, everywhere):
             for letter in "XZ":
                 yield number + behind, path, letter, qubit
 
 
-def bits_of(run):
-    return run.detectors + run.observables
-
-
 class Bits:
     """The detectors and then the observables of a circuit, as runs give them."""
 
-    def __init__(self, items):
+    def __init__(self, items: Items) -> None:
         self.placed = list(placed_steps(items))
         self.steps = [step for _, step in self.placed]
         self.n = numbers.qubits(items)
@@ -78,25 +82,26 @@ class Bits:
         self.paths = [path for path, step in self.placed if step[0] == "detector"]
         self.free = self.run([]).free
 
-    def run(self, coins, steps=None):
-        return VectorRun(self.n, self.observables, self.steps if steps is None else steps, coins)
+    def run(self, coins: Sequence[int], steps: Sequence[Step] | None = None) -> Run[Amplitudes]:
+        return Run(Amplitudes(self.n), self.observables, self.steps if steps is None else steps, coins)
 
-    def coin_lists(self):
+    def coin_lists(self) -> list[list[bool]]:
         """Lists of coins that between them tell every bit that is not sure; all there are, where they are few."""
         places = [place for place, free in enumerate(self.free) if free]
+        chosen: list[list[int]]
         if len(places) <= MOST_FREE:
             chosen = [[place for place, coin in zip(places, coins) if coin] for coins in all_of((0, 1), repeat=len(places))]
         else:
             dice = Random(len(self.steps))
-            chosen = [[]] + [[place] for place in places] + [[place for place in places if dice.random() < 0.5] for _ in range(SOME_LISTS)]
+            chosen = [[], *([place] for place in places), *([place for place in places if dice.random() < 0.5] for _ in range(SOME_LISTS))]
         return [[place in ones for place in range(len(self.free))] for ones in chosen]
 
-    def sure(self):
+    def sure(self) -> list[bool]:
         """Of each bit whether it is the same for all coins that are tried."""
-        rows = [bits_of(self.run(coins)) for coins in self.coin_lists()]
+        rows = [self.run(coins).bits() for coins in self.coin_lists()]
         return [len(set(column)) == 1 for column in zip(*rows)]
 
-    def flipped(self, fault, sure):
+    def flipped(self, fault: Fault, sure: Sequence[bool]) -> list[bool]:
         """Of each bit whether it is sure and the fault flips it."""
         before, _, letter, qubit = fault
         steps = self.steps[:before] + [("gate", letter, qubit)] + self.steps[before:]
@@ -104,17 +109,17 @@ class Bits:
         found = set()
         for _ in range(FAULT_LISTS):
             coins = [dice.random() < 0.5 for _ in self.free]
-            pairs = zip(bits_of(self.run(coins)), bits_of(self.run(coins, steps)), sure)
+            pairs = zip(self.run(coins).bits(), self.run(coins, steps).bits(), sure)
             found.add(tuple(is_sure and one != other for one, other, is_sure in pairs))
         if len(found) > 1:
             raise Inconsistent(f"{fault}: {found}")
         return list(found.pop())
 
-    def name(self, bit):
+    def name(self, bit: int) -> str:
         """What dets calls a bit."""
         return f"D{bit}" if bit < len(self.paths) else f"L{bit - len(self.paths)}"
 
-    def unsure_line(self, bit):
+    def unsure_line(self, bit: int) -> bytes:
         """The line that names a bit that is not sure, where one is not wanted."""
         named, path = f"detector {bit}", self.paths[bit] if bit < len(self.paths) else None
         if path is None:
@@ -124,13 +129,13 @@ class Bits:
         return f"stabsim: {named}, item {path}, is not the same for all coins\n".encode()
 
 
-def deterministic(items, form):
+def deterministic(items: Items, form: str) -> bytes:
     """What the command of this name writes."""
     bits = Bits(items)
     return formats.shot(form, bits.sure(), len(bits.paths))
 
 
-def table(items, layout, everywhere, sure_only):
+def table(items: Items, layout: str | None, everywhere: bool, sure_only: bool) -> bytes:
     """What the command `faults` writes; or `NotSure`, with the line that is told."""
     bits = Bits(items)
     sure = bits.sure()

@@ -1,17 +1,19 @@
 """The bytes of one shot in each result format."""
 
+from collections.abc import Sequence
+
 FORMATS = ("01", "b8", "r8", "hits", "dets")
 
 
-def b8(bits):
-    padded = bits + [False] * (-len(bits) % 8)
+def b8(bits: Sequence[int]) -> bytes:
+    padded = [*bits] + [0] * (-len(bits) % 8)
     return bytes(sum(bit << k for k, bit in enumerate(padded[at:at + 8])) for at in range(0, len(padded), 8))
 
 
-def r8(bits):
+def r8(bits: Sequence[int]) -> bytes:
     out = bytearray()
     zeros = 0
-    for bit in bits + [True]:
+    for bit in [*bits, 1]:
         if bit:
             out += b"\xff" * (zeros // 255) + bytes([zeros % 255])
             zeros = 0
@@ -20,18 +22,18 @@ def r8(bits):
     return bytes(out)
 
 
-def dets(bits, detectors):
+def dets(bits: Sequence[int], detectors: int | None) -> bytes:
     """Measurements where `detectors` is None, else so many detectors and then observables."""
     words = ["shot"]
     for place, bit in enumerate(bits):
         if bit and detectors is None:
             words.append(f"M{place}")
-        elif bit:
+        elif bit and detectors is not None:
             words.append(f"D{place}" if place < detectors else f"L{place - detectors}")
     return " ".join(words).encode() + b"\n"
 
 
-def shot(form, bits, detectors=None):
+def shot(form: str, bits: Sequence[int], detectors: int | None = None) -> bytes:
     if form == "01":
         return "".join("1" if bit else "0" for bit in bits).encode() + b"\n"
     if form == "b8":

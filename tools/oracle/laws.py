@@ -5,14 +5,17 @@ answers with what is wrong, or None; where its circuit is refused, it raises `Re
 """
 
 import re
+from collections.abc import Callable, Sequence
+from random import Random
 
-from . import formats
+from . import formats, printing
 from .fault_laws import faults_as_edits
 from .making import Maker, damaged, small_circuit
 from .numbers import check
-from .reading import Block, Refused, items_of
+from .program_runs import Ended, Program, Wrong
+from .reading import Block, Items, Refused, items_of
 from .script_making import edits
-from .scripts import Session, play, printing
+from .scripts import Session, play
 
 # What leaves each qubit 0 or 1, so that hardly a coin decides and most rounds come again.
 STILL = ["X", "Z", "CX", "CZ", "SWAP", "M", "MR", "R"]
@@ -20,7 +23,7 @@ LISTS = b"show measurements\nshow free\nshow detectors\nshow observables\nshow s
 SHOWS = LISTS + b"show circuit\n"
 
 
-def large_circuit(random):
+def large_circuit(random: Random) -> tuple[int, bytes, Items]:
     """Qubits, the text of a circuit that nothing refuses, and its items. Rows of more than 256 qubits are kept in another form."""
     n = random.randint(257, 400) if random.random() < 0.1 else random.randint(5, 60)
     maker = Maker(random, n)
@@ -30,15 +33,15 @@ def large_circuit(random):
     return n, text, items
 
 
-def edited_as_anew(random, run):
+def edited_as_anew(random: Random, run: Program) -> Wrong:
     """Edits and splits, and then what is shown, against the same of the circuit that they leave, and with other strides."""
     n, text, items = large_circuit(random)
-    session = Session(items, n, None)
+    session = Session(items, n)
     session.framed = random.random() < 0.5
     script = edits(random, session, random.randint(1, 25))
     words = ["edit", "--qubits", str(n), "--seed", str(random.randrange(2**32)), *(["--framed"] if session.framed else [])]
 
-    def replies(text, script, *more):
+    def replies(text: bytes, script: bytes, *more: str) -> Ended:
         status, written, told = run([*words, *more], text, script)
         return status, written.partition(b"\n")[2] if session.framed else written, told
 
@@ -54,7 +57,7 @@ def edited_as_anew(random, run):
     return None
 
 
-def bits_in_each_format(random, run):
+def bits_in_each_format(random: Random, run: Program) -> Wrong:
     """The shots of a circuit in each format, from its bits in 01."""
     _, text, _ = large_circuit(random)
     words = ["--shots", "3", "--seed", str(random.randrange(2**32))]
@@ -70,7 +73,7 @@ def bits_in_each_format(random, run):
     return None
 
 
-def checked_as_run(random, run):
+def checked_as_run(random: Random, run: Program) -> Wrong:
     """What `check` counts of a text, damaged or not, against what `sample` and `detect` write; of one that is refused, their fault."""
     text = small_circuit(random)
     if random.random() < 0.5:
@@ -81,14 +84,14 @@ def checked_as_run(random, run):
         return f"check ended with status {status} and told {told!r}, and sample so: {sampled}\n{text!r}"
     if status != 0:
         return None if written.endswith(b".\n") else f"check says of a refused text {written!r}\n{text!r}"
-    numbers = dict(line.split(b": ") for line in written.splitlines())
+    numbers = {name: int(number) for name, number in (line.split(b": ") for line in written.splitlines())}
     detected = run(["detect", "--append_observables"], text)
     lengths = len(sampled[1]) - 1, len(detected[1]) - 1
-    counted = int(numbers[b"records"]), int(numbers[b"detectors"]) + int(numbers[b"observables"])
+    counted = numbers[b"records"], numbers[b"detectors"] + numbers[b"observables"]
     return None if counted == lengths else f"check counts {counted} bits, and there are {lengths}\n{text!r}"
 
 
-def apart(written, form, number):
+def apart(written: bytes, form: str, number: int) -> list[bytes]:
     """What is written of so many shots of one circuit, shot by shot: in b8 each has as many bytes, in the others a line."""
     if form == "b8":
         size = len(written) // number
@@ -96,10 +99,14 @@ def apart(written, form, number):
     return written.splitlines(keepends=True)
 
 
-def shots_by_themselves(random, run):
+# Where batches of shots may end.
+EDGES = (64, 128, 256, 320, 384, 448, 512, 1024, 1280, 2048)
+
+
+def shots_by_themselves(random: Random, run: Program) -> Wrong:
     """Shots of a seed that are asked for together, against some of the same that are asked for one by one."""
     _, text, _ = large_circuit(random)
-    number = random.choice([2, 3, 63, 64, 65, random.randint(127, 129), random.randint(255, 257), random.randint(319, 321), random.randint(383, 385), random.randint(447, 449), random.randint(511, 513), random.randint(1023, 1025), random.randint(1279, 1281), random.randint(2047, 2049)])
+    number = random.choice([2, 3, *(edge + random.randint(-1, 1) for edge in EDGES)])
     first = random.choice([0, 1, 63, 2**40, 2**64 - number])
     command = random.choice([["sample"], ["detect", "--append_observables"]])
     form = random.choice(["01", "b8", "hits", "dets"])
@@ -108,7 +115,7 @@ def shots_by_themselves(random, run):
     shots = apart(written, form, number)
     if (status, told, len(shots), b"".join(shots)) != (0, b"", number, written):
         return f"{command[0]} ended with status {status}, wrote {len(shots)} shots of {number} in {form} and told {told!r}\n{text!r}"
-    chosen = {0, 1, *range(62, 66), *range(254, 258), *range(382, 386), *range(446, 450), *range(510, 514), *range(1022, 1026), *range(2046, 2050), number - 1, *(random.randrange(number) for _ in range(3))}
+    chosen = {0, 1, number - 1, *(shot for edge in EDGES for shot in range(edge - 2, edge + 2)), *(random.randrange(number) for _ in range(3))}
     for shot in sorted(shot for shot in chosen if shot < number):
         alone = run([*words, "--first_shot", str(first + shot)], text)
         if alone != (0, shots[shot], b""):
@@ -116,7 +123,7 @@ def shots_by_themselves(random, run):
     return None
 
 
-def long_block(random):
+def long_block(random: Random) -> tuple[int, bytes, bytes]:
     """Qubits, a block whose rounds may come again, with lines before and behind it, and the same with the block written out."""
     maker = Maker(random, random.randint(1, 6))
     before = maker.lines(random.randint(0, 5))
@@ -145,7 +152,7 @@ MEASURED = ["M", "MX", "MRY", "R"]
 STILL_BLOCK = b"\nREPEAT 2 {\nI 0\n}\n"
 
 
-def blocks_as_written_out(random, run):
+def blocks_as_written_out(random: Random, run: Program) -> Wrong:
     """What a long block gives, whose rounds may come again, and its lines as often as it counts, against these lines carried out one by one."""
     _, block, lines = long_block(random)
     seed = str(random.randrange(2**32))
@@ -159,15 +166,15 @@ def blocks_as_written_out(random, run):
     return None
 
 
-def written_out(items):
+def written_out(items: Items) -> bytes:
     """The text of items, all blocks written out, up to 2,000 rounds of each: more has here only one that makes no step."""
     return b"".join(written_out(item.body) * min(item.count, 2000) if isinstance(item, Block) else printing.printed([item]) for item in items)
 
 
-def sessions_as_written_out(random, run):
+def sessions_as_written_out(random: Random, run: Program) -> Wrong:
     """A session on a long block, and some edits of it, at any stride, against one opened anew on what they leave, written out and carried out line by line; and one opened on these lines."""
     n, block, _ = long_block(random)
-    session = Session(items_of(block), n, None)
+    session = Session(items_of(block), n)
     script = b""
     if random.random() < 0.5:
         # Behind it all coins, and records but for a reset, have other numbers.
@@ -190,7 +197,7 @@ def sessions_as_written_out(random, run):
 WRONG_LINES = ["M 5000", "H rec[-1]", "CX 1 1", "FOO 1", "DETECTOR rec[-0]", "}", "REPEAT 3 {", "MPP X1*X1", "REPEAT 0 {"]
 
 
-def changed(random, maker, lines):
+def changed(random: Random, maker: Maker, lines: list[str]) -> list[str]:
     """Lines, mostly as they are, else with some others among them."""
     out = list(lines)
     for _ in range(random.choice((0, 0, 0, 1, 3))):
@@ -199,7 +206,7 @@ def changed(random, maker, lines):
     return out
 
 
-def text_that_comes_again(random):
+def text_that_comes_again(random: Random) -> bytes:
     """A text of the same lines over and over, with others here and there, at times one that is refused."""
     maker = Maker(random, random.randint(2, 8))
     lines = maker.lines(random.randint(0, 300))
@@ -216,7 +223,7 @@ def text_that_comes_again(random):
     return (end.join(lines) + random.choice(("", end))).encode()
 
 
-def lines_that_come_again(random, run):
+def lines_that_come_again(random: Random, run: Program) -> Wrong:
     """The circuit that a text of the same lines over and over is read as, or which line of it is refused, by the definitions."""
     text = text_that_comes_again(random)
     try:
@@ -234,10 +241,10 @@ FRONT = re.compile(r"\s*[A-Z_0-9]+(\[[^]]*\])?(\([^)]*\))?")
 NUMBER = re.compile(r"rec\[-\d+\]|\d+")
 
 
-def spread(text, places):
+def spread(text: bytes, places: Sequence[int]) -> bytes:
     """A printed circuit, with the qubit q in the place that stands as number q."""
 
-    def moved(line):
+    def moved(line: str) -> str:
         front = FRONT.match(line)
         if front is None or "REPEAT" in line:
             return line
@@ -246,7 +253,7 @@ def spread(text, places):
     return "\n".join(moved(line) for line in text.decode().split("\n")).encode()
 
 
-def spread_row(row, places, length):
+def spread_row(row: str, places: Sequence[int], length: int) -> str:
     """A stabiliser with the letter of the qubit q in the place that stands as number q, of so many letters."""
     letters = ["_"] * length
     for letter, place in zip(row[1:], places):
@@ -254,7 +261,7 @@ def spread_row(row, places, length):
     return row[0] + "".join(letters)
 
 
-def far_apart_as_side_by_side(random, run):
+def far_apart_as_side_by_side(random: Random, run: Program) -> Wrong:
     """A circuit on a few qubits, against the same on qubits with others between them, which stay 0: its bits, and its stabilisers with a Z for each of these."""
     n = random.randint(2, 12)
     items = items_of("\n".join(Maker(random, n).lines(random.randint(5, 120))).encode())
@@ -276,7 +283,7 @@ def far_apart_as_side_by_side(random, run):
     return None
 
 
-LAWS = {
+LAWS: dict[str, Callable[[Random, Program], Wrong]] = {
     "edited as anew": edited_as_anew, "formats of one another": bits_in_each_format, "checked as run": checked_as_run,
     "faults as edits": faults_as_edits, "shots by themselves": shots_by_themselves, "blocks as written out": blocks_as_written_out,
     "sessions as written out": sessions_as_written_out, "lines that come again": lines_that_come_again,

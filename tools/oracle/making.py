@@ -1,6 +1,12 @@
 """Random circuits by the grammar of circuit text, and what becomes of their bytes when they are damaged."""
 
+from collections.abc import Callable
+from random import Random
+
 from .reading import ALIASES, COLLAPSES, ONE_QUBIT
+
+# Gates by their names and targets.
+Gates = list[tuple[str, str]]
 
 SPELLINGS = {name: [name] + [alias for alias, first in ALIASES.items() if first == name]
              for name in list(ONE_QUBIT) + ["CX", "CY", "CZ", "SWAP", "MPP"] + list(COLLAPSES)}
@@ -8,7 +14,7 @@ UNDONE_BY = {"S": "S_DAG", "SQRT_X": "SQRT_X_DAG", "SQRT_Y": "SQRT_Y_DAG", "C_XY
 UNDONE_BY.update({undo: name for name, undo in UNDONE_BY.items()})
 
 
-def spelled(random, name):
+def spelled(random: Random, name: str) -> str:
     text = random.choice(SPELLINGS[name])
     return "".join(c.lower() if random.random() < 0.1 else c for c in text)
 
@@ -16,34 +22,34 @@ def spelled(random, name):
 class Maker:
     """Writes lines of a circuit on n qubits and counts records, so that most lookbacks reach one."""
 
-    def __init__(self, random, n):
+    def __init__(self, random: Random, n: int) -> None:
         self.random = random
         self.n = n
         self.records = 0
         self.names = list(SPELLINGS)
 
-    def qubit(self):
+    def qubit(self) -> int:
         return self.random.randrange(self.n)
 
-    def record(self):
+    def record(self) -> str:
         reach = self.records if self.random.random() < 0.99 else self.records + 1
         return f"rec[-{self.random.randint(1, max(1, reach))}]"
 
-    def mark(self):
+    def mark(self) -> str:
         return "!" if self.random.random() < 0.2 else ""
 
-    def product(self):
+    def product(self) -> str:
         places = self.random.sample(range(self.n), self.random.randint(1, self.n))
         return "*".join(f"{self.mark()}{self.random.choice('XYZxyz')}{place}" for place in places)
 
-    def pair(self, name):
+    def pair(self, name: str) -> str:
         if name != "SWAP" and self.records and self.random.random() < 0.3:
             return f"{self.record()} {self.qubit()}"
         if self.n < 2:
             return ""
         return "{} {}".format(*self.random.sample(range(self.n), 2))
 
-    def targets(self, name):
+    def targets(self, name: str) -> str:
         many = range(self.random.choice((1, 1, 1, 2, 3)))
         if name == "MPP":
             found = [self.product() for _ in many]
@@ -57,7 +63,7 @@ class Maker:
             self.records += len(found)
         return " ".join(found)
 
-    def annotation(self):
+    def annotation(self) -> str:
         records = [self.record() for _ in range(self.random.randint(0, 3))] if self.records else []
         kind = self.random.choice(("DETECTOR", "DETECTOR(1, -2.5e3)", "TICK", "SHIFT_COORDS(0,1)", "QUBIT_COORDS(3)", "O"))
         if kind == "O":
@@ -66,7 +72,7 @@ class Maker:
             return " ".join([kind] + records)
         return f"{kind} {self.qubit()}" if kind.startswith("QUBIT") else kind
 
-    def line(self):
+    def line(self) -> str:
         if self.random.random() < 0.2:
             return self.annotation()
         name = self.random.choice(self.names)
@@ -74,8 +80,8 @@ class Maker:
         note = " # why" if self.random.random() < 0.05 else ""
         return f"{spelled(self.random, name)}{tag} {self.targets(name)}{note}"
 
-    def lines(self, count, depth=0):
-        out = []
+    def lines(self, count: int, depth: int = 0) -> list[str]:
+        out: list[str] = []
         for _ in range(count):
             if depth < 3 and self.random.random() < 0.08:
                 out += self.block(depth)
@@ -83,7 +89,7 @@ class Maker:
                 out.append("  " * depth + self.line())
         return out
 
-    def block(self, depth):
+    def block(self, depth: int) -> list[str]:
         rounds = self.random.randint(1, 3)
         before = self.records
         body = self.lines(self.random.randint(0, 3), depth + 1)
@@ -91,14 +97,14 @@ class Maker:
         return [f"REPEAT {rounds} {{", *body, "}"]
 
 
-def small_circuit(random):
+def small_circuit(random: Random) -> bytes:
     n = random.randint(1, 4)
     return "\n".join(Maker(random, n).lines(random.randint(0, 18))).encode()
 
 
-def random_gates(random, n, count):
+def random_gates(random: Random, n: int, count: int) -> Gates:
     """So many gates on n qubits, two at least, each by its name and targets."""
-    gates = []
+    gates: Gates = []
     for _ in range(count):
         if random.random() < 0.4:
             name = random.choice(("CX", "CY", "CZ", "SWAP"))
@@ -108,22 +114,22 @@ def random_gates(random, n, count):
     return gates
 
 
-def undoing(gates):
+def undoing(gates: Gates) -> Gates:
     """What undoes gates."""
     return [(UNDONE_BY.get(name, name), targets) for name, targets in reversed(gates)]
 
 
-def lines_of(gates):
+def lines_of(gates: Gates) -> list[str]:
     return [f"{name} {targets}" for name, targets in gates]
 
 
-def undone_circuit(random, n):
+def undone_circuit(random: Random, n: int) -> bytes:
     """Gates, then what undoes them backwards, then a measurement of all qubits: all zeros."""
     gates = random_gates(random, n, random.randint(1, 6 * n))
     return "\n".join(lines_of(gates + undoing(gates)) + ["M " + " ".join(map(str, range(n)))]).encode()
 
 
-def damaged(random, text, other):
+def damaged(random: Random, text: bytes, other: bytes) -> bytes:
     """The text cut, doubled in part, spliced with another, or with a byte or bit changed."""
     out = bytearray(text)
     for _ in range(random.randint(1, 3)):
@@ -142,3 +148,16 @@ def damaged(random, text, other):
         elif a < len(out):
             out[a] = random.randrange(256)
     return bytes(out)
+
+
+def without_lines(text: bytes, differs: Callable[[bytes], object]) -> bytes:
+    """A text with as many lines left out as still differ."""
+    lines = text.split(b"\n")
+    at = 0
+    while at < len(lines):
+        fewer = lines[:at] + lines[at + 1:]
+        if differs(b"\n".join(fewer)):
+            lines = fewer
+        else:
+            at += 1
+    return b"\n".join(lines)

@@ -1,10 +1,16 @@
 """Numbers of a circuit: qubits, observables, unrolled steps and records, and how far back it looks."""
 
-from .reading import COLLAPSES, CONTROLLED, MOST_STEPS, Block, Refused
+from collections.abc import Callable, Iterable, Iterator
+from typing import Any
+
+from .reading import COLLAPSES, CONTROLLED, MOST_STEPS, Block, Item, Operation, Refused
+
+# An unrolled step, which begins with its kind.
+Step = tuple[Any, ...]
 
 
-def steps_of(operation):
-    """The unrolled steps of one instruction, as tuples that begin with their kind."""
+def steps_of(operation: Operation) -> list[Step]:
+    """The unrolled steps of one instruction, in order."""
     name, targets = operation.name, operation.targets
     if name == "DETECTOR":
         return [("detector", targets)]
@@ -21,23 +27,23 @@ def steps_of(operation):
     return [("gate", name, qubit) for qubit in targets]
 
 
-def pair_step(name, first, second):
+def pair_step(name: str, first: Any, second: int) -> Step:
     if isinstance(first, tuple):
         return ("controlled", CONTROLLED[name], first[1], second)
     return ("pair", name, first, second)
 
 
-def lookbacks(step):
+def lookbacks(step: Step) -> list[int]:
     if step[0] in ("detector", "observable"):
-        return step[-1]
+        return list(step[-1])
     return [step[2]] if step[0] == "controlled" else []
 
 
-def records_of(step):
+def records_of(step: Step) -> int:
     return int(step[0] == "product" or (step[0] == "collapse" and step[2]))
 
 
-def summary(items):
+def summary(items: Iterable[Item]) -> tuple[int, int, int]:
     """Steps, records, and how many records must stand before: all counted without unrolling."""
     steps = records = need = 0
     for item in items:
@@ -54,7 +60,7 @@ def summary(items):
     return steps, records, need
 
 
-def check(items):
+def check(items: Iterable[Item]) -> None:
     """Refuses a whole circuit: 8 before 9."""
     steps, _, need = summary(items)
     if need > 0:
@@ -63,7 +69,7 @@ def check(items):
         raise Refused(9)
 
 
-def qubits_named(item):
+def qubits_named(item: Operation) -> Iterator[int]:
     for target in item.targets:
         if item.name == "MPP":
             yield from (qubit for _, qubit, _ in target)
@@ -73,7 +79,7 @@ def qubits_named(item):
             yield target
 
 
-def greatest(items, numbers):
+def greatest(items: Iterable[Item], numbers: Callable[[Operation], Iterable[int]]) -> int:
     """One more than the greatest number of any instruction, or 0."""
     most = 0
     for item in items:
@@ -84,15 +90,15 @@ def greatest(items, numbers):
     return most
 
 
-def qubits(items):
+def qubits(items: Iterable[Item]) -> int:
     return greatest(items, qubits_named)
 
 
-def observables(items):
-    return greatest(items, lambda item: [item.number] if item.name == "OBSERVABLE_INCLUDE" else [])
+def observables(items: Iterable[Item]) -> int:
+    return greatest(items, lambda item: [] if item.number is None else [item.number])
 
 
-def unroll(items):
+def unroll(items: Iterable[Item]) -> Iterator[Step]:
     for item in items:
         if isinstance(item, Block):
             if summary(item.body)[0] > 0:

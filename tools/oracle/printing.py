@@ -1,9 +1,12 @@
 """The one text of a list of items."""
 
-from .reading import COLLAPSES, CONTROLLED, WITH_COORDINATES, Block
+from collections.abc import Iterable, Iterator
+from typing import Any
+
+from .reading import COLLAPSES, CONTROLLED, WITH_COORDINATES, Block, Item, Operation
 
 
-def target_text(name, target):
+def target_text(name: str, target: Any) -> str:
     if name in ("DETECTOR", "OBSERVABLE_INCLUDE"):
         return f"rec[-{target}]"
     if name == "MPP":
@@ -15,11 +18,11 @@ def target_text(name, target):
     return str(target)
 
 
-def head_text(name, tag):
+def head_text(name: str, tag: bytes) -> bytes:
     return name.encode() + (b"[" + tag + b"]" if tag else b"")
 
 
-def arguments_text(operation):
+def arguments_text(operation: Operation) -> bytes:
     if operation.number is not None:
         return f"({operation.number})".encode()
     if operation.name in WITH_COORDINATES and operation.arguments:
@@ -27,7 +30,7 @@ def arguments_text(operation):
     return b""
 
 
-def lines_of(items, depth=0):
+def lines_of(items: Iterable[Item], depth: int = 0) -> Iterator[bytes]:
     """The lines, each with four spaces for every open block."""
     indent = b"    " * depth
     for item in items:
@@ -40,5 +43,5 @@ def lines_of(items, depth=0):
             yield indent + head_text(item.name, item.tag) + arguments_text(item) + targets.encode()
 
 
-def printed(items):
+def printed(items: Iterable[Item]) -> bytes:
     return b"".join(line + b"\n" for line in lines_of(items))

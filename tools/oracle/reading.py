@@ -1,7 +1,8 @@
 """Circuit text: what each line means, the items of a text, and the one fault of a text that has none."""
 
+from collections.abc import Sequence
 from dataclasses import dataclass, field
-from typing import Optional
+from typing import Any
 
 SPACING = b" \t\r"
 DIGITS = frozenset(b"0123456789")
@@ -43,12 +44,12 @@ WITH_COORDINATES = ("DETECTOR", "QUBIT_COORDS", "SHIFT_COORDS")
 class Refused(Exception):
     """A refusal of a text: its number, and its line or 0."""
 
-    def __init__(self, number, line=0):
+    def __init__(self, number: int, line: int = 0) -> None:
         super().__init__(number, line)
         self.number = number
         self.line = line
 
-    def told(self):
+    def told(self) -> bytes:
         """What the program tells of it."""
         where = f"line {self.line}: " if self.line else ""
         return f"stabsim: {where}refused {self.number} {REFUSALS[self.number]}\n".encode()
@@ -59,10 +60,10 @@ class Operation:
     """One instruction: its first name, the number of an observable, its targets as tuples, its tag and its arguments."""
 
     name: str
-    number: Optional[int]
-    targets: list
+    number: int | None
+    targets: list[Any]
     tag: bytes = b""
-    arguments: list = field(default_factory=list)
+    arguments: list[bytes] = field(default_factory=list)
 
 
 @dataclass
@@ -70,19 +71,23 @@ class Block:
     """A body that is gone through `count` times."""
 
     count: int
-    body: list = field(default_factory=list)
+    body: "list[Operation | Block]" = field(default_factory=list)
     tag: bytes = b""
 
 
-def is_digits(text):
+Item = Operation | Block
+Items = list[Item]
+
+
+def is_digits(text: bytes) -> bool:
     return len(text) > 0 and all(byte in DIGITS for byte in text)
 
 
-def content_of(line):
+def content_of(line: bytes) -> bytes:
     return line.split(b"#", 1)[0].strip(SPACING)
 
 
-def cut(content):
+def cut(content: bytes) -> tuple[str, bytes, list[bytes], list[bytes], bool]:
     """The name, the tag, the arguments, the words of the targets and whether `{` ends it; 11 where it has no shape."""
     if content[0] not in LETTERS:
         raise Refused(11)
@@ -115,11 +120,11 @@ def cut(content):
     return name, tag, split_arguments(arguments), words, opens
 
 
-def split_arguments(text):
+def split_arguments(text: bytes) -> list[bytes]:
     return [part.strip(SPACING) for part in text.split(b",")] if text.strip(SPACING) else []
 
 
-def check_arguments(name, arguments):
+def check_arguments(name: str, arguments: list[bytes]) -> int | None:
     """The number of an observable, or None; 2 where the arguments do not suit the name."""
     if name in WITH_COORDINATES:
         if not all(a and all(byte in COORDINATE_BYTES for byte in a) for a in arguments):
@@ -134,7 +139,7 @@ def check_arguments(name, arguments):
     return None
 
 
-def qubit_of(word):
+def qubit_of(word: bytes) -> int:
     if not is_digits(word):
         raise Refused(3)
     if int(word) >= MOST_QUBITS:
@@ -142,7 +147,7 @@ def qubit_of(word):
     return int(word)
 
 
-def record_of(word):
+def record_of(word: bytes) -> int:
     digits = word[5:-1]
     if not (word.startswith(b"rec[-") and word.endswith(b"]") and is_digits(digits)):
         raise Refused(3)
@@ -151,7 +156,7 @@ def record_of(word):
     return int(digits)
 
 
-def product_of(word):
+def product_of(word: bytes) -> list[tuple[str, int, bool]]:
     """The factors of a product, each a letter, a qubit and whether `!` stands before it."""
     factors = []
     for part in word.split(b"*"):
@@ -167,7 +172,7 @@ def product_of(word):
     return factors
 
 
-def target_of(name, place, word):
+def target_of(name: str, place: int, word: bytes) -> Any:
     """One target, in order from the left: 3 for its kind or spelling, 6 for a qubit's number."""
     if name in ("DETECTOR", "OBSERVABLE_INCLUDE"):
         return record_of(word)
@@ -188,21 +193,21 @@ def target_of(name, place, word):
     return qubit_of(word)
 
 
-def check_pairs(name, targets):
+def check_pairs(name: str, targets: Sequence[Any]) -> None:
     if name not in CONTROLLED and name != "SWAP":
         return
     if len(targets) % 2 or any(a == b for a, b in zip(targets[::2], targets[1::2])):
         raise Refused(4)
 
 
-def check_block(name, targets, opens):
+def check_block(name: str, targets: Sequence[Any], opens: bool) -> None:
     if opens != (name == "REPEAT"):
         raise Refused(5)
     if name == "REPEAT" and (len(targets) != 1 or len(targets[0]) > MOST_COUNT_DIGITS or int(targets[0]) == 0):
         raise Refused(5)
 
 
-def meaning_of(content):
+def meaning_of(content: bytes) -> Item | str | None:
     """None for a blank line, "}" for a closing brace, else an operation or an empty block."""
     if not content:
         return None
@@ -223,15 +228,15 @@ def meaning_of(content):
     return Operation(name, number, targets, tag, arguments)
 
 
-def items_of(text, alone=False):
+def items_of(text: bytes, alone: bool = False) -> Items:
     """The items that a text stands for; its first fault, with its line, where it stands for none.
 
     Where one item alone is asked for, a further one is refused where it begins, and so is a text without any.
     """
     if len(text) > MOST_BYTES:
         raise Refused(14)
-    items = []
-    opened = []
+    items: Items = []
+    opened: list[tuple[Block, int]] = []
     for number, line in enumerate(text.split(b"\n"), 1):
         content = content_of(line)
         if alone and items and not opened and content not in (b"", b"}"):
@@ -242,7 +247,7 @@ def items_of(text, alone=False):
             raise Refused(refused.number, number) from None
         if meaning is None:
             continue
-        if meaning == "}":
+        if isinstance(meaning, str):
             if not opened:
                 raise Refused(5, number)
             opened.pop()
@@ -260,6 +265,6 @@ def items_of(text, alone=False):
     return items
 
 
-def item_of(text):
+def item_of(text: bytes) -> Item:
     """The one item that a text stands for."""
     return items_of(text, alone=True)[0]

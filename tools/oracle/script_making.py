@@ -1,23 +1,25 @@
 """Random edit scripts: each line suits the items that the lines before it left, or nearly."""
 
+from random import Random
+
 from .making import Maker
-from .reading import Block
-from .scripts import Script
+from .reading import Block, Items
+from .scripts import Script, Session
 
 SHOWN = ("measurements", "free", "detectors", "observables", "stabilisers", "circuit")
 FRAMED = ("mark", "show numbers", "show changed", "show changed", "show changed records", "show sign", "show item",
           "show place", "show deterministic", "split", "split", "split")
 
 
-def path_to(random, items, past_end):
+def path_to(random: Random, items: Items, past_end: bool) -> str:
     """A path into the items; often into a block, seldom past a list or through something that is no block."""
-    path = []
+    path: list[int] = []
     while True:
-        blocks = [place for place, item in enumerate(items) if isinstance(item, Block)]
+        blocks = [(place, item) for place, item in enumerate(items) if isinstance(item, Block)]
         if blocks and len(path) < 17 and random.random() < 0.5:
-            place = random.choice(blocks)
+            place, block = random.choice(blocks)
             path.append(place)
-            items = items[place].body
+            items = block.body
             continue
         path.append(random.randint(0, len(items) + (random.random() < 0.1) - (not past_end and bool(items))))
         if random.random() < 0.03:
@@ -25,13 +27,13 @@ def path_to(random, items, past_end):
         return "/".join(map(str, path))
 
 
-def item_lines(random, maker):
+def item_lines(random: Random, maker: Maker) -> list[str]:
     if random.random() < 0.25:
         return maker.block(1)
     return [maker.line()]
 
 
-def edit_lines(random, session):
+def edit_lines(random: Random, session: Session) -> list[str]:
     """The lines of one edit."""
     kind = random.choice(("insert", "insert", "replace", "delete"))
     path = path_to(random, session.items, kind == "insert")
@@ -43,12 +45,12 @@ def edit_lines(random, session):
     return [f"{kind} {path} {first}", *more]
 
 
-def spoilt(random, line):
+def spoilt(random: Random, line: str) -> str:
     """A line with a word too many, a word misspelt, or spacing and a comment round it."""
     return random.choice((line + " 0", line.upper(), line[1:], "  " + line + "\t# why", line.replace(" ", "  ", 1), ""))
 
 
-def string_word(random, qubits):
+def string_word(random: Random, qubits: int) -> str:
     """A Pauli string for a session, by its letters or as a product, and sometimes one that is none."""
     sign = random.choice(("", "", "+", "-"))
     if random.random() < 0.4:
@@ -59,9 +61,9 @@ def string_word(random, qubits):
     return sign + "*".join(random.choice(("", "", "", "!")) + random.choice("XYZ") + str(place) for place in places)
 
 
-def blocks_of(items, around=()):
+def blocks_of(items: Items, around: tuple[int, ...] = ()) -> list[tuple[tuple[int, ...], int]]:
     """The path and the number of rounds of each block."""
-    found = []
+    found: list[tuple[tuple[int, ...], int]] = []
     for place, item in enumerate(items):
         if isinstance(item, Block):
             path = (*around, place)
@@ -69,7 +71,7 @@ def blocks_of(items, around=()):
     return found
 
 
-def split_words(random, session):
+def split_words(random: Random, session: Session) -> str:
     """A block and one of its rounds, often the first or the last, or nearly; or a path that may lead to no block."""
     blocks = blocks_of(session.items)
     if not blocks or random.random() < 0.1:
@@ -78,7 +80,7 @@ def split_words(random, session):
     return f"{'/'.join(map(str, path))} {random.choice((0, 1, count - 1, count, random.randrange(count)))}"
 
 
-def framed_line(random, session):
+def framed_line(random: Random, session: Session) -> str:
     """A line that only a framed script has."""
     line = random.choice(FRAMED)
     if line == "show sign":
@@ -88,17 +90,17 @@ def framed_line(random, session):
     return f"{line} {path_to(random, session.items, False)}" if line in ("show item", "show place") else line
 
 
-def lines_that_show(random, session):
+def lines_that_show(random: Random, session: Session) -> list[str]:
     """A line that shows something; in a script that is not framed seldom one that only a framed one has."""
     if random.random() < (0.6 if session.framed else 0.05):
         return [framed_line(random, session)]
     return ["show " + random.choice(SHOWN)]
 
 
-def script(random, session):
+def script(random: Random, session: Session) -> bytes:
     """A script for a session, which is played on the way so that its lines suit what they meet."""
     played = Script(session)
-    lines = []
+    lines: list[str] = []
     for _ in range(random.randint(100, 300) if session.framed and random.random() < 0.05 else random.randint(1, 12)):
         more = edit_lines(random, session) if random.random() < 0.6 else lines_that_show(random, session)
         if random.random() < 0.06:
@@ -109,9 +111,9 @@ def script(random, session):
     return "\n".join(lines).encode() + (b"\n" if random.random() < 0.8 else b"")
 
 
-def edits(random, session, count):
+def edits(random: Random, session: Session, count: int) -> bytes:
     """So many edits, and splits in a framed session, and nothing shown: of a session too large to be run by the oracle."""
-    lines = []
+    lines: list[str] = []
     played = Script(session)
     for _ in range(count):
         splits = session.framed and random.random() < 0.2

@@ -1,21 +1,28 @@
 """Edit scripts: what lines ask for, what an edit leaves, and the replies."""
 
 import copy
+from collections.abc import Callable, Sequence
+from dataclasses import dataclass
 
 from . import faults, formats, numbers, printing, states
-from .reading import MOST_BYTES, MOST_DEPTH, REFUSALS, SPACING, Block, Refused, content_of, is_digits, item_of, product_of
+from .numbers import Step
+from .reading import MOST_BYTES, MOST_DEPTH, REFUSALS, SPACING, Block, Item, Items, Refused, content_of, is_digits, item_of, product_of
+from .states import Amplitudes, Run
 
 MOST_LINE = 65_536
 MOST_PLACE_DIGITS = 18
 MOST_PLACE_NUMBERS = 17
 
+# The place of an item, and the places of the blocks around it, the outermost first.
+Path = list[int]
 
-def depth(items):
+
+def depth(items: Items) -> int:
     """How deep blocks are nested."""
     return max((1 + depth(item.body) for item in items if isinstance(item, Block)), default=0)
 
 
-def place_of(word):
+def place_of(word: bytes) -> Path:
     """The numbers of a path, or 13."""
     parts = word.split(b"/")
     if len(parts) > MOST_PLACE_NUMBERS or not all(is_digits(part) and len(part) <= MOST_PLACE_DIGITS for part in parts):
@@ -23,7 +30,7 @@ def place_of(word):
     return [int(part) for part in parts]
 
 
-def split_words(rest):
+def split_words(rest: bytes) -> tuple[Path, int]:
     """The path and the round of a split, or 13."""
     place, behind = first_word(rest)
     number, more = first_word(behind)
@@ -32,99 +39,100 @@ def split_words(rest):
     return place_of(place), int(number)
 
 
-def first_word(text):
+def first_word(text: bytes) -> tuple[bytes, bytes]:
     """The first word of a text, and what follows it without the spacing in front."""
     end = next((at for at, byte in enumerate(text) if byte in SPACING), len(text))
     return text[:end], text[end:].lstrip(SPACING)
 
 
-def edited(items, path, change):
-    """The items after a change at a path: 12 and 17 along it."""
-    place, inner = path[0], path[1:]
-    if inner:
-        if place >= len(items):
-            raise Refused(12)
-        if not isinstance(items[place], Block):
-            raise Refused(17)
-        block = copy.copy(items[place])
-        block.body = edited(block.body, inner, change)
-        return items[:place] + [block] + items[place + 1:]
-    kind, item = change
-    if place > len(items) or (place == len(items) and kind != "insert"):
-        raise Refused(12)
-    put = [] if item is None else [item]
-    return items[:place] + put + items[place + (kind != "insert"):]
-
-
-def split(items, path, number):
-    """The items with a round of the block at a path in a block by itself, between the rounds before and behind it."""
-    block = item_at(items, path)
-    if not isinstance(block, Block):
-        raise Refused(17)
-    if number >= block.count:
-        raise Refused(12)
-    parts = [Block(rounds, block.body, block.tag) for rounds in (number, 1, block.count - number - 1) if rounds > 0]
-    return with_parts(items, path, parts)
-
-
-def with_parts(items, path, parts):
-    """The items with these in the stead of the item at a path."""
-    place, inner = path[0], path[1:]
-    if not inner:
-        return items[:place] + parts + items[place + 1:]
-    block = copy.copy(items[place])
-    block.body = with_parts(block.body, inner, parts)
-    return items[:place] + [block] + items[place + 1:]
-
-
-def item_at(items, path):
-    """The item at a path: 12 and 17 along it."""
-    place, inner = path[0], path[1:]
+def block_at(items: Items, place: int) -> Block:
+    """The block in a place: 12 and 17 where there is none."""
     if place >= len(items):
         raise Refused(12)
-    if not inner:
-        return items[place]
-    if not isinstance(items[place], Block):
+    block = items[place]
+    if not isinstance(block, Block):
         raise Refused(17)
-    return item_at(items[place].body, inner)
+    return block
 
 
-def steps_before(items, path):
+def changed(items: Items, path: Path, change: Callable[[Items, int], Items]) -> Items:
+    """The items after a change of the list that a path leads to."""
+    place, *inner = path
+    if not inner:
+        return change(items, place)
+    block = copy.copy(block_at(items, place))
+    block.body = changed(block.body, inner, change)
+    return [*items[:place], block, *items[place + 1:]]
+
+
+def edited(items: Items, path: Path, kind: str, item: Item | None) -> Items:
+    """The items after an edit at a path: 12 and 17 along it."""
+
+    def edit(items: Items, place: int) -> Items:
+        if place > len(items) or (place == len(items) and kind != "insert"):
+            raise Refused(12)
+        put = [] if item is None else [item]
+        return items[:place] + put + items[place + (kind != "insert"):]
+
+    return changed(items, path, edit)
+
+
+def split(items: Items, path: Path, number: int) -> Items:
+    """The items with a round of the block at a path in a block by itself, between the rounds before and after it."""
+
+    def cut(items: Items, place: int) -> Items:
+        block = block_at(items, place)
+        if number >= block.count:
+            raise Refused(12)
+        parts = [Block(rounds, block.body, block.tag) for rounds in (number, 1, block.count - number - 1) if rounds > 0]
+        return [*items[:place], *parts, *items[place + 1:]]
+
+    return changed(items, path, cut)
+
+
+def item_at(items: Items, path: Path) -> Item:
+    """The item at a path: 12 and 17 along it."""
+    place, *inner = path
+    if inner:
+        return item_at(block_at(items, place).body, inner)
+    if place >= len(items):
+        raise Refused(12)
+    return items[place]
+
+
+def steps_before(items: Items, path: Path) -> list[Step]:
     """The unrolled steps before a place, in the first round of each block around it."""
-    place, inner = path[0], path[1:]
+    place, *inner = path
     before = list(numbers.unroll(items[:place]))
-    return before + steps_before(items[place].body, inner) if inner else before
+    return before + steps_before(block_at(items, place).body, inner) if inner else before
 
 
-def place_numbers(steps):
+def place_numbers(steps: Sequence[Step]) -> tuple[int, ...]:
     """How many steps, records, detectors and coins."""
     kinds = [step[0] for step in steps]
     return len(steps), sum(map(numbers.records_of, steps)), kinds.count("detector"), kinds.count("collapse") + kinds.count("product")
 
 
-def string_of_word(word, qubits):
+def string_of_word(word: bytes, qubits: int) -> tuple[bool, str]:
     """A signed string by its letters, or by a product as MPP has it."""
     bare = word[1:] if word[:1] in (b"+", b"-") else word
     negative = word[:1] == b"-"
     if all(byte in b"I_XYZ" for byte in bare):
         if len(bare) != qubits:
             raise Refused(3)
-        return negative, tuple(bare.decode().replace("_", "I"))
+        return negative, bare.decode().replace("_", "I")
     factors = product_of(bare)
     if any(qubit >= qubits for _, qubit, _ in factors):
         raise Refused(6)
-    letters = ["I"] * qubits
-    for letter, qubit, inverted in factors:
-        letters[qubit] = letter
-        negative ^= inverted
-    return negative, tuple(letters)
+    negative ^= sum(inverted for *_, inverted in factors) % 2 == 1
+    return negative, states.string_of([(letter, qubit) for letter, qubit, _ in factors], qubits)
 
 
-def changed_places(old, new):
+def changed_places(old: Sequence[int], new: Sequence[int]) -> list[int]:
     return [place for place, (before, after) in enumerate(zip(old, new)) if before != after]
 
 
-def count_lines(*kinds):
+def count_lines(*kinds: tuple[str, Sequence[int], Sequence[int]]) -> str:
     """A line for each kind of which there are more or fewer bits than there were."""
     return "".join(f"{name} {len(old)} {len(new)}\n" for name, old, new in kinds if len(old) != len(new))
 
@@ -135,29 +143,29 @@ class Session:
     A framed one keeps the bits at the mark too; the first mark is at the opening.
     """
 
-    def __init__(self, items, qubits, coins, framed=False):
+    def __init__(self, items: Items, qubits: int, coins: Callable[[int], Sequence[int]] = lambda steps: [], framed: bool = False) -> None:
         self.items = items
         self.qubits = qubits
         self.coins = coins
         self.framed = framed
-        self.replies = []
+        self.replies: list[bytes] = []
         self.refused = False
         if framed:
             self.mark = self.run()
             self.replies.append(b"ready 1 " + self.numbers())
 
-    def reply(self, text):
+    def reply(self, text: bytes) -> None:
         """A reply that is no refusal, with its number of lines before it where it is framed."""
         lines = text.count(b"\n")
         self.replies.append(b"ok %d\n%b" % (lines, text) if self.framed else text)
 
-    def refuse(self, refused):
+    def refuse(self, refused: Refused) -> None:
         self.refused = True
         self.replies.append(f"refused {refused.number} {REFUSALS[refused.number]}\n".encode())
 
-    def change(self, path, kind, item):
+    def change(self, path: Path, kind: str, item: Item | None) -> None:
         """Edits the items, unless something refuses it."""
-        after = edited(self.items, path, (kind, item))
+        after = edited(self.items, path, kind, item)
         if depth(after) > MOST_DEPTH:
             raise Refused(10)
         if numbers.qubits(after) > self.qubits:
@@ -166,23 +174,24 @@ class Session:
         self.items = after
         self.reply(b"" if self.framed else b"ok\n")
 
-    def put(self, kind, path, text):
+    def put(self, kind: str, path: Path, text: bytes) -> None:
         if len(text) > MOST_BYTES:
             raise Refused(14)
         self.change(path, kind, item_of(text))
 
-    def run(self):
+    def run(self) -> Run[Amplitudes]:
         steps = numbers.summary(self.items)[0]
-        return states.Run(self.qubits, numbers.observables(self.items), list(numbers.unroll(self.items)), self.coins(steps))
+        return Run(Amplitudes(self.qubits), numbers.observables(self.items), numbers.unroll(self.items), self.coins(steps))
 
-    def show(self, what):
+    def show(self, what: bytes) -> None:
         if what == b"circuit":
             self.reply(printing.printed(self.items))
         elif what == b"stabilisers":
-            self.reply(states.rows_text(self.run()))
+            self.reply(states.rows_text(self.run().state))
         elif what in (b"measurements", b"free", b"detectors", b"observables"):
             run = self.run()
-            bits = {b"measurements": run.records, b"free": run.free, b"detectors": run.detectors, b"observables": run.observables}
+            bits: dict[bytes, Sequence[int]] = {
+                b"measurements": run.records, b"free": run.free, b"detectors": run.detectors, b"observables": run.observables}
             self.reply(formats.shot("01", bits[what]))
         elif what == b"deterministic" and self.framed:
             self.reply(self.deterministic())
@@ -191,25 +200,25 @@ class Session:
         else:
             raise Refused(13)
 
-    def deterministic(self):
+    def deterministic(self) -> bytes:
         return faults.deterministic(self.items, "01")
 
-    def numbers(self):
+    def numbers(self) -> bytes:
         run = self.run()
         shown = (self.qubits, numbers.summary(self.items)[0], len(run.records), len(run.detectors), len(run.observables))
         return " ".join(map(str, shown)).encode() + b"\n"
 
-    def set_mark(self, rest):
+    def set_mark(self, rest: bytes) -> None:
         if rest or not self.framed:
             raise Refused(13)
         self.mark = self.run()
         self.reply(b"")
 
-    def split(self, path, number):
+    def split(self, path: Path, number: int) -> None:
         self.items = split(self.items, path, number)
         self.reply(b"")
 
-    def show_framed(self, word, rest):
+    def show_framed(self, word: bytes, rest: bytes) -> None:
         """What only a framed script is shown."""
         operand, more = first_word(rest)
         if word == b"numbers" and not rest:
@@ -231,7 +240,7 @@ class Session:
         else:
             raise Refused(13)
 
-    def show_changed(self, records):
+    def show_changed(self, records: bool) -> None:
         """The bits that differ from those at the mark, and the numbers of bits that do."""
         old, new = self.mark, self.run()
         if records:
@@ -243,42 +252,51 @@ class Session:
             counts = count_lines(("detectors", old.detectors, new.detectors), ("observables", old.observables, new.observables))
         self.reply((" ".join(names) + "\n" + counts).encode())
 
-    def show_place(self, path):
+    def show_place(self, path: Path) -> None:
         """The number of the first step of an item, and how many it has, and the same of records, detectors and coins."""
         item = item_at(self.items, path)
         firsts = place_numbers(steps_before(self.items, path))
         counts = place_numbers(list(numbers.unroll([item])))
         self.reply(" ".join(f"{first} {count}" for first, count in zip(firsts, counts)).encode() + b"\n")
 
-    def show_sign(self, word):
+    def show_sign(self, word: bytes) -> None:
         negative, letters = string_of_word(word, self.qubits)
-        state = self.run().state
-        signs = [sign for sign, minus in ((b"+\n", False), (b"-\n", True)) if state.stabilises((negative ^ minus, letters))]
-        self.reply(signs[0] if signs else b"0\n")
+        sign = self.run().state.sign(letters)
+        self.reply(b"0\n" if sign is None else b"-\n" if sign ^ negative else b"+\n")
+
+
+@dataclass
+class Gathering:
+    """The lines of a block so far, how many blocks are open, and what is to be done with it; no text once a line was too long."""
+
+    kind: str
+    path: Path
+    opened: int
+    text: bytes | None
 
 
 class Script:
     """Lines given to a session, one after another, with the lines of a block gathered."""
 
-    def __init__(self, session):
+    def __init__(self, session: Session) -> None:
         self.session = session
-        self.gathering = None
+        self.gathering: Gathering | None = None
 
-    def line(self, line):
+    def line(self, line: bytes) -> None:
         try:
             self.take(line)
         except Refused as refused:
             self.session.refuse(refused)
 
-    def take(self, line):
+    def take(self, line: bytes) -> None:
         if self.gathering is not None:
-            self.gather(line)
+            self.gather(self.gathering, line)
         elif len(line) > MOST_LINE:
             raise Refused(14)
         elif content_of(line):
             self.command(content_of(line))
 
-    def command(self, content):
+    def command(self, content: bytes) -> None:
         word, rest = first_word(content)
         if word in (b"insert", b"replace"):
             place, text = first_word(rest)
@@ -286,7 +304,7 @@ class Script:
             if not text:
                 raise Refused(13)
             if text.endswith(b"{"):
-                self.gathering = [word.decode(), path, 1, text]
+                self.gathering = Gathering(word.decode(), path, 1, text)
             else:
                 self.session.put(word.decode(), path, text)
         elif word == b"delete":
@@ -304,34 +322,33 @@ class Script:
         else:
             raise Refused(13)
 
-    def gather(self, line):
+    def gather(self, gathering: Gathering, line: bytes) -> None:
         """One more line of a block's text; one over its limit neither opens nor closes, and spoils the text."""
         if len(line) > MOST_LINE:
-            self.gathering[3] = None
+            gathering.text = None
             return
         content = content_of(line)
-        self.gathering[2] += -1 if content == b"}" else int(content.endswith(b"{"))
-        if self.gathering[3] is not None:
-            self.gathering[3] += b"\n" + content
-        if self.gathering[2] == 0:
-            self.end_gathering()
+        gathering.opened += -1 if content == b"}" else int(content.endswith(b"{"))
+        if gathering.text is not None:
+            gathering.text += b"\n" + content
+        if gathering.opened == 0:
+            self.end_gathering(gathering)
 
-    def end_gathering(self):
-        kind, path, _, text = self.gathering
+    def end_gathering(self, gathering: Gathering) -> None:
         self.gathering = None
-        if text is None:
+        if gathering.text is None:
             raise Refused(14)
-        self.session.put(kind, path, text)
+        self.session.put(gathering.kind, gathering.path, gathering.text)
 
-    def end(self):
+    def end(self) -> None:
         if self.gathering is not None:
             try:
-                self.end_gathering()
+                self.end_gathering(self.gathering)
             except Refused as refused:
                 self.session.refuse(refused)
 
 
-def play(session, text):
+def play(session: Session, text: bytes) -> None:
     """Gives a whole script to a session."""
     script = Script(session)
     lines = text.split(b"\n")

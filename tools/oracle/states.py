@@ -1,198 +1,172 @@
-"""Runs: which signed strings stabilise a state, asked backwards through what happened to it, and what measurements give.
+"""Runs of unrolled steps, over the state of a few qubits as its amplitudes, which the matrices of gates change.
 
-A string is a pair of a sign, True for minus, and a tuple of letters.
+An outcome is 0 or 1. Over a state of another kind (`rows.py`) it may be a sum of coins; so parities are taken by ^ alone.
 """
 
+from collections.abc import Iterable, Sequence
+from functools import cache
 from itertools import product as all_of
+from typing import Generic, Protocol, TypeVar
 
-LETTERS = "IXYZ"
-# The product of two letters: the power of i, and the letter.
-TIMES = {("X", "Y"): (1, "Z"), ("Y", "Z"): (1, "X"), ("Z", "X"): (1, "Y"),
-         ("Y", "X"): (3, "Z"), ("Z", "Y"): (3, "X"), ("X", "Z"): (3, "Y")}
-# What a gate makes of X, Y and Z.
-IMAGES = {
-    "I": "+X +Y +Z", "X": "+X -Y -Z", "Y": "-X +Y -Z", "Z": "-X -Y +Z", "H": "+Z -Y +X", "S": "+Y -X +Z",
-    "S_DAG": "-Y +X +Z", "SQRT_X": "+X +Z -Y", "SQRT_X_DAG": "+X -Z +Y", "SQRT_Y": "-Z +Y +X", "SQRT_Y_DAG": "+Z +Y -X",
-    "C_XYZ": "+Y +Z +X", "C_ZYX": "+Z +X +Y",
-}
-# What a gate on two qubits makes of X and Z on the first and on the second.
-PAIR_IMAGES = {"CX": "XX ZI IX ZZ", "CY": "XY ZI ZX ZZ", "CZ": "XZ ZI ZX IZ", "SWAP": "IX IZ XI ZI"}
+from .matrices import GATES, LETTERS, NOTHING
+from .numbers import Step
+
+# Letters, each with the qubit that it is on.
+Factors = Sequence[tuple[str, int]]
+# For each amplitude afterwards the factors and places of those before that it is the sum of.
+Terms = tuple[tuple[tuple[complex, int], ...], ...]
+
 FLIPS = {"X": "Z", "Y": "X", "Z": "X"}
 
 
-def letter_times(a, b):
-    if a == "I" or b == "I" or a == b:
-        return 0, "I" if a == b else (b if a == "I" else a)
-    return TIMES[a, b]
+class State(Protocol):
+    """What a run stands on: qubits that begin as zeros."""
+
+    def gate(self, name: str, qubits: tuple[int, ...]) -> None: ...
+
+    def flip(self, letter: str, qubit: int, outcome: int) -> None:
+        """Applies a letter where the outcome is 1."""
+
+    def measure(self, factors: Factors, coin: int) -> tuple[int, bool]:
+        """Measures a product of letters: its outcome, and whether the coin decided."""
 
 
-def times(a, b):
-    """The power of i and the letters of a product of two strings of letters."""
-    parts = [letter_times(x, y) for x, y in zip(a, b)]
-    return sum(power for power, _ in parts) % 4, tuple(letter for _, letter in parts)
+AnyState = TypeVar("AnyState", bound=State)
 
 
-def commute(a, b):
-    return sum(x != y and "I" not in (x, y) for x, y in zip(a[1], b[1])) % 2 == 0
+@cache
+def terms(name: str, qubits: tuple[int, ...], n: int) -> Terms:
+    """A gate's matrix on qubits of n, where qubit q is bit q of an amplitude's place."""
+    matrix, mask = GATES[name], sum(1 << qubit for qubit in qubits)
+    placed = [sum(bit << qubit for bit, qubit in zip(bits, qubits)) for bits in all_of((0, 1), repeat=len(qubits))]
+    rows = ((place & ~mask, matrix[placed.index(place & mask)]) for place in range(2**n))
+    return tuple(tuple((entry, rest | at) for entry, at in zip(row, placed) if entry) for rest, row in rows)
 
 
-def product(a, b):
-    """The product of two signed strings that commute."""
-    power, letters = times(a[1], b[1])
-    return a[0] ^ b[0] ^ (power == 2), letters
+@cache
+def terms_of_string(letters: str) -> Terms:
+    """A letter on each qubit; a row of its matrix has one entry."""
+    found = []
+    for place in range(2 ** len(letters)):
+        factor, source = 1 + 0j, 0
+        for qubit, letter in enumerate(letters):
+            row = LETTERS[letter][place >> qubit & 1]
+            column = 0 if row[0] else 1
+            factor, source = factor * row[column], source | column << qubit
+        found.append(((factor, source),))
+    return tuple(found)
 
 
-def letter_image(gate, letter):
-    if letter == "I":
-        return False, "I"
-    sign, image = IMAGES[gate].split()["XYZ".index(letter)]
-    return sign == "-", image
+class Amplitudes:
+    """The 2^n amplitudes of n qubits that begin as zeros."""
 
-
-def pair_image(gate, letters):
-    """The image of two letters: they are written by X and Z on each, with i for each Y."""
-    images = PAIR_IMAGES[gate].split()
-    power, image = 0, ("I", "I")
-    for place, letter in enumerate(letters):
-        power += letter == "Y"
-        for part in {"I": "", "X": "X", "Y": "XZ", "Z": "Z"}[letter]:
-            more, image = times(image, tuple(images[2 * place + "XZ".index(part)]))
-            power += more
-    return power % 4 == 2, image
-
-
-INVERSES = {gate: {letter_image(gate, x)[1]: (letter_image(gate, x)[0], x) for x in LETTERS} for gate in IMAGES}
-PAIR_INVERSES = {
-    gate: {pair_image(gate, pair)[1]: (pair_image(gate, pair)[0], pair) for pair in all_of(LETTERS, repeat=2)}
-    for gate in PAIR_IMAGES
-}
-
-
-def with_letters(letters, places, new):
-    changed = list(letters)
-    for place, letter in zip(places, new):
-        changed[place] = letter
-    return tuple(changed)
-
-
-class State:
-    """What happened to n qubits that began as zeros. Answers are kept, so that each is sought once."""
-
-    def __init__(self, n):
+    def __init__(self, n: int) -> None:
         self.n = n
-        self.happened = []
-        self.known = [{}]
+        self.amplitudes = [1 + 0j] + [0j] * (2**n - 1)
 
-    def happens(self, happening):
-        self.happened.append(happening)
-        self.known.append({})
+    def after(self, made_of: Terms) -> list[complex]:
+        old = self.amplitudes
+        return [sum(entry * old[place] for entry, place in row) for row in made_of]
 
-    def stabilises(self, string, level=None):
-        level = len(self.happened) if level is None else level
-        known = self.known[level]
-        if string not in known:
-            known[string] = self.ask(string, level)
-        return known[string]
+    def gate(self, name: str, qubits: tuple[int, ...]) -> None:
+        self.amplitudes = self.after(terms(name, qubits, self.n))
 
-    def ask(self, string, level):
-        sign, letters = string
-        if level == 0:
-            return not sign and all(letter in "IZ" for letter in letters)
-        kind, *rest = self.happened[level - 1]
-        if kind == "gate":
-            gate, qubit = rest
-            negative, letter = INVERSES[gate][letters[qubit]]
-            return self.stabilises((sign ^ negative, with_letters(letters, [qubit], [letter])), level - 1)
-        if kind == "pair":
-            gate, a, b = rest
-            negative, pair = PAIR_INVERSES[gate][letters[a], letters[b]]
-            return self.stabilises((sign ^ negative, with_letters(letters, [a, b], pair)), level - 1)
-        measured, outcome = rest
-        return commute(measured, string) and (
-            self.stabilises(string, level - 1)
-            or self.stabilises(product((measured[0] ^ outcome, measured[1]), string), level - 1))
+    def flip(self, letter: str, qubit: int, outcome: int) -> None:
+        if outcome:
+            self.gate(letter, (qubit,))
 
-    def measure(self, string, coin):
-        """Measures a string: its outcome, and whether the coin decided."""
-        if self.stabilises(string):
-            outcome, free = False, False
-        elif self.stabilises((not string[0], string[1])):
-            outcome, free = True, False
-        else:
-            outcome, free = coin, True
-        self.happens(("projected", string, outcome))
-        return outcome, free
+    def sign(self, letters: str) -> int | None:
+        """Whether a string with a letter for each qubit stabilises with + (0), with - (1), or with neither: by its mean."""
+        image = self.after(terms_of_string(letters))
+        mean = sum(a.conjugate() * b for a, b in zip(self.amplitudes, image)).real
+        return None if abs(mean) < NOTHING else int(mean < 0)
 
-    def string_of(self, factors):
-        letters = ["I"] * self.n
-        for letter, qubit in factors:
-            letters[qubit] = letter
-        return False, tuple(letters)
+    def measure(self, factors: Factors, coin: int) -> tuple[int, bool]:
+        letters = string_of(factors, self.n)
+        sign = self.sign(letters)
+        outcome = coin if sign is None else sign
+        image = self.after(terms_of_string(letters))
+        part = [a + (-1)**outcome * b for a, b in zip(self.amplitudes, image)]
+        length = sum(abs(a)**2 for a in part)**0.5
+        self.amplitudes = [a / length for a in part]
+        return outcome, sign is None
+
+    def reduced_rows(self) -> list[tuple[int, str]]:
+        """By ascending lead the sign and the letters of the member whose first 1 is there and which has 0 at every other lead."""
+        strings = ["".join(it) for it in all_of("IXYZ", repeat=self.n)][1:]
+        members = [(sign, letters, bits_of(letters)) for letters in strings if (sign := self.sign(letters)) is not None]
+        leads = {bits.index(1) for _, _, bits in members}
+        rows = {}
+        for sign, letters, bits in members:
+            at = [lead for lead in leads if bits[lead]]
+            if len(at) == 1:
+                rows[at[0]] = sign, letters
+        return [rows[lead] for lead in sorted(rows)]
 
 
-def parity(records, ks):
-    return sum(records[-k] for k in ks) % 2 == 1
+def string_of(factors: Factors, n: int) -> str:
+    """Letters on some qubits as a letter for each of n."""
+    letters = dict((qubit, letter) for letter, qubit in factors)
+    return "".join(letters.get(qubit, "I") for qubit in range(n))
 
 
-class Run:
-    """The run of unrolled steps on n qubits with a list of coins, which are 0 past its end."""
-
-    State = State
-
-    def __init__(self, n, observables, steps, coins):
-        self.state = self.State(n)
-        self.coins = coins
-        self.records, self.free, self.detectors = [], [], []
-        self.observables = [False] * observables
-        for step in steps:
-            self.carry_out(step)
-
-    def measure(self, factors):
-        number = len(self.free)
-        coin = number < len(self.coins) and self.coins[number]
-        outcome, free = self.state.measure(self.state.string_of(factors), coin)
-        self.free.append(free)
-        return outcome
-
-    def carry_out(self, step):
-        kind = step[0]
-        if kind in ("gate", "pair"):
-            self.state.happens(step)
-        elif kind == "controlled":
-            if self.records[-step[2]]:
-                self.state.happens(("gate", step[1], step[3]))
-        elif kind == "collapse":
-            self.collapse(*step[1:])
-        elif kind == "product":
-            outcome = self.measure([(letter, qubit) for letter, qubit, _ in step[1]])
-            self.records.append(outcome ^ (sum(inverted for _, _, inverted in step[1]) % 2 == 1))
-        elif kind == "detector":
-            self.detectors.append(parity(self.records, step[1]))
-        else:
-            self.observables[step[1]] ^= parity(self.records, step[2])
-
-    def collapse(self, letter, recorded, resets, qubit, inverted):
-        outcome = self.measure([(letter, qubit)])
-        if recorded:
-            self.records.append(outcome ^ inverted)
-        if resets and outcome:
-            self.state.happens(("gate", FLIPS[letter], qubit))
-
-    def reduced_rows(self):
-        """By ascending lead the member whose first 1 is there and which has 0 at every other lead."""
-        members = [(sign, letters) for letters in all_of(LETTERS, repeat=self.state.n) for sign in (False, True)
-                   if self.state.stabilises((sign, letters))]
-        bits = {member: bits_of(member[1]) for member in members}
-        leads = sorted({bits[member].index(1) for member in members if 1 in bits[member]})
-        return [next(m for m in members if 1 in bits[m] and bits[m].index(1) == lead
-                     and not any(bits[m][other] for other in leads if other != lead)) for lead in leads]
-
-
-def bits_of(letters):
+def bits_of(letters: str) -> list[int]:
     return [int(x in "XY") for x in letters] + [int(x in "ZY") for x in letters]
 
 
-def rows_text(run):
+class Run(Generic[AnyState]):
+    """The run of unrolled steps from a state with a list of coins, which are 0 past its end."""
+
+    def __init__(self, state: AnyState, observables: int, steps: Iterable[Step], coins: Sequence[int]) -> None:
+        self.state = state
+        self.coins = coins
+        self.records: list[int] = []
+        self.free: list[bool] = []
+        self.detectors: list[int] = []
+        self.observables = [0] * observables
+        for step in steps:
+            self.carry_out(step)
+
+    def measure(self, factors: Factors) -> int:
+        number = len(self.free)
+        outcome, free = self.state.measure(factors, self.coins[number] if number < len(self.coins) else 0)
+        self.free.append(free)
+        return outcome
+
+    def parity(self, lookbacks: Iterable[int]) -> int:
+        sum_ = 0
+        for lookback in lookbacks:
+            sum_ ^= self.records[-lookback]
+        return sum_
+
+    def carry_out(self, step: Step) -> None:
+        kind, *rest = step
+        if kind in ("gate", "pair"):
+            self.state.gate(rest[0], tuple(rest[1:]))
+        elif kind == "controlled":
+            self.state.flip(rest[0], rest[2], self.records[-rest[1]])
+        elif kind == "collapse":
+            self.collapse(*rest)
+        elif kind == "product":
+            outcome = self.measure([(letter, qubit) for letter, qubit, _ in rest[0]])
+            self.records.append(outcome ^ sum(inverted for *_, inverted in rest[0]) % 2)
+        elif kind == "detector":
+            self.detectors.append(self.parity(rest[0]))
+        else:
+            self.observables[rest[0]] ^= self.parity(rest[1])
+
+    def collapse(self, letter: str, recorded: bool, resets: bool, qubit: int, inverted: bool) -> None:
+        outcome = self.measure([(letter, qubit)])
+        if recorded:
+            self.records.append(outcome ^ int(inverted))
+        if resets:
+            self.state.flip(FLIPS[letter], qubit, outcome)
+
+    def bits(self) -> list[int]:
+        """The detectors and then the observables."""
+        return self.detectors + self.observables
+
+
+def rows_text(state: Amplitudes) -> bytes:
     """The reduced rows, one a line."""
-    lines = [("-" if sign else "+") + "".join(letters).replace("I", "_") + "\n" for sign, letters in run.reduced_rows()]
-    return "".join(lines).encode() if run.state.n else b""
+    return "".join("+-"[sign] + letters.replace("I", "_") + "\n" for sign, letters in state.reduced_rows()).encode()

@@ -1,0 +1,255 @@
+#!/usr/bin/env python3
+"""Measures what docs/benchmarks.md, docs/scaling.md and docs/robustness.md say of times, and prints lines of their tables.
+
+    tools/bench.py shots                  few shots and many of ten circuits
+    tools/bench.py further CIRCUIT..      what a further shot costs beside one run
+    tools/bench.py hour [--seconds 5]     how many shots of `detect` one core does in an hour
+    tools/bench.py limits [--repeats 3]   what texts at the limits cost against a plain one
+    tools/bench.py page [--edits 9]       how long the page takes from a key until it is painted
+    tools/bench.py crate                  all of crates/bench, which is proved and built first
+
+Where nothing else is said times are by the clock, the least of five calls. The program is that of `./stabsim`, or of `--program`. Do
+nothing else on the machine meanwhile.
+"""
+
+import argparse
+import itertools
+import os
+import subprocess
+import sys
+import tempfile
+import time
+from pathlib import Path
+
+from program import TOP, find_program
+from stabsim import codes
+from stabsim.codes.dense import dense_circuit
+
+CALLS = 5
+# Few shots and many, of these circuits.
+SHOTS = (1, 2, 8, 16, 17, 64, 65, 256, 1_000)
+QUBITS = 64
+# One shot, and as many after it as fill batches of any width from 64 lanes to 1,024.
+MANY = 7_169
+# Surface codes by distance and rounds, of which shots are measured for an hour.
+SIZES = ((3, 3), (7, 7), (13, 13), (21, 21), (21, 349))
+FORMATS = ("01", "b8", "r8", "hits", "dets")
+MOST_SHOTS = 1_000_000
+HOUR = 3600
+MOST_DEPTH = 16
+MOST_OBSERVABLES = 4_096
+# What is timed of a text at a limit: commands, and the script of `edit`.
+COMMANDS = {"sample": "", "edit": "insert 0 TICK\ndelete 0\nshow circuit\n"}
+
+
+def head(*cells: str) -> None:
+    """Prints the head of a table."""
+    row(*cells)
+    print("|---" * len(cells) + "|")
+
+
+def row(*cells: str) -> None:
+    print("| " + " | ".join(cells) + " |", flush=True)
+
+
+def two_digits(number: float) -> str:
+    """A number with the two digits that tell."""
+    return f"{number:.2g}" if number < 100 else f"{float(f'{number:.2g}'):,.0f}"
+
+
+def least(program: Path, *words: str | Path) -> float:
+    """The least time of a call by the clock, in seconds."""
+    times = []
+    for _ in range(CALLS):
+        before = time.perf_counter()
+        subprocess.run([program, *words], stdout=subprocess.DEVNULL, check=True)
+        times.append(time.perf_counter() - before)
+    return min(times)
+
+
+def sample(program: Path, path: Path, shots: int, form: str = "b8") -> float:
+    return least(program, "sample", "--shots", str(shots), "--out_format", form, "--in", path)
+
+
+def time_shots(asked: argparse.Namespace, folder: Path) -> None:
+    """The milliseconds of few shots and of many, with what reading the text takes, less what the program takes to start: they show
+    whether somewhere a shot more takes less time than one fewer."""
+    circuits = {
+        "`X 0` in 1,048,576 rounds": "REPEAT 1048576 {\n    X 0\n}\n",
+        "`H 0`, `M 0` in 500,000 rounds": "REPEAT 500000 {\n    H 0\n    M 0\n}\n",
+        "surface code, distance 21, 300 rounds": codes.surface_code(21, 300),
+        "the same written out": codes.surface_code(21, 300, written_out=True),
+        "surface code, distance 7, 1,000 rounds": codes.surface_code(7, 1_000),
+        "colour code, distance 7, 300 rounds": codes.colour_code(7, 300),
+        "repetition code, distance 25, 1,000 rounds": codes.repetition_code(25, 1_000),
+        "Bacon-Shor code, 8x8, 200 rounds": codes.bacon_shor_code(8, 200),
+        "dense, 256 qubits, 20,000 steps": dense_circuit(256, 20_000),
+        f"one measurement a line, {QUBITS} qubits": "".join(f"H {number % QUBITS}\nM {number % QUBITS}\n" for number in range(100_000)),
+    }
+    head("Circuit", *(f"{shots:,}" for shots in SHOTS))
+    start, path = least(asked.program, "--version"), folder / "circuit.stim"
+    for name, text in circuits.items():
+        path.write_text(text)
+        row(name, *(two_digits((sample(asked.program, path, shots) - start) * 1e3) for shots in SHOTS))
+
+
+def time_further_shots(asked: argparse.Namespace, _: Path) -> None:
+    """The milliseconds of a run, with reading, less the start; and for `b8` and `01` the microseconds of a further shot, and which
+    part of a run that is. `check` is not taken off, since it passes all steps as a run does."""
+    head("Circuit", "A run, ms", "A further shot in `b8`, µs", "of a run", "in `01`, µs", "of a run")
+    for path in asked.circuits:
+        one = sample(asked.program, path, 1)
+        run = one - least(asked.program, "--version")
+        further = [(sample(asked.program, path, MANY, form) - one) / (MANY - 1) for form in ("b8", "01")]
+        row(path.stem, two_digits(run * 1e3), *itertools.chain(*((two_digits(it * 1e6), f"1/{run / it:.0f}") for it in further)))
+
+
+def seconds_and_bytes(program: Path, path: Path, form: str, shots: int) -> tuple[float, int]:
+    """The seconds of processor time of shots of `detect`, and the bytes that they are."""
+    before, written = os.times(), 0
+    with subprocess.Popen([program, "detect", "--shots", str(shots), "--out_format", form, "--in", path], stdout=subprocess.PIPE) as process:
+        assert process.stdout
+        while some := process.stdout.read(1 << 20):
+            written += len(some)
+    if process.returncode:
+        raise SystemExit(f"bench: stabsim ended with status {process.returncode}")
+    after = os.times()
+    return after.children_user + after.children_system - before.children_user - before.children_system, written
+
+
+def rounded(number: float) -> str:
+    """A number with two digits that tell, in thousands."""
+    return f"{round(number, -max(len(str(int(number))) - 2, 0)):,.0f}"
+
+
+def time_an_hour(asked: argparse.Namespace, folder: Path) -> None:
+    """The shots that an hour is good for, the bytes of a shot and the gigabytes of an hour, by a run that takes seconds of processor
+    time, or has the most shots of a run."""
+    head("Surface code", "Steps", "Detectors", "Format", "Shots an hour", "Bytes a shot", "GB an hour")
+    path = folder / "circuit.stim"
+    for (distance, rounds), form in itertools.product(SIZES, FORMATS):
+        path.write_text(codes.surface_code(distance, rounds))
+        told = subprocess.run([asked.program, "check", "--in", path], capture_output=True, text=True, check=True).stdout
+        numbers = dict(line.split(": ") for line in told.splitlines())
+        shots = 1
+        while (took := seconds_and_bytes(asked.program, path, form, shots))[0] < asked.seconds and shots < MOST_SHOTS:
+            shots = min(MOST_SHOTS, shots * 4)
+        hour, size = HOUR * shots / max(took[0], 0.01), took[1] / shots
+        row(f"distance {distance}, {rounds} rounds", *(f"{int(numbers[it]):,}" for it in ("steps", "detectors")), f"`{form}`", rounded(hour),
+            f"{size:,.0f}", f"{hour * size / 1e9:.1f}")
+
+
+# Texts at limits: what they begin with, and the lines or words that they are filled with.
+TEXTS = {
+    "lines of one letter": ("", "X\n"),
+    "one line": ("M 0\nDETECTOR", " rec[-1]"),
+    "blocks in 16 others": ("", "REPEAT 1 {\n" * MOST_DEPTH + "TICK\n" + "}\n" * MOST_DEPTH),
+    "detectors of one record": ("M 0\n", "DETECTOR rec[-1]\n"),
+    "additions to 4,096 observables": ("M 0\n", "".join(f"OBSERVABLE_INCLUDE({it}) rec[-1]\n" for it in range(MOST_OBSERVABLES))),
+    "a comment": ("", "#"),
+}
+
+
+# A process counts the memory that its starter held: so a small one starts the program, and says what it cost.
+TELL_COST = """
+import os, sys
+_, status, usage = os.wait4(os.posix_spawn(sys.argv[1], sys.argv[1:], os.environ), 0)
+print(usage.ru_utime + usage.ru_stime, usage.ru_maxrss, file=sys.stderr)
+sys.exit(os.waitstatus_to_exitcode(status))
+"""
+
+
+def costs_of(asked: argparse.Namespace, path: Path) -> list[float]:
+    """For each command the least of the processor's time, in seconds, and of the memory, in KiB, of some runs."""
+    found = []
+    for command, script in COMMANDS.items():
+        words = [sys.executable, "-S", "-c", TELL_COST, asked.program, command, "--in", path]
+        runs = [subprocess.run(words, input=script, stdout=subprocess.DEVNULL, stderr=subprocess.PIPE, text=True, check=True) for _ in range(asked.repeats)]
+        found += [min(costs) for costs in zip(*(map(float, it.stderr.split()) for it in runs))]
+    return found
+
+
+def time_limits(asked: argparse.Namespace, folder: Path) -> None:
+    """What texts cost that go to a limit, as ratios to a surface code written out that has as many bytes."""
+    path = folder / "circuit.stim"
+    path.write_text(codes.surface_code(21, codes.deepest("surface_code", 21), written_out=True))
+    length, base = path.stat().st_size, costs_of(asked, path)
+    print(f"Texts of {length:,} bytes, against a surface code written out:\n")
+    head("Text", *(f"{what} of `{command}`" for command in COMMANDS for what in ("time", "memory")))
+    for name, (first, line) in TEXTS.items():
+        path.write_text(first + line * ((length - len(first)) // len(line)))
+        row(name, *(f"{one / other:.2f}" for one, other in zip(costs_of(asked, path), base)))
+
+
+def time_page(asked: argparse.Namespace, folder: Path) -> None:
+    # It needs a browser, and the others don't.
+    import bench_page
+
+    if asked.frames:
+        bench_page.measure_frames(folder, asked.frames)
+        return
+    sizes = [(asked.distance, asked.rounds)] if asked.distance else [(13, 13), (21, 100)]
+    bench_page.measure(folder, sizes, asked.edits)
+
+
+def time_crate(_: argparse.Namespace, folder: Path) -> None:
+    """Times the tableau, reading, whole runs, edits and tables of faults, by the program of crates/bench, built for this processor."""
+    crate = TOP / "crates" / "bench"
+    level = subprocess.run([TOP / "python/stabsim/programs/level"], capture_output=True, text=True, check=True).stdout.strip()
+    built = subprocess.run(["rt", "run", f"--cpu=x86-64-{level or 'v2'}"], cwd=crate, stdin=subprocess.DEVNULL, capture_output=True, text=True, check=False)
+    if built.returncode:
+        raise SystemExit(f"{built.stdout}{built.stderr}bench: the program was not built")
+
+    def bench(*words: str) -> None:
+        subprocess.run([crate / "out" / "bench", *words], cwd=folder, check=True)
+
+    def made(name: str, distance: int, form: str = "") -> str:
+        """The file of a code's deepest circuit, or as deep as wide where it is written out so."""
+        file = f"{name}_{distance}{form}.stim"
+        rounds = distance if form.startswith("_rounds") else codes.deepest(name, distance)
+        (folder / file).write_text(codes.memory(name, distance).text(rounds, form != ""))
+        return file
+
+    distances = (7, 13, 21)
+    blocks = [made("surface_code", distance) for distance in distances]
+    written_out = [made("surface_code", distance, "_written_out") for distance in distances]
+    products = [made(name, distance) for name in ("colour_code", "bacon_shor_code") for distance in (7, 21)]
+    (folder / "dense_1024.stim").write_text(dense_circuit(1024, 1_048_576, 1))
+    bench("measure")
+    bench("run", made("surface_code", 3), *blocks, written_out[-1], *products, "dense_1024.stim")
+    # X on the qubit 2d + 3, which measures a check of Z, flips its next record and nothing else. Each circuit has a process of its
+    # own, so that the memory that a session keeps is told.
+    for distance, *files in zip(distances, blocks, written_out):
+        for file in files:
+            bench("edit", str(2 * distance + 3), file)
+    # Written out, so that a session can put a fault into one round alone.
+    bench("faults", *(made("surface_code", distance, f"_rounds_{distance}") for distance in (7, 21)))
+
+
+def main() -> None:
+    words = argparse.ArgumentParser(description=__doc__, formatter_class=argparse.RawDescriptionHelpFormatter)
+    kinds = words.add_subparsers(required=True, metavar="WHAT")
+    for name, measure in (("shots", time_shots), ("further", time_further_shots), ("hour", time_an_hour), ("limits", time_limits),
+                          ("page", time_page), ("crate", time_crate)):
+        kind = kinds.add_parser(name, description=measure.__doc__)
+        kind.set_defaults(measure=measure)
+        kind.add_argument("--program", type=Path, help="the program in place of the built one")
+        if name == "further":
+            kind.add_argument("circuits", nargs="+", type=Path, metavar="CIRCUIT")
+        elif name == "hour":
+            kind.add_argument("--seconds", type=float, default=5, help="how long a run takes at least (default 5)")
+        elif name == "limits":
+            kind.add_argument("--repeats", type=int, default=3, help="how many runs of each text (default 3)")
+        elif name == "page":
+            kind.add_argument("--edits", type=int, default=9)
+            kind.add_argument("--distance", type=int)
+            kind.add_argument("--rounds", type=int)
+            kind.add_argument("--frames", type=int, metavar="N", help="measures N frames of a zoom, and of a pan, and nothing else")
+    asked = words.parse_args()
+    asked.program = asked.program or find_program()
+    with tempfile.TemporaryDirectory() as folder:
+        asked.measure(asked, Path(folder))
+
+
+if __name__ == "__main__":
+    main()

@@ -1,0 +1,200 @@
+"""Files that the program reads and writes, and standard streams that are closed.
+
+An older file of --out keeps what it held until there is something to write; a file that is read is never written; a closed stream
+fails by itself and hands its number to no file; coins come from a file; a table of faults that is empty is explained; and a terminal
+is told which command says more of a circuit that is refused.
+"""
+
+import os
+import pathlib
+import pty
+import subprocess
+
+import pytest
+from running import COMMANDS, FOLDER, MISSING, NO_MARKS, PROGRAM, READ_FAULT, TIME_LIMIT, TOO_LONG, WRITE_FAULT, run
+
+CIRCUIT = "X 0\nM 0 1\n"
+SHARED = "stabsim: --in and --out are one file\n"
+SHARED_INPUT = "stabsim: standard input and --out are one file\n"
+SHARED_COINS = "stabsim: --coins_in and --out are one file\n"
+COINS_TWICE = "stabsim: coins are given by --coins or by --coins_in, and not by both\n"
+WRONG_COINS = "stabsim: coins are 0 and 1\n"
+HINT = "stabsim: what is wrong and where: give the same circuit to `stabsim check`\n"
+UNSUPPORTED = "stabsim: line 2: refused 1 UnsupportedName\n"
+MOST_BYTES = 16_777_216
+LONGEST_WORD = 131_072
+OLD = "what was there before\n"
+
+
+@pytest.fixture(name="circuit")
+def circuit_file(tmp_path: pathlib.Path) -> pathlib.Path:
+    file = tmp_path / "circuit.stim"
+    file.write_text(CIRCUIT)
+    return file
+
+
+def test_one_file_to_read_and_to_write_is_refused_and_kept(tmp_path: pathlib.Path, circuit: pathlib.Path) -> None:
+    soft, hard = tmp_path / "soft.stim", tmp_path / "hard.stim"
+    soft.symlink_to(circuit)
+    hard.hardlink_to(circuit)
+    for out in (circuit, soft, hard):
+        for command in COMMANDS:
+            assert run([command, "--in", circuit, "--out", out]) == (2, "", SHARED)
+    with circuit.open("rb") as given:
+        assert run(["sample", "--in", "/dev/stdin", "--out", circuit], given.fileno()) == (2, "", SHARED)
+        assert run(["sample", "--out", circuit], given.fileno()) == (2, "", SHARED_INPUT)
+        assert run(["edit", "--in", tmp_path / "none", "--out", circuit], given.fileno()) == (2, "", SHARED_INPUT)
+    assert circuit.read_text() == CIRCUIT
+
+
+# Words, what is read, the status, and what is then in the file; {} is the file of the circuit.
+@pytest.mark.parametrize("words, given, status, left", [
+    ("sample", "CX 0 0\n", 1, OLD),
+    ("sample --in {}.none", "", 1, OLD),
+    ("sample --shots none", "", 2, OLD),
+    ("edit --qubits 1 --in {}", "", 1, OLD),
+    ("sample --in {}", "", 0, "10\n"),
+    ("sample --shots 0 --in {}", "", 0, ""),
+    ("detect --out_format b8 --in {}", "", 0, ""),
+    ("edit --in {}", "", 0, ""),
+    ("edit --in {}", "show measurements\ndelete 9\n", 3, "10\nrefused 12 PlaceOutOfRange\n"),
+])
+def test_an_older_file_is_kept_by_a_run_that_is_refused(tmp_path: pathlib.Path, circuit: pathlib.Path, words: str, given: str, status: int, left: str) -> None:
+    out = tmp_path / "out"
+    out.write_text(OLD)
+    assert run([*(word.format(circuit) for word in words.split()), "--out", out], given)[0] == status
+    assert out.read_text() == left
+
+
+def test_a_file_that_cannot_be_opened_or_made_is_told_by_its_name(tmp_path: pathlib.Path) -> None:
+    missing, inside = tmp_path / "none.stim", tmp_path / "none" / "out"
+    assert run(["sample", "--in", missing]) == (1, "", f"{READ_FAULT}stabsim: {missing}: {MISSING}\n")
+    for command in COMMANDS:
+        assert run([command, "--in", tmp_path]) == (1, "", f"{READ_FAULT}stabsim: {tmp_path}: {FOLDER}\n")
+    assert run(["sample", "--out", inside]) == (1, "", f"{WRITE_FAULT}stabsim: {inside}: {MISSING}\n")
+    assert run(["sample", "--out", "/dev/full"], "M 0\n") == (1, "", WRITE_FAULT)
+    assert run(["sample", "--out", "/dev/null"], "M 0\n") == (0, "", "")
+
+
+def test_a_closed_stream_fails_where_it_is_needed_and_changes_nothing_else(tmp_path: pathlib.Path, circuit: pathlib.Path) -> None:
+    out, from_file = tmp_path / "out", ["sample", "--in", circuit]
+    assert run(from_file, closed=(1,)) == (1, "", WRITE_FAULT)
+    assert run(["sample"], closed=(0,)) == (1, "", READ_FAULT)
+    assert run(from_file, closed=(0,)) == (0, "10\n", "")
+    assert run(["edit", "--in", circuit], closed=(0,)) == (1, "", READ_FAULT)
+    assert run(["sample"], "CX 0 0\n", closed=(2,)) == (1, "", "")
+    assert run(["--help"], closed=(1,))[0] == 1
+    for closed in ((1,), (2,), (0, 1, 2)):
+        out.unlink(missing_ok=True)
+        assert (run([*from_file, "--out", out], closed=closed)[0], out.read_text()) == (0, "10\n")
+    assert circuit.read_text() == CIRCUIT
+
+
+@pytest.mark.parametrize("command", [command for command in COMMANDS if command != "edit"])
+def test_no_command_but_edit_reads_a_script(circuit: pathlib.Path, command: str) -> None:
+    words = [command, "--in", circuit]
+    assert run(words, closed=(0,)) == (0, run(words)[1], NO_MARKS if command == "faults" else "")
+
+
+def test_faults_says_that_no_place_is_marked(tmp_path: pathlib.Path, circuit: pathlib.Path) -> None:
+    out, words = tmp_path / "out", ["faults", "--in", circuit]
+    circuit.write_text("R 0\nM 0\nDETECTOR rec[-1]\n")
+    assert run(words) == (0, "", NO_MARKS)
+    assert run([*words, "--out_format", "dets"]) == (0, "", NO_MARKS)
+    assert (run([*words, "--out", out]), out.read_text()) == ((0, "", NO_MARKS), "")
+    # But not where all places are asked for, nor of faults of no byte.
+    assert run([*words, "--everywhere"]) == (0, "1 0 X0 D0\n1 0 Z0\n1 1 X0 D0\n1 1 Z0\n2 1 X0\n2 1 Z0\n", "")
+    circuit.write_text("R 0\nI 0\nM 0\n")
+    assert run(words) == (0, "1 1 X0\n1 1 Z0\n", "")
+    assert run([*words, "--out_format", "b8"]) == (0, "", "")
+    circuit.write_text("CX 0 0\n")
+    assert run(words) == (1, "", "stabsim: line 1: refused 4 BadPairing\n")
+
+
+@pytest.fixture(name="coins")
+def coins_file(tmp_path: pathlib.Path) -> pathlib.Path:
+    return tmp_path / "coins"
+
+
+def from_coins(circuit: pathlib.Path, coins: pathlib.Path, text: str, *words: str, given: str = "") -> tuple[int, str, str]:
+    """A run with this text as the file of coins."""
+    coins.write_bytes(text.encode())
+    return run([*words, "--in", circuit, "--coins_in", coins], given)
+
+
+def test_coins_of_a_file_are_those_of_each_command(circuit: pathlib.Path, coins: pathlib.Path) -> None:
+    circuit.write_text("H 0 1\nM 0 1\n")
+    for text in ("01", "01\n", "01\r\n", "0111"):
+        assert from_coins(circuit, coins, text, "sample", "--shots", "2") == (0, "01\n01\n", "")
+        assert from_coins(circuit, coins, text, "sample", "--seed", "5") == (0, "01\n", "")
+    assert from_coins(circuit, coins, text, "stabilizers") == (0, "+Z_\n-_Z\n", "")
+    assert from_coins(circuit, coins, text, "edit", given="show measurements\n") == (0, "01\n", "")
+    assert from_coins(circuit, coins, text, "sample", "--coins", "1") == (2, "", COINS_TWICE)
+    assert from_coins(circuit, coins, text, "sample", "--out", str(coins)) == (2, "", SHARED_COINS)
+    assert from_coins(circuit, coins, "0" * (MOST_BYTES - 1) + "\n", "sample") == (0, "00\n", "")
+    assert from_coins(circuit, coins, "1" * (MOST_BYTES + 1), "sample") == (1, "", f"{TOO_LONG}stabsim: {coins}\n")
+
+
+@pytest.mark.parametrize("text", ["012", "0 1", "01\n\n", "01\r"])
+def test_wrong_coins_are_told_and_nothing_is_written(tmp_path: pathlib.Path, circuit: pathlib.Path, coins: pathlib.Path, text: str) -> None:
+    out = tmp_path / "out"
+    out.write_text(OLD)
+    assert from_coins(circuit, coins, text, "sample") == (2, "", WRONG_COINS)
+    assert (from_coins(circuit, coins, text, "sample", "--out", str(out))[0], out.read_text()) == (2, OLD)
+
+
+def test_a_file_of_coins_that_cannot_be_read_is_told_by_its_name(tmp_path: pathlib.Path) -> None:
+    for file, said in ((tmp_path / "none", MISSING), (tmp_path, FOLDER)):
+        assert run(["sample", "--coins_in", file], "M 0\n") == (1, "", f"{READ_FAULT}stabsim: {file}: {said}\n")
+
+
+# A text of coins, and what four free outcomes are by them; none if it is no list: characters 0 and 1, and at most one line end.
+@pytest.mark.parametrize("text, bits", [
+    ("", "0000"), ("\n", "0000"), ("\r\n", "0000"), ("0", "0000"), ("0110", "0110"), ("10\n", "1000"), ("1\r\n", "1000"),
+    ("1\n\n", None), ("1\n0", None), ("1 0", None), (" 1", None), ("1\r", None), ("012", None), ("1\t", None),
+])
+def test_zeros_follow_the_coins_of_a_file(circuit: pathlib.Path, coins: pathlib.Path, text: str, bits: str | None) -> None:
+    circuit.write_text("H 0 1 2 3\nM 0 1 2 3\n")
+    assert from_coins(circuit, coins, text, "sample") == ((2, "", WRONG_COINS) if bits is None else (0, f"{bits}\n", ""))
+
+
+@pytest.mark.parametrize("coins", ["1 0", " "])
+def test_a_word_of_coins_has_no_spacing_either(coins: str) -> None:
+    assert run(["sample", "--coins", coins]) == (2, "", WRONG_COINS)
+
+
+def test_a_file_gives_more_coins_than_a_word_may_have(circuit: pathlib.Path, coins: pathlib.Path) -> None:
+    text = "".join("01"[at % 7 == 0] for at in range(LONGEST_WORD + 5)) + "\n"
+    circuit.write_text(f"REPEAT {len(text) - 1} {{\n    H 0\n    M 0\n}}\n")
+    assert from_coins(circuit, coins, text, "sample") == (0, text, "")
+
+
+def on_terminal(words: list[str | pathlib.Path], given: str) -> str:
+    """What a run tells on a terminal as its error output."""
+    held, end = pty.openpty()
+    try:
+        subprocess.run([PROGRAM, *words], input=given.encode(), stdout=subprocess.DEVNULL, stderr=end, timeout=TIME_LIMIT, check=False)
+        os.write(end, b"\4")
+        told = b""
+        while b"\4" not in told:
+            told += os.read(held, 4096)
+    finally:
+        os.close(held)
+        os.close(end)
+    return told.split(b"\4")[0].decode().replace("\r\n", "\n")
+
+
+@pytest.mark.parametrize("command", ["sample", "detect", "stabilisers"])
+def test_a_terminal_is_told_of_check(command: str) -> None:
+    assert on_terminal([command], "M 0\nFOO 0\n") == UNSUPPORTED + HINT
+    assert run([command], "M 0\nFOO 0\n") == (1, "", UNSUPPORTED)
+
+
+def test_a_terminal_is_told_of_check_where_it_says_more(tmp_path: pathlib.Path) -> None:
+    missing = tmp_path / "none.stim"
+    assert on_terminal(["detect"], "DETECTOR rec[-1]\n") == "stabsim: refused 8 LookbackTooFar\n" + HINT
+    assert HINT not in on_terminal(["check"], "M 0\nFOO 0\n")
+    assert on_terminal(["sample", "--in", missing], "") == f"{READ_FAULT}stabsim: {missing}: {MISSING}\n"
+    assert on_terminal(["sample", "--out", "/dev/full"], "M 0\n") == WRITE_FAULT
+    assert on_terminal(["sample", "--coins", "2"], "M 0\n") == WRONG_COINS
+    assert on_terminal(["sample"], "M 0\n") == ""
