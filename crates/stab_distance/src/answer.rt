@@ -11,6 +11,9 @@ pub enum Answer {
 
 /// Hears how far a search is.
 pub trait Progress {
+    /// A search begins, over this number of errors.
+    fn begins(&mut self, errors: usize);
+
     /// No logical error has this number of errors, or fewer.
     fn none_within(&mut self, errors: usize);
 }
@@ -20,5 +23,7 @@ pub trait Progress {
 pub struct Unwatched;
 
 impl Progress for Unwatched {
+    fn begins(&mut self, _errors: usize) {}
+
     fn none_within(&mut self, _errors: usize) {}
 }

@@ -19,7 +19,7 @@ use std::alloc::{AllocError, Global};
 /// The least logical error of a table, if it has at most `most` errors.
 ///
 /// A logical error is a set of errors that together flip some observable and no detector. `progress` hears of
-/// each number of errors that was excluded. The time grows by a factor with each further error. The memory
+/// the number of errors, and then of each number of them that was excluded. The time grows by a factor with each further error. The memory
 /// grows with the rows, and with the greatest number in them.
 ///
 /// The only refusal is `OutOfMemory`.
@@ -32,6 +32,7 @@ pub fn least_logical_error<P: Progress>(
     ensures answer { IfOk result (IsAnswer table.now most) }
     ensures refusal { IfErr result (λ e. e ≡ OutOfMemory) }
 {
+    progress.begins(table.len());
     let distinct = distinct_rows(alloc, table)?;
     if has_certificates(alloc, table.detectors(), distinct.rows.as_slice())? {
         return Ok(Answer::NoneAtAll);

@@ -119,6 +119,8 @@ struct Told {
 }
 
 impl Progress for Told {
+    fn begins(&mut self, _errors: usize) {}
+
     fn none_within(&mut self, errors: usize) {
         self.last = errors;
         self.times = self.times.saturating_add(1);

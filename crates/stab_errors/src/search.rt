@@ -12,7 +12,7 @@ use stab_io::Refusal;
 use std::alloc::Global;
 
 /// A least set of a circuit's errors that are unseen together, where there is one, of at most so many
-/// errors if a number is given. `progress` is told of each number of errors that no such set has.
+/// errors if a number is given. `progress` is told how many errors there are, and then each number of them that no such set has.
 ///
 /// Errors are unseen together where the run with all of them put in has, whatever the coins, the sure
 /// detectors of the run without, and differs from it in a sure observable.

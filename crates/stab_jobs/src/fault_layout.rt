@@ -1,11 +1,11 @@
-//! How a command writes a table of faults.
+//! How a command writes a table.
 use stab_results::Format;
 
-/// How a table of faults is written.
+/// How a table of faults or coins is written.
 #[derive(Clone, Copy, Debug, PartialEq, Eq)]
 pub enum FaultLayout {
-    /// A line for each fault: where it is, its letter and qubit, and what it flips.
+    /// A line for each fault or coin: where it is, its name, and what it flips.
     Lines,
-    /// A shot for each fault, whose bits are 1 where it flips them.
+    /// A shot for each fault or coin, whose bits are 1 where it flips them.
     Shots(Format),
 }

@@ -1,4 +1,5 @@
 //! What the words of a command line ask for.
+use crate::distance_options::DistanceOptions;
 use crate::fault_layout::FaultLayout;
 use crate::source::Source;
 use stab_results::Format;
@@ -189,6 +190,14 @@ pub enum Command {
         everywhere: bool,
         sure_only: bool,
     },
+    /// Writes, for each detector and observable that is not the same for all coins, which coins decide it.
+    Explain,
+    /// Writes which records, detectors and observables each coin flips that decides an outcome.
+    Coins {
+        layout: FaultLayout,
+    },
+    /// Writes the least number of errors that flip an observable and no detector, and that many such errors.
+    Distance(DistanceOptions),
     /// Edits the circuit by a script, on so many qubits or on as many as it names, and writes the
     /// replies, framed where a program is to read them.
     Edit {

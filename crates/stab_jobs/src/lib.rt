@@ -4,6 +4,7 @@
 //!
 //! - `source`: where the coins of a command come from.
 //! - `error_letters`: of which letters the errors of a circuit are made.
+//! - `distance_options`: of which errors the distance of a circuit is asked for.
 //! - `fault_layout`: how a command writes a table of faults.
 //! - `job`: which shots, qubits and checkpoints, the commands, and the job that the words of a command line
 //!   ask for.
@@ -17,11 +18,13 @@
 //! (`specs/Limits.antt`), so that no command asks for them anew; and which job reads a script.
 #![tactic(auto)]
 
+mod distance_options;
 mod error_letters;
 mod fault_layout;
 mod job;
 mod source;
 
+pub use distance_options::DistanceOptions;
 pub use error_letters::ErrorLetters;
 pub use fault_layout::FaultLayout;
 pub use job::{Command, Job, QubitCount, Shots, Stride};
