@@ -23,7 +23,7 @@
 //! `specs/inner` has what private contracts alone speak of.
 //!
 //! Sources: Stim's circuit file format (.stim) without noise, in Stim's repository
-//! `doc/file_format_stim_circuit.md`. `docs/circuit-text.md` says where this differs; paths and edits are this
+//! `doc/file_format_stim_circuit.md`. `docs/use/circuit-text.md` says where this differs; paths and edits are this
 //! project's own.
 //!
 //! Proved: every text is that of one circuit or has one fault, and never both; it is read as exactly

@@ -12,7 +12,7 @@
 //! are those of `stab_tables`, handed on, and scripts are answered by `stab_scripts`.
 //!
 //! Sources: Stim's commands `sample` and `detect` with its result formats, for the commands of those names;
-//! `docs/stim.md` says where they differ. All other commands and the script are this project's own.
+//! `docs/use/stim.md` says where they differ. All other commands and the script are this project's own.
 //!
 //! Proved on `run_sample` and `run_detect`: a call ends by cases. The text was refused, by its own fault
 //! or unread, and the output is untouched; or it was given whole, and the output took what the

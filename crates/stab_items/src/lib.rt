@@ -21,7 +21,7 @@
 //! those of calls that `stab_circuit` alone makes.
 //!
 //! Sources: Stim's circuit file format (.stim) without noise, in Stim's repository
-//! `doc/file_format_stim_circuit.md`. `docs/circuit-text.md` says where this differs.
+//! `doc/file_format_stim_circuit.md`. `docs/use/circuit-text.md` says where this differs.
 //!
 //! Proved: a text is read as exactly the items that its lines come to, one after the other, or
 //! refused with the fault of the first line that is; that these are the items that it stands for, and

@@ -1,5 +1,5 @@
 -- Names: what each name stands for, in capitals or not. Of several names for one thing the first is printed.
--- Source: Stim's gate names, those of noise and of gates made of these left out (docs/circuit-text.md).
+-- Source: Stim's gate names, those of noise and of gates made of these left out (docs/use/circuit-text.md).
 use Rattle.std.specs.Prelude.{ℕ, true, false, List, [], ◌∷◌, Option, Some, None, Result, Ok, Err, codes, if◌then◌else◌}
 use Rattle.std.specs.Str.{str_eq_ignore_ascii_case}
 use Rattle.stab_lines.specs.Results.{◌>>=◌}

@@ -5,7 +5,7 @@
 //! `stab_items`.
 //!
 //! The text is Stim's, without noise: the Stim circuit file format (.stim), in Stim's repository
-//! `doc/file_format_stim_circuit.md`. `docs/circuit-text.md` says where this differs.
+//! `doc/file_format_stim_circuit.md`. `docs/use/circuit-text.md` says where this differs.
 //!
 //! - `line`: what is left of a line, and its shape.
 //! - `word`: words between spacing, parts between commas, decimal numbers.

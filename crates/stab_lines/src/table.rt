@@ -2,7 +2,7 @@
 //!
 //! A row is what an instruction is, the name that is printed, and after `or` its other names. `name`
 //! makes tests of these rows, and `print` the names that it writes: a test of each name as a constant
-//! is faster than a walk over a `static` array. `docs/gates.md` has the same rows in the same order.
+//! is faster than a walk over a `static` array. `docs/use/circuit-text.md` has the same rows in the same order.
 
 /// The gates on one qubit.
 macro_rules! gates {

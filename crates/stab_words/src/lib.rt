@@ -4,7 +4,7 @@
 //! - `words`: what the words of a command line ask for.
 //! - `usage`: telling words that ask for nothing.
 //!
-//! Sources: Stim's command line, for the options of `sample` and `detect`; `docs/stim.md` says where it differs. The
+//! Sources: Stim's command line, for the options of `sample` and `detect`; `docs/use/stim.md` says where it differs. The
 //! rest is this project's own.
 //!
 //! Proved: `parse_words` gives the job that the words ask for, `read_coins` the coins of a file, and

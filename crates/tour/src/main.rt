@@ -1,7 +1,7 @@
 //! The program `tour`: what a program of your own does with these crates, to be read first.
 //!
 //! It reads a circuit, runs it, takes two shots of it, opens a session on it, edits it, and prints what each step gives.
-//! `docs/library.md` goes through it, call by call.
+//! `docs/build/library.md` goes through it, call by call.
 #![tactic(auto)]
 
 mod failure;
