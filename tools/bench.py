@@ -1,5 +1,5 @@
 #!/usr/bin/env python3
-"""Measures what docs/benchmarks.md, docs/scaling.md and docs/robustness.md say of times, and prints lines of their tables.
+"""Measures what docs/build/benchmarks.md, docs/use/scaling.md and docs/trust/tested.md say of times, and prints lines of their tables.
 
     tools/bench.py shots                  few shots and many of ten circuits
     tools/bench.py further CIRCUIT..      what a further shot costs beside one run

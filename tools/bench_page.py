@@ -1,6 +1,6 @@
-"""Measures in Chromium how long the page takes from a key on a qubit until what it flips is drawn, for docs/benchmarks.md.
+"""Measures in Chromium how long the page takes from a key on a qubit until what it flips is drawn, for docs/build/benchmarks.md.
 
-For a surface code that is written out it opens the page (docs/page.md) and says how long that took to the first picture. Then it
+For a surface code that is written out it opens the page (docs/use/page.md) and says how long that took to the first picture. Then it
 puts a Pauli on a qubit in the middle of the code, at moments that lie evenly over all, and takes it back each time. A line has the
 milliseconds of each step of the way, by the middle one of the edits, and the best and worst of the whole; the last is of a region
 that a click on a detector asks for. The clock is the browser's.

@@ -3,14 +3,17 @@
 
     tools/check_pages.py
 
-- The last column of the table of docs/proved.md names clauses by their labels, as "`value` of `Letter::times`": some function of that name has
-  a clause of that label.
-- The tables of docs/believe.md name definitions: each stands in the file that its row, or the row above it, names.
+- The last column of the tables of docs/trust/proved.md names clauses by their labels, as "`value` of `Letter::times`": some function of that
+  name has a clause of that label.
+- A row of docs/trust/believe.md names a file of definitions, how many of them a theorem rests on, with their lines, and some of them: they
+  are in that file, the counts are those of tools/count_definitions.py, and each file on which a theorem rests has a row.
 - A file that a page names between backquotes is there, by its path from the top or by its end.
-- A link leads to a page that is there, and to a heading of it; `docs/README.md` has a link to each page.
+- A link leads to a file that is there, and to a heading of it; `docs/README.md` has a link to each page.
+- A page of `docs/` that a tool, a test, the manual page, the package or an example names is there.
 - A page of over 1,500 words has a link to each of its headings.
-- A page has at most as many words as `MOST_WORDS` says, and a page that is not named there at most 1,500, code and tables counted.
-- A page has no phrase of `PLAINER`, which has a plainer form, unless it is named in `NOT_YET_PLAIN`. Code is not looked at.
+- The pages of a folder, and the README and the list of changes, have at most as many words together as `MOST_WORDS` says, and a page at
+  most 1,500, or what `LONGER` says; code and tables are counted.
+- A page has no phrase of `PLAINER`, which has a plainer form. Code is not looked at.
 
 It ends with 1 if something is missing, too long or to be said more plainly. What a clause or a definition says is not looked at.
 """
@@ -21,38 +24,27 @@ import sys
 from collections.abc import Iterator
 from pathlib import Path
 
+import count_definitions
+
 TOP = Path(__file__).resolve().parent.parent
-PAGES = [TOP / "README.md", TOP / "CHANGELOG.md", *sorted((TOP / "docs").glob("*.md"))]
+DOCS = TOP / "docs"
+PAGES = [TOP / "README.md", TOP / "CHANGELOG.md", *sorted(DOCS.glob("**/*.md"))]
+PROVED, BELIEVE = DOCS / "trust" / "proved.md", DOCS / "trust" / "believe.md"
 QUOTED = re.compile(r"`([^`\n]+)`")
 FILE = re.compile(r"[\w./-]+\.(?:rt|antt|md|py|sh|rows|stim|script)")
 FUNCTION = re.compile(r"\s*(?:pub(?:\([^)]*\))? )?fn (\w+)")
 CLAUSE = re.compile(r"\s*(?:requires|ensures)\*? (\w+) \{")
 WORDS_WITHOUT_CONTENTS = 1500
-MOST_WORDS_ELSE = 1500
+MOST_WORDS_OF_A_PAGE = 1500
+LONGER = {"docs/trust/proved.md": 2100, "docs/trust/believe.md": 2500, "docs/trust/tested.md": 1800, "docs/DECISIONS.md": 2200}
+# How many words the pages below these paths have together at most.
 MOST_WORDS = {
-    "CHANGELOG.md": 1100,
-    "README.md": 700,
-    "docs/DECISIONS.md": 3200,
-    "docs/architecture.md": 1500,
-    "docs/believe.md": 6200,
-    "docs/benchmarks.md": 2500,
-    "docs/circuit-text.md": 750,
-    "docs/coins.md": 500,
-    "docs/editing.md": 1500,
-    "docs/faults.md": 950,
-    "docs/flows.md": 700,
-    "docs/gates.md": 500,
-    "docs/library.md": 1400,
-    "docs/proved.md": 5800,
-    "docs/refusals.md": 1050,
-    "docs/result-formats.md": 350,
-    "docs/robustness.md": 900,
-    "docs/scaling.md": 750,
-    "docs/stabilisers.md": 450,
-    "docs/stim.md": 750,
-    "docs/tested.md": 900,
-    "docs/trusted.md": 1100,
-    "docs/wrong-bodies.md": 750,
+    "README.md": (700, ["README.md"]),
+    "CHANGELOG.md": (900, ["CHANGELOG.md"]),
+    "docs/README.md": (300, ["docs/README.md"]),
+    "docs/use": (12000, ["docs/use/"]),
+    "docs/trust": (6000, ["docs/trust/"]),
+    "docs/build and docs/DECISIONS.md": (6000, ["docs/build/", "docs/DECISIONS.md"]),
 }
 # Phrases and what to write in their place.
 PLAINER = {
@@ -75,9 +67,8 @@ PLAINER = {
     r"\bfrom nothing\b": "from scratch",
 }
 # Pages that still have such phrases. A page that is rewritten leaves this list, and none comes to it.
-NOT_YET_PLAIN = {
-    "docs/believe.md", "docs/page.md", "docs/proved.md", "docs/trusted.md",
-}
+NOT_YET_PLAIN = {"docs/use/page.md"}
+NAMED_PAGE = re.compile(r"\bdocs/[\w/-]+\.md")
 DEFINED = re.compile(r"(?:(?:abbrev|unfoldable|opaque|pub|record|data)\s+)+([^\s:({]+)|  (?:pub )?(\S+) :")
 
 
@@ -119,20 +110,20 @@ def wrong_clauses(page: Path) -> Iterator[str]:
 
 
 def wrong_definitions(page: Path) -> Iterator[str]:
-    """Definitions that the tables of a page name, and that do not stand in the file that they name."""
-    known, files, is_numbered = definitions(), [], False
+    """Definitions that a row of a page names, and that are not in the row's file."""
+    known = definitions()
     for line in page.read_text(encoding="utf-8").split("\n"):
-        if line.startswith("## "):
-            files, is_numbered = FILE.findall(line), line[3:4].isdigit()
-        cells = [cell.strip() for cell in re.split(r"(?<!\\)\|", line)[1:-1]]
-        if not is_numbered or len(cells) < 2 or set(cells[0]) == {"-"}:
-            continue
-        if len(cells) == 3 and cells[0]:
-            files = FILE.findall(cells[0])
-        also = [file for file in FILE.findall(cells[-2]) if file.endswith(".antt")]
-        there = set().union(*(known[path] for path in known for file in files + also if path.endswith("/" + file)))
-        names = (name for name in QUOTED.findall(cells[-2]) if name not in also)
-        yield from (f"`{name}` in {', '.join(files)}" for name in names if name not in there)
+        if count_definitions.ROW.match(line):
+            file, _, names, *_ = (cell.strip() for cell in re.split(r"(?<!\\)\|", line)[1:-1])
+            there = known.get(f"/crates/{file.strip('`')}", set())
+            yield from (f"`{name}` in {file}" for name in QUOTED.findall(names) if name not in there)
+
+
+def wrong_counts(page: Path) -> Iterator[str]:
+    """What is wrong with the counts of definitions of a page, or with its rows."""
+    counts = count_definitions.counts_of_files(count_definitions.all_definitions())
+    _, wrong, missing = count_definitions.with_counts(page.read_text(encoding="utf-8"), counts)
+    yield from (*wrong, *(f"{it} is not there" for it in missing))
 
 
 @functools.cache
@@ -163,9 +154,9 @@ def headings(page: Path, ranks: str) -> set[str]:
 
 
 def missing_contents(page: Path) -> Iterator[str]:
-    """Headings that a page of over so many words has no link to."""
+    """Headings that a long page has no link to."""
     text = page.read_text(encoding="utf-8")
-    if len(text.split()) > WORDS_WITHOUT_CONTENTS:
+    if words_of(page) > WORDS_WITHOUT_CONTENTS:
         yield from (f"a link to the heading {it}" for it in sorted(headings(page, "##")) if f"](#{it})" not in text)
 
 
@@ -184,11 +175,22 @@ def name_of(page: Path) -> str:
     return str(page.relative_to(TOP))
 
 
-def too_many_words(page: Path) -> Iterator[str]:
-    """By how much a page is longer than it may be."""
-    words, most = len(page.read_text(encoding="utf-8").split()), MOST_WORDS.get(name_of(page), MOST_WORDS_ELSE)
-    if words > most:
-        yield f"{words} words, and {most} are the most"
+def words_of(page: Path) -> int:
+    """How many words a page has."""
+    return len(page.read_text(encoding="utf-8").split())
+
+
+def too_many_words() -> Iterator[str]:
+    """Pages, and folders, that are longer than they may be, and by how much."""
+    named = {name_of(page): words_of(page) for page in PAGES}
+    for name, words in named.items():
+        most = LONGER.get(name, MOST_WORDS_OF_A_PAGE)
+        if words > most:
+            yield f"{name}: {words} words, and {most} are the most"
+    for called, (most, starts) in MOST_WORDS.items():
+        words = sum(words for name, words in named.items() if name.startswith(tuple(starts)))
+        if words > most:
+            yield f"{called}: {words} words together, and {most} are the most"
 
 
 def plainer_phrases(page: Path) -> Iterator[str]:
@@ -202,22 +204,36 @@ def plainer_phrases(page: Path) -> Iterator[str]:
 
 def unlinked_pages() -> Iterator[str]:
     """Pages of docs/ that docs/README.md leads to by no link."""
-    text = (TOP / "docs" / "README.md").read_text(encoding="utf-8")
-    pages = {page.name for page in PAGES if page.parent.name == "docs"} - {"README.md"}
-    yield from (f"a link to {name}" for name in sorted(pages - set(re.findall(r"\]\(([\w-]+\.md)\)", text))))
+    index = DOCS / "README.md"
+    linked = set(re.findall(r"\]\(([\w/-]+\.md)\)", index.read_text(encoding="utf-8")))
+    pages = {str(page.relative_to(DOCS)) for page in PAGES if page.is_relative_to(DOCS)} - {"README.md"}
+    yield from (f"a link to {name}" for name in sorted(pages - linked))
+
+
+def wrong_names_of_pages() -> Iterator[str]:
+    """Pages that files other than pages and crates name, and that are not there, each after its file."""
+    listed = subprocess.run(["git", "ls-files", "-co", "--exclude-standard"], cwd=TOP, capture_output=True, text=True, check=True)
+    for name in listed.stdout.splitlines():
+        file = TOP / name
+        if not name.startswith(("crates/", "docs/", "python/stabsim/programs/")) and file.is_file():
+            found = NAMED_PAGE.findall(file.read_bytes().decode("utf-8", "replace"))
+            yield from (f"{name}: {page}" for page in found if not (TOP / page).is_file())
 
 
 def main() -> int:
     """Prints what is missing, and answers the status."""
-    wrong = [f"docs/proved.md: {it}" for it in wrong_clauses(TOP / "docs" / "proved.md")]
-    wrong += [f"docs/believe.md: {it}" for it in wrong_definitions(TOP / "docs" / "believe.md")]
+    wrong = [f"{name_of(PROVED)}: {it}" for it in wrong_clauses(PROVED)]
+    wrong += [f"{name_of(BELIEVE)}: {it}" for it in wrong_definitions(BELIEVE)]
     wrong += [f"docs/README.md: {it}" for it in unlinked_pages()]
+    wrong += wrong_names_of_pages()
     for page in PAGES:
         found = (*wrong_files(page), *wrong_links(page), *missing_contents(page))
         wrong += [f"{name_of(page)}: {it}" for it in found]
     wrong = [f"{it} is not there" for it in wrong]
+    wrong += [f"{name_of(BELIEVE)}: {it}" for it in wrong_counts(BELIEVE)]
+    wrong += too_many_words()
     for page in PAGES:
-        wrong += [f"{name_of(page)}: {it}" for it in (*too_many_words(page), *plainer_phrases(page))]
+        wrong += [f"{name_of(page)}: {it}" for it in plainer_phrases(page)]
     for it in wrong:
         print(it, file=sys.stderr)
     print(f"{len(PAGES)} pages compared with what they name, and their words looked at: {len(wrong)} wrong")

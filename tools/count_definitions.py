@@ -1,19 +1,21 @@
 #!/usr/bin/env python3
-"""Counts the lines of the definitions that each theorem rests on: those that docs/believe.md leads through.
+"""Counts the definitions that each theorem rests on, and their lines: those that docs/trust/believe.md leads through.
 
     tools/count_definitions.py [--names] [--page]
 
 It begins with what a theorem's clause names and goes on to all that this uses in the folders specs/ of the crates, but not into
-specs/inner/. A line is one of a definition, without comments, imports and blank ones. The first figure of a theorem is all that it
-rests on, the second what no theorem above it has; with --names each definition is printed below its theorem. With --page the
-counts are written into docs/believe.md too, whose output tools/try_docs.sh compares with them.
+specs/inner/. A line is one of a definition, without comments, imports and blank ones. The first figures of a theorem are of all that
+it rests on, the last of what no theorem above it has; with --names each definition is printed below its theorem.
+
+docs/trust/believe.md has the theorems as headings, and below each a row for each file that has some of its new definitions, with their
+number and lines. With --page these counts and the printed ones are written there, and rows that are missing, or of no use, are named.
 """
 import pathlib
 import re
 import sys
 
 TOP = pathlib.Path(__file__).resolve().parent.parent
-PAGE = TOP / "docs" / "believe.md"
+PAGE = TOP / "docs" / "trust" / "believe.md"
 SHOWN = re.compile(r"(?<=```sh\ntools/count_definitions.py\n```\n\n```output\n).*?(?=```\n)", re.DOTALL)
 # What is proved, and the definitions that its clauses name.
 THEOREMS = {
@@ -26,6 +28,7 @@ THEOREMS = {
     "what a session is": ["stab_session.Headline.IsRunOfItems"],
     "an edit of a session": ["stab_session.SessionEdits.IsEditedBy", "stab_session.SessionEdits.IsAsBefore"],
 }
+ROW = re.compile(r"\| `(\w+/specs/[\w/]+\.antt)` \|([^|]*)\|")
 HEAD = re.compile(r"(?:abbrev|unfoldable|opaque)?\s*(?:pub\s+)?(?:abbrev\s+|unfoldable\s+)?(?:pub\s+)?(record|data)?\s*([^\s:({]+)")
 USE = re.compile(r"(?:pub )?use Rattle\.(\w+)\.specs\.([\w.]+)\.\{([^}]*)\}")
 PASSED_ON = re.compile(r"pub use Rattle\.(\w+)\.specs\.(?!declared)([\w.]+)$", re.MULTILINE)
@@ -121,23 +124,65 @@ def reached(found, roots):
     return seen
 
 
-def counted(found, names):
-    """The lines that are printed."""
+def new_definitions(found):
+    """For each theorem all definitions that it rests on, and those that no theorem above it has."""
     so_far = {}
     for theorem, roots in THEOREMS.items():
         its = reached(found, roots)
         if not its:
             sys.exit(f"no definition is named {roots}")
-        new = {key: it for key, it in its.items() if key not in so_far}
-        so_far |= new
-        yield f"{theorem}: {lines_of(its)} lines, {lines_of(new)} of them new"
+        yield theorem, its, {key: it for key, it in its.items() if key not in so_far}
+        so_far |= its
+
+
+def counted(found, names):
+    """The lines that are printed."""
+    every = {}
+    for theorem, its, new in new_definitions(found):
+        every |= its
+        yield f"{theorem}: {len(its)} definitions, {lines_of(its)} lines; new: {len(new)}, {lines_of(new)}"
         if names:
             yield from (f"    {file} {name}: {len(it.lines)}" for (file, name), it in sorted(new.items()))
-    yield f"all: {lines_of(so_far)} lines"
+    yield f"all: {len(every)} definitions, {lines_of(every)} lines"
 
 
 def lines_of(definitions):
     return sum(len(it.lines) for it in definitions.values())
+
+
+def counts_of_files(found):
+    """For each theorem the files that have new definitions of it, each with the cell of its row."""
+    counts = {}
+    for theorem, _, new in new_definitions(found):
+        files = {}
+        for (file, name), it in new.items():
+            crate, path = file.split(".", 1)
+            files.setdefault(f"{crate}/specs/{path.replace('.', '/')}.antt", {})[name] = it
+        counts[theorem] = {file: f"{len(its)}, {lines_of(its)}" for file, its in files.items()}
+    return counts
+
+
+def theorem_of(heading):
+    """The theorem that a heading of the page names."""
+    return heading.removeprefix("## ").replace("`", "").lower()
+
+
+def with_counts(text, counts):
+    """The page with the counts of each row as they are; and what is wrong with its rows or counts."""
+    lines, wrong, seen, theorem = [], [], set(), None
+    for line in text.split("\n"):
+        theorem = theorem_of(line) if line.startswith("## ") else theorem
+        if row := ROW.match(line):
+            cell = counts.get(theorem, {}).get(row[1])
+            seen.add((theorem, row[1]))
+            if cell is None:
+                wrong.append(f"{theorem}: {row[1]} has no new definition of it")
+            elif f" {cell} " != row[2]:
+                wrong.append(f"{theorem}: {row[1]} has {cell} and not{row[2]}: run tools/count_definitions.py --page")
+                line = f"{line[:row.start(2)]} {cell} {line[row.end(2):]}"
+        lines.append(line)
+    missing = [f"{theorem}: a row for {file}" for theorem, files in counts.items() for file in sorted(files) if (theorem, file) not in seen]
+    return "\n".join(lines), wrong, missing
 
 
 def main():
@@ -146,7 +191,10 @@ def main():
         print(line)
     if "--page" in sys.argv[1:]:
         shown = "\n".join(counted(found, False)) + "\n"
-        PAGE.write_text(SHOWN.sub(lambda _: shown, PAGE.read_text()))
+        text, _, missing = with_counts(PAGE.read_text(), counts_of_files(found))
+        PAGE.write_text(SHOWN.sub(lambda _: shown, text))
+        for it in missing:
+            print(f"{it} is missing", file=sys.stderr)
 
 
 if __name__ == "__main__":

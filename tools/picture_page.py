@@ -1,7 +1,7 @@
 #!/usr/bin/env python3
-"""Takes the pictures of docs/page.md anew, in Chromium: docs/page.png and docs/page_refused.png.
+"""Takes the pictures of docs/use/page.md anew, in Chromium: docs/use/page.png and docs/use/page_refused.png.
 
-    tools/picture_page.py [--folder docs] [--width 1280 --height 800]
+    tools/picture_page.py [--folder docs/use] [--width 1280 --height 800]
 
 In the first an X was put on a qubit of a surface code of distance 5, in one round of the block, and the region of a detector that it
 flipped is drawn. In the second, in dark colours, products of a colour code are measured, and an item was to become one that is
@@ -69,7 +69,7 @@ def refuse(page: Page) -> None:
 
 def main() -> None:
     parser = argparse.ArgumentParser(description=__doc__.split("\n")[0])
-    parser.add_argument("--folder", type=pathlib.Path, default=TOP / "docs", help="where the pictures go")
+    parser.add_argument("--folder", type=pathlib.Path, default=TOP / "docs" / "use", help="where the pictures go")
     parser.add_argument("--width", type=int, default=1280)
     parser.add_argument("--height", type=int, default=800)
     asked = parser.parse_args()

@@ -1,7 +1,7 @@
 #!/usr/bin/env python3
 """Runs the built programs with requests for memory refused and with devices that fail, and looks at how they end.
 
-    tools/refuse.py [--page]
+    tools/refuse.py
 
 Calls: crates/tests_refusals makes each call of the libraries that wants memory, and tells how it ended. Under tools/refuse.c the
 first request of each call is refused, then the second and so on, until no call makes so many; once so that this request
@@ -11,9 +11,8 @@ before, and to give what it gives when it is made again.
 The program: under tools/refuse.c the first request is refused, then the second and so on, until a run makes fewer requests; once
 so that this request alone fails, and once so that all behind it do. Devices: a full disk, a pipe that is closed, paths that
 can't be read or made, and little room for addresses. A run ends with a status of the program's own, never by a signal; what
-it wrote is a prefix of its whole output; and its fault line is one that docs/refusals.md has. It prints counts, made by the
-run, and ends with 1 where something is wrong; with --page it writes those of the calls into docs/robustness.md. It needs
-cc, and the programs: tools/refuse.sh builds them where they are missing.
+it wrote is a prefix of its whole output; and its fault line is one that docs/use/refusals.md has. It prints counts, made by the
+run, and ends with 1 if something is wrong. It needs cc, and the programs: tools/refuse.sh builds them if they are missing.
 """
 
 import os
@@ -31,8 +30,6 @@ from program import find_program
 TOP = pathlib.Path(__file__).resolve().parent.parent
 PROGRAM = find_program()
 CALLS = TOP / "crates" / "tests_refusals" / "out" / "tests_refusals"
-PAGE = TOP / "docs" / "robustness.md"
-TABLE = re.compile(r"(?<=<!-- counts -->\n).*(?=<!-- end of counts -->)", re.DOTALL)
 TIME_LIMIT = 60
 FAULT_LINE = re.compile(rb"stabsim: (line [1-9][0-9]*: )?refused [0-9]+ [A-Za-z]+\n")
 CIRCUIT = TOP / "examples" / "repetition_code.stim"
@@ -165,23 +162,11 @@ def count_calls(library, folder, onwards):
     return counts
 
 
-def table_of(once, onwards):
-    """The counts as a table of docs/robustness.md."""
-    rows = ["", "| Call | Runs with one request refused | Runs with all from one on refused |", "|---|---|---|"]
-    rows += [f"| {name} | {once[name]} | {onwards[name]} |" for name in once]
-    return "\n".join(rows) + "\n\n"
-
-
-def try_calls(library, folder, is_written):
+def try_calls(library, folder):
     once, onwards = count_calls(library, folder, False), count_calls(library, folder, True)
     for name in once:
         expect(once[name] > 0 and onwards[name] > 0, f"{name}: no request was refused")
         print(f"{name}: refused {once[name]} times one request, {onwards[name]} times all from one on; each answered 20")
-    page, table = PAGE.read_text(), table_of(once, onwards)
-    if is_written:
-        PAGE.write_text(TABLE.sub(lambda _: table, page))
-    elif table not in page:
-        print("docs/robustness.md shows other counts: tools/refuse.py --page renews them")
 
 
 def runs_with_files(folder: pathlib.Path) -> Iterator[Run]:
@@ -289,7 +274,7 @@ def main():
         folder = pathlib.Path(made)
         library = folder / "refuse.so"
         subprocess.run(["cc", "-O2", "-shared", "-fPIC", "-o", library, TOP / "tools" / "refuse.c"], check=True)
-        try_calls(library, folder, "--page" in sys.argv[1:])
+        try_calls(library, folder)
         try_memory(library, folder)
         print(f"{try_devices(folder)} devices failed")
         try_little_room(folder)

@@ -31,7 +31,7 @@ if importlib.util.find_spec("numpy"):
 
 
 def pages_of(words):
-    return [TOP / word for word in words] or [TOP / "README.md", *sorted((TOP / "docs").glob("*.md"))]
+    return [TOP / word for word in words] or [TOP / "README.md", *sorted((TOP / "docs").glob("**/*.md"))]
 
 
 def blocks_of(text):
@@ -77,10 +77,13 @@ def wrong_in(folder, language, commands, shown):
 def main():
     tried = compared = failed = 0
     for page in pages_of(sys.argv[1:]):
+        blocks = list(blocks_of(page.read_text()))
+        if not blocks:
+            continue
         with tempfile.TemporaryDirectory() as made:
             folder = pathlib.Path(made)
             clean_copy(folder)
-            for line, language, commands, shown in blocks_of(page.read_text()):
+            for line, language, commands, shown in blocks:
                 wrong = wrong_in(folder, language, commands, shown)
                 tried += 1
                 compared += shown is not None

@@ -7,7 +7,7 @@
 GATE is a file with what `rt ci` or `rt must-fail` printed. A wrong body is an edit in a crate's folder
 `must-fail`, whose first line names a clause: `clause: value of Tableau::same_group`. It fails where another
 goal than that clause stopped the proof, or none that is told, where a body is not in GATE (of these crates,
-if some are named), and where the table of docs/wrong-bodies.md is stale. With --page it writes that table.
+if some are named), and where the table of docs/trust/tested.md is stale. With --page it writes that table.
 
 A goal is told with its file and name. `returns-clause-LABEL` is what a function ensures by that clause;
 `returns` with no clause is its only one. Any other goal, as of a loop, of memory or of a call's `requires`,
@@ -19,7 +19,7 @@ from pathlib import Path
 from typing import NamedTuple
 
 TOP = Path(__file__).resolve().parent.parent
-PAGE = TOP / "docs" / "wrong-bodies.md"
+PAGE = TOP / "docs" / "trust" / "tested.md"
 MARKS = "<!-- begin of the table -->\n", "<!-- end of the table -->\n"
 REFUSED = re.compile(r"rt: must-fail (\w+)/([\w.-]+)\.edit: refused, as it must be: (.*)")
 IN_PROOFS = re.compile(r"\./proofs/(\S+)/\w+\.antt:\d+:\d+: error: `([^`]*)`")

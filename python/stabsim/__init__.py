@@ -8,7 +8,7 @@
 - `codes`: circuits of codes; it needs no numpy.
 
 Everything is computed by the program, which is found by the variable STABSIM, in this repository, or on the PATH. What the package
-adds, what it makes of Stim's text, error models and their samples, no proof covers. docs/python.md of the repository begins with examples.
+adds, what it makes of Stim's text, error models and their samples, no proof covers. docs/use/python.md of the repository begins with examples.
 """
 
 import importlib

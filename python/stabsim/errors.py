@@ -12,7 +12,7 @@ class MissingProgram(StabsimError):
 class Refused(StabsimError):
     """The program refused a circuit, an edit or a question.
 
-    number: int, and name: str, as docs/refusals.md lists them; line: int, counted from 1, or None where
+    number: int, and name: str, as docs/use/refusals.md lists them; line: int, counted from 1, or None where
     the refusal belongs to no line; explanation: str, lines that say what is wrong and what to do, as `stabsim check` has them,
     perhaps none.
 

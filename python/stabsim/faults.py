@@ -10,7 +10,7 @@ from stabsim.table_lines import rows_of
 
 @dataclass(frozen=True)
 class FaultTable:
-    """Which detectors and observables each single fault flips; docs/faults.md says which faults there are.
+    """Which detectors and observables each single fault flips; docs/use/faults.md says which faults there are.
 
     steps: int64 (faults,), how many steps stand in front of the fault once blocks are written out.
     paths: str (faults,), the path of its item.

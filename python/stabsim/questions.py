@@ -15,7 +15,7 @@ class Questioned(Asked):
     """A circuit as what is asked of its records and flows."""
 
     def has_flow(self, flow: str | Flow) -> bool:
-        """Whether the circuit turns a Pauli in front of it into one behind it, up to records, signs included. docs/flows.md says more.
+        """Whether the circuit turns a Pauli in front of it into one behind it, up to records, signs included. docs/use/flows.md says more.
 
         flow: as "X0*Z1 -> -Y2 xor rec[-1]"; 1 is no Pauli. The circuit and the flow name up to 512 qubits, and those that the circuit does
         not name stay as they are. ValueError or IndexError at a misspelt flow.

@@ -6,7 +6,7 @@ from stabsim import codes
 from stabsim.page.moment_faults import MomentFaults
 from stabsim.page.moments import marked
 
-# The teleportation that docs/faults.md works out by hand, a step in each moment: two records control gates on qubit 2.
+# The teleportation that docs/use/faults.md works out by hand, a step in each moment: two records control gates on qubit 2.
 TELEPORTATION = """RY 0
 TICK
 H 1

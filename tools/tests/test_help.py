@@ -15,7 +15,7 @@ LAST = [
     ("  ./stabsim ", " --in examples/"),
     ("", ""),
     ("raw", "no reference sample is subtracted."),
-    ("Refusals", "docs/refusals.md"),
+    ("Refusals", "refusals.md"),
 ]
 # Commands, and an option that each of them doesn't have.
 OF_OTHERS = [("sample", "--append_observables"), ("stabilisers", "--shots"), ("edit", "--first_shot"), ("deterministic", "--seed"), ("faults", "--coins")]
@@ -53,5 +53,5 @@ def test_help_says_what_the_file_is_in_place_of(command: str) -> None:
 def test_a_checkpoint_has_one_name() -> None:
     assert STRIDE in "\n".join(help_of("edit --help"))
     assert STRIDE in (TOP / "man" / "stabsim.1").read_text()
-    page = (TOP / "docs" / "editing.md").read_text()
+    page = (TOP / "docs" / "use" / "editing.md").read_text()
     assert "A checkpoint is a copy of the state" in page and "copies of" not in page
