@@ -9,7 +9,7 @@
   are in that file, the counts are those of tools/count_definitions.py, and each file on which a theorem rests has a row.
 - A file that a page names between backquotes is there, by its path from the top or by its end.
 - A link leads to a file that is there, and to a heading of it; `docs/README.md` has a link to each page.
-- A page of `docs/` that a tool, a test, the manual page, the package or an example names is there.
+- A page of `docs/` that another file names, such as a source, the manual page or an example, is there.
 - A page of over 1,500 words has a link to each of its headings.
 - The pages of a folder, and the README and the list of changes, have at most as many words together as `MOST_WORDS` says, and a page at
   most 1,500, or what `LONGER` says; code and tables are counted.
@@ -36,7 +36,7 @@ FUNCTION = re.compile(r"\s*(?:pub(?:\([^)]*\))? )?fn (\w+)")
 CLAUSE = re.compile(r"\s*(?:requires|ensures)\*? (\w+) \{")
 WORDS_WITHOUT_CONTENTS = 1500
 MOST_WORDS_OF_A_PAGE = 1500
-LONGER = {"docs/trust/proved.md": 2100, "docs/trust/believe.md": 2500, "docs/trust/tested.md": 1800, "docs/DECISIONS.md": 2200}
+LONGER = {"docs/trust/proved.md": 2100, "docs/trust/believe.md": 2600, "docs/trust/tested.md": 1800, "docs/DECISIONS.md": 2200}
 # How many words the pages below these paths have together at most.
 MOST_WORDS = {
     "README.md": (700, ["README.md"]),
@@ -211,11 +211,11 @@ def unlinked_pages() -> Iterator[str]:
 
 
 def wrong_names_of_pages() -> Iterator[str]:
-    """Pages that files other than pages and crates name, and that are not there, each after its file."""
+    """Pages that other files name, and that are not there, each after its file."""
     listed = subprocess.run(["git", "ls-files", "-co", "--exclude-standard"], cwd=TOP, capture_output=True, text=True, check=True)
     for name in listed.stdout.splitlines():
         file = TOP / name
-        if not name.startswith(("crates/", "docs/", "python/stabsim/programs/")) and file.is_file():
+        if not name.startswith(("docs/", "python/stabsim/programs/")) and file.is_file():
             found = NAMED_PAGE.findall(file.read_bytes().decode("utf-8", "replace"))
             yield from (f"{name}: {page}" for page in found if not (TOP / page).is_file())
 

@@ -23,6 +23,8 @@ THEOREMS = {
     "stabilisers": ["stab_commands.Stabilisers.EndsStabilisers"],
     "deterministic": ["stab_tables.Deterministic.EndsDeterministic"],
     "faults": ["stab_tables.FaultTables.EndsFaults"],
+    "coins and deterministic --explain": ["stab_tables.CoinTables.EndsCoins", "stab_tables.Reasons.EndsExplain"],
+    "distance": ["stab_tables.Distances.EndsDistance"],
     "edit": ["stab_scripts.ScriptEndings.EndsEdit"],
     "a job and its status": ["stab_commands.Jobs.EndsJob"],
     "what a session is": ["stab_session.Headline.IsRunOfItems"],
