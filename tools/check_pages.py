@@ -36,7 +36,7 @@ FUNCTION = re.compile(r"\s*(?:pub(?:\([^)]*\))? )?fn (\w+)")
 CLAUSE = re.compile(r"\s*(?:requires|ensures)\*? (\w+) \{")
 WORDS_WITHOUT_CONTENTS = 1500
 MOST_WORDS_OF_A_PAGE = 1500
-LONGER = {"docs/trust/proved.md": 2100, "docs/trust/believe.md": 2600, "docs/trust/tested.md": 1800, "docs/DECISIONS.md": 2200}
+LONGER = {"docs/trust/proved.md": 2100, "docs/trust/believe.md": 2600, "docs/trust/tested.md": 1700, "docs/DECISIONS.md": 2200}
 # How many words the pages below these paths have together at most.
 MOST_WORDS = {
     "README.md": (700, ["README.md"]),
