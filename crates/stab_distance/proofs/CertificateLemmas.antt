@@ -77,7 +77,7 @@ module _ (t : ErrorTable) (o : ℕ) (members : List Bool) (is : IsCertificate t 
       each i = by_place i (cases_eq i o)
 
 -- an observable that no row names
-unnamed : (t : ErrorTable) (o : ℕ) → ((r : ℕ) → r < length t.rows → odd o (row t.rows r) ≡ false) → FollowsDetectors t o
+pub unnamed : (t : ErrorTable) (o : ℕ) → ((r : ℕ) → r < length t.rows → odd o (row t.rows r) ≡ false) → FollowsDetectors t o
 unnamed t o none errors inside undetected = flips_none errors (each-all (λ r. r < length t.rows) errors inside)
   where
     flips_none : (xs : List ℕ) → Each (λ r. r < length t.rows) xs → flips t.rows xs o ≡ false

@@ -6,6 +6,7 @@ use Rattle.stab_distance.specs.Tables.{ErrorTable, odd, row, flips}
 use Rattle.stab_distance.specs.LogicalErrors.{IsLogicalError, IsLeast, HasNone, HasNoneWithin}
 use Rattle.stab_distance.specs.inner.Lists.{Each}
 use Rattle.stab_distance.specs.inner.Errors.{AreRowsOf, HasRow}
+use Rattle.stab_distance.specs.inner.Graphs.{HasBound}
 use Rattle.stab_distance.specs.inner.Shortest.{IsShortest, IsGathered}
 use Rattle.stab_distance.proofs.ListLemmas.{each-all, all-each}
 
@@ -52,6 +53,13 @@ module _ (detectors : ℕ) (rows chosen : List (List ℕ)) (all : (r : ℕ) → 
       let a = each-all (λ r. r < length rows) errors logical.inside in
       let same = reps-length errors a in
       let more = none (reps errors a) (reps-logical errors a logical) in
+      omega arith
+
+  pub bound-whole : (bound : ℕ) → HasBound part bound → HasBound whole bound
+  bound-whole bound has errors logical =
+      let a = each-all (λ r. r < length rows) errors logical.inside in
+      let same = reps-length errors a in
+      let more = has (reps errors a) (reps-logical errors a logical) in
       omega arith
 
   -- the set of the table's rows that a shortest one is
@@ -104,6 +112,9 @@ module _ (t part : ErrorTable) (detectors : ℕ) (chosen : List (List ℕ)) (is 
 
   pub none-within_told : (most : ℕ) → HasNoneWithin part most → HasNoneWithin t most
   none-within_told most none = none-within_whole t.detectors t.rows chosen all most (subst (λ p. HasNoneWithin p most) is_part none)
+
+  pub bound-told : (bound : ℕ) → HasBound part bound → HasBound t bound
+  bound-told bound has = bound-whole t.detectors t.rows chosen all bound (subst (λ p. HasBound p bound) is_part has)
 
   pub least-told : (numbers : List ℕ) → AreRowsOf t.rows chosen numbers → (most : ℕ) (found set : List ℕ) → IsShortest part most found
       → IsGathered (map (slice_index numbers) found) set → IsLeast t most set

@@ -10,3 +10,8 @@ pub mod CertificateLemmas
 pub mod DistinctLemmas
 pub mod ShortestLemmas
 pub mod EqualLemmas
+pub mod EdgeLemmas
+pub mod GraphLemmas
+pub mod BoundLemmas
+pub mod PartLemmas
+pub mod LogicalLemmas

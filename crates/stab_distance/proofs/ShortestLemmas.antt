@@ -42,15 +42,19 @@ gathered-cons xs set x g = record {
 }
 
 -- each list has a set
-gathering : (xs : List ℕ) → (set : List ℕ) × IsGathered xs set
+abbrev gathering : (xs : List ℕ) → (set : List ℕ) × IsGathered xs set
 gathering [] = ([], gathered-none)
 gathering (x ∷ xs) = let later = gathering xs in (toggle x later.0, gathered-cons xs later.0 x later.1)
+
+gathering-each : (P : ℕ → Type 0) (xs : List ℕ) → Each P xs → Each P (gathering xs).0
+gathering-each P [] a = tt
+gathering-each P (x ∷ xs) a = each-toggle P x (gathering xs).0 a.0 (gathering-each P xs a.1)
 
 map-push : (f : ℕ → ℕ) (xs : List ℕ) (x : ℕ) → map f (xs ++ x ∷ []) ≡ map f xs ++ f x ∷ []
 map-push f [] x = refl
 map-push f (y ∷ ys) x = ap (λ zs. f y ∷ zs) (map-push f ys x)
 
-take-push : (xs : List ℕ) (k d : ℕ) → k < length xs → take (suc k) xs ≡ take k xs ++ get_or xs k d ∷ []
+pub take-push : (xs : List ℕ) (k d : ℕ) → k < length xs → take (suc k) xs ≡ take k xs ++ get_or xs k d ∷ []
 take-push [] k d lt = absurd (omega arith)
 take-push (x ∷ xs) zero d lt = refl
 take-push (x ∷ xs) (suc k) d lt = ap (λ ys. x ∷ ys) (take-push xs k d (omega arith))
@@ -147,14 +151,22 @@ bounded m n (x ∷ xs) le a i =
     omega arith
 
 -- none has more errors than the table
-pub none-up_to : (t : ErrorTable) (most reached : ℕ) → min most (length t.rows) ≤ reached → HasNoneWithin t reached → HasNoneWithin t most
-none-up_to t most reached le none errors logical =
+
+pub none-up_to_each : (t : ErrorTable) (P : ℕ → Type 0) (most reached : ℕ) → min most (length t.rows) ≤ reached
+    → ((errors : List ℕ) → IsLogicalError t errors → Each P errors → reached < length errors)
+    → (errors : List ℕ) → IsLogicalError t errors → Each P errors → most < length errors
+none-up_to_each t P most reached le none errors logical each =
     let set = gathering errors in
     let is = gathered-logical t errors set.0 set.1 logical in
-    let more = none set.0 is in
+    let more = none set.0 is (gathering-each P errors each) in
     let fewer = set.1.fewer in
     let all = bounded 0 (length t.rows) set.0 (omega arith) set.1.ascending (each-all (λ r. r < length t.rows) set.0 is.inside) in
     omega arith
+
+pub none-up_to : (t : ErrorTable) (most reached : ℕ) → min most (length t.rows) ≤ reached → HasNoneWithin t reached → HasNoneWithin t most
+none-up_to t most reached le none errors logical =
+    none-up_to_each t (λ r. r < length t.rows) most reached le (λ xs is each. none xs is) errors logical
+    (each-all (λ r. r < length t.rows) errors logical.inside)
 
 -- none has no error
 pub none-empty : (t : ErrorTable) → HasNoneWithin t 0

@@ -1,4 +1,5 @@
 pub mod Ascending
 pub mod Tables
 pub mod LogicalErrors
+pub mod Graphlike
 pub mod inner

@@ -5,3 +5,6 @@ pub mod Indexes
 pub mod Reach
 pub mod Certificates
 pub mod Shortest
+pub mod Graphs
+pub mod Labels
+pub mod Parts

@@ -7,18 +7,35 @@ use crate::elimination::echelon_of;
 use crate::row::{Row, end_of_rows};
 use std::alloc::{AllocError, Global};
 
+/// Finds members for certificates. No proof rests on it: what it finds is checked.
+pub trait Members {
+    /// For each number whether it is the observable, or a detector that is to add up to it with the others.
+    fn members(&self, alloc: Global, observable: usize) -> Result<Vec<bool>, AllocError>;
+}
+
 /// Whether elimination shows that no logical error exists: for each observable, detectors that add up to it
 /// over every row.
 pub fn has_certificates(alloc: Global, detectors: usize, rows: &[Row]) -> Result<bool, AllocError>
     ensures none { IfOk result (λ b. b ≡ true → HasNone (record { detectors = detectors; rows = rows.now })) }
 {
     let end = end_of_rows(rows);
-    let echelon = match echelon_of(alloc, detectors.min(end), end, rows)? {
-        None => return Ok(false),
-        Some(echelon) => echelon,
-    };
-    'observables: for o in detectors..end {
-        let members = echelon.members(alloc, o)?;
+    match echelon_of(alloc, detectors.min(end), end, rows)? {
+        None => Ok(false),
+        Some(echelon) => are_certified(alloc, detectors, rows, &echelon),
+    }
+}
+
+/// Whether the members found show that no logical error exists.
+pub fn are_certified<M: Members>(
+    alloc: Global,
+    detectors: usize,
+    rows: &[Row],
+    found: &M,
+) -> Result<bool, AllocError>
+    ensures none { IfOk result (λ b. b ≡ true → HasNone (record { detectors = detectors; rows = rows.now })) }
+{
+    'observables: for o in detectors..end_of_rows(rows) {
+        let members = found.members(alloc, o)?;
         if !is_certificate(rows, detectors, o, members.as_slice()) {
             return Ok(false);
         }

@@ -7,7 +7,11 @@ const MOST_CLASSES: usize = 4;
 /// A class for each detector, from 1 on: the two detectors of a row have one class.
 ///
 /// No proof rests on it: any classes are right, and good ones end more branches.
-pub fn classes_of(alloc: Global, rows: &[Row], detectors: usize) -> Result<Vec<usize>, AllocError> {
+pub(crate) fn classes_of(
+    alloc: Global,
+    rows: &[Row],
+    detectors: usize,
+) -> Result<Vec<usize>, AllocError> {
     let mut labels: Vec<usize> = Vec::new(alloc);
     for d in 0..detectors {
         labels.push(d)?;
@@ -21,7 +25,7 @@ pub fn classes_of(alloc: Global, rows: &[Row], detectors: usize) -> Result<Vec<u
 }
 
 /// One more than the greatest class.
-pub fn end_of_classes(classes: &[usize]) -> usize {
+pub(crate) fn end_of_classes(classes: &[usize]) -> usize {
     let mut greatest: usize = 0;
     for class in classes {
         greatest = greatest.max(*class);

@@ -1,3 +1,4 @@
+use crate::certificate::Members;
 use crate::row::Row;
 use std::alloc::{AllocError, Global};
 
@@ -13,7 +14,7 @@ pub struct Echelon {
 
 /// The reduced echelon form of rows whose numbers are below `end`, in which each detector that leads a row is
 /// in no other row. None if some rows add up to an observable and no detector.
-pub fn echelon_of(
+pub(crate) fn echelon_of(
     alloc: Global,
     detectors: usize,
     end: usize,
@@ -78,9 +79,11 @@ impl Echelon {
         }
         Ok(())
     }
+}
 
-    /// For each number whether it is the observable or a detector that leads a row with it.
-    pub fn members(&self, alloc: Global, observable: usize) -> Result<Vec<bool>, AllocError> {
+impl Members for Echelon {
+    /// The observable, and each detector that leads a row with it.
+    fn members(&self, alloc: Global, observable: usize) -> Result<Vec<bool>, AllocError> {
         let mut members = Vec::new(alloc);
         for i in 0..self.end {
             let is_member = if i < self.pivots.len() {

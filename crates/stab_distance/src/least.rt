@@ -113,7 +113,7 @@ fn with_first(
 }
 
 /// The numbers in the table of the rows found, in ascending order. A row that was found twice cancels.
-fn set_of(alloc: Global, found: &[usize], numbers: &[usize]) -> Result<Vec<usize>, AllocError>
+pub fn set_of(alloc: Global, found: &[usize], numbers: &[usize]) -> Result<Vec<usize>, AllocError>
     requires inside { (k : ℕ) → k < length found.now → slice_index found.now k < length numbers.now }
     ensures gathered { IfOk result (λ v. IsGathered (map (slice_index numbers.now) found.now) v.items) }
 {

@@ -5,30 +5,45 @@
 //! - `searching`: the search itself. `merging`: what errors flip together.
 //! - `errors`: the errors ready for a search. `index`, `keys`: which errors to try. `reach`, `classes`: when to give up a branch.
 //! - `certificate`, `elimination`: a proof that no logical error exists.
+//! - `graphlike`: the call for errors alone that flip at most two detectors. `parts`: these errors of a table.
+//! - `edges`, `graph`: these errors as edges. `cycles`, `sources`, `labels`: shortest paths. `bounds`, `colours`: what
+//!   labels prove. `logical`: the check of what was found.
 //!
 //! Source: C. Gidney, Stim: a fast stabilizer circuit simulator (2021), for detectors, observables and tables of
 //! errors.
 //!
 //! Proved: the answer is as `specs/LogicalErrors.antt` says: a shortest logical error, or that each one has more
-//! errors than asked for, or that none exists.
+//! errors than asked for, or that none exists; and the same of errors that flip at most two detectors
+//! (`specs/Graphlike.antt`).
 #![tactic(auto)]
 
 mod answer;
+mod bounds;
 mod certificate;
 mod classes;
+mod colours;
+mod cycles;
 mod distinct;
+mod edges;
 mod elimination;
 mod errors;
+mod graph;
+mod graphlike;
 mod index;
 mod keys;
+mod labels;
 mod least;
+mod logical;
 mod merging;
+mod parts;
 mod reach;
 mod row;
 mod searching;
+mod sources;
 mod table;
 
 pub use answer::{Answer, Progress, Unwatched};
+pub use graphlike::least_graphlike_error;
 pub use least::least_logical_error;
 pub use merging::merge_into;
 pub use table::Table;

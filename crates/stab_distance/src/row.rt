@@ -67,3 +67,14 @@ pub fn end_of_rows(rows: &[Row]) -> usize
     }
     end
 }
+
+/// Whether these numbers have i in them an odd number of times.
+pub fn flips(numbers: &[u32], i: usize) -> bool
+    ensures value { result ≡ odd i numbers.now }
+{
+    let mut odd = false;
+    'each: for n in numbers {
+        odd ^= *n as usize == i;
+    }
+    odd
+}

@@ -1,7 +1,7 @@
 ghost use Rattle.std.specs.Prelude.{◌<◌, IfOk};
 ghost use Rattle.stab_distance.specs.Ascending.{IsAscending};
 
-use super::{Answer, Progress, Table, Unwatched, least_logical_error};
+use super::{Answer, Progress, Table, Unwatched, least_graphlike_error, least_logical_error};
 use stab_io::Refusal;
 use std::alloc::{AllocError, Global};
 use std::test::Fail;
@@ -216,6 +216,174 @@ fn tables_at_random_answer_as_all_sets_of_their_rows(rt: HostRuntime) -> Result<
         }
         let fewest = least_by_trying(rows.as_slice());
         match least_logical_error(alloc, &table, ROWS as usize, &mut Unwatched)? {
+            Answer::Least(errors) => {
+                assert_eq!(rt; errors.len(), fewest as usize);
+                assert!(rt; is_logical(flipped_by(rows.as_slice(), errors.as_slice())));
+            }
+            Answer::NoneWithin => assert!(rt; false),
+            Answer::NoneAtAll => assert_eq!(rt; fewest, 0),
+        }
+    }
+    Ok(())
+}
+
+/// The errors of a least logical error made of errors alone that flip at most two detectors; none where there is
+/// none of so many, or none at all.
+fn least_graphlike(
+    alloc: Global,
+    table: &Table,
+    most: usize,
+) -> Result<Option<Vec<usize>>, Refusal> {
+    match least_graphlike_error(alloc, table, most, &mut Unwatched)? {
+        Answer::Least(errors) => Ok(Some(errors)),
+        Answer::NoneWithin => Ok(None),
+        Answer::NoneAtAll => Ok(None),
+    }
+}
+
+fn has_no_graphlike(alloc: Global, table: &Table) -> Result<bool, Refusal> {
+    match least_graphlike_error(alloc, table, 0, &mut Unwatched)? {
+        Answer::Least(_) => Ok(false),
+        Answer::NoneWithin => Ok(false),
+        Answer::NoneAtAll => Ok(true),
+    }
+}
+
+#[test]
+fn a_chain_of_graphlike_errors_leads_from_end_to_end(rt: HostRuntime) -> Result<(), Fail> {
+    let alloc = rt.alloc();
+    let table = repetition_code(alloc, 4)?;
+    let errors = least_graphlike(alloc, &table, 5)?.ok_or("none")?;
+    assert_eq!(rt; errors.as_slice(), [0, 1, 2, 3, 4].as_slice());
+    assert!(rt; least_graphlike(alloc, &table, 4)?.is_none());
+    assert!(rt; !has_no_graphlike(alloc, &table)?);
+    Ok(())
+}
+
+/// A ring of detectors with an error between each two neighbours, of which the last flips the observable.
+fn ring(alloc: Global, detectors: u32) -> Result<Table, Refusal>
+    requires detectors { 1 < detectors }
+{
+    let mut table = Table::new(alloc, detectors as usize);
+    for d in 1..detectors {
+        table.push(&[d - 1, d])?;
+    }
+    table.push(&[0, detectors - 1, detectors])?;
+    Ok(table)
+}
+
+#[test]
+fn a_ring_without_a_boundary_takes_all_of_its_errors(rt: HostRuntime) -> Result<(), Fail> {
+    let alloc = rt.alloc();
+    let mut table = ring(alloc, 6)?;
+    let errors = least_graphlike(alloc, &table, 9)?.ok_or("none")?;
+    assert_eq!(rt; errors.as_slice(), [0, 1, 2, 3, 4, 5].as_slice());
+    table.push(&[1, 4])?;
+    let errors = least_graphlike(alloc, &table, 9)?.ok_or("none")?;
+    assert_eq!(rt; errors.as_slice(), [0, 4, 5, 6].as_slice());
+    Ok(())
+}
+
+#[test]
+fn an_error_that_three_detectors_see_is_left_out(rt: HostRuntime) -> Result<(), Fail> {
+    let alloc = rt.alloc();
+    let mut table = repetition_code(alloc, 3)?;
+    table.push(&[0, 1, 2])?;
+    table.push(&[0, 1, 2, 3])?;
+    let all = least(alloc, &table, 9)?.ok_or("none")?;
+    assert_eq!(rt; all.as_slice(), [4, 5].as_slice());
+    let errors = least_graphlike(alloc, &table, 9)?.ok_or("none")?;
+    assert_eq!(rt; errors.as_slice(), [0, 1, 2, 3].as_slice());
+    Ok(())
+}
+
+#[test]
+fn an_error_that_only_an_observable_sees_is_graphlike(rt: HostRuntime) -> Result<(), Fail> {
+    let alloc = rt.alloc();
+    let mut table = repetition_code(alloc, 4)?;
+    table.push(&[1, 6])?;
+    table.push(&[1])?;
+    let errors = least_graphlike(alloc, &table, 9)?.ok_or("none")?;
+    assert_eq!(rt; errors.as_slice(), [5, 6].as_slice());
+    table.push(&[5])?;
+    let errors = least_graphlike(alloc, &table, 9)?.ok_or("none")?;
+    assert_eq!(rt; errors.as_slice(), [7].as_slice());
+    Ok(())
+}
+
+#[test]
+fn two_colours_show_that_no_graphlike_error_is_logical(rt: HostRuntime) -> Result<(), Fail> {
+    let alloc = rt.alloc();
+    let mut table = Table::new(alloc, 5);
+    assert!(rt; has_no_graphlike(alloc, &table)?);
+    table.push(&[0, 1, 5])?;
+    table.push(&[1, 2])?;
+    table.push(&[0, 2, 5])?;
+    table.push(&[2])?;
+    table.push(&[3, 4, 6])?;
+    table.push(&[2, 3, 4, 6])?;
+    assert!(rt; has_no_graphlike(alloc, &table)?);
+    table.push(&[3, 4])?;
+    assert!(rt; !has_no_graphlike(alloc, &table)?);
+    let errors = least_graphlike(alloc, &table, 9)?.ok_or("none")?;
+    assert_eq!(rt; errors.as_slice(), [4, 6].as_slice());
+    Ok(())
+}
+
+/// Adds an error between two squares of a torus of 3 by 3, which flips the observable or not.
+fn push_between(table: &mut Table, a: u32, b: u32, flips: bool) -> Result<(), Refusal> {
+    if a < b && b < 9 {
+        if flips {
+            table.push(&[a, b, 9])?;
+        } else {
+            table.push(&[a, b])?;
+        }
+    }
+    Ok(())
+}
+
+#[test]
+fn a_torus_of_three_by_three_has_distance_three(rt: HostRuntime) -> Result<(), Fail> {
+    let alloc = rt.alloc();
+    let mut table = Table::new(alloc, 9);
+    for here in 0..9 {
+        let here: u32 = here;
+        let (x, y) = (here / 3, here % 3);
+        let right = (x + 1) % 3 * 3 + y;
+        let up = x * 3 + (y + 1) % 3;
+        push_between(&mut table, here.min(right), here.max(right), x == 2)?;
+        push_between(&mut table, here.min(up), here.max(up), false)?;
+    }
+    let errors = least_graphlike(alloc, &table, 9)?.ok_or("none")?;
+    assert_eq!(rt; errors.len(), 3);
+    assert!(rt; least_graphlike(alloc, &table, 2)?.is_none());
+    Ok(())
+}
+
+/// How many detectors a row flips.
+fn detectors_in(bits: u32) -> u32 {
+    (bits % (1 << DETECTORS)).count_ones()
+}
+
+#[test]
+fn tables_at_random_answer_as_all_sets_of_their_graphlike_rows(
+    rt: HostRuntime,
+) -> Result<(), Fail> {
+    let alloc = rt.alloc();
+    let mut state: u64 = 7;
+    for _ in 0..300 {
+        let mut rows = Vec::new(alloc);
+        let mut table = Table::new(alloc, DETECTORS as usize);
+        for _ in 0..ROWS {
+            state = state
+                .wrapping_mul(6364136223846793005)
+                .wrapping_add(1442695040888963407);
+            let bits = (state >> 40) as u32 % (1 << NUMBERS);
+            rows.push(if detectors_in(bits) > 2 { 0 } else { bits })?;
+            table.push(numbers_of(alloc, bits)?.as_slice())?;
+        }
+        let fewest = least_by_trying(rows.as_slice());
+        match least_graphlike_error(alloc, &table, ROWS as usize, &mut Unwatched)? {
             Answer::Least(errors) => {
                 assert_eq!(rt; errors.len(), fewest as usize);
                 assert!(rt; is_logical(flipped_by(rows.as_slice(), errors.as_slice())));

@@ -22,3 +22,9 @@ pub record IsGathered (errors set : List ℕ) : Type 0 where
   pub fewer : length set ≤ length errors
   pub inside : (n : ℕ) → Each (λ r. r < n) errors → Each (λ r. r < n) set
   pub flips : (rows : List (List ℕ)) (i : ℕ) → flips rows set i ≡ flips rows errors i
+
+-- a set of at most `most` errors that is a logical error
+pub record IsLogicalSet (t : ErrorTable) (most : ℕ) (set : List ℕ) : Type 0 where
+  pub ascending : IsAscending set
+  pub logical : IsLogicalError t set
+  pub within : length set ≤ most

@@ -1,0 +1,42 @@
+-- Bounds: of logical errors by those of each observable, and of a table by its distinct rows.
+use Rattle.std.proofs.Common.{◌≡◌, ℕ, ◌+◌, ◌≤◌, ◌<◌, ◌⊎◌, inl, inr, sym, ◌∙◌, subst, arith, false, List, length, min}
+use Rattle.std.proofs.lemmas.Bool.{cases_lt, false≢true}
+use Rattle.stab_distance.specs.Tables.{ErrorTable, odd, row}
+use Rattle.stab_distance.specs.LogicalErrors.{IsLeast, HasNoneWithin}
+use Rattle.stab_distance.specs.inner.Graphs.{HasAtLeast, HasBound}
+use Rattle.stab_distance.specs.inner.Shortest.{IsLogicalSet}
+use Rattle.stab_distance.proofs.CertificateLemmas.{unnamed}
+use Rattle.stab_distance.proofs.ShortestLemmas.{none-up_to}
+
+-- each observable that a row names has the bound
+pub bound-all : (t : ErrorTable) (bound end reached : ℕ) → ((r i : ℕ) → r < length t.rows → end ≤ i → odd i (row t.rows r) ≡ false) → end ≤ reached
+    → ((o : ℕ) → t.detectors ≤ o → o < reached → HasAtLeast t o bound) → HasBound t bound
+bound-all t bound end reached beyond le each errors logical =
+    let o = logical.observed.0 in
+    by_place o logical.observed.1 (cases_lt o reached) errors logical.inside logical.undetected logical.observed.2
+  where
+    by_place : (o : ℕ) → t.detectors ≤ o → (o < reached) ⊎ (reached ≤ o) → HasAtLeast t o bound
+    by_place o from (inl lt) = each o from lt
+    by_place o from (inr past) = λ xs inside undetected is.
+        absurd (false≢true (sym (unnamed t o (λ r l. beyond r o l (omega arith)) xs inside undetected) ∙ is))
+
+pub bound-next : (t : ErrorTable) (bound k : ℕ) → ((o : ℕ) → t.detectors ≤ o → o < k → HasAtLeast t o bound) → HasAtLeast t k bound
+    → (o : ℕ) → t.detectors ≤ o → o < k + 1 → HasAtLeast t o bound
+bound-next t bound k before here o from lt = by_place (cases_lt o k)
+  where
+    by_place : (o < k) ⊎ (k ≤ o) → HasAtLeast t o bound
+    by_place (inl less) = before o from less
+    by_place (inr le) = let same : k ≡ o = omega arith in subst (λ i. HasAtLeast t i bound) same here
+
+-- a logical error of no more errors than the bound is a least one
+pub least-bounded : (t : ErrorTable) (most bound n : ℕ) (set : List ℕ) → n ≤ bound → bound ≤ most → HasBound t bound → IsLogicalSet t n set → IsLeast t most set
+least-bounded t most bound n set few le has is = record {
+  ascending = is.ascending;
+  logical = is.logical;
+  within = let h = is.within in omega arith;
+  least = λ others logical. let more = has others logical in let h = is.within in omega arith;
+}
+
+-- none has more errors than the table
+pub none-bounded : (t : ErrorTable) (most within : ℕ) → min most (length t.rows) ≤ within → HasBound t (within + 1) → HasNoneWithin t most
+none-bounded t most within le has = none-up_to t most within le (λ errors logical. let more = has errors logical in omega arith)

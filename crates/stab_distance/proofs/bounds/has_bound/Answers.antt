@@ -1,0 +1,13 @@
+use Rattle.std.proofs.Common.{◌≡◌, ℕ, ◌<◌, ◌≤◌, false, List, length, subst, arith}
+use Rattle.stab_distance.specs.Tables.{odd, row}
+use Rattle.stab_distance.proofs.BoundLemmas.{bound-all}
+use Rattle.stab_distance.proofs.bounds.has_bound.Goals as goal
+
+pub returns : goal.returns
+returns c = record {
+  yes = λ yes.
+      bound-all c.args.graph.now.table c.args.bound c.end_of_rows-o-end.result c.observables.o
+      (subst (λ (rows : List (List ℕ)). (r i : ℕ) → r < length rows → c.end_of_rows-o-end.result ≤ i → odd i (row rows r) ≡ false) c.rows.ensures.value
+      c.end_of_rows-o-end.ensures.end)
+      (omega (arith, c.observables-test.false)) c.observables.invariant;
+}

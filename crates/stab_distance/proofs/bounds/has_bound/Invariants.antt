@@ -1,0 +1,6 @@
+use Rattle.std.proofs.Common.{ℕ, ◌<◌, ◌≤◌}
+use Rattle.stab_distance.specs.inner.Graphs.{HasAtLeast}
+use Rattle.stab_distance.proofs.bounds.has_bound.Given as goal
+
+abbrev pub invariant-observables : goal.invariant-observables
+invariant-observables l = (i : ℕ) → l.graph.table.detectors ≤ i → i < l.o → HasAtLeast l.graph.table i l.bound

@@ -1,0 +1,6 @@
+use Rattle.std.proofs.Common.{ℕ, ◌<◌, ◌≤◌}
+use Rattle.stab_distance.specs.inner.Certificates.{FollowsDetectors}
+use Rattle.stab_distance.proofs.certificate.are_certified.Given as goal
+
+abbrev pub invariant-observables : goal.invariant-observables
+invariant-observables g l = (o : ℕ) → l.detectors ≤ o → o < l.o → FollowsDetectors (record { detectors = l.detectors; rows = l.rows }) o

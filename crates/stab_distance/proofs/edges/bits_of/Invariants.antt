@@ -1,0 +1,9 @@
+use Rattle.std.proofs.Common.{◌≡◌, ℕ, ◌<◌, false, length, get_or}
+use Rattle.stab_distance.specs.Tables.{odd, row}
+use Rattle.stab_distance.proofs.edges.bits_of.Given as goal
+
+abbrev pub invariant-rows : goal.invariant-rows
+invariant-rows l = record {
+  made : length l.bits.items ≡ l.r;
+  each : (q : ℕ) → q < l.r → get_or l.bits.items q false ≡ odd l.i (row l.rows q);
+}

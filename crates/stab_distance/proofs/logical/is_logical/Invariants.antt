@@ -1,0 +1,11 @@
+use Rattle.std.proofs.Common.{◌≡◌, ℕ, ◌<◌, length, get_or, take}
+use Rattle.stab_distance.specs.Ascending.{IsAscending}
+use Rattle.stab_distance.specs.Tables.{odd, flips}
+use Rattle.stab_distance.proofs.logical.is_logical.Given as goal
+
+abbrev pub invariant-each : goal.invariant-each
+invariant-each l = record {
+  ascending : IsAscending l.flipped.items;
+  sum : (i : ℕ) → odd i l.flipped.items ≡ flips l.table.rows (take l.r-index l.errors) i;
+  inside : (j : ℕ) → j < l.r-index → get_or l.errors j 0 < length l.table.rows;
+}

@@ -1,0 +1,12 @@
+use Rattle.std.proofs.Common.{◌≡◌, ℕ, ◌<◌, ◌⊎◌, [], length}
+use Rattle.stab_distance.specs.Tables.{row}
+use Rattle.stab_distance.specs.Graphlike.{IsGraphlike}
+use Rattle.stab_distance.proofs.parts.graphlike_part.Given as goal
+
+abbrev pub invariant-rows : goal.invariant-rows
+invariant-rows l = record {
+  detectors : l.part.detectors ≡ l.table.detectors;
+  made : length l.part.rows ≡ l.r;
+  kept : (q : ℕ) → q < l.r → IsGraphlike l.table.detectors (row l.table.rows q) → row l.part.rows q ≡ row l.table.rows q;
+  others : (q : ℕ) → q < l.r → IsGraphlike l.table.detectors (row l.table.rows q) ⊎ (row l.part.rows q ≡ []);
+}

@@ -1,0 +1,7 @@
+use Rattle.std.proofs.Common.{◌≡◌, drop}
+use Rattle.stab_letters.specs.Letters.{◌⊕◌}
+use Rattle.stab_distance.specs.Tables.{odd}
+use Rattle.stab_distance.proofs.row.flips.Given as goal
+
+abbrev pub invariant-each : goal.invariant-each
+invariant-each l = l.odd ⊕ odd l.i (drop l.n-index l.numbers) ≡ odd l.i l.numbers

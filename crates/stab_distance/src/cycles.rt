@@ -1,0 +1,83 @@
+use crate::edges::bits_of;
+use crate::graph::{Graph, Place};
+use crate::labels::{Labels, labels_from};
+use crate::row::end_of_rows;
+use crate::sources::sources_of;
+use std::alloc::{AllocError, Global};
+
+/// The rows of a shortest cycle that flips an observable, if it has at most `most`; else no rows.
+///
+/// No proof rests on it: what it finds is checked.
+pub(crate) fn shortest_cycle(
+    alloc: Global,
+    graph: &Graph,
+    most: usize,
+) -> Result<Vec<usize>, AllocError> {
+    let mut best = Vec::new(alloc);
+    let mut bound = most.saturating_add(1);
+    for o in graph.detectors()..end_of_rows(graph.rows()) {
+        let bits = bits_of(alloc, graph.rows(), o)?;
+        let shorter = shortest_cycle_by(alloc, graph, bits.as_slice(), bound)?;
+        if !shorter.is_empty() {
+            bound = shorter.len();
+            best = shorter;
+        }
+    }
+    Ok(best)
+}
+
+/// The same for the observable that the edges with these bits flip, if it has fewer rows than the bound.
+fn shortest_cycle_by(
+    alloc: Global,
+    graph: &Graph,
+    bits: &[bool],
+    bound: usize,
+) -> Result<Vec<usize>, AllocError> {
+    let mut best = Vec::new(alloc);
+    let mut bound = bound;
+    let sources = sources_of(alloc, graph, bits)?;
+    for source in 0..sources.len() {
+        if sources[source] {
+            let labels = labels_from(alloc, graph, bits, source, bound)?;
+            if labels.label(source, true) < bound {
+                bound = labels.label(source, true);
+                best = way_back(alloc, graph, bits, &labels, source)?;
+            }
+        }
+    }
+    Ok(best)
+}
+
+/// The rows of the way back to the source, from the source at the other parity.
+fn way_back(
+    alloc: Global,
+    graph: &Graph,
+    bits: &[bool],
+    labels: &Labels,
+    source: usize,
+) -> Result<Vec<usize>, AllocError> {
+    let mut rows = Vec::new(alloc);
+    let mut place = Place {
+        node: source,
+        parity: true,
+    };
+    for _ in 0..labels.label(source, true) {
+        if let Some(r) = edge_back(graph, bits, labels, place) {
+            rows.push(r)?;
+            place = graph.across(r, place, bits);
+        }
+    }
+    Ok(rows)
+}
+
+/// An edge to a place with a lesser label.
+fn edge_back(graph: &Graph, bits: &[bool], labels: &Labels, place: Place) -> Option<usize> {
+    let here = labels.label(place.node, place.parity);
+    for r in graph.edges_at(place.node) {
+        let next = graph.across(*r, place, bits);
+        if labels.label(next.node, next.parity) < here {
+            return Some(*r);
+        }
+    }
+    None
+}

@@ -1,0 +1,60 @@
+ghost use Rattle.std.specs.Prelude.{◌≡◌, ℕ, ◌<◌, ◌≤◌, true, length, slice_index, IfOk, IfSome};
+ghost use Rattle.stab_distance.specs.Ascending.{IsAscending};
+ghost use Rattle.stab_distance.specs.LogicalErrors.{IsLogicalError};
+ghost use Rattle.stab_distance.specs.inner.Shortest.{IsLogicalSet};
+
+use crate::least::set_of;
+use crate::merging::merge_into;
+use crate::table::Table;
+use std::alloc::{AllocError, Global};
+
+/// The numbers in the table of the rows found, in ascending order, if they are a logical error.
+pub fn logical_set(
+    alloc: Global,
+    table: &Table,
+    found: &[usize],
+    numbers: &[usize],
+) -> Result<Option<Vec<usize>>, AllocError>
+    ensures set { IfOk result (λ a. IfSome a (λ v. IsLogicalSet table.now (length found.now) v.items)) }
+{
+    if !are_below(found, numbers.len()) {
+        return Ok(None);
+    }
+    let set = set_of(alloc, found, numbers)?;
+    if !is_logical(alloc, table, set.as_slice())? {
+        return Ok(None);
+    }
+    Ok(Some(set))
+}
+
+/// Whether each number is less than the end.
+fn are_below(found: &[usize], end: usize) -> bool
+    ensures yes { result ≡ true → (k : ℕ) → k < length found.now → slice_index found.now k < end }
+{
+    'each: for k in found {
+        if *k >= end {
+            return false;
+        }
+    }
+    true
+}
+
+/// Whether these rows flip an observable and no detector.
+fn is_logical(alloc: Global, table: &Table, errors: &[usize]) -> Result<bool, AllocError>
+    ensures yes { IfOk result (λ b. b ≡ true → IsLogicalError table.now errors.now) }
+{
+    let mut flipped: Vec<u32> = Vec::new(alloc);
+    'each: for r in errors {
+        if *r >= table.len() {
+            return Ok(false);
+        }
+        let mut next = Vec::new(alloc);
+        merge_into(&mut next, flipped.as_slice(), table.row(*r))?;
+        flipped = next;
+    }
+    let flips = flipped.as_slice();
+    if flips.is_empty() {
+        return Ok(false);
+    }
+    Ok(flips[0] as usize >= table.detectors())
+}
