@@ -6,4 +6,5 @@ mod RowLemmas
 mod FlipLemmas
 mod UnseenLemmas
 mod AnswerLemmas
+mod GraphlikeLemmas
 mod StepLemmas

@@ -28,7 +28,7 @@ same-bits true false e = absurd (cc)
 same-bits false true e = absurd (cc)
 same-bits false false e = refl
 
-other-bits : (x y : Bool) → x ⊕ y ≡ true → x ≢ y
+pub other-bits : (x y : Bool) → x ⊕ y ≡ true → x ≢ y
 other-bits true true e = absurd (cc)
 other-bits true false e = λ same. cc
 other-bits false true e = λ same. cc
@@ -40,7 +40,7 @@ no-difference false false e = refl
 no-difference true false e = absurd (cc)
 no-difference false true e = absurd (cc)
 
-difference : (x y : Bool) → x ≢ y → x ⊕ y ≡ true
+pub difference : (x y : Bool) → x ≢ y → x ⊕ y ≡ true
 difference true true ne = absurd (ne refl)
 difference false false ne = absurd (ne refl)
 difference true false ne = refl
@@ -50,16 +50,16 @@ false-or-true : (b : Bool) → b ≡ true → b ≡ false → ⊥
 false-or-true b is other = cc
 
 module _ (n : ℕ) (everywhere : Bool) (letters : ErrorLetters) (items : Items) (t : ErrorTableState) (table : IsErrorTable n everywhere letters items t) where
-  abbrev rows : List (List ℕ)
+  abbrev pub rows : List (List ℕ)
   rows = t.table.rows
 
   abbrev D : ℕ
   D = detectors_of (unroll items)
 
-  as-many : length rows ≡ length t.errors
+  pub as-many : length rows ≡ length t.errors
   as-many = ap length (table.are_flipped (λ k. false)) ∙ length-map t.errors (flipped_by n items t.sure (λ k. false))
 
-  abbrev Inside : ℕ → Type 0
+  abbrev pub Inside : ℕ → Type 0
   Inside k = k < length rows
 
   abbrev property : (coins : ℕ → Bool) → ℕ → ℕ → Bool
@@ -106,7 +106,7 @@ module _ (n : ℕ) (everywhere : Bool) (letters : ErrorLetters) (items : Items) 
       (λ k inside. Contains-get_or t.errors k (letter (fault_on 0 (in_front 0) I)) (omega (arith, inside, as-many))) ks less)
 
   -- a sure bit is flipped by runs where the rows name it
-  together : (coins : ℕ → Bool) (ks : List ℕ) (i : ℕ) → All Inside ks → i < bits_in items → slice_index_or t.sure i false ≡ true
+  pub together : (coins : ℕ → Bool) (ks : List ℕ) (i : ℕ) → All Inside ks → i < bits_in items → slice_index_or t.sure i false ≡ true
       → flip_together n items coins (flat_map faults_in (errors_at_numbers t.errors ks)) i ≡ flips rows ks i
   together coins ks i less inside is_sure =
       table.add (errors_at_numbers t.errors ks) i (numbers-of ks less) inside ((table.are_sure.exact i inside).0 is_sure) coins
@@ -114,7 +114,7 @@ module _ (n : ℕ) (everywhere : Bool) (letters : ErrorLetters) (items : Items) 
 
   -- an observed number is that of a sure observable
 
-  sure-number : (ks : List ℕ) (i : ℕ) → All Inside ks → flips rows ks i ≡ true → (i < bits_in items) × (slice_index_or t.sure i false ≡ true)
+  pub sure-number : (ks : List ℕ) (i : ℕ) → All Inside ks → flips rows ks i ≡ true → (i < bits_in items) × (slice_index_or t.sure i false ≡ true)
   sure-number ks i less named = by_place (cases_lt i (bits_in items))
     where
       by_bit : i < bits_in items → (b : Bool) → slice_index_or t.sure i false ≡ b → slice_index_or t.sure i false ≡ true
@@ -156,7 +156,7 @@ module _ (n : ℕ) (everywhere : Bool) (letters : ErrorLetters) (items : Items) 
   number-of e has =
       (has.0, omega (arith, has.1, as-many), get_or_default t.errors has.0 (letter (fault_on 0 (in_front 0) I)) e has.1 ∙ has.2)
 
-  numbers-at : (errors : List Error) → All (λ e. Contains t.errors e) errors → (ks : List ℕ) × All Inside ks × (errors_at_numbers t.errors ks ≡ errors) × (length ks ≡ length errors)
+  pub numbers-at : (errors : List Error) → All (λ e. Contains t.errors e) errors → (ks : List ℕ) × All Inside ks × (errors_at_numbers t.errors ks ≡ errors) × (length ks ≡ length errors)
   numbers-at [] of = ([], All-nil Inside, refl, refl)
   numbers-at (e ∷ es) of =
       let first = number-of e (All-head (λ x. Contains t.errors x) e es of) in
@@ -169,7 +169,7 @@ module _ (n : ℕ) (everywhere : Bool) (letters : ErrorLetters) (items : Items) 
 
   -- unseen errors are logical errors
 
-  logical-of : (ks : List ℕ) → All Inside ks → AreUnseen n items (errors_at_numbers t.errors ks) → IsLogicalError t.table ks
+  pub logical-of : (ks : List ℕ) → All Inside ks → AreUnseen n items (errors_at_numbers t.errors ks) → IsLogicalError t.table ks
   logical-of ks less unseen = record {
     inside = less;
     undetected = λ d before. by_bit d (subst (λ e. d < e) table.detectors before) (slice_index_or t.sure d false) refl;

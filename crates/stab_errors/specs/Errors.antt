@@ -18,7 +18,6 @@ use Rattle.stab_run.specs.Runs.{flip_of}
 use Rattle.stab_regions.specs.Faults.{in_front, behind, FaultPlace, fault_on}
 use Rattle.stab_jobs.specs.declared.error_letters.ErrorLetters.{ErrorLetters}
 use Rattle.stab_jobs.specs.declared.error_letters.ErrorLetters.TheVariants.{All, XAndZ}
-use Rattle.stab_errors.specs.declared.letters.LetterPair.{LetterPair}
 
 -- an error: a letter at a place; letters at two places, both at once; or the record of this number by itself: a letter in front of its
 -- measurement flips the outcome, and where the qubit isn't reset the same letter behind it takes the flip of the qubit back
@@ -44,16 +43,12 @@ abbrev pub letters_asked : ErrorLetters → List Letter
 letters_asked All = X ∷ Y ∷ Z ∷ []
 letters_asked XAndZ = X ∷ Z ∷ []
 
--- a product of letters on two qubits
-abbrev pub pair : Letter → Letter → LetterPair
-pair l m = record { first = l; second = m }
-
 -- the products of errors on two qubits: all sixteen but that of I and I; or those that have X alone or Z alone
-abbrev pub pairs_asked : ErrorLetters → List LetterPair
+abbrev pub pairs_asked : ErrorLetters → List (Letter × Letter)
 pairs_asked All =
-    pair I X ∷ pair I Y ∷ pair I Z ∷ pair X I ∷ pair X X ∷ pair X Y ∷ pair X Z
-    ∷ pair Y I ∷ pair Y X ∷ pair Y Y ∷ pair Y Z ∷ pair Z I ∷ pair Z X ∷ pair Z Y ∷ pair Z Z ∷ []
-pairs_asked XAndZ = pair I X ∷ pair I Z ∷ pair X I ∷ pair X X ∷ pair Z I ∷ pair Z Z ∷ []
+    (I, X) ∷ (I, Y) ∷ (I, Z) ∷ (X, I) ∷ (X, X) ∷ (X, Y) ∷ (X, Z)
+    ∷ (Y, I) ∷ (Y, X) ∷ (Y, Y) ∷ (Y, Z) ∷ (Z, I) ∷ (Z, X) ∷ (Z, Y) ∷ (Z, Z) ∷ []
+pairs_asked XAndZ = (I, X) ∷ (I, Z) ∷ (X, I) ∷ (X, X) ∷ (Z, I) ∷ (Z, Z) ∷ []
 
 -- each of some letters, at a place that takes a letter
 abbrev pub each_letter : List Letter → (Letter → FaultPlace) → List Error
@@ -67,7 +62,7 @@ product_at first second l m = letters (first l) (second m)
 
 -- each product that is asked for, at two places
 abbrev pub each_product : ErrorLetters → (first second : Letter → FaultPlace) → List Error
-each_product ls first second = map (λ p. product_at first second p.first p.second) (pairs_asked ls)
+each_product ls first second = map (λ p. product_at first second p.0 p.1) (pairs_asked ls)
 
 -- errors everywhere
 

@@ -1,6 +1,6 @@
--- Unseen sets: errors that flip an observable and no detector, and the least number of them, by runs.
+-- Unseen sets: errors that flip an observable and no detector, and the least number of them, by runs; and the same of graph-like errors alone.
 -- Source: this project's own.
-use Rattle.std.specs.Prelude.{◌≡◌, ◌≢◌, ℕ, ◌+◌, ◌<◌, ◌≤◌, Bool, List, length, map, slice_index_or, All, Contains, Option, Some, None}
+use Rattle.std.specs.Prelude.{◌≡◌, ◌≢◌, ℕ, ◌+◌, ◌<◌, ◌≤◌, ◌⊎◌, Bool, List, [], ◌∷◌, length, map, slice_index_or, All, Contains, Option, Some, None}
 use Rattle.std.specs.List.{flat_map}
 use Rattle.stab_letters.specs.declared.letter.Letter.TheVariants.{I}
 use Rattle.stab_circuit.specs.Items.{Items}
@@ -57,3 +57,34 @@ IsDistance n items all most (Least numbers) = All (λ k. k < length all) numbers
 IsDistance n items all most NoneAtAll = NoneUnseen n items all
 IsDistance n items all (Some most) NoneWithin = NoneUnseenWithin n items all most
 IsDistance n items all None NoneWithin = NoneUnseen n items all
+
+-- graph-like errors
+
+-- an error flips at most two detectors: whatever the coins, each sure detector that it changes alone is one of two
+abbrev pub FlipsTwo : (n : ℕ) → Items → Error → Type 0
+FlipsTwo n items e =
+    (a b : ℕ) × ((coins : ℕ → Bool) (d : ℕ) → d < detectors_of (unroll items) → IsSure n items d → bit_with n items coins (e ∷ []) d ≢ bit_without n items coins d → (d ≡ a) ⊎ (d ≡ b))
+
+-- some of these errors, each of which flips at most two detectors, are unseen together
+pub record AreGraphlikeUnseenOf (n : ℕ) (items : Items) (all errors : List Error) : Type 0 where
+  pub unseen : AreUnseenOf n items all errors
+  pub graphlike : All (FlipsTwo n items) errors
+
+-- a least such set: no list of fewer of these errors is one
+pub record AreLeastGraphlike (n : ℕ) (items : Items) (all errors : List Error) : Type 0 where
+  pub unseen : AreGraphlikeUnseenOf n items all errors
+  pub least : (others : List Error) → AreGraphlikeUnseenOf n items all others → length errors ≤ length others
+
+-- no list is one, or none of at most so many of these errors
+abbrev pub NoneGraphlike : (n : ℕ) → Items → (all : List Error) → Type 0
+NoneGraphlike n items all = (others : List Error) → AreGraphlikeUnseenOf n items all others → ⊥
+
+abbrev pub NoneGraphlikeWithin : (n : ℕ) → Items → (all : List Error) → (most : ℕ) → Type 0
+NoneGraphlikeWithin n items all most = (others : List Error) → AreGraphlikeUnseenOf n items all others → most < length others
+
+-- what an answer says of a circuit's graph-like errors, as `IsDistance` does of all
+abbrev pub IsGraphlikeDistance : (n : ℕ) → Items → (all : List Error) → (most : Option ℕ) → Answer → Type 0
+IsGraphlikeDistance n items all most (Least numbers) = All (λ k. k < length all) numbers.items × AreLeastGraphlike n items all (errors_at_numbers all numbers.items)
+IsGraphlikeDistance n items all most NoneAtAll = NoneGraphlike n items all
+IsGraphlikeDistance n items all (Some most) NoneWithin = NoneGraphlikeWithin n items all most
+IsGraphlikeDistance n items all None NoneWithin = NoneGraphlike n items all

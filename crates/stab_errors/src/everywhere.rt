@@ -1,12 +1,12 @@
 //! The errors at each step of a circuit.
-ghost use Rattle.std.specs.Prelude.{◌≡◌, ◌≤◌, ◌+◌, ◌*◌, ◌^◌, ◌<◌, ◌∷◌, [], None, true, ℕ, map, length, OnOk, IfOk, IfErr, IfSome, All};
+ghost use Rattle.std.specs.Prelude.{◌≡◌, ◌≤◌, ◌+◌, ◌*◌, ◌^◌, ◌<◌, ◌∷◌, ◌++◌, [], None, true, ℕ, map, length, OnOk, IfOk, IfErr, IfSome, All};
 ghost use Rattle.stab_io.specs.declared.refusal.Refusal.TheVariants.{OutOfMemory};
 ghost use Rattle.stab_circuit.specs.Cursors.{step_shown};
 ghost use Rattle.stab_circuit.specs.Views.{circuit_items};
 ghost use Rattle.stab_circuit.specs.Steps.{check_of, most_steps, makes, unroll};
 ghost use Rattle.stab_run.specs.Runs.{flip_of};
-ghost use Rattle.stab_regions.specs.Faults.{faults_of};
-ghost use Rattle.stab_errors.specs.Errors.{errors_at, errors_from, wrong_product, wrong_record};
+ghost use Rattle.stab_regions.specs.Faults.{behind, fault_on, faults_of, faults_on};
+ghost use Rattle.stab_errors.specs.Errors.{each_product, errors_at, errors_from, wrong_product, wrong_record};
 ghost use Rattle.stab_errors.specs.Placed.{error_shown, faults_shown, letter_at};
 ghost use Rattle.stab_errors.specs.inner.Adding.{Adds, ErrorStands, HasFrom, Stands};
 ghost use Rattle.stab_errors.specs.inner.Everywhere.{back_of, reset_errors, measured_errors, factor_errors, factor_faults, step_faults};
@@ -128,6 +128,43 @@ fn add_product_record(
     Ok(())
 }
 
+/// Adds the errors at a product, whose first factor has this row.
+fn add_product(
+    errors: &mut Vec<Error>,
+    letters: &[Letter],
+    factors: &[Factor],
+    step: usize,
+    row: usize,
+    number: usize,
+) -> Result<(), AllocError>
+    requires few { step ≤ most_steps }
+    requires rows { row + length (factor_faults step factors.now) < 2 ^ 64 }
+    ensures adds { OnOk result (Adds (HasFrom row (factor_faults step factors.now)) (factor_errors letters.now step factors.now ++ wrong_product step number factors.now) errors.old.items errors.new.items) }
+{
+    add_factors(errors, letters, factors, step, row)?;
+    add_product_record(errors, factors, step, row, number)?;
+    Ok(())
+}
+
+/// Adds the products behind a gate on two qubits, of which the first has this row.
+fn add_behind_two(
+    errors: &mut Vec<Error>,
+    letters: ErrorLetters,
+    first: usize,
+    second: usize,
+    step: usize,
+    row: usize,
+) -> Result<(), AllocError>
+    requires few { step ≤ most_steps }
+    requires rows { row + 2 < 2 ^ 64 }
+    ensures adds { OnOk result (Adds (HasFrom row (faults_on step (behind first) ++ faults_on step (behind second))) (each_product letters (fault_on step (behind first)) (fault_on step (behind second))) errors.old.items errors.new.items) }
+{
+    let one = Place::behind(first, step, row);
+    let other = Place::behind(second, step, row + 2);
+    add_products(errors, letters, one, other)?;
+    Ok(())
+}
+
 /// Adds the errors at a step of this number, with so many records before it, whose first fault has this row.
 fn add_step(
     errors: &mut Vec<Error>,
@@ -152,9 +189,7 @@ fn add_step(
             Ok(())
         }
         Step::Two(_, first, second) => {
-            let first = Place::behind(first, number, row);
-            let second = Place::behind(second, number, row + 2);
-            add_products(errors, letters, first, second)?;
+            add_behind_two(errors, letters, first, second, number, row)?;
             Ok(())
         }
         Step::Collapse {
@@ -175,8 +210,7 @@ fn add_step(
             }
         }
         Step::Product { factors, .. } => {
-            add_factors(errors, asked, factors, number, row)?;
-            add_product_record(errors, factors, number, row, records)?;
+            add_product(errors, asked, factors, number, row, records)?;
             Ok(())
         }
         Step::Detector(_) | Step::Observable(_, _) => Ok(()),

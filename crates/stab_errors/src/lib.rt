@@ -10,13 +10,14 @@
 //! - `everywhere`: the errors at each step.
 //! - `rows`: what an error flips, by the table of faults.
 //! - `error_table`: the errors of a circuit, and their table.
-//! - `search`: the least number of errors that are unseen.
+//! - `search`: the least number of errors that are unseen; of all, or of those alone that flip at most two detectors.
 //!
 //! Source: this project's own.
 //!
 //! Proved: the errors are those of `specs/Errors.antt`, in order; and each one's row names exactly the
 //! bits that are the same whatever the coins and that the run with all of its faults put in has otherwise,
-//! whatever the coins (`specs/ErrorTables.antt`).
+//! whatever the coins (`specs/ErrorTables.antt`). Least sets are unseen by runs, and no smaller ones are
+//! (`specs/Unseen.antt`).
 #![tactic(auto)]
 
 mod adding;
@@ -32,6 +33,6 @@ mod tags;
 
 pub use error_table::{ErrorTable, errors};
 pub use placed::{Error, PlacedLetter};
-pub use search::distance;
+pub use search::{distance, graphlike_distance};
 pub use stab_distance::{Answer, Progress, Unwatched};
 pub use stab_jobs::ErrorLetters;

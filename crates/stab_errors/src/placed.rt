@@ -5,7 +5,6 @@ ghost use Rattle.stab_errors.specs.inner.Adding.{ErrorStands, Stands};
 ghost use Rattle.stab_errors.specs.Placed.{error_shown, fault_shown, letter_at};
 ghost use Rattle.stab_errors.specs.Errors.{product_at};
 
-use crate::letters::LetterPair;
 use stab_letters::Letter;
 
 /// A place for errors: a qubit in front of a step or behind it.
@@ -132,11 +131,11 @@ impl Place {
 }
 
 /// The error of a product at two places, where I is none.
-pub(crate) fn product_at(first: Place, second: Place, pair: LetterPair) -> Error
-    ensures value { error_shown result ≡ product_at (letter_at first) (letter_at second) pair.first pair.second }
+pub(crate) fn product_at(first: Place, second: Place, pair: (Letter, Letter)) -> Error
+    ensures value { error_shown result ≡ product_at (letter_at first) (letter_at second) pair.0 pair.1 }
     ensures stands { (faults : List FaultPlace) → Stands first faults → Stands second faults → ErrorStands faults result }
 {
-    match (pair.first, pair.second) {
+    match pair {
         (Letter::I, letter) => Error::Letter(second.with(letter)),
         (letter, Letter::I) => Error::Letter(first.with(letter)),
         (letter, other) => Error::Letters(first.with(letter), second.with(other)),

@@ -1,7 +1,7 @@
 use Rattle.std.proofs.Common.{◌∙◌, ap, map, take, [], ◌∷◌, arith}
 use Rattle.std.proofs.lemmas.List.{get_or_default, take_all}
 use Rattle.stab_errors.specs.Errors.{Error, product_at, each_product}
-use Rattle.stab_errors.specs.declared.letters.LetterPair.{LetterPair}
+use Rattle.stab_letters.specs.declared.letter.Letter.{Letter}
 use Rattle.stab_errors.specs.Placed.{letter_at, error_shown}
 use Rattle.stab_errors.specs.inner.Adding.{ErrorStands, Stands}
 use Rattle.stab_errors.proofs.AddingLemmas.{adds-none, adds-same, adds-weaker, mapped-more}
@@ -21,7 +21,7 @@ pairs-preserved c =
     let second = c.args.second in
     let e = c.product_at.result in record {
       is = c.pairs_asked-pair-items.ensures.value;
-      adds = mapped-more (λ p. product_at (letter_at first) (letter_at second) p.first p.second) (λ faults. Stands first faults × Stands second faults) xs k _
+      adds = mapped-more (λ p. product_at (letter_at first) (letter_at second) p.0 p.1) (λ faults. Stands first faults × Stands second faults) xs k _
           c.args.errors.now.items c.pairs.errors.items c.add_error.new.errors.items c.pairs-test.true
           (get_or_default xs k _ _ c.pairs-test.true)
           c.pairs.invariant.adds
@@ -36,7 +36,7 @@ returns c =
     let xs = c.pairs_asked-pair-items.result.now in
     let first = c.args.first in
     let second = c.args.second in
-    let f : LetterPair → Error = λ p. product_at (letter_at first) (letter_at second) p.first p.second in record {
+    let f : Letter × Letter → Error = λ p. product_at (letter_at first) (letter_at second) p.0 p.1 in record {
       adds = adds-same (λ faults. Stands first faults × Stands second faults) (map f (take c.pairs.pair-index xs)) (each_product c.args.letters (letter_at first) (letter_at second))
           c.args.errors.now.items c.pairs.errors.items
           (ap (map f) (take_all c.pairs.pair-index xs (omega (arith, c.pairs-test.false)) ∙ c.pairs_asked-pair-items.ensures.value))

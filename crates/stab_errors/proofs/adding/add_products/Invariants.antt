@@ -8,5 +8,5 @@ abbrev pub invariant-pairs : goal.invariant-pairs
 invariant-pairs l = record {
   is : l.pair-items ≡ pairs_asked l.fn.letters;
   adds : Adds (λ faults. Stands l.first faults × Stands l.second faults)
-      (map (λ p. product_at (letter_at l.first) (letter_at l.second) p.first p.second) (take l.pair-index l.pair-items)) l.initial.errors.items l.errors.items;
+      (map (λ p. product_at (letter_at l.first) (letter_at l.second) p.0 p.1) (take l.pair-index l.pair-items)) l.initial.errors.items l.errors.items;
 }

@@ -5,18 +5,16 @@ use Rattle.stab_regions.specs.Faults.{in_front, behind, fault_on, faults_on}
 use Rattle.stab_errors.specs.Errors.{each_letter, errors_at, letters_asked, wrong_product}
 use Rattle.stab_errors.specs.inner.Adding.{Adds, HasFrom}
 use Rattle.stab_errors.specs.inner.Everywhere.{factor_errors, factor_faults, measured_errors, step_faults}
-use Rattle.stab_errors.proofs.AddingLemmas.{adds-more, adds-same, letters-at, products-at}
+use Rattle.stab_errors.proofs.AddingLemmas.{adds-same, letters-at}
 use Rattle.stab_errors.proofs.EverywhereLemmas.{measured-are, measured-at}
 use Rattle.stab_errors.proofs.everywhere.add_step.Goals as goal
 
-pub returns-in_ok-add_products-in-Two : goal.returns-in_ok-add_products-in-Two
-returns-in_ok-add_products-in-Two c =
+pub returns-in_ok-add_behind_two-in-Two : goal.returns-in_ok-add_behind_two-in-Two
+returns-in_ok-add_behind_two-in-Two c =
     let t = c.args.number in
     record {
-      adds = subst (λ s. Adds (HasFrom c.args.row (step_faults t (step_shown s))) (errors_at c.args.letters t c.args.records (step_shown s)) c.args.errors.now.items c.add_products.new.errors.items)
-          (sym c.in-Two.is)
-          (products-at c.args.letters c.behind-first.result c.behind-second.result c.args.row t t (behind c.in-Two.first) (behind c.in-Two.second) c.args.errors.now.items c.add_products.new.errors.items
-          c.behind-first.ensures.row c.behind-second.ensures.row c.behind-first.ensures.value c.behind-second.ensures.value c.in_ok-add_products-in-Two.ensures.adds);
+      adds = subst (λ s. Adds (HasFrom c.args.row (step_faults t (step_shown s))) (errors_at c.args.letters t c.args.records (step_shown s)) c.args.errors.now.items c.add_behind_two.new.errors.items)
+          (sym c.in-Two.is) c.in_ok-add_behind_two-in-Two.ensures.adds;
     }
 
 pub returns-in_ok-add_letters-in-One : goal.returns-in_ok-add_letters-in-One
@@ -47,19 +45,16 @@ returns-in_ok-add_letters-in-Controlled c =
           (letters-at c.letters_asked-asked.result.now c.behind-in-Controlled.result c.args.row t site old new c.behind-in-Controlled.ensures.row c.behind-in-Controlled.ensures.value c.in_ok-add_letters-in-Controlled.ensures.adds));
     }
 
-pub returns-in_ok-add_product_record-in-Product : goal.returns-in_ok-add_product_record-in-Product
-returns-in_ok-add_product_record-in-Product c =
+pub returns-in_ok-add_product-in-Product : goal.returns-in_ok-add_product-in-Product
+returns-in_ok-add_product-in-Product c =
     let t = c.args.number in
-    let ls = c.letters_asked-asked.result.now in
     let factors = c.in-Product.factors.now in
-    let a = c.add_factors.new.errors.items in
-    let new = c.add_product_record.new.errors.items in
+    let new = c.add_product.new.errors.items in
     record {
       adds = subst (λ s. Adds (HasFrom c.args.row (step_faults t (step_shown s))) (errors_at c.args.letters t c.args.records (step_shown s)) c.args.errors.now.items new)
           (sym c.in-Product.is)
           (subst (λ ls. Adds (HasFrom c.args.row (factor_faults t factors)) (factor_errors ls t factors ++ wrong_product t c.args.records factors) c.args.errors.now.items new) c.letters_asked-asked.ensures.value
-          (adds-more (HasFrom c.args.row (factor_faults t factors)) (factor_errors ls t factors) (wrong_product t c.args.records factors) c.args.errors.now.items a new
-          c.in_ok-add_factors-in-Product.ensures.adds c.in_ok-add_product_record-in-Product.ensures.adds));
+          c.in_ok-add_product-in-Product.ensures.adds);
     }
 
 pub returns-in_ok-add_measured-in-Collapse : goal.returns-in_ok-add_measured-in-Collapse

@@ -1,0 +1,14 @@
+use Rattle.stab_errors.specs.Errors.{wrong_product}
+use Rattle.stab_errors.specs.inner.Adding.{HasFrom}
+use Rattle.stab_errors.specs.inner.Everywhere.{factor_errors, factor_faults}
+use Rattle.stab_errors.proofs.AddingLemmas.{adds-more}
+use Rattle.stab_errors.proofs.everywhere.add_product.Goals as goal
+
+pub returns : goal.returns
+returns c =
+    let t = c.args.step in
+    let factors = c.args.factors.now in record {
+      adds = adds-more (HasFrom c.args.row (factor_faults t factors)) (factor_errors c.args.letters.now t factors) (wrong_product t c.args.number factors)
+          c.args.errors.now.items c.add_factors.new.errors.items c.add_product_record.new.errors.items
+          c.in_ok-add_factors.ensures.adds c.in_ok-add_product_record.ensures.adds;
+    }

@@ -1,0 +1,15 @@
+use Rattle.std.proofs.Common.{◌∙◌, ap, length, subst}
+use Rattle.std.specs.Option.{unwrap_or}
+use Rattle.std.proofs.lemmas.Result.{IfOk-weaker}
+use Rattle.stab_distance.specs.Graphlike.{IsGraphlikeAnswer}
+use Rattle.stab_errors.proofs.GraphlikeLemmas.{graphlike-answer}
+use Rattle.stab_errors.proofs.search.graphlike_distance.Goals as goal
+
+pub returns-clause-distance : goal.returns-clause-distance
+returns-clause-distance g c =
+    IfOk-weaker c.least_graphlike_error.result _ _
+    (λ a is n everywhere letters items table.
+    graphlike-answer n everywhere letters items c.args.errors.now table c.args.most c.unwrap_or-bound.result a
+    (c.unwrap_or-bound.ensures ∙ ap (λ k. unwrap_or c.args.most k) (c.len.ensures.value ∙ ap (λ t. length t.rows) c.table-table.ensures.value))
+    (subst (λ t. IsGraphlikeAnswer t c.unwrap_or-bound.result a) c.table-table.ensures.value is))
+    c.least_graphlike_error.ensures.answer
