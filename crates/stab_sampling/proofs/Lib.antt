@@ -1,5 +1,3 @@
-pub mod SendingLaws
-pub mod MemoryLaws
 pub mod ShotLaws
 pub mod PackingLaws
 pub mod LineLaws

@@ -1,14 +1,9 @@
 -- Laws of packing: the bytes of a lane that is packed with others, of which some are sent.
 use Rattle.std.proofs.Common.{◌≡◌, ◌∙◌, ℕ, ◌+◌, ◌*◌, ◌/◌, ◌%◌, ◌<◌, List, ◌++◌, length, take, Bool, ap, arith}
-use Rattle.std.proofs.Math.Seq.{take-append_seam}
 use Rattle.stab_shots.specs.Words.{word_bit}
 use Rattle.stab_shots.specs.Lanes.{lane_bits}
 use Rattle.stab_shots.specs.Bytes.{lane_bytes}
 use Rattle.stab_shots.proofs.ColumnLemmas.{column-lane}
-
--- what is written in place of all items of a vector is what it has then
-pub written : {A : Type 0} (n : ℕ) (new rest : List A) → n ≡ length new → take n (new ++ rest) ≡ new
-written n new rest e = ap (λ m. take m (new ++ rest)) e ∙ take-append_seam new rest
 
 regroup : (first sent k : ℕ) → first + (sent + k) ≡ first + sent + k
 regroup first sent k = omega arith

@@ -1,12 +1,9 @@
 -- Laws of shots: bits that are shown, and shots that are sent by batches.
-use Rattle.std.proofs.Common.{◌≡◌, refl, sym, ap, ap₂, subst, ◌∙◌, ℕ, ◌+◌, ◌-◌, ◌*◌, ◌/◌, ◌%◌, ◌^◌, ◌<◌, ◌≤◌, Bool, List, [], ◌++◌, length, Result, Ok, Err, inl, inr, arith}
+use Rattle.std.proofs.Common.{◌≡◌, refl, sym, ap, ap₂, subst, ◌∙◌, ℕ, ◌+◌, ◌*◌, ◌/◌, ◌%◌, ◌^◌, ◌<◌, ◌≤◌, Bool, List, [], ◌++◌, length, Result, Ok, Err, arith}
 use Rattle.std.proofs.lemmas.List.{length-map, map-append}
 use Rattle.std.specs.Result.{IsErrAnd}
-use Rattle.stab_io.specs.Devices.{OutputView, Took, CutOff, WritesAllOrFault}
-use Rattle.stab_io.proofs.DeviceLemmas.{took_more}
-use Rattle.stab_io.specs.declared.refusal.Refusal.TheVariants.{OutOfMemory}
+use Rattle.stab_io.specs.Devices.{OutputView, Took, CutOff}
 use Rattle.stab_io.specs.declared.refusal.Fault.{Fault}
-use Rattle.stab_io.specs.Refusals.{whole}
 use Rattle.stab_results.specs.declared.format.Format.{Format}
 use Rattle.stab_results.specs.declared.format.Kinds.{Kinds}
 use Rattle.stab_results.specs.declared.format.Kinds.TheVariants.{Detectors as Detected}
@@ -20,8 +17,7 @@ use Rattle.stab_sampling.specs.declared.bits.Shown.{Shown}
 use Rattle.stab_sampling.specs.declared.bits.Shown.TheVariants.{Records, Detectors, DetectorsAndObservables}
 use Rattle.stab_sampling.specs.Outputs.{of_shots}
 use Rattle.stab_sampling.specs.Sendings.{IsShown, SendsUnflushed, shown_bytes, shown_kinds, shown_items}
-use Rattle.stab_sampling.proofs.SendingLaws.{parts_join, cut_off_behind}
-use Rattle.stab_tables.proofs.WritingLaws.{took_some_none}
+use Rattle.stab_tables.proofs.SendingLaws.{sent_batch, batches_break_off}
 
 -- bits that are what is shown of a run have its bytes
 pub bytes_shown : (format : Format) (shown : Shown) (run : State) (kinds : Kinds) (bits : List Bool) → IsShown shown run kinds bits → shot_bytes format kinds bits ≡ shown_bytes format shown run
@@ -51,34 +47,6 @@ lane_is_shown at l shown run kinds words records detectors observables k w =
     is_shown shown run kinds (lane_bits at l words) (lane_bits at l records) (lane_bits at l detectors) (lane_bits at l observables)
     (k ∙ ap (shown_kinds shown) (sym (length-map detectors (λ w. at w l))))
     (ap (lane_bits at l) w ∙ lane_shown at l shown records detectors observables)
-
--- a text that was cut off has these bytes
-pub cut_off_as : {old new : OutputView} (text bytes : List ℕ) (f : Fault) → text ≡ bytes → WritesAllOrFault {T = Unit {0}} old new text (Err f) → CutOff old new bytes f
-cut_off_as {old} {new} text bytes f same writes = subst (λ l. CutOff old new l f) same (inl writes)
-
--- memory was refused before more was written
-pub cut_off_here : (old : OutputView) (bytes : List ℕ) → CutOff old old bytes (whole OutOfMemory)
-cut_off_here old bytes = inr (refl, took_some_none old bytes)
-
--- one batch more was sent
-pub sent_batch : {old mid new : OutputView} (bytes_of : ℕ → List ℕ) (first n m : ℕ) → Took old mid (of_shots bytes_of first n) → Took mid new (of_shots bytes_of (first + n) m)
-    → Took old new (of_shots bytes_of first (n + m))
-sent_batch {old} {mid} {new} bytes_of first n m before call = subst (λ l. Took old new l) (parts_join bytes_of first n m) (took_more (of_shots bytes_of first n) (of_shots bytes_of (first + n) m) before call)
-
--- a part and what it lacks are the whole
-part_and_rest : (a b : ℕ) → a ≤ b → a + (b - a) ≡ b
-part_and_rest a b h = omega arith
-
--- a batch that fails ends the shots
-pub batches_break_off : {old mid new : OutputView} (bytes_of : ℕ → List ℕ) (first n m shots : ℕ) (f : Fault) (r : Result (Unit {0}) Fault) → n + m ≤ shots
-    → Took old mid (of_shots bytes_of first n) → CutOff mid new (of_shots bytes_of (first + n) m) f → IsErrAnd r (λ y. y ≡ f) → SendsUnflushed (of_shots bytes_of first shots) old new r
-batches_break_off bytes_of first n m shots f (Ok u) within before call is = absurd is
-batches_break_off {old} {mid} {new} bytes_of first n m shots f (Err y) within before call is =
-    let rest = of_shots bytes_of (first + (n + m)) (shots - (n + m)) in
-    let whole : (of_shots bytes_of first n ++ of_shots bytes_of (first + n) m) ++ rest ≡ of_shots bytes_of first shots =
-    ap (λ l. l ++ rest) (parts_join bytes_of first n m) ∙ parts_join bytes_of first (n + m) (shots - (n + m)) ∙ ap (of_shots bytes_of first) (part_and_rest (n + m) shots within) in
-    let cut = cut_off_behind (of_shots bytes_of first n) (of_shots bytes_of (first + n) m) rest f before call in
-    subst (λ g. CutOff old new (of_shots bytes_of first shots) g) (sym is) (subst (λ l. CutOff old new l f) whole cut)
 
 add-zero : (n : ℕ) → n + 0 ≡ n
 add-zero n = grind arith

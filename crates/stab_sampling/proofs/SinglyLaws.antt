@@ -13,7 +13,7 @@ use Rattle.stab_sampling.specs.declared.bits.Shown.{Shown}
 use Rattle.stab_sampling.specs.Outputs.{of_shots}
 use Rattle.stab_sampling.specs.Sendings.{SendsUnflushed, shown_bytes}
 use Rattle.stab_sampling.specs.inner.Singly.{SendsOrLeaves, SendsFirst}
-use Rattle.stab_sampling.proofs.SendingLaws.{sent_shot, shots_cut_off}
+use Rattle.stab_tables.proofs.SendingLaws.{sent_shot, shots_cut_off}
 
 module _ {old mid new : OutputView} (bytes_of : ℕ → List ℕ) (first shot shots : ℕ) (before : Took old mid (of_shots bytes_of first shot)) where
   -- one shot more is sent

@@ -13,11 +13,7 @@ use Rattle.stab_results.specs.Formats.{shot_bytes}
 use Rattle.stab_tables.specs.Endings.{Ends, SendsOutput}
 use Rattle.stab_jobs.specs.declared.source.Source.{Source}
 use Rattle.stab_tables.specs.Sources.{run_of_shot}
-
--- the bytes of so many shots, one after another from the first on
-abbrev pub of_shots : (bytes_of : ℕ → List ℕ) → (first shots : ℕ) → List ℕ
-of_shots bytes_of first zero = []
-of_shots bytes_of first (suc n) = of_shots bytes_of first n ++ bytes_of (first + n)
+pub use Rattle.stab_tables.specs.Texts.{texts_from as of_shots}
 
 -- what `sample` writes for the items: the records of each shot
 abbrev pub sample_of : Format → (first shots : ℕ) → Source → Items → List ℕ

@@ -15,6 +15,7 @@ use Rattle.stab_sampling.specs.declared.bits.Shown.TheVariants.{Records, Detecto
 use Rattle.stab_jobs.specs.Limits.{ShotRange}
 use Rattle.stab_sampling.specs.Outputs.{detected, of_shots}
 use Rattle.stab_tables.specs.Sources.{run_of_shot}
+pub use Rattle.stab_tables.specs.Endings.{SendsUnflushed}
 
 -- what kinds of bits are shown of a shot with so many detectors
 abbrev pub shown_kinds : Shown → ℕ → Kinds
@@ -43,8 +44,3 @@ shown_bytes format DetectorsAndObservables run = detected format true run
 -- what is shown of these shots of the items
 abbrev pub shots_of : Format → Shown → ShotRange → Source → Items → List ℕ
 shots_of format shown shots source items = of_shots (λ shot. shown_bytes format shown (run_of_shot source items shot)) shots.first shots.number
-
--- these bytes were sent without a flush: all of them, or cut off after a prefix
-abbrev pub SendsUnflushed : {T : Type 0} → List ℕ → OutputView → OutputView → Result T Fault → Type 0
-SendsUnflushed bytes old new (Ok x) = Took old new bytes
-SendsUnflushed bytes old new (Err f) = CutOff old new bytes f

@@ -75,6 +75,10 @@ steps_counted items e = uncut (length (unroll items)) (few_steps items e)
 pub records_counted : (items : Items) → check_of items ≡ None → min (records_of (unroll items)) steps_cap ≡ records_of (unroll items)
 records_counted items e = uncut (records_of (unroll items)) (omega (arith, records_few (unroll items), few_steps items e))
 
+-- the detectors of a circuit are counted whole
+pub detectors_counted : (items : Items) → check_of items ≡ None → min (detectors_of (unroll items)) steps_cap ≡ detectors_of (unroll items)
+detectors_counted items e = uncut (detectors_of (unroll items)) (omega (arith, detectors_few (unroll items), few_steps items e))
+
 -- the text at a place, and those after it
 pub flat-drop : {X : Type 0} (f : X → List ℕ) (xs : List X) (i : ℕ) (d : X) → i < length xs → flat_map f (drop i xs) ≡ f (get_or xs i d) ++ flat_map f (drop (i + 1) xs)
 flat-drop f xs i d h = rw (add-one) (ap (λ l. flat_map f l) (drop-cons xs i d h))

@@ -70,7 +70,7 @@ set_back ks n =
     ∙ ap (λ m. replicate m false) (length-set_all ks false (set_all ks true (replicate n false)) ∙ length-set_all ks true (replicate n false) ∙ length-replicate n false)
 
 -- the numbers from i on are below i + k
-below : (f : ℕ → Bool) (i k n : ℕ) → i + k ≤ n → All (λ j. j < n) (numbers_where f i k)
+pub below : (f : ℕ → Bool) (i k n : ℕ) → i + k ≤ n → All (λ j. j < n) (numbers_where f i k)
 below f i zero n h = All-nil (λ j. j < n)
 below f i (suc k) n h = by_test (below f (i + 1) k n (omega arith)) (f i)
   where

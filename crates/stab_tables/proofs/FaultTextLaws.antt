@@ -7,9 +7,7 @@ use Rattle.stab_io.specs.Devices.{OutputView, TookAndFailed}
 use Rattle.stab_io.specs.declared.refusal.Fault.{Fault}
 use Rattle.stab_io.proofs.DeviceLemmas.{failed_within}
 use Rattle.stab_results.specs.Formats.{entry}
-use Rattle.stab_letters.specs.declared.letter.Letter.{Letter}
 use Rattle.stab_letters.specs.declared.letter.Letter.TheVariants as letter
-use Rattle.stab_letters.specs.LetterTexts.{letter_text}
 use Rattle.stab_circuit.specs.Items.{Items}
 use Rattle.stab_circuit.specs.Steps.{Step}
 use Rattle.stab_circuit.specs.Paths.{Path, path_text}
@@ -18,14 +16,14 @@ use Rattle.stab_results.specs.declared.format.Kinds.{Kinds}
 use Rattle.stab_regions.specs.Faults.{FaultPlace, Site, fault_on, faults_on, faults_from, sites_at}
 use Rattle.stab_tables.specs.FaultLines.{bit_text, fault_line, told_text, unsure_line}
 use Rattle.stab_tables.specs.FaultTables.{fault_text, table_line, table_lines, path_at}
-use Rattle.stab_tables.specs.Texts.{texts_joined}
+use Rattle.stab_tables.specs.Texts.{row_head, texts_joined}
 use Rattle.stab_tables.specs.declared.unsure.Unsure.{Unsure}
 
--- where a fault is, by its three parts
-pub joined-place : (before qubit : ℕ) (path : Path) (l : Letter) (front symbol back : List ℕ) → front ≡ decimal before → symbol ≡ letter_text l → back ≡ decimal qubit
-    → texts_joined (front ∷ codes " " ∷ []) ++ (path_text path ++ texts_joined (codes " " ∷ symbol ∷ back ∷ [])) ≡ fault_text before path l qubit
-joined-place before qubit path l front symbol back is_front is_symbol is_back =
-    rw (is_front, is_symbol, is_back, append-nil (decimal qubit)) (append_assoc (decimal before) (codes " ") (path_text path ++ (codes " " ++ (letter_text l ++ decimal qubit))))
+-- the front of a row's line, by its three parts
+pub joined-head : (before number : ℕ) (path : Path) (symbol front back : List ℕ) → front ≡ decimal before → back ≡ decimal number
+    → texts_joined (front ∷ codes " " ∷ []) ++ (path_text path ++ texts_joined (codes " " ∷ symbol ∷ back ∷ [])) ≡ row_head before path symbol number
+joined-head before number path symbol front back is_front is_back =
+    rw (is_front, is_back, append-nil (decimal number)) (append_assoc (decimal before) (codes " ") (path_text path ++ (codes " " ++ (symbol ++ decimal number))))
 
 -- the line that names a bit, by its three parts
 pub joined-unsure : (u : Unsure) (name number : List ℕ) (n : ℕ) → bit_text u.bit ≡ name ++ decimal n → number ≡ decimal n
@@ -45,6 +43,10 @@ pub joined-site : (kinds : Kinds) (path : Path) (step before : ℕ) (s : Site) (
     ≡ table_line kinds path (fault_on step s letter.X) by_x ++ table_line kinds path (fault_on step s letter.Z) by_z
 joined-site kinds path step before s by_x by_z e =
     ap (λ b. (fault_text b path letter.X s.qubit ++ (flat_map (entry kinds) by_x ++ codes "\n")) ++ (fault_text b path letter.Z s.qubit ++ (flat_map (entry kinds) by_z ++ codes "\n"))) e
+
+-- three texts, and what is behind them
+pub joined_three : (a b c rest : List ℕ) → texts_joined (a ∷ b ∷ c ∷ []) ++ rest ≡ a ++ (b ++ (c ++ rest))
+joined_three a b c rest = append_assoc a (b ++ (c ++ [])) rest ∙ ap (λ l. a ++ l) (append_assoc b (c ++ []) rest ∙ ap (λ l. b ++ (l ++ rest)) (append-nil c))
 
 -- what is cut off within a fault's line is cut off within what tells the fault
 pub failed_told : {a b : OutputView} (f : Fault) (u : Option Unsure) → TookAndFailed a b (fault_line f) → TookAndFailed a b (told_text f u)

@@ -1,5 +1,6 @@
 -- Laws of writing: calls that write one after another.
-use Rattle.std.proofs.Common.{◌≡◌, refl, sym, ap, ◌∙◌, subst, ℕ, List, [], ◌++◌, append-nil, Result, Ok, Err}
+use Rattle.std.proofs.Common.{◌≡◌, refl, sym, ap, ◌∙◌, subst, ℕ, List, [], ◌++◌, append-nil, length, take, Result, Ok, Err}
+use Rattle.std.proofs.Math.Seq.{take-append_seam}
 use Rattle.std.specs.Result.{IsErrAnd}
 use Rattle.stab_io.specs.Devices.{OutputView, Took, TookAndFailed, TookSome, WritesAll, WritesAllOrFault}
 use Rattle.stab_io.specs.declared.refusal.Refusal.{Refusal}
@@ -33,3 +34,7 @@ wrote_all {a} {b} bytes rest none p = subst (λ l. Took a b l) (sym (p.1 ∙ ap 
 pub failed_as_fault : {T : Type 0} (a b : OutputView) (bytes : List ℕ) (f : Fault) (r : Result T Fault) → IsErrAnd r (λ y. y ≡ f) → f ≡ whole WriteFault → TookAndFailed a b bytes → WritesAllOrFault a b bytes r
 failed_as_fault a b bytes f (Ok x) is fault failed = absurd is
 failed_as_fault a b bytes f (Err y) is fault failed = (is ∙ fault, failed)
+
+-- what is written in place of all items of a vector is what it has then
+pub written : {A : Type 0} (n : ℕ) (new rest : List A) → n ≡ length new → take n (new ++ rest) ≡ new
+written n new rest e = ap (λ m. take m (new ++ rest)) e ∙ take-append_seam new rest

@@ -1,7 +1,7 @@
 -- Endings: how a call ends that reads a text whole and goes on with it, and how it ends when it sends bytes.
 -- Source: this project's own.
 use Rattle.std.specs.Prelude.{◌≡◌, List, ℕ, ◌⊎◌, Result, Ok, Err}
-use Rattle.stab_io.specs.Devices.{InputView, OutputView, Took, TookAndFailed, TookSome, Flushed, FlushFailed}
+use Rattle.stab_io.specs.Devices.{InputView, OutputView, Took, TookAndFailed, TookSome, CutOff, Flushed, FlushFailed}
 use Rattle.stab_io.specs.declared.refusal.Refusal.TheVariants.{WriteFault, OutOfMemory}
 use Rattle.stab_io.specs.declared.refusal.Fault.{Fault}
 use Rattle.stab_io.specs.Refusals.{whole}
@@ -34,6 +34,11 @@ FailsToSend old new bytes = TookAndFailed old new bytes ⊎ TookAndFlushFailed o
 abbrev pub Sends : {T : Type 0} → List ℕ → OutputView → OutputView → Result T Fault → Type 0
 Sends bytes old new (Ok x) = TookAndFlushed old new bytes
 Sends bytes old new (Err f) = ((f ≡ whole WriteFault) × FailsToSend old new bytes) ⊎ ((f ≡ whole OutOfMemory) × TookSome old new bytes)
+
+-- these bytes were sent without a flush: all of them, or cut off after a prefix
+abbrev pub SendsUnflushed : {T : Type 0} → List ℕ → OutputView → OutputView → Result T Fault → Type 0
+SendsUnflushed bytes old new (Ok x) = Took old new bytes
+SendsUnflushed bytes old new (Err f) = CutOff old new bytes f
 
 -- Bytes like these were sent, which were gathered first: all were written, and flushed once; or the output failed; or memory was refused
 -- before the first.

@@ -1,6 +1,6 @@
 -- Fault tables: what `faults` writes of a table of faults for the items of a circuit, and how a call of it ends.
 -- Source: this project's own.
-use Rattle.std.specs.Prelude.{◌≡◌, ℕ, ◌-◌, ◌<◌, ◌==◌, nat_lt, Bool, true, false, List, [], ◌∷◌, ◌++◌, length, replicate, slice_index_or, slice_get, slice_set, codes, decimal, Option, Some, None, Result, Ok, Err, if◌then◌else◌}
+use Rattle.std.specs.Prelude.{◌≡◌, ℕ, ◌-◌, ◌<◌, ◌==◌, nat_lt, Bool, true, false, List, [], ◌∷◌, ◌++◌, length, replicate, slice_index_or, slice_get, slice_set, codes, Option, Some, None, Result, Ok, Err, if◌then◌else◌}
 use Rattle.std.specs.List.{flat_map}
 use Rattle.stab_io.specs.Devices.{InputView, OutputView}
 use Rattle.stab_io.specs.declared.refusal.Refusal.TheVariants.{NotDeterministic}
@@ -10,7 +10,7 @@ use Rattle.stab_letters.specs.declared.letter.Letter.{Letter}
 use Rattle.stab_letters.specs.LetterTexts.{letter_text}
 use Rattle.stab_circuit.specs.Items.{Items}
 use Rattle.stab_circuit.specs.Steps.{Step, observable, unroll, qubits_of, detectors_of}
-use Rattle.stab_circuit.specs.Paths.{Path, path_text}
+use Rattle.stab_circuit.specs.Paths.{Path}
 use Rattle.stab_circuit.specs.StepPaths.{outside, paths_of}
 use Rattle.stab_circuit.specs.Readings.{IsCircuit, IsFaultOf}
 use Rattle.stab_results.specs.declared.format.Kinds.{Kinds}
@@ -24,11 +24,12 @@ use Rattle.stab_tables.specs.declared.unsure.FaultsRefused.{FaultsRefused}
 use Rattle.stab_jobs.specs.declared.fault_layout.FaultLayout.{FaultLayout}
 use Rattle.stab_jobs.specs.declared.fault_layout.FaultLayout.TheVariants.{Lines, Shots}
 use Rattle.stab_tables.specs.Endings.{Ends, SendsFound}
+use Rattle.stab_tables.specs.Texts.{row_head}
 use Rattle.stab_tables.specs.Deterministic.{kinds_of}
 
 -- where a fault is: how many steps are in front of it, the path of the item that it is at, and its letter and qubit
 abbrev pub fault_text : (before : ℕ) → Path → Letter → (qubit : ℕ) → List ℕ
-fault_text before path l q = decimal before ++ (codes " " ++ (path_text path ++ (codes " " ++ (letter_text l ++ decimal q))))
+fault_text before path l q = row_head before path (letter_text l) q
 
 -- the line of a fault: where it is, and what it flips, as `1207 3/0/2 X17 D24 L0`
 abbrev pub table_line : Kinds → Path → FaultPlace → (flipped : List ℕ) → List ℕ
@@ -86,6 +87,10 @@ abbrev pub steps_before_bit : Bit → List Step → List Step
 steps_before_bit (Detector d) xs = steps_before_detector d xs
 steps_before_bit (Observable j) xs = steps_before_adding j xs
 
+-- the path of the first item of a bit
+abbrev pub path_of_bit : Items → Bit → Path
+path_of_bit items b = path_at items (length (steps_before_bit b (unroll items)))
+
 -- the first bit that is not the same whatever the coins, and the path of its first item
 pub record IsFirstUnsure (items : Items) (u : Unsure) : Type 0 where
   pub number : ℕ
@@ -110,18 +115,21 @@ pub record NamesUnsure {T : Type 0} (sure_only : Bool) (items : Items) (u : Unsu
   pub refused : r ≡ Err (whole NotDeterministic)
   pub untouched : new ≡ old
 
--- how a call goes on with the items of a circuit: it names a bit that is not sure, or the table is sent
-abbrev pub GoesOn : {T : Type 0} → FaultLayout → (everywhere sure_only : Bool) → Items → Option Unsure → OutputView → OutputView → Result T Fault → Type 0
-GoesOn layout everywhere sure_only items (Some u) old new r = NamesUnsure sure_only items u old new r
-GoesOn layout everywhere sure_only items None old new r = SendsFound (IsTableText layout everywhere sure_only items) old new r
+-- how a call goes on with the items of a circuit: it names a bit that is not sure, or bytes like these are sent
+abbrev pub GoesOn : {T : Type 0} → (are : List ℕ → Type 0) → (sure_only : Bool) → Items → Option Unsure → OutputView → OutputView → Result T Fault → Type 0
+GoesOn are sure_only items (Some u) old new r = NamesUnsure sure_only items u old new r
+GoesOn are sure_only items None old new r = SendsFound are old new r
 
 -- The text stands for a circuit, and the call went on with it.
-pub record SendsFaults {T : Type 0} (layout : FaultLayout) (everywhere sure_only : Bool) (unsure : Option Unsure) (old new : OutputView) (text : List ℕ) (r : Result T Fault) : Type 0 where
+pub record SendsOrNames {T : Type 0} (are : Items → List ℕ → Type 0) (sure_only : Bool) (unsure : Option Unsure) (old new : OutputView) (text : List ℕ) (r : Result T Fault) : Type 0 where
   pub items : Items
   pub circuit : IsCircuit text items
-  pub goes_on : GoesOn layout everywhere sure_only items unsure old new r
+  pub goes_on : GoesOn (are items) sure_only items unsure old new r
 
--- How a call of `faults` ends, over an input and an output, with a bit that it names or none.
+-- How a call ends that sends bytes like these, over an input and an output, or names a bit that is not sure.
+abbrev pub EndsOrNames : {T : Type 0} → (are : Items → List ℕ → Type 0) → (sure_only : Bool) → InputView → InputView → OutputView → OutputView → Result T Fault → Option Unsure → Type 0
+EndsOrNames are sure_only i i' o o' r unsure = Ends IsFaultOf ((o' ≡ o) × (unsure ≡ None)) (SendsOrNames are sure_only unsure o o') i i' r
+
+-- How a call of `faults` ends.
 abbrev pub EndsFaults : {T : Type 0} → FaultLayout → (everywhere sure_only : Bool) → InputView → InputView → OutputView → OutputView → Result T Fault → Option Unsure → Type 0
-EndsFaults layout everywhere sure_only i i' o o' r unsure =
-    Ends IsFaultOf ((o' ≡ o) × (unsure ≡ None)) (SendsFaults layout everywhere sure_only unsure o o') i i' r
+EndsFaults layout everywhere sure_only i i' o o' r unsure = EndsOrNames (IsTableText layout everywhere sure_only) sure_only i i' o o' r unsure

@@ -6,4 +6,7 @@ pub mod Rows
 pub mod Checks
 pub mod Deterministic
 pub mod FaultTables
+pub mod Distances
+pub mod CoinTables
+pub mod Reasons
 pub mod inner

@@ -1,2 +1,4 @@
 pub mod FaultSites
 pub mod Faults
+pub mod CoinRows
+pub mod Deciders

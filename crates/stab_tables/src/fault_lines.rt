@@ -11,10 +11,9 @@ ghost use Rattle.stab_regions.specs.Faults.{fault_on, faults_of, faults_on, site
 ghost use Rattle.stab_tables.specs.FaultTables.{path_at, fault_text, table_line, table_lines};
 ghost use Rattle.stab_tables.specs.inner.FaultSites.{IsStretch, site_shown};
 
-use crate::fault_line::write_texts;
 use crate::fault_sites::{Site, site_at};
-use itoa::Buffer;
-use stab_circuit::{Circuit, Cursor, Path, Step, StepItem, write_path};
+use crate::row_head::write_head;
+use stab_circuit::{Circuit, Cursor, Path, Step, StepItem};
 use stab_io::{Output, Refusal, write_all};
 use stab_pauli::Letter;
 use stab_regions::FaultTable;
@@ -30,14 +29,7 @@ fn write_place<O: Output>(
 ) -> Result<(), Refusal>
     ensures writes { WritesAll (O.seen out.old) (O.seen out.new) (fault_text before path.now letter qubit) result }
 {
-    let mut digits = Buffer::new();
-    write_texts(out, &[digits.format(before).as_bytes(), b" "])?;
-    write_path(out, path)?;
-    let mut digits = Buffer::new();
-    write_texts(
-        out,
-        &[b" ", &[letter.symbol()], digits.format(qubit).as_bytes()],
-    )
+    write_head(out, before, path, &[letter.symbol()], qubit)
 }
 
 /// Writes the line of a fault, by what it flips.

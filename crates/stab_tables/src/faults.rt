@@ -9,7 +9,7 @@ ghost use Rattle.stab_regions.specs.Faults.{AreSure, IsFaultTable, IsSure, bits_
 ghost use Rattle.stab_tables.specs.Deterministic.{kinds_of};
 ghost use Rattle.stab_tables.specs.declared.unsure.Bit.TheVariants.{Detector, Observable};
 ghost use Rattle.stab_jobs.specs.declared.fault_layout.FaultLayout.TheVariants.{Lines, Shots};
-ghost use Rattle.stab_tables.specs.FaultTables.{EndsFaults, GoesOn, IsFirstUnsure, adds_to, bit_of, fault_of, steps_before_bit, table_text, unsure_of};
+ghost use Rattle.stab_tables.specs.FaultTables.{EndsFaults, GoesOn, IsFirstUnsure, IsTableText, adds_to, bit_of, fault_of, steps_before_bit, table_text, unsure_of};
 ghost use Rattle.stab_tables.specs.inner.Faults.{IsUnsureAt, PassesStep, SendsAtOnce};
 
 use crate::deterministic::kinds_of;
@@ -38,7 +38,7 @@ fn first_zero(bits: &[bool]) -> Option<usize>
 }
 
 /// The bit of a number, where there are so many detectors.
-fn bit_of(detectors: usize, number: usize) -> Bit
+pub(crate) fn bit_of(detectors: usize, number: usize) -> Bit
     ensures value { result ≡ bit_of detectors number }
 {
     if number < detectors {
@@ -103,7 +103,7 @@ fn bit_behind(bit: Bit, step: Step) -> Option<Bit>
 }
 
 /// The number of the first step that makes a bit, or of all steps where there is none.
-fn first_step(alloc: Global, circuit: &Circuit, bit: Bit) -> Result<usize, Refusal>
+pub(crate) fn first_step(alloc: Global, circuit: &Circuit, bit: Bit) -> Result<usize, Refusal>
     requires checked { check_of (circuit_items circuit.now) ≡ None }
     ensures value { IfOk result (λ t. t ≡ length (steps_before_bit bit (unroll (circuit_items circuit.now)))) }
     ensures err { IfErr result (λ r. r ≡ OutOfMemory) }
@@ -218,15 +218,15 @@ fn send_table<O: Output>(
     }
 }
 
-/// The bit that a table is refused for, if any.
-fn refused_for(
+/// The bit that a circuit is refused for, if any: the first that is not sure, unless such bits are left out.
+pub(crate) fn refused_for(
     alloc: Global,
     circuit: &Circuit,
-    table: &FaultTable,
+    sure: &[bool],
     sure_only: bool,
 ) -> Result<Option<Unsure>, Refusal>
     requires checked { check_of (circuit_items circuit.now) ≡ None }
-    requires sure { AreSure (qubits_of (circuit_items circuit.now)) (circuit_items circuit.now) table.now.sure }
+    requires sure { AreSure (qubits_of (circuit_items circuit.now)) (circuit_items circuit.now) sure.now }
     ensures some { IfOk result (λ found. IfSome found (λ u. (sure_only ≡ false) × IsFirstUnsure (circuit_items circuit.now) u)) }
     ensures none { IfOk result (λ found. IfNone found (sure_only ≡ false → (i : ℕ) → i < bits_in (circuit_items circuit.now) → IsSure (qubits_of (circuit_items circuit.now)) (circuit_items circuit.now) i)) }
     ensures err { IfErr result (λ r. r ≡ OutOfMemory) }
@@ -234,7 +234,7 @@ fn refused_for(
     if sure_only {
         Ok(None)
     } else {
-        first_unsure(alloc, circuit, table.sure())
+        first_unsure(alloc, circuit, sure)
     }
 }
 
@@ -248,10 +248,10 @@ fn send_faults<O: Output>(
     sure_only: bool,
 ) -> Result<(), FaultsRefused>
     requires checked { check_of (circuit_items circuit.now) ≡ None }
-    ensures goes_on { GoesOn layout everywhere sure_only (circuit_items circuit.now) (unsure_of result) (O.seen out.old) (O.seen out.new) (fault_of result) }
+    ensures goes_on { GoesOn (IsTableText layout everywhere sure_only (circuit_items circuit.now)) sure_only (circuit_items circuit.now) (unsure_of result) (O.seen out.old) (O.seen out.new) (fault_of result) }
 {
     let table = faults(alloc, circuit, circuit.qubits(), everywhere)?;
-    match refused_for(alloc, circuit, &table, sure_only) {
+    match refused_for(alloc, circuit, table.sure(), sure_only) {
         Ok(None) => Ok(send_table(alloc, circuit, out, layout, everywhere, &table)?),
         Ok(Some(unsure)) => Err(FaultsRefused {
             fault: Fault::whole(Refusal::NotDeterministic),

@@ -1,6 +1,7 @@
 //! Laws of what is written of a circuit. Each function does nothing: its contract is the law, and the check
 //! proves it.
 ghost use Rattle.stab_tables.specs.Checks.{NumbersAreOfRuns};
+ghost use Rattle.stab_tables.specs.Reasons.{SureHasNoDecider};
 ghost use Rattle.stab_tables.specs.Rows.{SameGroupSameLines};
 
 /// Two stabiliser groups are one exactly where the lines of their reduced rows are the same: so texts that `stabilisers`
@@ -13,4 +14,10 @@ pub fn same_group_same_lines()
 /// records, detectors and observables, and so many coins that it uses up.
 pub fn numbers_are_of_runs()
     ensures law { NumbersAreOfRuns }
+{}
+
+/// A detector or observable is the same whatever the coins exactly if none of the coins of a circuit's table flips it: so it is left
+/// out by `run_explain` exactly if `run_deterministic` writes a 1 for it.
+pub fn sure_has_no_decider()
+    ensures law { SureHasNoDecider }
 {}

@@ -1,4 +1,4 @@
-//! What a table of faults is refused for.
+//! What a table of faults, or a distance, is refused for.
 
 use stab_circuit::Path;
 use stab_io::Fault;
@@ -19,7 +19,7 @@ pub struct Unsure {
     pub path: Path,
 }
 
-/// Why no table of faults was written.
+/// Why no table of faults, or no distance, was written.
 #[derive(Clone, Copy, Debug, PartialEq, Eq)]
 pub struct FaultsRefused {
     pub fault: Fault,

@@ -3,8 +3,8 @@ use Rattle.stab_io.specs.Devices.{Took}
 use Rattle.stab_results.specs.Formats.{shot_bytes}
 use Rattle.stab_sampling.specs.Outputs.{of_shots}
 use Rattle.stab_sampling.specs.Sendings.{shown_bytes}
-use Rattle.stab_sampling.proofs.SendingLaws.{sent_shot, shots_break_off}
-use Rattle.stab_sampling.proofs.ShotLaws.{bytes_shown, cut_off_as}
+use Rattle.stab_tables.proofs.SendingLaws.{sent_shot, shots_break_off, cut_off_as}
+use Rattle.stab_sampling.proofs.ShotLaws.{bytes_shown}
 use Rattle.stab_sampling.proofs.bits.write_copies.Goals as goal
 
 pub loop-written-preserved : goal.loop-written-preserved

@@ -1,4 +1,4 @@
-use Rattle.stab_sampling.proofs.SendingLaws.{sends_none}
+use Rattle.stab_tables.proofs.SendingLaws.{sends_none}
 use Rattle.stab_sampling.proofs.ShotLaws.{is_shown}
 use Rattle.stab_sampling.proofs.bits.write_shown.Goals as goal
 

@@ -5,8 +5,8 @@ use Rattle.stab_io.specs.declared.refusal.Refusal.TheVariants.{OutOfMemory}
 use Rattle.stab_io.specs.Refusals.{whole}
 use Rattle.stab_sampling.specs.Outputs.{of_shots}
 use Rattle.stab_sampling.specs.Sendings.{shown_bytes}
-use Rattle.stab_sampling.proofs.SendingLaws.{sends_none, sent_shot, shots_break_off}
-use Rattle.stab_sampling.proofs.ShotLaws.{bytes_shown, cut_off_as, cut_off_here}
+use Rattle.stab_tables.proofs.SendingLaws.{sends_none, sent_shot, shots_break_off, cut_off_as, cut_off_here}
+use Rattle.stab_sampling.proofs.ShotLaws.{bytes_shown}
 use Rattle.stab_sampling.proofs.lanes.write_lanes.Goals as goal
 
 pub loop-lane-preserved : goal.loop-lane-preserved

@@ -4,8 +4,9 @@ use Rattle.stab_shots.specs.Words.{word_bit}
 use Rattle.stab_shots.specs.Lanes.{lane_bits}
 use Rattle.stab_sampling.specs.Outputs.{of_shots}
 use Rattle.stab_sampling.specs.Sendings.{shown_bytes}
-use Rattle.stab_sampling.proofs.ShotLaws.{sent_batch, batches_break_off, shown_of_part}
-use Rattle.stab_sampling.proofs.PackingLaws.{written}
+use Rattle.stab_tables.proofs.SendingLaws.{sent_batch, batches_break_off}
+use Rattle.stab_sampling.proofs.ShotLaws.{shown_of_part}
+use Rattle.stab_tables.proofs.WritingLaws.{written}
 use Rattle.stab_sampling.proofs.lanes.write_parts.Goals as goal
 
 pub loop-sent-preserved : goal.loop-sent-preserved

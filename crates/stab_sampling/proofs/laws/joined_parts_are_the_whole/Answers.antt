@@ -2,7 +2,7 @@ use Rattle.stab_results.specs.declared.format.Kinds.TheVariants.{Measurements}
 use Rattle.stab_results.specs.Formats.{shot_bytes}
 use Rattle.stab_sampling.specs.Outputs.{detected}
 use Rattle.stab_tables.specs.Sources.{run_of_shot}
-use Rattle.stab_sampling.proofs.SendingLaws.{parts_join}
+use Rattle.stab_tables.proofs.SendingLaws.{parts_join}
 use Rattle.stab_sampling.proofs.laws.joined_parts_are_the_whole.Goals as goal
 
 pub returns : goal.returns

@@ -4,8 +4,9 @@ use Rattle.stab_sampling.specs.Outputs.{of_shots}
 use Rattle.stab_sampling.specs.inner.Packings.{packed_bytes}
 use Rattle.stab_shots.specs.Words.{word_bit}
 use Rattle.stab_shots.specs.Lanes.{lane_bits}
-use Rattle.stab_sampling.proofs.ShotLaws.{sent_batch, batches_break_off}
-use Rattle.stab_sampling.proofs.PackingLaws.{written, packed_of_part, packed_of_next}
+use Rattle.stab_tables.proofs.SendingLaws.{sent_batch, batches_break_off}
+use Rattle.stab_tables.proofs.WritingLaws.{written}
+use Rattle.stab_sampling.proofs.PackingLaws.{packed_of_part, packed_of_next}
 use Rattle.stab_sampling.proofs.packed.send_all_parts.Goals as goal
 use Rattle.stab_sampling.proofs.packed.send_all_parts.Goals.{then-some-gt64, else-some-gt64}
 

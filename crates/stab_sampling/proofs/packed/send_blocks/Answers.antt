@@ -1,6 +1,6 @@
 use Rattle.std.proofs.Common.{◌∙◌, ap, arith, take}
 use Rattle.stab_shots.specs.Blocks.{row_bytes}
-use Rattle.stab_sampling.proofs.SendingLaws.{sends_none}
+use Rattle.stab_tables.proofs.SendingLaws.{sends_none}
 use Rattle.stab_sampling.proofs.packed.send_blocks.Goals as goal
 
 pub returns : goal.returns

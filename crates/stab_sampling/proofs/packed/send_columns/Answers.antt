@@ -4,9 +4,9 @@ use Rattle.stab_sampling.specs.Outputs.{of_shots}
 use Rattle.stab_results.specs.Formats.{f01_bytes}
 use Rattle.std.proofs.lemmas.List.{length-map}
 use Rattle.stab_shots.specs.Bytes.{byte_at}
-use Rattle.stab_sampling.proofs.SendingLaws.{sends_none}
-use Rattle.stab_sampling.proofs.ShotLaws.{sent_batch, batches_break_off}
-use Rattle.stab_sampling.proofs.PackingLaws.{written, packed_of_eight}
+use Rattle.stab_tables.proofs.SendingLaws.{sends_none, sent_batch, batches_break_off}
+use Rattle.stab_tables.proofs.WritingLaws.{written}
+use Rattle.stab_sampling.proofs.PackingLaws.{packed_of_eight}
 use Rattle.stab_sampling.proofs.packed.send_columns.Goals as goal
 
 pub loop-sent-preserved : goal.loop-sent-preserved

@@ -2,7 +2,7 @@ use Rattle.std.proofs.Common.{arith, ap, sym, ◌≡◌, ◌+◌, ◌*◌, ◌�
 use Rattle.stab_shots.specs.Words.{word_bit}
 use Rattle.stab_shots.specs.Lanes.{lane_bits}
 use Rattle.stab_sampling.specs.inner.Packings.{packed_bytes}
-use Rattle.stab_sampling.proofs.PackingLaws.{written}
+use Rattle.stab_tables.proofs.WritingLaws.{written}
 use Rattle.stab_sampling.proofs.packed.send_first_part.Goals as goal
 
 pub returns : goal.returns

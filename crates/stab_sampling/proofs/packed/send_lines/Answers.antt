@@ -1,9 +1,8 @@
 use Rattle.std.proofs.Common.{◌≡◌, ◌∙◌, ◌+◌, ap, sym, length, arith, subst}
 use Rattle.stab_io.specs.Devices.{Took}
 use Rattle.stab_sampling.specs.Outputs.{of_shots}
-use Rattle.stab_sampling.proofs.SendingLaws.{sends_none, sent_shot, shots_break_off}
-use Rattle.stab_sampling.proofs.ShotLaws.{cut_off_as}
-use Rattle.stab_sampling.proofs.PackingLaws.{written}
+use Rattle.stab_tables.proofs.SendingLaws.{sends_none, sent_shot, shots_break_off, cut_off_as}
+use Rattle.stab_tables.proofs.WritingLaws.{written}
 use Rattle.stab_sampling.proofs.LineLaws.{length-line}
 use Rattle.stab_sampling.proofs.packed.send_lines.Goals as goal
 

@@ -1,10 +1,9 @@
 use Rattle.std.proofs.Common.{◌≡◌, ◌∙◌, ◌*◌, ap, sym, length, take, arith, subst}
 use Rattle.stab_shots.proofs.RowLemmas.{length-row}
-use Rattle.stab_sampling.proofs.PackingLaws.{written}
+use Rattle.stab_tables.proofs.WritingLaws.{written}
 use Rattle.stab_io.specs.Devices.{Took}
 use Rattle.stab_sampling.specs.Outputs.{of_shots}
-use Rattle.stab_sampling.proofs.SendingLaws.{sends_none, sent_shot, shots_break_off}
-use Rattle.stab_sampling.proofs.ShotLaws.{cut_off_as}
+use Rattle.stab_tables.proofs.SendingLaws.{sends_none, sent_shot, shots_break_off, cut_off_as}
 use Rattle.stab_sampling.proofs.packed.send_rows.Goals as goal
 
 pub loop-lane-preserved : goal.loop-lane-preserved

@@ -2,7 +2,7 @@ use Rattle.std.proofs.Common.{subst}
 use Rattle.std.specs.Prelude.{IfOk, IfSome}
 use Rattle.stab_circuit.specs.Views.{circuit_items}
 use Rattle.stab_shots.specs.References.{IsReference}
-use Rattle.stab_sampling.proofs.MemoryLaws.{memory_or_ok}
+use Rattle.stab_tables.proofs.MemoryLaws.{memory_or_ok}
 use Rattle.stab_sampling.proofs.shots.reference_of.Goals as goal
 
 pub returns-clause-reference : goal.returns-clause-reference

@@ -6,8 +6,8 @@ use Rattle.stab_results.specs.declared.format.Kinds.TheVariants.{Measurements, D
 use Rattle.stab_shots.specs.Lanes.{lane_bits}
 use Rattle.stab_shots.specs.Shots.{AreRuns}
 use Rattle.stab_sampling.specs.Sendings.{IsShown, shown_kinds, shown_items}
-use Rattle.stab_sampling.proofs.MemoryLaws.{memory_alone}
-use Rattle.stab_sampling.proofs.SendingLaws.{sends_none}
+use Rattle.stab_tables.proofs.MemoryLaws.{memory_alone}
+use Rattle.stab_tables.proofs.SendingLaws.{sends_none}
 use Rattle.stab_sampling.proofs.ShotLaws.{lane_is_shown}
 use Rattle.stab_sampling.proofs.shots.send_batch.Goals as goal
 

@@ -4,8 +4,8 @@ use Rattle.stab_circuit.specs.Views.{circuit_items}
 use Rattle.stab_run.specs.Coins.{seed_coin}
 use Rattle.stab_run.specs.Runs.{State, run_of}
 use Rattle.stab_sampling.specs.Sendings.{shown_bytes}
-use Rattle.stab_sampling.proofs.SendingLaws.{sends_none}
-use Rattle.stab_sampling.proofs.ShotLaws.{lane_runs, sent_batch, batches_break_off}
+use Rattle.stab_tables.proofs.SendingLaws.{sends_none, sent_batch, batches_break_off}
+use Rattle.stab_sampling.proofs.ShotLaws.{lane_runs}
 use Rattle.stab_sampling.proofs.shots.send_batches.Goals as goal
 
 pub loop-sent-preserved : goal.loop-sent-preserved

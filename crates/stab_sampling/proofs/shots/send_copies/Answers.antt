@@ -4,8 +4,8 @@ use Rattle.stab_circuit.specs.Steps.{qubits_of}
 use Rattle.stab_circuit.specs.Views.{circuit_items}
 use Rattle.stab_run.specs.declared.run.Shot.{Shot}
 use Rattle.stab_run.specs.Runs.{run_of}
-use Rattle.stab_sampling.proofs.MemoryLaws.{memory_alone}
-use Rattle.stab_sampling.proofs.SendingLaws.{sends_none}
+use Rattle.stab_tables.proofs.MemoryLaws.{memory_alone}
+use Rattle.stab_tables.proofs.SendingLaws.{sends_none}
 use Rattle.stab_sampling.proofs.shots.send_copies.Goals as goal
 
 pub returns-in_err-shot : goal.returns-in_err-shot

@@ -8,7 +8,7 @@ use Rattle.stab_run.specs.Runs.{run_of}
 use Rattle.stab_shots.specs.References.{IsReference}
 use Rattle.stab_shots.proofs.NotedLemmas.{if-copied}
 use Rattle.stab_sampling.specs.Sendings.{shown_bytes}
-use Rattle.stab_sampling.proofs.SendingLaws.{sends_none}
+use Rattle.stab_tables.proofs.SendingLaws.{sends_none}
 use Rattle.stab_sampling.proofs.ShotLaws.{front_breaks_off, rest_sent}
 use Rattle.stab_sampling.proofs.shots.send_in_lanes.Goals as goal
 

@@ -5,7 +5,7 @@ use Rattle.stab_circuit.specs.Views.{circuit_items}
 use Rattle.stab_run.specs.Coins.{seed_coin}
 use Rattle.stab_run.specs.Runs.{run_of}
 use Rattle.stab_sampling.specs.Sendings.{shown_bytes}
-use Rattle.stab_sampling.proofs.SendingLaws.{sends_none}
+use Rattle.stab_tables.proofs.SendingLaws.{sends_none}
 use Rattle.stab_sampling.proofs.ShotLaws.{rest_sent}
 use Rattle.stab_sampling.proofs.SinglyLaws.{rest_refused}
 use Rattle.stab_sampling.proofs.shots.send_seeded.Goals as goal

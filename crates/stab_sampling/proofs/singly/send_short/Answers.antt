@@ -4,7 +4,7 @@ use Rattle.stab_io.specs.Refusals.{whole}
 use Rattle.stab_run.specs.Runs.{run_of}
 use Rattle.stab_run.specs.declared.run.Shot.{Shot}
 use Rattle.stab_sampling.specs.Sendings.{shown_bytes}
-use Rattle.stab_sampling.proofs.ShotLaws.{cut_off_here}
+use Rattle.stab_tables.proofs.SendingLaws.{cut_off_here}
 use Rattle.stab_sampling.proofs.SinglyLaws.{shot_refused, shot_told}
 use Rattle.stab_sampling.proofs.singly.send_short.Goals as goal
 

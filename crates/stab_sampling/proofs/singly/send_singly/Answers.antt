@@ -7,8 +7,8 @@ use Rattle.stab_run.specs.Runs.{run_of}
 use Rattle.stab_run.specs.Samplers.{SamplerState}
 use Rattle.stab_sampling.specs.Outputs.{of_shots}
 use Rattle.stab_sampling.specs.Sendings.{shown_bytes}
-use Rattle.stab_sampling.proofs.MemoryLaws.{memory_alone}
-use Rattle.stab_sampling.proofs.ShotLaws.{cut_off_here}
+use Rattle.stab_tables.proofs.MemoryLaws.{memory_alone}
+use Rattle.stab_tables.proofs.SendingLaws.{cut_off_here}
 use Rattle.stab_sampling.proofs.SinglyLaws.{same_shot, more_sent, rest_left, first_break_off, first_refused}
 use Rattle.stab_sampling.proofs.singly.send_singly.Goals as goal
 

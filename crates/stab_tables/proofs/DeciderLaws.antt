@@ -1,0 +1,77 @@
+-- Laws of deciders: the lanes of a word, and the lists of the coins that flip each bit.
+use Rattle.std.proofs.Common.{◌≡◌, sym, ap, subst, ◌∙◌, ℕ, suc, ◌+◌, ◌-◌, ◌<◌, ◌≤◌, Bool, false, List, [], ◌∷◌, ◌++◌, length, get_or, set, if◌then◌else◌, ◌⊎◌, inl, inr, arith}
+use Rattle.std.specs.Global.{Vec}
+use Rattle.std.proofs.lemmas.Bool.{cases_eq}
+use Rattle.std.proofs.lemmas.List.{get_or-map}
+use Rattle.stab_regions.specs.Faults.{numbers_where}
+use Rattle.stab_circuit.specs.Items.{Items}
+use Rattle.stab_circuit.specs.Steps.{qubits_of}
+use Rattle.stab_shots.specs.Lanes.{lane_bits}
+use Rattle.stab_distance.specs.inner.Indexes.{listed}
+use Rattle.stab_distance.proofs.IndexLemmas.{listed-set_here, listed-set_other}
+use Rattle.stab_coins.specs.Coins.{flips_of, zero_coins}
+use Rattle.stab_coins.specs.Runs.{AreBits, free_coins}
+use Rattle.stab_shots.specs.declared.shots.Shots.{Shots}
+use Rattle.stab_tables.specs.Reasons.{checked_bits}
+use Rattle.stab_tables.specs.inner.CoinRows.{coin_at, decides}
+use Rattle.stab_tables.specs.inner.Deciders.{ones_at, ones_of}
+use Rattle.stab_tables.proofs.CoinRowLaws.{lanes_checked}
+use Rattle.stab_tables.proofs.ReasonLaws.{where-next, where-join, where-same}
+
+module _ {W : Type 0} (at : W → ℕ → Bool) (word : W) (first : ℕ) where
+  -- no lanes yet
+  pub ones-none : ones_of at word first first ≡ []
+  ones-none = ap (numbers_where (λ k. at word (k - first)) first) {x = first - first} {y = 0} (omega arith)
+
+  -- one lane more
+  pub ones-next : (place : ℕ) (b : Bool) → first ≤ place → at word (place - first) ≡ b → ones_of at word first (place + 1) ≡ ones_of at word first place ++ (if b then place ∷ [] else [])
+  ones-next place b above is =
+      let f : ℕ → Bool = λ k. at word (k - first) in
+      let same : first + (place - first) ≡ place = omega (arith, above) in
+      ap (numbers_where f first) {x = place + 1 - first} {y = suc (place - first)} (omega (arith, above))
+      ∙ where-next f first (place - first)
+      ∙ ap (λ k. numbers_where f first (place - first) ++ (if f k then k ∷ [] else [])) same
+      ∙ ap (λ c. numbers_where f first (place - first) ++ (if c then place ∷ [] else [])) is
+
+-- so many more are noted
+pub noted_more : (f : ℕ → Bool) (noted end : ℕ) → noted ≤ end → numbers_where f 0 noted ++ numbers_where f noted (end - noted) ≡ numbers_where f 0 end
+noted_more f noted end within =
+    ap (λ k. numbers_where f 0 noted ++ numbers_where f k (end - noted)) {x = noted} {y = 0 + noted} (omega arith)
+    ∙ sym (where-join f 0 noted (end - noted))
+    ∙ ap (numbers_where f 0) {x = noted + (end - noted)} {y = end} (omega (arith, within))
+
+-- the lanes of the word at a place
+pub ones_here : {W : Type 0} (at : W → ℕ → Bool) (words : List W) (word : W) (i first end : ℕ) → i < length words → word ≡ get_or words i word → ones_of at word first end ≡ ones_at at words i first end
+ones_here at words word i first end less is =
+    where-same (λ k. at word (k - first)) (λ k. get_or (lane_bits at (k - first) words) i false) first (end - first)
+    (λ j above below. ap (λ w. at w (j - first)) is ∙ sym (get_or-map (λ w. at w (j - first)) words i word false less))
+
+-- they are the coins that decide its bit
+pub batch_decides : {W : Type 0} (at : W → ℕ → Bool) (items : Items) (first end : ℕ) (words : List W) (i : ℕ)
+    → ((l : ℕ) → l < end - first → lane_bits at l words ≡ checked_bits (flips_of (qubits_of items) items zero_coins (coin_at items (first + l))))
+    → ones_at at words i first end ≡ numbers_where (decides items i) first (end - first)
+batch_decides at items first end words i lanes =
+    where-same (λ k. get_or (lane_bits at (k - first) words) i false) (decides items i) first (end - first)
+    (λ j above below.
+    ap (λ bits. get_or bits i false) (lanes (j - first) (omega (arith, above, below)))
+    ∙ ap (decides items i) {x = first + (j - first)} {y = j} (omega (arith, above)))
+
+-- the lanes of all words that are no records
+pub lanes_are : {W : Type 0} (at : W → ℕ → Bool) (lanes : ℕ) (items : Items) (first n : ℕ) (lists : Shots W) (words : List W) → n ≡ qubits_of items → words ≡ lists.detectors.items ++ lists.observables.items
+    → ((l : ℕ) → l < lanes → first + l < length (free_coins n items) → AreBits at l (flips_of n items zero_coins (get_or (free_coins n items) (first + l) 0)) lists)
+    → (l : ℕ) → l < lanes → first + l < length (free_coins (qubits_of items) items) → lane_bits at l words ≡ checked_bits (flips_of (qubits_of items) items zero_coins (coin_at items (first + l)))
+lanes_are {W} at lanes items first n lists words e are flips l few within =
+    let bits =
+    (subst (λ k. (j : ℕ) → j < lanes → first + j < length (free_coins k items) → AreBits at j (flips_of k items zero_coins (get_or (free_coins k items) (first + j) 0)) lists) e flips) l few within in
+    ap (lane_bits at l) are ∙ lanes_checked at l lists.detectors.items lists.observables.items (flips_of (qubits_of items) items zero_coins (coin_at items (first + l))) bits.detectors bits.observables
+
+-- one list more is written
+pub lists-more : {W : Type 0} (at : W → ℕ → Bool) (words : List W) (first end place : ℕ) (old lists : List (Vec ℕ)) (new : Vec ℕ) → place < length lists
+    → ((i : ℕ) → i < place → listed lists i ≡ listed old i ++ ones_at at words i first end) → new.items ≡ listed old place ++ ones_at at words place first end
+    → (i : ℕ) → i < place + 1 → listed (set lists place new) i ≡ listed old i ++ ones_at at words i first end
+lists-more at words first end place old lists new within before here i less = by_place (cases_eq i place)
+  where
+    by_place : (i ≡ place) ⊎ (i ≡ place → ⊥) → listed (set lists place new) i ≡ listed old i ++ ones_at at words i first end
+    by_place (inl same) =
+        ap (listed (set lists place new)) same ∙ listed-set_here lists place new within ∙ here ∙ ap (λ k. listed old k ++ ones_at at words k first end) (sym same)
+    by_place (inr other) = listed-set_other lists place i new other ∙ before i (omega (arith, less, other))

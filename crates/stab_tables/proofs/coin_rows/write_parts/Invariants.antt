@@ -1,0 +1,18 @@
+use Rattle.std.proofs.Common.{◌≡◌, ◌-◌, ◌%◌, ◌<◌, ◌≤◌, length}
+use Rattle.stab_io.specs.Devices.{Took}
+use Rattle.stab_circuit.specs.Views.{circuit_items}
+use Rattle.stab_tables.specs.Texts.{texts_from}
+use Rattle.stab_tables.specs.inner.CoinRows.{HaveFlips, text_at}
+use Rattle.stab_tables.proofs.coin_rows.write_parts.Given as goal
+
+abbrev pub invariant-loop-sent : goal.invariant-loop-sent
+invariant-loop-sent g l = record {
+  within : l.sent ≤ l.lanes;
+  whole : l.sent < l.lanes → l.sent % 64 ≡ 0;
+  size : length l.part.items ≡ length l.words;
+  took : HaveFlips g.W.Word.at (circuit_items l.circuit) l.first l.lanes l.words
+      → Took (g.O.Output.seen l.initial.out) (g.O.Output.seen l.out) (texts_from (text_at l.layout (circuit_items l.circuit)) l.first l.sent);
+}
+
+abbrev pub decreases-loop-sent : goal.decreases-loop-sent
+decreases-loop-sent g l = l.lanes - l.sent

@@ -1,0 +1,28 @@
+use Rattle.std.proofs.Common.{◌∙◌, ◌++◌, ◌∷◌, [], ℕ, true, false, sym, ap, append_assoc, append-nil, arith}
+use Rattle.std.specs.Global.{Vec}
+use Rattle.stab_tables.specs.inner.Deciders.{ones_of}
+use Rattle.stab_tables.proofs.DeciderLaws.{ones-next}
+use Rattle.stab_tables.proofs.deciders.push_ones.Goals as goal
+use Rattle.stab_tables.proofs.deciders.push_ones.Goals.{then-bit+in_ok-push, else-bit}
+
+pub loop-place-preserved : goal.loop-place-preserved
+loop-place-preserved g c =
+    let place = c.loop-place.place in
+    let before = c.args.places.now.items in
+    let ones = ones_of g.W.Word.at c.args.word c.args.first place in
+    let more = ones-next g.W.Word.at c.args.word c.args.first place in
+    record {
+      above = omega (arith, c.loop-place.invariant.above);
+      pushed = elim c.if-bit.branch [
+        | then-bit+in_ok-push w ↦
+            ap (λ (v : Vec ℕ). v.items) w.places-is
+            ∙ w.in_ok-push.ensures.items
+            ∙ ap (λ l. l ++ place ∷ []) c.loop-place.invariant.pushed
+            ∙ append_assoc before ones (place ∷ [])
+            ∙ ap (λ l. before ++ l) (sym (more true c.loop-place.invariant.above (sym c.bit.ensures.value ∙ w.if-bit.true)))
+        | else-bit w ↦
+            ap (λ (v : Vec ℕ). v.items) w.places-is
+            ∙ c.loop-place.invariant.pushed
+            ∙ ap (λ l. before ++ l) (sym (more false c.loop-place.invariant.above (sym c.bit.ensures.value ∙ w.if-bit.false) ∙ append-nil ones))
+      ];
+    }

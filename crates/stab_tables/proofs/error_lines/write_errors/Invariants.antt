@@ -1,0 +1,11 @@
+use Rattle.std.proofs.Math.ListN.{drop}
+use Rattle.std.specs.List.{flat_map}
+use Rattle.stab_io.proofs.DeviceLemmas.{WroteUpTo}
+use Rattle.stab_circuit.specs.Views.{circuit_items}
+use Rattle.stab_tables.specs.Distances.{numbered_line}
+use Rattle.stab_tables.proofs.error_lines.write_errors.Given as goal
+
+abbrev pub invariant-numbers : goal.invariant-numbers
+invariant-numbers g l =
+    let line = numbered_line (circuit_items l.circuit) l.errors in
+    WroteUpTo (g.O.Output.seen l.initial.out) (g.O.Output.seen l.out) (flat_map line l.numbers) (flat_map line (drop l.number-index l.numbers))

@@ -1,0 +1,11 @@
+use Rattle.std.proofs.Common.{◌∙◌, sym, ap}
+use Rattle.stab_circuit.specs.Views.{circuit_items}
+use Rattle.stab_tables.specs.FaultTables.{path_at}
+use Rattle.stab_tables.proofs.FaultTextLaws.{path_here}
+use Rattle.stab_tables.proofs.reasons.path_of_bit.Goals as goal
+
+pub returns-clause-value : goal.returns-clause-value
+returns-clause-value c =
+    let item = c.item_of_step in
+    ap (path_at (circuit_items c.args.circuit.now)) (sym c.in_ok-step.ensures.value)
+    ∙ path_here (circuit_items c.args.circuit.now) c.in_ok-step.step item.result.steps item.result.path item.ensures.some item.ensures.path

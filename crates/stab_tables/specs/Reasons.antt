@@ -1,0 +1,77 @@
+-- Reasons: which coins decide a detector or an observable, what `deterministic --explain` writes of them, and how a call of it ends.
+-- Source: this project's own.
+use Rattle.std.specs.Prelude.{◌≡◌, ℕ, ◌+◌, ◌<◌, nat_lt, Bool, false, List, [], ◌∷◌, ◌++◌, slice_index_or, codes, decimal, if◌then◌else◌, Result, ◌↔◌}
+use Rattle.std.specs.List.{flat_map}
+use Rattle.stab_io.specs.Devices.{InputView, OutputView}
+use Rattle.stab_io.specs.declared.refusal.Fault.{Fault}
+use Rattle.stab_circuit.specs.Items.{Items}
+use Rattle.stab_circuit.specs.Steps.{unroll, qubits_of, detectors_of, observables_of}
+use Rattle.stab_circuit.specs.Paths.{path_text}
+use Rattle.stab_circuit.specs.Readings.{IsCircuit, IsFaultOf}
+use Rattle.stab_regions.specs.Faults.{bits_in, IsSure}
+use Rattle.stab_coins.specs.Coins.{ShotBits}
+use Rattle.stab_coins.specs.Tables.{CoinRow, IsCoinTable, table_of}
+use Rattle.stab_tables.specs.declared.unsure.Bit.{Bit}
+use Rattle.stab_tables.specs.declared.unsure.Bit.TheVariants.{Detector, Observable}
+use Rattle.stab_tables.specs.Endings.{Ends, Sends}
+use Rattle.stab_tables.specs.FaultTables.{bit_of, path_of_bit}
+use Rattle.stab_tables.specs.CoinTables.{path_of_coin}
+use Rattle.stab_tables.specs.Texts.{texts_from}
+
+-- the detectors of a run, and behind them its observables
+abbrev pub checked_bits : ShotBits → List Bool
+checked_bits b = b.detectors ++ b.observables
+
+-- the coins that flip the bit of a number: a column of the table
+abbrev pub deciders : (number : ℕ) → List CoinRow → List ℕ
+deciders i [] = []
+deciders i (row ∷ rows) = if slice_index_or (checked_bits row.flips) i false then row.coin ∷ deciders i rows else deciders i rows
+
+-- a bit is the same whatever the coins exactly if no coin flips it
+abbrev pub SureHasNoDecider : Type 0
+SureHasNoDecider =
+    (items : Items) (rows : List CoinRow) (i : ℕ) → IsCoinTable (qubits_of items) items rows → i < bits_in items →
+    IsSure (qubits_of items) items i ↔ (deciders i rows ≡ [])
+
+-- a coin, with the path of the item that takes it, as ` c40@66/3`
+abbrev pub decider_text : Items → ℕ → List ℕ
+decider_text items t = codes " c" ++ (decimal t ++ (codes "@" ++ path_text (path_of_coin items t)))
+
+-- a bit, as `dets` names it
+abbrev pub bit_name : Bit → List ℕ
+bit_name (Detector d) = codes "D" ++ decimal d
+bit_name (Observable j) = codes "L" ++ decimal j
+
+-- there is such a detector or observable
+abbrev pub has_bit : Items → Bit → Bool
+has_bit items (Detector d) = nat_lt d (detectors_of (unroll items))
+has_bit items (Observable j) = nat_lt j (observables_of items)
+
+-- its number among all detectors and then all observables
+abbrev pub number_of_bit : Items → Bit → ℕ
+number_of_bit items (Detector d) = d
+number_of_bit items (Observable j) = detectors_of (unroll items) + j
+
+-- the line of a bit with the path of its first item, by the coins that flip it, as `D37 69 c12@12 c40@66/3`; none if no coin does
+abbrev pub reason_line : Items → Bit → (coins : List ℕ) → List ℕ
+reason_line items b [] = []
+reason_line items b (t ∷ ts) = bit_name b ++ (codes " " ++ (path_text (path_of_bit items b) ++ (flat_map (decider_text items) (t ∷ ts) ++ codes "\n")))
+
+-- the line of the bit of a number, by the table
+abbrev pub reason_text : Items → List CoinRow → ℕ → List ℕ
+reason_text items rows i = reason_line items (bit_of (detectors_of (unroll items)) i) (deciders i rows)
+
+-- the lines of all detectors and then all observables
+abbrev pub reasons_text : Items → List CoinRow → List ℕ
+reasons_text items rows = texts_from (reason_text items rows) 0 (bits_in items)
+
+-- The text stands for a circuit, whose coins that decide, on its own qubits, are those of a table, and these lines were sent.
+pub record SendsReasons {T : Type 0} (old new : OutputView) (text : List ℕ) (r : Result T Fault) : Type 0 where
+  pub items : Items
+  pub circuit : IsCircuit text items
+  pub table : IsCoinTable (qubits_of items) items (table_of (qubits_of items) items)
+  pub sends : Sends (reasons_text items (table_of (qubits_of items) items)) old new r
+
+-- How a call of `deterministic --explain` ends, over an input and an output.
+abbrev pub EndsExplain : {T : Type 0} → InputView → InputView → OutputView → OutputView → Result T Fault → Type 0
+EndsExplain i i' o o' r = Ends IsFaultOf (o' ≡ o) (SendsReasons o o') i i' r
