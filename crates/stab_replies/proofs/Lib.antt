@@ -5,3 +5,4 @@ pub mod FramedReplyLaws
 pub mod PlaceCountLaws
 pub mod ReadingLaws
 pub mod TellingLaws
+pub mod RequestLaws

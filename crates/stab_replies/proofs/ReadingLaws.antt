@@ -3,7 +3,7 @@ use Rattle.std.proofs.Common.{◌≡◌, ◌≤◌, ◌<◌, ℕ, ◌+◌, Bool,
 use Rattle.std.proofs.lemmas.List.{append-nil, take_more, take-append-drop}
 use Rattle.stab_lines.specs.Lines.{content_of, ends_with_byte}
 use Rattle.stab_replies.specs.ScriptWords.{Gathered}
-use Rattle.stab_replies.specs.Scripts.{Request, begin, put, delete, show, ask, deterministic, refuse, request_of, ScriptReader, Gathering, Reading, silent, line_ended, begun, line_alone, opened_behind, gathered_with, gathering_ended, line_gathered, line_behind, read_line, read_byte, then_read, read}
+use Rattle.stab_replies.specs.Scripts.{Request, begin, put, delete, show, ask, deterministic, distance, refuse, request_of, ScriptReader, Gathering, Reading, silent, line_ended, begun, line_alone, opened_behind, gathered_with, gathering_ended, line_gathered, line_behind, read_line, read_byte, then_read, read}
 use Rattle.stab_replies.specs.Requests.{opened_in}
 
 -- one reading after another, as a whole
@@ -69,6 +69,7 @@ opened_begun (delete place) = omega arith
 opened_begun (show what) = omega arith
 opened_begun (ask request) = omega arith
 opened_begun deterministic = omega arith
+opened_begun (distance everywhere most) = omega arith
 opened_begun (refuse r) = omega arith
 
 opened_alone : (line : Gathered) → opened_by (line_alone line) ≤ 1

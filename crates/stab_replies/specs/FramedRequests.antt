@@ -1,13 +1,15 @@
 -- Framed requests: what only a framed script asks for, and the words that ask for it.
 -- Source: this project's own.
-use Rattle.std.specs.Prelude.{ℕ, ◌==◌, List, length, codes, bytes_eq, Option, Some, None, if◌then◌else◌}
+use Rattle.std.specs.Prelude.{ℕ, ◌==◌, List, [], ◌∷◌, length, codes, bytes_eq, Option, Some, None, if◌then◌else◌}
 use Rattle.stab_lines.specs.Words.{value}
 use Rattle.stab_circuit.specs.Paths.{Path}
+use Rattle.stab_tables.specs.declared.unsure.Bit.{Bit}
+use Rattle.stab_tables.specs.declared.unsure.Bit.TheVariants.{Detector, Observable}
 use Rattle.stab_replies.specs.ScriptWords.{first_word, behind_word, is_place_number, place_of}
 
 -- that changes are counted from now on; that a round, counted from 0, is split off the block at a place; or that this is shown: the numbers of
 -- the circuit, what changed of detectors and observables, what changed of records, the sign of a Pauli string, the item at a place, where
--- that stands in the unrolled circuit
+-- that stands in the unrolled circuit, the table of coins, the coins that decide a detector or an observable
 pub data FramedRequest : Type 0 where
   mark : FramedRequest
   split : (place : Path) → (round : ℕ) → FramedRequest
@@ -17,6 +19,8 @@ pub data FramedRequest : Type 0 where
   sign : (text : List ℕ) → FramedRequest
   item : (place : Path) → FramedRequest
   counts : (place : Path) → FramedRequest
+  coin_table : FramedRequest
+  why : Bit → FramedRequest
 
 -- the request, where nothing stands behind its word
 abbrev pub alone : (rest : List ℕ) → FramedRequest → Option FramedRequest
@@ -54,6 +58,21 @@ abbrev pub counts_at : Option Path → (rest : List ℕ) → Option FramedReques
 counts_at None rest = None
 counts_at (Some place) rest = alone rest (counts place)
 
+-- the bit that a letter and a number name: D and a detector's, or L and an observable's
+abbrev pub bit_by : (letter : ℕ) → Option ℕ → Option Bit
+bit_by letter None = None
+bit_by letter (Some number) = if letter == 68 then Some (Detector number) else if letter == 76 then Some (Observable number) else None
+
+-- the detector or observable that a word names
+abbrev pub bit_of_word : (word : List ℕ) → Option Bit
+bit_of_word [] = None
+bit_of_word (letter ∷ digits) = bit_by letter (round_of digits)
+
+-- the coins that decide a bit, where there is one
+abbrev pub why_of : Option Bit → (rest : List ℕ) → Option FramedRequest
+why_of None rest = None
+why_of (Some bit) rest = alone rest (why bit)
+
 -- what the first word behind `show`, and the rest behind that, ask for
 abbrev pub framed_show : (word rest : List ℕ) → Option FramedRequest
 framed_show word rest =
@@ -62,4 +81,6 @@ framed_show word rest =
     else if bytes_eq word (codes "sign") then sign_of (first_word rest) (behind_word rest)
     else if bytes_eq word (codes "item") then item_of (place_of (first_word rest)) (behind_word rest)
     else if bytes_eq word (codes "place") then counts_at (place_of (first_word rest)) (behind_word rest)
+    else if bytes_eq word (codes "coins") then alone rest coin_table
+    else if bytes_eq word (codes "why") then why_of (bit_of_word (first_word rest)) (behind_word rest)
     else None

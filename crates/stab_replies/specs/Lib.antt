@@ -3,6 +3,7 @@ pub mod FramedRequests
 pub mod FramedReplies
 pub mod Changes
 pub mod PlaceCounts
+pub mod CoinReplies
 pub mod Signs
 pub mod Scripts
 pub mod Requests

@@ -2,7 +2,7 @@
 -- Source: this project's own.
 use Rattle.std.specs.Prelude.{◌≡◌, ℕ, ◌+◌, ◌-◌, Bool, true, false, ◌||◌, ◌==◌, List, [], ◌∷◌, ◌++◌, length, codes, bytes_eq, Option, Some, None, Result, Ok, Err, if◌then◌else◌, ◌⊎◌}
 use Rattle.stab_io.specs.declared.refusal.Refusal.{Refusal}
-use Rattle.stab_io.specs.declared.refusal.Refusal.TheVariants.{BadCommand, TooLong}
+use Rattle.stab_io.specs.declared.refusal.Refusal.TheVariants.{BadCommand, TooLong, NotDeterministic}
 use Rattle.stab_io.specs.declared.refusal.Fault.{Fault}
 use Rattle.stab_pauli.specs.Paulis.{Signed}
 use Rattle.stab_tableau.specs.Traces.{member}
@@ -22,14 +22,20 @@ use Rattle.stab_tables.specs.FaultLines.{refused_text}
 use Rattle.stab_results.specs.declared.format.Format.TheVariants.{F01}
 use Rattle.stab_tables.specs.Rows.{lines_of}
 use Rattle.stab_tables.specs.Deterministic.{IsSureText}
+use Rattle.stab_tables.specs.declared.unsure.Unsure.{Unsure}
+use Rattle.stab_tables.specs.FaultTables.{IsFirstUnsure}
+use Rattle.stab_tables.specs.Distances.{IsDistanceText}
+use Rattle.stab_jobs.specs.declared.distance_options.DistanceOptions.{DistanceOptions}
+use Rattle.stab_jobs.specs.declared.error_letters.ErrorLetters.TheVariants.{All}
 use Rattle.stab_circuit.specs.Places.{item_at}
 use Rattle.stab_circuit.specs.Splits.{split}
 use Rattle.stab_replies.specs.ScriptWords.{first_word, behind_word, place_of, Gathered, more, is_nothing}
 use Rattle.stab_replies.specs.FramedRequests as framed_asks
-use Rattle.stab_replies.specs.FramedRequests.{FramedRequest, mark, numbers, changed, changed_records, sign, framed_split, framed_show}
+use Rattle.stab_replies.specs.FramedRequests.{FramedRequest, mark, numbers, changed, changed_records, sign, round_of, framed_split, framed_show}
 use Rattle.stab_replies.specs.FramedReplies.{reply_text, made_text, greeting, session_numbers, numbers_line}
 use Rattle.stab_replies.specs.Changes.{Mark, mark_of, no_mark, changed_text, changed_records_text}
 use Rattle.stab_replies.specs.PlaceCounts.{place_shown}
+use Rattle.stab_replies.specs.CoinReplies.{coins_shown, why_shown}
 use Rattle.stab_replies.specs.Signs.{string_of_word, sign_in, sign_line}
 use Rattle.stab_replies.specs.declared.request.ItemEdit.{ItemEdit}
 use Rattle.stab_replies.specs.declared.request.ItemEdit.TheVariants.{Insert, Replace}
@@ -37,8 +43,8 @@ use Rattle.stab_replies.specs.declared.request.Show.{Show}
 use Rattle.stab_replies.specs.declared.request.Show.TheVariants.{Measurements, Free, Detectors, Observables, Stabilisers, Circuit}
 
 -- what a script asks for: that it begins; that the item of a text is put in at a place, or that the item at a place is deleted, or that
--- something is shown; what only a framed script asks for, which may be the bits that are the same whatever the coins; or nothing, where
--- a line is refused
+-- something is shown; what only a framed script asks for, which may be the bits that are the same whatever the coins, or the distance up to
+-- so many errors; or nothing, where a line is refused
 pub data Request : Type 0 where
   begin : Request
   put : ItemEdit → (place : Path) → (text : List ℕ) → Request
@@ -46,6 +52,7 @@ pub data Request : Type 0 where
   show : Show → Request
   ask : FramedRequest → Request
   deterministic : Request
+  distance : (everywhere : Bool) → (most : ℕ) → Request
   refuse : Refusal → Request
 
 -- an edit that puts in an item, where there are a place and a text
@@ -67,6 +74,15 @@ framed_of (Some request) = ask request
 abbrev pub mark_at : (rest : List ℕ) → Request
 mark_at rest = if length rest == 0 then ask mark else refuse BadCommand
 
+-- the distance up to a number of errors: where the circuit marks them, or everywhere
+abbrev pub distance_of : Option ℕ → (rest : List ℕ) → Request
+distance_of None rest = refuse BadCommand
+distance_of (Some most) rest = if length rest == 0 then distance false most else if bytes_eq rest (codes "everywhere") then distance true most else refuse BadCommand
+
+-- what only a framed script may be shown, by the first word behind `show` and the rest behind that
+abbrev pub show_by : (word rest : List ℕ) → Request
+show_by word rest = if bytes_eq word (codes "distance") then distance_of (round_of (first_word rest)) (behind_word rest) else framed_of (framed_show word rest)
+
 -- what the words behind `show` ask for
 abbrev pub show_of : List ℕ → Request
 show_of word =
@@ -77,7 +93,7 @@ show_of word =
     else if bytes_eq word (codes "stabilisers") then show Stabilisers
     else if bytes_eq word (codes "circuit") then show Circuit
     else if bytes_eq word (codes "deterministic") then deterministic
-    else framed_of (framed_show (first_word word) (behind_word word))
+    else show_by (first_word word) (behind_word word)
 
 -- what a first word and the rest behind it ask for
 abbrev pub request_by : (word rest : List ℕ) → Request
@@ -318,6 +334,8 @@ framed_shown n run held changed_records = Ok (changed_records_text held.mark run
 framed_shown n run held (sign word) = sign_shown run (string_of_word n word)
 framed_shown n run held (framed_asks.item place) = item_shown (item_at place (entries held.items))
 framed_shown n run held (framed_asks.counts place) = place_shown (item_at place (entries held.items)) place held.items
+framed_shown n run held framed_asks.coin_table = Ok (coins_shown held.items)
+framed_shown n run held (framed_asks.why bit) = why_shown held.items bit
 
 -- what is held with such a list, or as before where the split was refused
 abbrev pub held_split : Held → Result (List OneItem) Refusal → Held
@@ -346,6 +364,18 @@ abbrev pub IsSureAnswer : (framed : Bool) → Held → Answer → Type 0
 IsSureAnswer false held a = a ≡ refusing held BadCommand
 IsSureAnswer true held a = (text : List ℕ) × IsSureText F01 held.items text × (a ≡ replying held (reply_text true text))
 
+-- what a script asks of a distance: all errors, up to so many, where each bit is the same whatever the coins
+abbrev pub options_asked : (everywhere : Bool) → (most : ℕ) → DistanceOptions
+options_asked everywhere most = record { everywhere = everywhere; letters = All; graphlike = false; most = Some most; sure_only = false; progress = false }
+
+-- the answer to what asks for a distance, as the command `distance` does: a framed script is shown it, or refused for a bit that is not the
+-- same whatever the coins
+abbrev pub IsDistanceAnswer : (framed : Bool) → Held → DistanceOptions → Answer → Type 0
+IsDistanceAnswer false held options a = a ≡ refusing held BadCommand
+IsDistanceAnswer true held options a =
+    ((text : List ℕ) × IsDistanceText options held.items text × (a ≡ replying held (reply_text true text)))
+    ⊎ ((u : Unsure) × IsFirstUnsure held.items u × (a ≡ refusing held NotDeterministic))
+
 -- the answer to a request, where this is held
 abbrev pub IsAnswer : Setting → Held → Request → Answer → Type 0
 IsAnswer s held begin a = a ≡ replying held (greeting s.framed (session_numbers s.qubits (run_held s held) held.items))
@@ -354,6 +384,7 @@ IsAnswer s held (delete place) a = a ≡ decided s.framed held (edited_items s.q
 IsAnswer s held (show what) a = (text : List ℕ) × Shows s.qubits (run_held s held) held.items what text × (a ≡ replying held (reply_text s.framed text))
 IsAnswer s held (ask request) a = a ≡ framed_answer s.framed s.qubits (run_held s held) held request
 IsAnswer s held deterministic a = IsSureAnswer s.framed held a
+IsAnswer s held (distance everywhere most) a = IsDistanceAnswer s.framed held (options_asked everywhere most) a
 IsAnswer s held (refuse r) a = a ≡ refusing held r
 
 -- first one answer, then the other

@@ -1,14 +1,15 @@
 //! What only a framed script asks for.
-ghost use Rattle.std.specs.Prelude.{◌≡◌, IfOk, IfErr};
+ghost use Rattle.std.specs.Prelude.{◌≡◌, Some, IfOk, IfErr};
 ghost use Rattle.stab_io.specs.Refusals.{whole};
 ghost use Rattle.stab_io.specs.declared.refusal.Refusal.TheVariants.{OutOfMemory};
-ghost use Rattle.stab_replies.specs.FramedRequests.{alone as alone_of, round_of, split_of, framed_split, changed_of, sign_of, item_of, counts_at, framed_show as shown_by};
+ghost use Rattle.stab_replies.specs.FramedRequests.{alone as alone_of, round_of, split_of, framed_split, changed_of, sign_of, item_of, counts_at, bit_by as bit_by_letter, bit_of_word, why_of, framed_show as shown_by};
 ghost use Rattle.stab_replies.specs.ScriptWords.{first_word as first_of, behind_word, place_of};
 ghost use Rattle.stab_replies.specs.Requests.{framed_asked, framed_if_any};
 
 use crate::place::{first_word, place_number, read_place};
 use stab_circuit::Path;
 use stab_io::Fault;
+use stab_tables::Bit;
 use std::alloc::Global;
 
 /// What only a framed script asks for.
@@ -30,6 +31,10 @@ pub enum FramedRequest {
     Item(Path),
     /// Where that stands in the unrolled circuit.
     Place(Path),
+    /// The table of coins.
+    Coins,
+    /// The coins that decide a detector or an observable.
+    Why(Bit),
 }
 
 /// The request, where nothing stands behind its word.
@@ -116,6 +121,41 @@ fn read_counts_at(rest: &[u8]) -> Option<FramedRequest>
     }
 }
 
+/// The detector or observable that a letter and a number name.
+fn bit_by(letter: u8, number: usize) -> Option<Bit>
+    ensures value { result ≡ bit_by_letter letter (Some number) }
+{
+    match letter {
+        b'D' => Some(Bit::Detector(number)),
+        b'L' => Some(Bit::Observable(number)),
+        _ => None,
+    }
+}
+
+/// The detector or observable that a word names.
+fn read_bit(word: &[u8]) -> Option<Bit>
+    ensures value { result ≡ bit_of_word word.now }
+{
+    if word.is_empty() {
+        return None;
+    }
+    match place_number(&word[1..]) {
+        None => None,
+        Some(number) => bit_by(word[0], number),
+    }
+}
+
+/// The coins that decide a detector or an observable.
+fn read_why(rest: &[u8]) -> Option<FramedRequest>
+    ensures value { framed_if_any result ≡ why_of (bit_of_word (first_of rest.now)) (behind_word rest.now) }
+{
+    let (word, rest) = first_word(rest);
+    match read_bit(word) {
+        None => None,
+        Some(bit) => alone(rest, FramedRequest::Why(bit)),
+    }
+}
+
 /// What the first word behind `show`, and the rest behind that, ask for; fault `OutOfMemory` alone.
 pub(crate) fn read_framed_show(
     alloc: Global,
@@ -136,6 +176,10 @@ pub(crate) fn read_framed_show(
         Ok(read_item_at(rest))
     } else if word == b"place".as_slice() {
         Ok(read_counts_at(rest))
+    } else if word == b"coins".as_slice() {
+        Ok(alone(rest, FramedRequest::Coins))
+    } else if word == b"why".as_slice() {
+        Ok(read_why(rest))
     } else {
         Ok(None)
     }

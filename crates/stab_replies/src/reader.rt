@@ -142,6 +142,7 @@ impl ScriptReader {
             Request::Show(what) => Some(Request::Show(what)),
             Request::Framed(what) => Some(Request::Framed(what)),
             Request::Deterministic => Some(Request::Deterministic),
+            Request::Distance { everywhere, most } => Some(Request::Distance { everywhere, most }),
             Request::Refuse(refusal) => Some(Request::Refuse(refusal)),
         }
     }

@@ -1,13 +1,14 @@
 //! What a line of a script asks for.
-ghost use Rattle.std.specs.Prelude.{◌≡◌, IfOk, IfErr};
+ghost use Rattle.std.specs.Prelude.{◌≡◌, Some, IfOk, IfErr};
 ghost use Rattle.stab_io.specs.Refusals.{whole};
 ghost use Rattle.stab_io.specs.declared.refusal.Refusal.TheVariants.{OutOfMemory};
+ghost use Rattle.stab_replies.specs.FramedRequests.{round_of};
 ghost use Rattle.stab_replies.specs.ScriptWords.{first_word as first_of, behind_word, place_of};
-ghost use Rattle.stab_replies.specs.Scripts.{put_at as put_of, delete_at as delete_of, framed_of, mark_at as mark_of, show_of, request_by as by_word, request_of};
+ghost use Rattle.stab_replies.specs.Scripts.{put_at as put_of, delete_at as delete_of, distance_of, framed_of, mark_at as mark_of, show_by, show_of, request_by as by_word, request_of};
 ghost use Rattle.stab_replies.specs.Requests.{request_asked, framed_if_any};
 
 use crate::framed::{FramedRequest, read_framed_show, read_split};
-use crate::place::{first_word, read_place};
+use crate::place::{first_word, place_number, read_place};
 use stab_circuit::Path;
 use stab_io::{Fault, Refusal};
 use std::alloc::Global;
@@ -59,6 +60,12 @@ pub enum Request {
     Framed(FramedRequest),
     /// Which detectors and observables are the same whatever the coins, for a framed script.
     Deterministic,
+    /// The distance up to a number of errors, for a framed script: of errors everywhere, or where the
+    /// circuit marks them.
+    Distance {
+        everywhere: bool,
+        most: usize,
+    },
     /// Nothing: a line is refused.
     Refuse(Refusal),
 }
@@ -119,6 +126,48 @@ fn mark_at(rest: &[u8]) -> Request
     }
 }
 
+/// The distance up to a number of errors, by what follows the number.
+fn distance_up_to(most: usize, rest: &[u8]) -> Request
+    ensures value { request_asked result ≡ distance_of (Some most) rest.now }
+{
+    if rest.is_empty() {
+        Request::Distance {
+            everywhere: false,
+            most,
+        }
+    } else if rest == b"everywhere".as_slice() {
+        Request::Distance {
+            everywhere: true,
+            most,
+        }
+    } else {
+        Request::Refuse(Refusal::BadCommand)
+    }
+}
+
+/// The distance, by the words behind `show distance`.
+fn read_distance(rest: &[u8]) -> Request
+    ensures value { request_asked result ≡ distance_of (round_of (first_of rest.now)) (behind_word rest.now) }
+{
+    let (word, rest) = first_word(rest);
+    match place_number(word) {
+        None => Request::Refuse(Refusal::BadCommand),
+        Some(most) => distance_up_to(most, rest),
+    }
+}
+
+/// What only a framed script may be shown, by the first word behind `show` and the rest behind that.
+fn read_show_by(alloc: Global, word: &[u8], rest: &[u8]) -> Result<Request, Fault>
+    ensures gives { IfOk result (λ r. request_asked r ≡ show_by word.now rest.now) }
+    ensures err { IfErr result (λ f. f ≡ whole OutOfMemory) }
+{
+    if word == b"distance".as_slice() {
+        return Ok(read_distance(rest));
+    }
+    let request = read_framed_show(alloc, word, rest)?;
+    Ok(framed_if_some(request))
+}
+
 /// What the words behind `show` ask for.
 fn read_show(alloc: Global, word: &[u8]) -> Result<Request, Fault>
     ensures gives { IfOk result (λ r. request_asked r ≡ show_of word.now) }
@@ -140,8 +189,7 @@ fn read_show(alloc: Global, word: &[u8]) -> Result<Request, Fault>
         Ok(Request::Deterministic)
     } else {
         let (word, rest) = first_word(word);
-        let request = read_framed_show(alloc, word, rest)?;
-        Ok(framed_if_some(request))
+        read_show_by(alloc, word, rest)
     }
 }
 

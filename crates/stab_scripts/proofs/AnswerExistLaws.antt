@@ -24,10 +24,10 @@ use Rattle.stab_regions.specs.FaultLaws.{SureParities}
 use Rattle.stab_results.specs.Formats.{f01_bytes}
 use Rattle.stab_circuit.specs.Prints.{printed}
 use Rattle.stab_tables.specs.Rows.{lines_of}
-use Rattle.stab_replies.specs.Scripts.{Setting, Request, begin, put, delete, show, ask, deterministic, refuse, Held, run_held, Answer, IsPut, Shows, IsSureAnswer, IsAnswer, IsAnswerToAll, both, unless, judged, decided, refusing, replying, edit_of, edited_items, framed_shown, held_split, held_behind, shown_or_refused, framed_answer}
+use Rattle.stab_replies.specs.Scripts.{Setting, Request, begin, put, delete, show, ask, deterministic, distance, refuse, Held, run_held, Answer, IsPut, Shows, IsSureAnswer, IsAnswer, IsAnswerToAll, both, unless, judged, decided, refusing, replying, edit_of, edited_items, framed_shown, held_split, held_behind, shown_or_refused, framed_answer}
 use Rattle.stab_replies.specs.FramedReplies.{reply_text, greeting, session_numbers}
-use Rattle.stab_replies.specs.FramedRequests.{FramedRequest, mark, split, numbers, changed, changed_records, sign, item, counts}
-use Rattle.stab_scripts.specs.ScriptLaws.{CanBeEdited}
+use Rattle.stab_replies.specs.FramedRequests.{FramedRequest, mark, split, numbers, changed, changed_records, sign, item, counts, coin_table, why}
+use Rattle.stab_scripts.specs.ScriptLaws.{CanBeEdited, asks_distance, NoneAsksDistance}
 use Rattle.stab_scripts.proofs.SureBitLaws.{sure_text}
 use Rattle.stab_replies.specs.declared.request.ItemEdit.{ItemEdit}
 use Rattle.stab_replies.specs.declared.request.ItemEdit.TheVariants.{Insert, Replace}
@@ -121,6 +121,8 @@ behind_keeps steps lines n run held changed_records can = can
 behind_keeps steps lines n run held (sign word) can = can
 behind_keeps steps lines n run held (item place) can = can
 behind_keeps steps lines n run held (counts place) can = can
+behind_keeps steps lines n run held coin_table can = can
+behind_keeps steps lines n run held (why bit) can = can
 
 -- so does its answer
 framed_keeps : SplitsLeaveTheSteps → SplitItemsAreOfLines → (kept : Bool) (n : ℕ) (run : State) (held : Held) (r : FramedRequest) → CanBeEdited n held.items
@@ -158,23 +160,24 @@ module _ (meanings : ItemTextsHaveOneMeaning) (lines : ItemTextsAreLines) (edits
           )
 
   -- a request has an answer
-  request_answered : (s : Setting) (held : Held) (r : Request) → CanBeEdited s.qubits held.items → (a : Answer) × IsAnswer s held r a × CanBeEdited s.qubits a.held.items
-  request_answered s held begin can = (replying held (greeting s.framed (session_numbers s.qubits (run_held s held) held.items)), refl, can)
-  request_answered s held (put how place text) can = put_answered s held how place text can
-  request_answered s held (delete place) can =
+  request_answered : (s : Setting) (held : Held) (r : Request) → asks_distance r ≡ false → CanBeEdited s.qubits held.items → (a : Answer) × IsAnswer s held r a × CanBeEdited s.qubits a.held.items
+  request_answered s held begin no_distance can = (replying held (greeting s.framed (session_numbers s.qubits (run_held s held) held.items)), refl, can)
+  request_answered s held (put how place text) no_distance can = put_answered s held how place text can
+  request_answered s held (delete place) no_distance can =
       (decided s.framed held (edited_items s.qubits (circuit_edit.Delete place) held.items), refl, edit_keeps edits s.qubits (circuit_edit.Delete place) s.framed held (puts_none place) can)
-  request_answered s held (show what) can =
+  request_answered s held (show what) no_distance can =
       let shown = text_shown some one s.qubits s.coins held.items (sound s.qubits s.coins can.0.0 held.items can.0.1 can.1) what in
       (replying held (reply_text s.framed shown.0), (shown.0, shown.1, refl), can)
-  request_answered s held (ask r) can =
+  request_answered s held (ask r) no_distance can =
       (framed_answer s.framed s.qubits (run_held s held) held r, refl, framed_keeps steps split_lines s.framed s.qubits (run_held s held) held r can)
-  request_answered s held deterministic can = sure_answered parities apart s held can
-  request_answered s held (refuse r) can = (refusing held r, refl, can)
+  request_answered s held deterministic no_distance can = sure_answered parities apart s held can
+  request_answered s held (distance everywhere most) no_distance can = absurd (cc)
+  request_answered s held (refuse r) no_distance can = (refusing held r, refl, can)
 
   -- requests, however many, have an answer
-  pub all_answered : (s : Setting) (held : Held) (rs : List Request) → CanBeEdited s.qubits held.items → (a : Answer) × IsAnswerToAll s held rs a × CanBeEdited s.qubits a.held.items
-  all_answered s held [] can = (replying held [], refl, can)
-  all_answered s held (r ∷ rs) can =
-      let first = request_answered s held r can in
-      let rest = all_answered s first.0.held rs first.2 in
+  pub all_answered : (s : Setting) (held : Held) (rs : List Request) → NoneAsksDistance rs → CanBeEdited s.qubits held.items → (a : Answer) × IsAnswerToAll s held rs a × CanBeEdited s.qubits a.held.items
+  all_answered s held [] none can = (replying held [], refl, can)
+  all_answered s held (r ∷ rs) none can =
+      let first = request_answered s held r none.0 can in
+      let rest = all_answered s first.0.held rs none.1 first.2 in
       (both first.0 rest.0, (first.0, rest.0, first.1, rest.1, refl), rest.2)

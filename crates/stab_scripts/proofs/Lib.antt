@@ -1,4 +1,5 @@
 pub mod SureBitLaws
+pub mod DistanceLaws
 pub mod AnswerLaws
 pub mod AnswerExistLaws
 pub mod ScriptRunLaws

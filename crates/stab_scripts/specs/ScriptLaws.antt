@@ -1,11 +1,11 @@
--- Laws of scripts: a script has one answer and no other, and what its first requests are answered begins it.
+-- Laws of scripts: a script that asks for no distance has one answer and no other, and what its first requests are answered begins it.
 -- Source: this project's own.
-use Rattle.std.specs.Prelude.{◌≡◌, ◌≤◌, List, ℕ, ◌++◌, None}
+use Rattle.std.specs.Prelude.{◌≡◌, ◌≤◌, List, [], ◌∷◌, ℕ, Bool, true, false, ◌++◌, None}
 use Rattle.stab_circuit.specs.Items.{Items}
 use Rattle.stab_circuit.specs.Steps.{qubits_of, check_within}
 use Rattle.stab_circuit.specs.Readings.{IsCircuit}
 use Rattle.stab_circuit.specs.Laws.{AreOfLines}
-use Rattle.stab_replies.specs.Scripts.{Setting, Request, Held, Answer, IsAnswerToAll, IsAnswerToScript}
+use Rattle.stab_replies.specs.Scripts.{Setting, Request, distance, Held, Answer, IsAnswerToAll, IsAnswerToScript, requests_of}
 
 -- items that can be edited on n qubits: some lines stand for them, and nothing refuses them on so many
 abbrev pub CanBeEdited : ℕ → Items → Type 0
@@ -15,18 +15,30 @@ CanBeEdited n items = AreOfLines items × (check_within n items ≡ None)
 abbrev pub CircuitsCanBeEdited : Type 0
 CircuitsCanBeEdited = (n : ℕ) (text : List ℕ) (items : Items) → IsCircuit text items → qubits_of items ≤ n → CanBeEdited n items
 
+-- whether a request asks for a distance: any of its least sets of errors may be the answer
+abbrev pub asks_distance : Request → Bool
+asks_distance (distance everywhere most) = true
+asks_distance request = false
+
+-- none of some requests does
+abbrev pub NoneAsksDistance : List Request → Type 0
+NoneAsksDistance [] = Unit {0}
+NoneAsksDistance (r ∷ rs) = (asks_distance r ≡ false) × NoneAsksDistance rs
+
 -- on such items a script, however long, has an answer, which leaves such items
 abbrev pub ScriptsHaveAnAnswer : Type 0
 ScriptsHaveAnAnswer =
-    (s : Setting) (items : Items) (script : List ℕ) → CanBeEdited s.qubits items →
+    (s : Setting) (items : Items) (script : List ℕ) → NoneAsksDistance (requests_of script) → CanBeEdited s.qubits items →
     (a : Answer) × IsAnswerToScript s items script a × CanBeEdited s.qubits a.held.items
 
 -- on any items it has at most one
 abbrev pub ScriptsHaveOneAnswer : Type 0
-ScriptsHaveOneAnswer = (s : Setting) (items : Items) (script : List ℕ) (a b : Answer) → IsAnswerToScript s items script a → IsAnswerToScript s items script b → b ≡ a
+ScriptsHaveOneAnswer =
+    (s : Setting) (items : Items) (script : List ℕ) (a b : Answer) → NoneAsksDistance (requests_of script) →
+    IsAnswerToScript s items script a → IsAnswerToScript s items script b → b ≡ a
 
 -- what first requests are answered begins what all are answered
 abbrev pub FirstRepliesComeFirst : Type 0
 FirstRepliesComeFirst =
-    (s : Setting) (held : Held) (first rest : List Request) (a b : Answer) → IsAnswerToAll s held first a → IsAnswerToAll s held (first ++ rest) b →
+    (s : Setting) (held : Held) (first rest : List Request) (a b : Answer) → NoneAsksDistance first → IsAnswerToAll s held first a → IsAnswerToAll s held (first ++ rest) b →
     (more : List ℕ) × (b.reply ≡ a.reply ++ more)

@@ -1,1 +1,2 @@
 pub mod SessionAnswers
+pub mod Distances

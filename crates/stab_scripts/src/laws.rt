@@ -18,8 +18,8 @@ pub fn circuits_can_be_edited()
     texts_are_lines();
 }
 
-/// A script, however long, has an answer on all items that can be edited, and it leaves items that
-/// can be.
+/// A script that asks for no distance, however long, has an answer on all items that can be edited,
+/// and it leaves items that can be.
 pub fn scripts_have_an_answer()
     ensures law { ScriptsHaveAnAnswer }
 {
@@ -35,14 +35,15 @@ pub fn scripts_have_an_answer()
     lines_keep_qubits_apart();
 }
 
-/// A script has at most one answer, on any items.
+/// A script that asks for no distance has at most one answer, on any items. Of a distance several sets of
+/// errors may be least.
 pub fn scripts_have_one_answer()
     ensures law { ScriptsHaveOneAnswer }
 {
     item_texts_have_one_meaning();
 }
 
-/// What the first requests of a script are answered begins what the whole script is answered. So a
+/// What the first requests of a script are answered, if none asks for a distance, begins what the whole script is answered. So a
 /// run that was cut off behind some replies wrote a prefix.
 pub fn first_replies_come_first()
     ensures law { FirstRepliesComeFirst }

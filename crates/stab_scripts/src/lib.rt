@@ -3,9 +3,12 @@
 //! In the order in which data flows; each module uses only those before it:
 //!
 //! - `sure_bits`: which detectors and observables are the same whatever the coins.
+//! - `distances`: the distance of a circuit.
+//! - `coin_replies`: the table of coins, and why a detector or an observable is random.
+//! - `marks`: the bits that changes are counted from.
 //! - `session_answers`: requests answered from a session.
 //! - `edit`: a script, answered from a session that is opened for it.
-//! - `laws`: a script has one answer and no other.
+//! - `laws`: a script that asks for no distance has one answer and no other.
 //!
 //! What the lines of a script ask for, and the texts of replies, are `stab_replies`', whose names for how a
 //! script is read stand here too.
@@ -18,8 +21,11 @@
 //! `specs/inner/` has what only private contracts cite.
 #![tactic(auto)]
 
+mod coin_replies;
+mod distances;
 mod edit;
 pub mod laws;
+mod marks;
 mod session_answers;
 mod sure_bits;
 

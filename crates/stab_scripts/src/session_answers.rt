@@ -1,11 +1,7 @@
 //! Answers from a session: edits of it, and what is shown of it.
-ghost use Rattle.std.specs.Prelude.{◌≡◌, IfOk, IfErr};
-ghost use Rattle.stab_io.specs.Refusals.{whole};
-ghost use Rattle.stab_io.specs.declared.refusal.Refusal.TheVariants.{OutOfMemory};
-ghost use Rattle.stab_replies.specs.Changes.{mark_of, mark_shown};
-ghost use Rattle.stab_replies.specs.Scripts.{first_mark as first_mark_of};
-ghost use Rattle.stab_scripts.specs.inner.SessionAnswers.{session_run};
-
+use crate::coin_replies::{show_coins, show_why};
+use crate::distances::show_distance;
+use crate::marks::{first_mark, mark_at};
 use crate::sure_bits::show_sure;
 use stab_circuit::{Item, Path, read_item};
 use stab_io::{Fault, Refusal};
@@ -17,6 +13,7 @@ use stab_results::Kinds;
 use stab_run::Coins;
 use stab_session::{Edit, Session};
 use stab_tableau::laws::traces_have_one_list;
+use stab_tables::Bit;
 use std::alloc::Global;
 
 /// A session that answers requests.
@@ -38,9 +35,10 @@ impl<C: Coins> SessionAnswers<C> {
     ghost use Rattle.stab_tables.specs.FaultLines.{refused_text};
     ghost use Rattle.stab_replies.specs.Changes.{changed_text, changed_records_text, mark_of, mark_shown};
     ghost use Rattle.stab_replies.specs.FramedReplies.{session_numbers, reply_text};
+    ghost use Rattle.stab_replies.specs.CoinReplies.{coins_shown, why_shown};
     ghost use Rattle.stab_replies.specs.PlaceCounts.{place_shown};
     ghost use Rattle.stab_replies.specs.Signs.{string_of_word};
-    ghost use Rattle.stab_replies.specs.Scripts.{IsPut, IsSureAnswer, decided, edited_items, edit_of, first_mark as first_mark_of, framed_answer, framed_shown, held_behind, held_split, item_shown, sign_shown, split_shown};
+    ghost use Rattle.stab_replies.specs.Scripts.{IsDistanceAnswer, IsPut, IsSureAnswer, decided, edited_items, edit_of, first_mark as first_mark_of, framed_answer, framed_shown, held_behind, held_split, item_shown, options_asked, sign_shown, split_shown};
     ghost use Rattle.stab_replies.specs.FramedAnswers.{GivesText};
     ghost use Rattle.stab_replies.specs.Requests.{framed_asked};
     ghost use Rattle.stab_scripts.specs.inner.SessionAnswers.{ShowsOf, session_setting, session_run, held_of, answered};
@@ -177,6 +175,23 @@ impl<C: Coins> SessionAnswers<C> {
         show_place(self.alloc, self.session.circuit(), place)
     }
 
+    /// The table of coins.
+    #[tactic(auto, using(stab_replies::proofs::PlaceCountLaws::session_checked))]
+    fn coins(&self) -> Result<Reply, Fault>
+        ensures shows { IfOk result (λ r. r.written ≡ coins_shown self.now.session.items) }
+        ensures err { IfErr result (λ f. f ≡ whole OutOfMemory) }
+    {
+        show_coins(self.alloc, self.session.circuit())
+    }
+
+    /// The coins that decide a detector or an observable.
+    #[tactic(auto, using(stab_replies::proofs::PlaceCountLaws::session_checked))]
+    fn why(&self, bit: Bit) -> Result<Reply, Refusal>
+        ensures shows { GivesText result (why_shown self.now.session.items bit) }
+    {
+        show_why(self.alloc, self.session.circuit(), bit)
+    }
+
     /// Counts changes from now on.
     fn mark(&mut self) -> Result<Reply, Fault>
         ensures session { self.new.session ≡ self.old.session }
@@ -219,6 +234,8 @@ impl<C: Coins> SessionAnswers<C> {
             FramedRequest::Sign(word) => self.sign(word.as_slice()),
             FramedRequest::Item(place) => self.item(*place),
             FramedRequest::Place(place) => self.place(*place),
+            FramedRequest::Coins => memory(self.coins()),
+            FramedRequest::Why(bit) => self.why(*bit),
         }
     }
 
@@ -258,6 +275,27 @@ impl<C: Coins> SessionAnswers<C> {
             reply: show_sure(self.alloc, self.session.circuit())?.told(self.alloc, true)?,
             refused: false,
         })
+    }
+
+    /// The answer to a request for a distance, which only a framed script may make.
+    #[tactic(auto, using(stab_replies::proofs::PlaceCountLaws::session_checked, crate::proofs::DistanceLaws::distance_told, crate::proofs::DistanceLaws::distance_refused))]
+    fn answer_distance(&self, everywhere: bool, most: usize) -> Result<Answered, Fault>
+        ensures answers { IfOk result (λ a. IsDistanceAnswer self.now.framed (held_of self.now.session self.now.mark) (options_asked everywhere most) (answered (held_of self.now.session self.now.mark) a.reply.written a.refused)) }
+        ensures err { IfErr result (λ f. f ≡ whole OutOfMemory) }
+    {
+        if !self.framed {
+            return self.refuse(Refusal::BadCommand);
+        }
+        match show_distance(self.alloc, self.session.circuit(), everywhere, most) {
+            Ok(reply) => Ok(Answered {
+                reply: reply.told(self.alloc, true)?,
+                refused: false,
+            }),
+            Err(refusal) => {
+                let answered = self.refuse(refusal)?;
+                Ok(answered)
+            }
+        }
     }
 
     /// The answer to a request that is refused; want of memory is handed on.
@@ -328,32 +366,6 @@ impl<C: Coins> SessionAnswers<C> {
     }
 }
 
-/// A mark at the bits of a session.
-fn mark_at<C: Coins>(alloc: Global, session: &Session<C>) -> Result<MarkedBits, Fault>
-    ensures value { IfOk result (λ m. mark_shown m ≡ mark_of (session_run C.sequence session.now)) }
-    ensures err { IfErr result (λ f. f ≡ whole OutOfMemory) }
-{
-    let records = session.records();
-    let detectors = session.detectors();
-    let mark = MarkedBits::of(alloc, records, detectors, session.observables())?;
-    Ok(mark)
-}
-
-/// The mark before a script, which only a framed one has.
-fn first_mark<C: Coins>(
-    alloc: Global,
-    framed: bool,
-    session: &Session<C>,
-) -> Result<MarkedBits, Fault>
-    ensures value { IfOk result (λ m. mark_shown m ≡ first_mark_of framed (session_run C.sequence session.now)) }
-    ensures err { IfErr result (λ f. f ≡ whole OutOfMemory) }
-{
-    if framed {
-        return mark_at(alloc, session);
-    }
-    Ok(MarkedBits::none(alloc))
-}
-
 impl<C: Coins> Answer for SessionAnswers<C> {
     ghost use Rattle.stab_scripts.specs.inner.SessionAnswers.{session_setting, held_of};
 
@@ -375,6 +387,7 @@ impl<C: Coins> Answer for SessionAnswers<C> {
             }),
             Request::Framed(request) => self.answer_framed(&request),
             Request::Deterministic => self.answer_sure(),
+            Request::Distance { everywhere, most } => self.answer_distance(everywhere, most),
             Request::Refuse(refusal) => self.refuse(refusal),
         }
     }

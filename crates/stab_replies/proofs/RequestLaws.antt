@@ -1,0 +1,10 @@
+-- Laws of requests: what the words behind `show` ask for that are none of those of one word.
+use Rattle.std.proofs.Common.{◌≡◌, refl, ℕ, false, List, codes}
+use Rattle.std.specs.Prelude.{bytes_eq}
+use Rattle.stab_replies.specs.Scripts.{show_by, show_of}
+use Rattle.stab_replies.specs.ScriptWords.{first_word, behind_word}
+
+pub show_more : (word : List ℕ) → bytes_eq word (codes "measurements") ≡ false → bytes_eq word (codes "free") ≡ false → bytes_eq word (codes "detectors") ≡ false
+    → bytes_eq word (codes "observables") ≡ false → bytes_eq word (codes "stabilisers") ≡ false → bytes_eq word (codes "circuit") ≡ false → bytes_eq word (codes "deterministic") ≡ false
+    → show_of word ≡ show_by (first_word word) (behind_word word)
+show_more word a b c d e f g = rw (a, b, c, d, e, f, g) refl

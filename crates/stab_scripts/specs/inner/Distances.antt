@@ -1,0 +1,16 @@
+-- Distances: what a call gives that gathers the reply to a request for a distance.
+-- Source: this project's own.
+use Rattle.std.specs.Prelude.{◌≡◌, ◌⊎◌, Result, Ok, Err}
+use Rattle.stab_io.specs.declared.refusal.Refusal.{Refusal}
+use Rattle.stab_io.specs.declared.refusal.Refusal.TheVariants.{OutOfMemory, NotDeterministic}
+use Rattle.stab_circuit.specs.Items.{Items}
+use Rattle.stab_jobs.specs.declared.distance_options.DistanceOptions.{DistanceOptions}
+use Rattle.stab_tables.specs.declared.unsure.Unsure.{Unsure}
+use Rattle.stab_tables.specs.FaultTables.{IsFirstUnsure}
+use Rattle.stab_tables.specs.Distances.{IsDistanceText}
+use Rattle.stab_replies.specs.Replies.{ReplyBytes}
+
+-- the call gave a reply of a distance, or was refused for a bit that is not sure, or for want of memory
+abbrev pub ShowsDistance : DistanceOptions → Items → Result ReplyBytes Refusal → Type 0
+ShowsDistance options items (Ok reply) = IsDistanceText options items reply.written
+ShowsDistance options items (Err r) = (r ≡ OutOfMemory) ⊎ ((r ≡ NotDeterministic) × (u : Unsure) × IsFirstUnsure items u)

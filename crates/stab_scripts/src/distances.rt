@@ -1,0 +1,54 @@
+//! The distance of a circuit.
+ghost use Rattle.std.specs.Prelude.{◌≡◌, None};
+ghost use Rattle.stab_circuit.specs.Steps.{check_of};
+ghost use Rattle.stab_circuit.specs.Views.{circuit_items};
+ghost use Rattle.stab_replies.specs.Scripts.{options_asked};
+ghost use Rattle.stab_scripts.specs.inner.Distances.{ShowsDistance};
+
+use stab_circuit::Circuit;
+use stab_io::Refusal;
+use stab_jobs::{DistanceOptions, ErrorLetters};
+use stab_replies::Reply;
+use stab_tables::{Unwatched, find_distance, write_distance};
+use std::alloc::Global;
+
+/// What a script asks of a distance.
+fn options_asked(everywhere: bool, most: usize) -> DistanceOptions
+    ensures value { result ≡ options_asked everywhere most }
+{
+    DistanceOptions {
+        everywhere,
+        letters: ErrorLetters::All,
+        graphlike: false,
+        most: Some(most),
+        sure_only: false,
+        progress: false,
+    }
+}
+
+/// The distance up to so many errors, as the command `distance` writes it.
+///
+/// Refusal `NotDeterministic` where a detector or observable is not the same whatever the coins, else
+/// `OutOfMemory` alone.
+#[tactic(auto, using(crate::proofs::DistanceLaws::distance_shown, crate::proofs::DistanceLaws::refusal_shown))]
+pub(crate) fn show_distance(
+    alloc: Global,
+    circuit: &Circuit,
+    everywhere: bool,
+    most: usize,
+) -> Result<Reply, Refusal>
+    requires checked { check_of (circuit_items circuit.now) ≡ None }
+    ensures shows { ShowsDistance (options_asked everywhere most) (circuit_items circuit.now) result }
+{
+    let options = options_asked(everywhere, most);
+    match find_distance(alloc, circuit, options, &mut Unwatched) {
+        Ok(found) => {
+            let mut reply = Reply::new(alloc);
+            match write_distance(&mut reply, circuit, options, &found) {
+                Ok(()) => Ok(reply),
+                Err(_) => Err(Refusal::OutOfMemory),
+            }
+        }
+        Err(refused) => Err(refused.fault.refusal),
+    }
+}
