@@ -1,4 +1,4 @@
-pub use Rattle.stab_words.specs.Usages
+pub mod Usages
 pub use Rattle.stab_words.specs.Coins
 pub use Rattle.stab_words.specs.Options
 pub use Rattle.stab_words.specs.Asked

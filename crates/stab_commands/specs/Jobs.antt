@@ -1,4 +1,4 @@
--- Jobs: how the command of a job ends, the status of a program's run, and how its fault is told.
+-- Jobs: how the command of a job ends, the status of a program's run, and how its fault is reported.
 -- Source: this project's own.
 use Rattle.std.specs.Prelude.{◌≡◌, ℕ, Bool, true, false, List, Option, None, Result, Ok, Err}
 pub use Rattle.stab_jobs.specs.Commands.{reads_script}
@@ -10,13 +10,16 @@ use Rattle.stab_commands.specs.Stabilisers.{EndsStabilisers}
 use Rattle.stab_tables.specs.Checks.{EndsCheck}
 use Rattle.stab_tables.specs.Deterministic.{EndsDeterministic}
 use Rattle.stab_tables.specs.FaultTables.{EndsFaults}
+use Rattle.stab_tables.specs.CoinTables.{EndsCoins}
+use Rattle.stab_tables.specs.Reasons.{EndsExplain}
+use Rattle.stab_tables.specs.Distances.{EndsDistance}
 use Rattle.stab_scripts.specs.ScriptEndings.{EndsEdit}
 use Rattle.stab_scripts.specs.ScriptTurns.{EditsInTurn}
 use Rattle.stab_scripts.specs.Watchers.{Asked}
 use Rattle.stab_tables.specs.declared.unsure.Unsure.{Unsure}
 use Rattle.stab_jobs.specs.declared.source.Source.{Source}
 use Rattle.stab_jobs.specs.declared.job.Command.{Command}
-use Rattle.stab_jobs.specs.declared.job.Command.TheVariants.{Sample, Detect, Stabilisers, Check, Deterministic, Faults, Edit}
+use Rattle.stab_jobs.specs.declared.job.Command.TheVariants.{Sample, Detect, Stabilisers, Check, Deterministic, Explain, Coins, Faults, Distance, Edit}
 use Rattle.stab_jobs.specs.declared.job.Job.{Job}
 
 -- a call that reads no script refuses no line of it
@@ -39,7 +42,10 @@ EndsCommand (Detect format shots append) source i i' s s' o o' r unsure = NamesN
 EndsCommand Stabilisers source i i' s s' o o' r unsure = NamesNone (EndsStabilisers source i i' o o') r unsure
 EndsCommand Check source i i' s s' o o' r unsure = NamesNone (EndsCheck i i' o o') r unsure
 EndsCommand (Deterministic format) source i i' s s' o o' r unsure = NamesNone (EndsDeterministic format i i' o o') r unsure
+EndsCommand Explain source i i' s s' o o' r unsure = NamesNone (EndsExplain i i' o o') r unsure
+EndsCommand (Coins layout) source i i' s s' o o' r unsure = NamesNone (EndsCoins layout i i' o o') r unsure
 EndsCommand (Faults layout everywhere sure_only) source i i' s s' o o' r unsure = RefusesNone (λ answer. EndsFaults layout everywhere sure_only i i' o o' answer unsure) r
+EndsCommand (Distance options) source i i' s s' o o' r unsure = RefusesNone (λ answer. EndsDistance options i i' o o' answer unsure) r
 EndsCommand (Edit framed qubits stride) source i i' s s' o o' r unsure = (unsure ≡ None) × EndsEdit framed qubits source i i' s s' o o' r
 
 -- how a command reads a script: `edit` in turn with its replies, and any other not at all
@@ -47,7 +53,7 @@ abbrev pub CommandInTurn : Command → Source → InputView → InputView → In
 CommandInTurn (Edit framed qubits stride) source i i' s s' o log log' = EditsInTurn framed qubits source i i' s s' o log log'
 CommandInTurn command source i i' s s' o log log' = log' ≡ log
 
--- the status of a run: 0 without a fault, 3 where a line of the script was refused, 1 with a fault
+-- the status of a run: 0 without a fault, 3 if a line of the script was refused, 1 with a fault
 abbrev pub status_of : Result Bool Fault → ℕ
 status_of (Ok false) = 0
 status_of (Ok true) = 3

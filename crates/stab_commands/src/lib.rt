@@ -32,11 +32,13 @@ mod status;
 
 pub use edit::{run_edit, run_edit_watched};
 pub use run::{run_detect, run_detect_shots, run_sample, run_sample_shots};
-pub use stab_jobs::{Command, FaultLayout, Job, QubitCount, Shots, Source, Stride};
+pub use stab_jobs::{
+    Command, DistanceOptions, ErrorLetters, FaultLayout, Job, QubitCount, Shots, Source, Stride,
+};
 pub use stab_scripts::{KeepsLog, LoggedInput, LoggedRead, NoWatcher, Watcher};
 pub use stab_tables::{
-    Bit, FaultsRefused, Unsure, run_check, run_deterministic, run_faults, write_fault,
-    write_refused,
+    Bit, FaultsRefused, Progress, Unsure, Unwatched, run_check, run_coins, run_deterministic,
+    run_distance, run_explain, run_faults, write_fault, write_refused,
 };
 pub use stabilisers::run_stabilisers;
 pub use status::{run_job, run_job_watched};

@@ -11,10 +11,13 @@ use crate::stabilisers::run_stabilisers;
 use stab_io::{Fault, Input, Output};
 use stab_jobs::{Command, Job, QubitCount};
 use stab_scripts::{NoWatcher, Watcher};
-use stab_tables::{FaultsRefused, run_check, run_deterministic, run_faults, write_refused};
+use stab_tables::{
+    FaultsRefused, Progress, Unwatched, run_check, run_coins, run_deterministic, run_distance,
+    run_explain, run_faults, write_refused,
+};
 use std::alloc::Global;
 
-/// How many qubits, where so many are asked for.
+/// How many qubits, if a number is asked for.
 fn number_of(qubits: Option<QubitCount>) -> Option<usize>
     ensures value { result ≡ qubits }
     ensures in_range { IfSome result (λ n. n ≤ most_qubits) }
@@ -25,7 +28,7 @@ fn number_of(qubits: Option<QubitCount>) -> Option<usize>
     }
 }
 
-/// A call of any command but `faults` names no detector or observable.
+/// A call of any command except `faults` and `distance` names no detector or observable.
 fn names_none<T>(answer: Result<T, Fault>) -> Result<T, FaultsRefused>
     ensures value { fault_of result ≡ answer }
     ensures none { unsure_of result ≡ None }
@@ -56,12 +59,13 @@ fn plain_answer(answer: Result<(), Fault>) -> Result<bool, FaultsRefused>
 }
 
 /// Runs the command of a job, and says whether a line of the script was refused.
-fn run_command<I: Input, S: Input, O: Output, W: Watcher<S, O>>(
+fn run_command<I: Input, S: Input, O: Output, W: Watcher<S, O>, P: Progress>(
     alloc: Global,
     job: &Job,
     input: &mut I,
     script: &mut S,
     out: &mut O,
+    progress: &mut P,
 ) -> Result<bool, FaultsRefused>
     ensures ends { EndsCommand job.now.command job.now.source (I.seen input.old) (I.seen input.new) (S.seen script.old) (S.seen script.new) (O.seen out.old) (O.seen out.new) (fault_of result) (unsure_of result) }
     ensures script { reads_script job.now.command ≡ false → script.new ≡ script.old }
@@ -82,46 +86,49 @@ fn run_command<I: Input, S: Input, O: Output, W: Watcher<S, O>>(
         Command::Deterministic { format } => {
             plain_answer(run_deterministic(alloc, input, out, format))
         }
+        Command::Explain => plain_answer(run_explain(alloc, input, out)),
+        Command::Coins { layout } => plain_answer(run_coins(alloc, input, out, layout)),
         Command::Faults {
             layout,
             everywhere,
             sure_only,
         } => refuses_none(run_faults(alloc, input, out, layout, everywhere, sure_only)),
+        Command::Distance(options) => {
+            refuses_none(run_distance(alloc, input, out, options, progress))
+        }
         Command::Edit {
             framed,
             qubits,
             stride,
-        } => names_none(run_edit_watched::<I, S, O, W>(
-            alloc,
-            input,
-            script,
-            out,
-            framed,
-            number_of(qubits),
-            stride.steps(),
-            source,
-        )),
+        } => {
+            let qubits = number_of(qubits);
+            let stride = stride.steps();
+            names_none(run_edit_watched::<I, S, O, W>(
+                alloc, input, script, out, framed, qubits, stride, source,
+            ))
+        }
     }
 }
 
 /// Runs a job as `run_job` does, with each read of a script made by a watcher, which is shown the
-/// output as it then stands.
+/// output as it then is. `progress` hears how far the search for a distance is.
 ///
-/// Where the script's input keeps a log, each read of it found exactly the replies written to what
-/// was handed over before, in whole lines, behind what the output held at first.
-pub fn run_job_watched<I: Input, S: Input, O: Output, E: Output, W: Watcher<S, O>>(
+/// If the script's input keeps a log, each read of it found exactly the replies written to what
+/// was handed over before, in whole lines, after what the output held at first.
+pub fn run_job_watched<I: Input, S: Input, O: Output, E: Output, W: Watcher<S, O>, P: Progress>(
     alloc: Global,
     job: &Job,
     input: &mut I,
     script: &mut S,
     out: &mut O,
     err: &mut E,
+    progress: &mut P,
 ) -> u8
     ensures ends { EndsJob job.now (I.seen input.old) (I.seen input.new) (S.seen script.old) (S.seen script.new) (O.seen out.old) (O.seen out.new) (E.seen err.old) (E.seen err.new) result }
     ensures script { reads_script job.now.command ≡ false → script.new ≡ script.old }
     ensures turns { CommandInTurn job.now.command job.now.source (I.seen input.old) (I.seen input.new) (S.seen script.old) (S.seen script.new) (O.seen out.old) (W.log script.old) (W.log script.new) }
 {
-    match run_command::<I, S, O, W>(alloc, job, input, script, out) {
+    match run_command::<I, S, O, W, P>(alloc, job, input, script, out, progress) {
         Ok(false) => 0,
         Ok(true) => 3,
         Err(refused) => {
@@ -131,11 +138,11 @@ pub fn run_job_watched<I: Input, S: Input, O: Output, E: Output, W: Watcher<S, O
     }
 }
 
-/// Runs a job over these devices, tells its fault on `err`, and answers the status of the program:
-/// 0 without a fault, 1 with one, and 3 where the script was read to its end and a line of it was
+/// Runs a job over these devices, reports its fault on `err`, and answers the status of the program:
+/// 0 without a fault, 1 with one, and 3 if the script was read to its end and a line of it was
 /// refused, whether or not `err` fails. A fault that names a detector or observable has a line more.
 ///
-/// The paths of the job are the caller's to open. No command but `edit` reads the script.
+/// The paths of the job are the caller's to open. Only `edit` reads the script.
 pub fn run_job<I: Input, S: Input, O: Output, E: Output>(
     alloc: Global,
     job: &Job,
@@ -147,5 +154,14 @@ pub fn run_job<I: Input, S: Input, O: Output, E: Output>(
     ensures ends { EndsJob job.now (I.seen input.old) (I.seen input.new) (S.seen script.old) (S.seen script.new) (O.seen out.old) (O.seen out.new) (E.seen err.old) (E.seen err.new) result }
     ensures script { reads_script job.now.command ≡ false → script.new ≡ script.old }
 {
-    run_job_watched::<I, S, O, E, NoWatcher>(alloc, job, input, script, out, err)
+    let mut progress = Unwatched;
+    run_job_watched::<I, S, O, E, NoWatcher, Unwatched>(
+        alloc,
+        job,
+        input,
+        script,
+        out,
+        err,
+        &mut progress,
+    )
 }

@@ -33,17 +33,17 @@ end_is_no_coin end (inl e) coin rest is = nothing_is_none (coin_character coin) 
 end_is_no_coin end (inr (inl e)) coin rest is = feed_is_none coin (first_is 10 (coin_character coin) [] rest (sym e ∙ is))
 end_is_no_coin end (inr (inr e)) coin rest is = return_is_none coin (first_is 13 (coin_character coin) (10 ∷ []) rest (sym e ∙ is))
 
--- nothing behind coins
+-- nothing after coins
 bare : (list : List Bool) → coin_text list ++ [] ≡ coin_text list
 bare [] = refl
 bare (coin ∷ list) = ap (λ t. coin_character coin ∷ t) (bare list)
 
--- no coins alone, where something is left
+-- no coins alone, if something is left
 pub no_coins_alone : (front : List Bool) (rest text : Text) → text ≡ coin_text front ++ rest → BeginsWithNoCoin rest → (rest ≡ [] → ⊥) → (list : List Bool) → text ≡ coin_text list → ⊥
 no_coins_alone front rest text split none some list e =
     some (only_coins front list rest [] none (end_is_no_coin [] (inl refl)) (sym split ∙ (e ∙ sym (bare list))))
 
--- a text for no coins, where what is left is no end of a file
+-- a text for no coins, if what is left is no end of a file
 pub stands_for_none : (front : List Bool) (rest text : Text) → text ≡ coin_text front ++ rest → BeginsWithNoCoin rest → (IsFileEnd rest → ⊥) → (coins : List Bool) → StandsForCoins text coins → ⊥
 stands_for_none front rest text split none no_end coins stands =
     let same = only_coins front coins rest stands.0 none (end_is_no_coin stands.0 stands.1) (sym split ∙ stands.2) in

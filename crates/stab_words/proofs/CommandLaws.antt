@@ -2,8 +2,9 @@
 use Rattle.std.proofs.Common.{◌≡◌, ◌∙◌, ◌||◌, refl, ap, ap₂}
 use Rattle.std.specs.Prelude.{Bool, false, List, [], ◌∷◌, ◌++◌, map}
 use Rattle.std.specs.Borrow.{Bor}
-use Rattle.clap.specs.Words.{AddsArg, AddsCommandAliases, AddsSubcommand, App, Rule, Text, with_rule, with_subcommand}
+use Rattle.clap.specs.Words.{AddsAliases, AddsArg, AddsCommandAliases, AddsSubcommand, App, Rule, Text, with_rule, with_subcommand}
 use Rattle.clap.specs.Simple.{app_of_fields, on_top}
+use Rattle.clap.specs.Walk.{rule_of}
 use Rattle.clap.specs.declared.builder.arg.Arg.{Arg}
 use Rattle.clap.specs.declared.builder.command.Command.{Command}
 use Rattle.clap.specs.declared.builder.command.Command.TheViews.{out-Command}
@@ -19,7 +20,7 @@ pub with_command : (old new sub : Command) (app inner : App) → AddsSubcommand 
 with_command old new sub app inner adds is before =
     (adds.shape is.1 ∙ ap₂ with_subcommand before.0 (ap (λ a. a.top) is.0), adds.globals ∙ ap₂ (λ a b. a || b) before.1 is.1)
 
--- the names of a command that had none
+-- the names of a command or an option that had none
 aliased : (names : List (Bor Text × Bool)) (name : Bor Text) → map (λ n. n.0.now) names ≡ [] → map (λ n. n.0.now) (names ++ (name, false) ∷ []) ≡ name.now ∷ []
 aliased [] name e = refl
 aliased (first ∷ names) name e = cc
@@ -33,4 +34,18 @@ with_alias old new name app bare adds before =
       ap app_of_fields adds.0 ∙ (ap (λ names. on_top (λ s. record s { aliases = names }) (app_of_fields (out-Command old))) texts
           ∙ ap (on_top (λ s. record s { aliases = name.now ∷ [] })) before.0),
       ap (λ fields. fields.has_globals) adds.0 ∙ before.1,
+    )
+
+-- an option with these other names
+abbrev pub also_named : List Text → Rule → Rule
+also_named names option = record option { aliases = names }
+
+-- an option with another name
+pub with_arg_alias : (old new : Arg) (name : Bor Text) (option : Rule) → option.aliases ≡ [] → AddsAliases old new ((name, false) ∷ []) → IsOption option old
+    → IsOption (also_named (name.now ∷ []) option) new
+with_arg_alias old new name option bare adds is =
+    let texts : map (λ n. n.0.now) new.aliases.items ≡ name.now ∷ [] =
+    ap (map (λ n. n.0.now)) adds.1 ∙ aliased old.aliases.items name (ap (λ r. r.aliases) is.0 ∙ bare) in (
+      ap rule_of adds.0 ∙ (ap (λ names. also_named names (rule_of old)) texts ∙ ap (also_named (name.now ∷ [])) is.0),
+      ap (λ a. a.global) adds.0 ∙ is.1,
     )

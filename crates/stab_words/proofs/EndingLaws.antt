@@ -1,5 +1,5 @@
 -- How reading the words of a command line ends.
-use Rattle.std.proofs.Common.{◌≡◌, List, Option, Some, None, option_map, IfOk, true, inl, inr, refl, ap, ap₂}
+use Rattle.std.proofs.Common.{◌≡◌, List, Option, Some, None, option_map, IfOk, true, inl, inr, refl, sym, subst, ap, ap₂}
 use Rattle.std.specs.Prelude.{Result, Ok, Err, IfErr}
 use Rattle.clap.specs.Words.{App, HasKind, Row, Text, found_of, is_simple, kind_of, rows_of, subcommand_name_of, subcommand_rows_of}
 use Rattle.clap.specs.Faults.{fault_of, is_simple_and_free}
@@ -8,18 +8,18 @@ use Rattle.clap.specs.declared.parser.matches.ArgMatches.{ArgMatches}
 use Rattle.clap.specs.declared.parser.matches.ArgMatches.TheViews.{out-ArgMatches, out-SubCommand}
 use Rattle.clap.specs.declared.error.Error.{Error}
 use Rattle.clap.specs.declared.error.kind.ErrorKind.TheVariants.{OutOfMemory}
-use Rattle.stab_words.specs.Options.{Kept, stabsim}
+use Rattle.stab_words.specs.Options.{KeptNames, stabsim}
 use Rattle.stab_words.specs.Asked.{EndsBy, IsJob, IsTold, RefusesOptions, Takes}
 use Rattle.stab_words.specs.declared.words.Usage.{Usage}
 use Rattle.stab_words.specs.declared.words.Usage.TheVariants.{Memory}
 use Rattle.stab_jobs.specs.declared.job.Job.{Job}
 
 -- the reader has its own account of these commands
-pub has_account : (formats : Kept) → is_simple (stabsim formats) ≡ true
-has_account formats = refl
+pub has_account : (names : KeptNames) → is_simple (stabsim names) ≡ true
+has_account names = refl
 
-pub has_whole_account : (formats : Kept) → is_simple_and_free (stabsim formats) ≡ true
-has_whole_account formats = refl
+pub has_whole_account : (names : KeptNames) → is_simple_and_free (stabsim names) ≡ true
+has_whole_account names = refl
 
 -- a command's name and its options, found one after the other
 pub found_both : {X : Type 0} (f : X → Text × List Row) (found : Option X) (name : Text) (options : List Row) → option_map (λ x. (f x).0) found ≡ Some name
@@ -43,3 +43,7 @@ pub ends_with_error : (app : App) (words : List Text) (error : Error) (usage : U
     → (kind_of error ≡ OutOfMemory → usage ≡ Memory) → IsTold (kind_of error) usage → EndsBy app words (Err usage)
 ends_with_error app words error usage (inl memory) is told = inl (is memory)
 ends_with_error app words error usage (inr among) is told = inr (inl (kind_of error, among, told))
+
+-- an end for want of memory
+pub ends_without_memory : (app : App) (words : List Text) (result : Result Job Usage) → result ≡ Err Memory → EndsBy app words result
+ends_without_memory app words result e = subst (λ r. EndsBy app words r) (sym e) (inl refl)

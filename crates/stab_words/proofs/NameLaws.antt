@@ -1,4 +1,4 @@
--- Names of commands: where the reader finds no fault, the command that the words name is one of the program's own, and not `help`.
+-- Names of commands: if the reader finds no fault, the command that the words name is one of the program's own, and not `help`.
 use Rattle.std.specs.Bool.{⊤}
 use Rattle.std.proofs.Common.{◌≡◌, refl, sym, ap, ◌∙◌, ℕ, Bool, true, false, ◌&&◌, ◌||◌, not, ◌⊎◌, inl, inr, List, [], ◌∷◌, map, find, fold, Option, Some, None, IfSome, option_map, codes, is_some, if◌then◌else◌}
 use Rattle.std.specs.Str.{bytes_eq}
@@ -10,7 +10,7 @@ use Rattle.clap.specs.Words.{App, Row, Rule, Shape, Text, subcommand_of}
 use Rattle.clap.specs.Walk.{Held, Names, Outcome, Step, Waiting, Walk, after_flag, after_step, answers_to, bundle, arg_by_index, arg_by_long, long_met, long_or_other, nothing_held, option, idle, positional, next, trailing, subcommand, value, done, waits, plain, refused, plain_word, short_or_plain, subcommand_met, subcommand_or_other, to_positional, walk, walk_from, walked, walked_from, word_met}
 use Rattle.clap.specs.Simple.{argument_words, built, entered, label_of, names_of, rows_at}
 use Rattle.clap.specs.Faults.{fault_of, other_fault, turn_fault, walk_fault, word_fault}
-use Rattle.stab_words.specs.Options.{Kept, stabsim}
+use Rattle.stab_words.specs.Options.{KeptNames, stabsim}
 use Rattle.stab_words.specs.inner.Parts.{IsCommandName, IsOneOf}
 
 -- no command was met, or one that is not `help`
@@ -66,7 +66,7 @@ faultless_name true true kinds k allowed faultless = cc
 faultless_name true false kinds k allowed faultless = cc
 faultless_name false d kinds k allowed faultless = refl
 
--- a word where no value is waited for
+-- a word if no value is waited for
 named : (s : Shape) (waiting : Waiting) (place : ℕ) (word : Text) (h : Held) (w : Walk) (m : Option Text) → s.disable_help_subcommand ≡ false → other_fault s m word h ≡ [] → IsNoHelp w.stopped
     → IsNoHelp (after_step s.rules word w (subcommand_or_other s.rules m waiting place word h).0 (subcommand_or_other s.rules m waiting place word h).1).stopped
 named s waiting place word h w (Some name) allowed faultless kept = faultless_name (bytes_eq name (codes "help")) s.disable_help_subcommand _ _ allowed faultless
@@ -127,7 +127,7 @@ labels (label ∷ rest) = label ∷ labels rest
 abbrev pub label_names : Names → List Text
 label_names = map (λ l. l.0)
 
--- one of the commands was found, where it is not `help`
+-- one of the commands was found, if it is not `help`
 one_of_them : (own : Names) (p name : Text) → answers_to p (codes "help", []) ≡ false → option_map (λ (l : Text × List Text). l.0) (find (answers_to p) (labels own)) ≡ Some name
     → IsOneOf (label_names own) name
 one_of_them [] p name off e = this (answers_to p (codes "help", [])) off e
@@ -159,14 +159,14 @@ entered_name own a (Some p) name options are e other =
 
 -- the commands as the reader finds them, one of them by two names
 abbrev own_labels : Names
-own_labels = (codes "sample", []) ∷ (codes "detect", []) ∷ (codes "stabilisers", codes "stabilizers" ∷ []) ∷ (codes "edit", []) ∷ (codes "check", []) ∷ (codes "deterministic", []) ∷ (codes "faults", []) ∷ []
+own_labels = (codes "sample", []) ∷ (codes "detect", []) ∷ (codes "stabilisers", codes "stabilizers" ∷ []) ∷ (codes "edit", []) ∷ (codes "check", []) ∷ (codes "deterministic", []) ∷ (codes "faults", []) ∷ (codes "coins", []) ∷ (codes "distance", []) ∷ []
 
--- Where the reader finds no fault, the command that the words name is one of the program's own.
-pub own_name : (formats : Kept) (words : List Text) (name : Text) (options : List Row) → fault_of (stabsim formats) words ≡ [] → subcommand_of (stabsim formats) words ≡ Some (name, options)
+-- If the reader finds no fault, the command that the words name is one of the program's own.
+pub own_name : (kept : KeptNames) (words : List Text) (name : Text) (options : List Row) → fault_of (stabsim kept) words ≡ [] → subcommand_of (stabsim kept) words ≡ Some (name, options)
     → IsCommandName name
-own_name formats words name options faultless named =
-    let app = built (stabsim formats) in
-    let given = argument_words (stabsim formats) words in
+own_name kept words name options faultless named =
+    let app = built (stabsim kept) in
+    let given = argument_words (stabsim kept) words in
     let start = walk_from nothing_held in
     let walk_faultless = (neither (walk_fault app.top (names_of app) start given) _ faultless).0 in
     let other = walks app.top (names_of app) start given refl walk_faultless tt in

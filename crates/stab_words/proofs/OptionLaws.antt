@@ -13,7 +13,7 @@ written_number G text None parses reads = tt
 written_number G None (Some n) parses reads = tt
 written_number G (Some t) (Some n) parses reads = λ within. (parses t (Ok n) (reads t refl)).1
 
--- where `u64` reads none, the text is not that of a number
+-- if `u64` reads none, the text is not that of a number
 pub no_number : {E : Type 0} (G : Text → Result ℕ E → Type 0) (text : Option Text) (r : Option ℕ) → ((t : Text) (x : Result ℕ E) → G t x → ParsesUnsigned 64 10 t x)
     → ((t : Text) → text ≡ Some t → ReadsOne G t r) → IfNone r (IfSome text (λ t. IsUnsignedIn 0 most_seed t → ⊥))
 no_number G text (Some n) parses reads = tt

@@ -1,6 +1,6 @@
 -- Coins: the text of coins, that of a file of them, and how reading one ends.
 -- Source: this project's own.
-use Rattle.std.specs.Prelude.{◌≡◌, ◌≤◌, ◌⊎◌, ℕ, Bool, if◌then◌else◌, List, [], ◌∷◌, ◌++◌, map, Result, Ok, Err}
+use Rattle.std.specs.Prelude.{◌≡◌, ◌⊎◌, ℕ, Bool, if◌then◌else◌, List, [], ◌∷◌, ◌++◌, map, Result, Ok, Err}
 use Rattle.std.specs.Global.{Vec}
 use Rattle.clap.specs.Words.{Text}
 use Rattle.stab_io.specs.Devices.{InputView}
@@ -20,7 +20,7 @@ coin_text = map coin_character
 abbrev pub IsLineEnd : Text → Type 0
 IsLineEnd end = (end ≡ 10 ∷ []) ⊎ (end ≡ 13 ∷ 10 ∷ [])
 
--- what may stand behind the coins of a file: nothing, or one line end
+-- what may follow the coins of a file: nothing, or one line end
 abbrev pub IsFileEnd : Text → Type 0
 IsFileEnd end = (end ≡ []) ⊎ IsLineEnd end
 

@@ -1,4 +1,3 @@
-pub mod Usages
 pub mod Coins
 pub mod Options
 pub mod Asked

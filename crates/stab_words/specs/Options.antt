@@ -18,6 +18,15 @@ Kept = Bor (List (Bor Text))
 abbrev pub format_names : List Text
 format_names = codes "01" ∷ codes "b8" ∷ codes "r8" ∷ codes "hits" ∷ codes "dets" ∷ []
 
+-- the names of the letters of errors
+abbrev pub letter_names : List Text
+letter_names = codes "all" ∷ codes "XZ" ∷ []
+
+-- the names that options take, where the reader keeps them: of formats, and of letters
+pub record KeptNames : Type 0 where
+  pub formats : Kept
+  pub letters : Kept
+
 -- an option `--id` with a value
 abbrev pub valued : Text → Rule
 valued id = record (new_rule id) { long = Some id; value_names = 1 }
@@ -42,9 +51,17 @@ named id names default = record (one_name id names) { defaults = default ∷ [] 
 abbrev pub flag : Text → Rule
 flag id = record (new_rule id) { long = Some id; action = Some SetTrue }
 
+-- the flag that leaves out what is not the same for all coins, which has another name
+abbrev pub deterministic_only : Rule
+deterministic_only = record (flag (codes "deterministic_only")) { aliases = codes "sure_only" ∷ [] }
+
 -- the greatest seed
 abbrev pub most_seed : ℕ
 most_seed = 18446744073709551615
+
+-- the greatest number of errors up to which a distance is asked for
+abbrev pub most_errors : ℕ
+most_errors = 1000000000
 
 -- the options of every command: its files
 abbrev pub file_options : List Rule
@@ -89,13 +106,25 @@ check = record (new_shape (codes "check")) { rules = file_options }
 
 -- the command `deterministic`, which takes no coins
 abbrev pub deterministic : Kept → Shape
-deterministic formats = record (new_shape (codes "deterministic")) { rules = named (codes "out_format") formats (codes "01") ∷ file_options }
+deterministic formats =
+    record (new_shape (codes "deterministic")) { rules = named (codes "out_format") formats (codes "01") ∷ flag (codes "explain") ∷ file_options }
 
--- the command `faults`, which takes no coins, and has a layout of its own where no format is named
+-- the command `faults`, which takes no coins, and has a layout of its own if no format is named
 abbrev pub faults : Kept → Shape
-faults formats = record (new_shape (codes "faults")) { rules = one_name (codes "out_format") formats ∷ flag (codes "everywhere") ∷ flag (codes "sure_only") ∷ file_options }
+faults formats = record (new_shape (codes "faults")) { rules = one_name (codes "out_format") formats ∷ flag (codes "everywhere") ∷ deterministic_only ∷ file_options }
 
--- the program without its commands, of which some command is wanted, and which tells its version
+-- the command `coins`, which takes no coins, and has a layout of its own if no format is named
+abbrev pub coins : Kept → Shape
+coins formats = record (new_shape (codes "coins")) { rules = one_name (codes "out_format") formats ∷ file_options }
+
+-- the command `distance`, which takes no coins
+abbrev pub distance : Kept → Shape
+distance letters = record (new_shape (codes "distance")) {
+  rules = flag (codes "everywhere") ∷ named (codes "letters") letters (codes "all") ∷ ranged (codes "most") 0 most_errors ∷ flag (codes "graphlike") ∷ deterministic_only
+      ∷ flag (codes "progress") ∷ file_options;
+}
+
+-- the program without its commands, of which some command is wanted, and which says its version
 abbrev pub bare : App
 bare = on_top (λ s. record s { subcommand_required = true; has_version = true }) (new_app (codes "stabsim"))
 
@@ -104,6 +133,11 @@ abbrev pub with_commands : App → List Shape → App
 with_commands app [] = app
 with_commands app (command ∷ commands) = with_commands (with_subcommand app command) commands
 
+-- the commands of the program, in the order of the help
+abbrev pub commands : KeptNames → List Shape
+commands names =
+    sample names.formats ∷ detect names.formats ∷ stabilisers ∷ edit ∷ check ∷ deterministic names.formats ∷ faults names.formats ∷ coins names.formats ∷ distance names.letters ∷ []
+
 -- the program
-abbrev pub stabsim : Kept → App
-stabsim formats = with_commands bare (sample formats ∷ detect formats ∷ stabilisers ∷ edit ∷ check ∷ deterministic formats ∷ faults formats ∷ [])
+abbrev pub stabsim : KeptNames → App
+stabsim names = with_commands bare (commands names)

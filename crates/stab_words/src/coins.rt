@@ -7,7 +7,7 @@ use stab_circuit::read_text;
 use stab_io::{Input, Refusal};
 use std::alloc::{AllocError, Global};
 
-/// What is told of coins that are no coins.
+/// What is said of coins that are no coins.
 pub const NO_COINS: &str = "stabsim: coins are 0 and 1\n";
 
 /// Why a file gave no coins.
@@ -15,7 +15,7 @@ pub const NO_COINS: &str = "stabsim: coins are 0 and 1\n";
 pub enum CoinsFault {
     /// It was not read whole, by `TooLong` or `ReadFault`, or memory was refused.
     Unread(Refusal),
-    /// It has something else than characters 0 and 1 and a line end behind them.
+    /// It has something else than characters 0 and 1 and a line end after them.
     Wrong,
 }
 
@@ -42,7 +42,7 @@ impl From<AllocError> for CoinsFault {
     }
 }
 
-/// The coin that the first character of a text writes, and the text behind it.
+/// The coin that the first character of a text writes, and the text after it.
 fn first_coin(text: &[u8]) -> Option<(bool, &[u8])>
     ensures some { IfSome result (λ r. text.now ≡ coin_character r.0 ∷ r.1.now) }
     ensures none { IfNone result (BeginsWithNoCoin text.now) }
@@ -69,7 +69,7 @@ fn coins_at_front(alloc: Global, text: &[u8]) -> Result<(Vec<bool>, &[u8]), Allo
     Ok((coins, rest))
 }
 
-/// The coins that a text writes, or `None` where one of its characters is neither 0 nor 1.
+/// The coins that a text writes, or `None` if one of its characters is neither 0 nor 1.
 pub(crate) fn coins_of(alloc: Global, text: &[u8]) -> Result<Option<Vec<bool>>, AllocError>
     ensures some { IfOk result (λ r. IfSome r (λ list. text.now ≡ coin_text list.items)) }
     ensures none { IfOk result (λ r. IfNone r ((list : List Bool) → text.now ≡ coin_text list → ⊥)) }
@@ -90,7 +90,7 @@ fn is_line_end(bytes: &[u8]) -> bool
     bytes == b"\n".as_slice() || bytes == b"\r\n".as_slice()
 }
 
-/// Whether this may stand behind the coins of a file: nothing, or one line end.
+/// Whether this may follow the coins of a file: nothing, or one line end.
 fn is_file_end(bytes: &[u8]) -> bool
     ensures end { result ≡ true → IsFileEnd bytes.now }
     ensures other { result ≡ false → IsFileEnd bytes.now → ⊥ }
@@ -99,10 +99,10 @@ fn is_file_end(bytes: &[u8]) -> bool
 }
 
 /// Reads all of an input as the coins of a file: characters 0 and 1, coin 0 first, and at most one line
-/// end behind them, in at most 16,777,216 bytes.
+/// end after them, in at most 16,777,216 bytes.
 ///
-/// No coins where another byte is met (`CoinsFault::Wrong`), or where the input failed, has more bytes, or
-/// memory was refused (`CoinsFault::Unread`). At most 4,096 bytes behind the limit are read.
+/// No coins if another byte is met (`CoinsFault::Wrong`), or if the input failed, has more bytes, or
+/// memory was refused (`CoinsFault::Unread`). At most 4,096 bytes past the limit are read.
 pub fn read_coins<I: Input>(alloc: Global, input: &mut I) -> Result<Vec<bool>, CoinsFault>
     ensures reads { ReadsCoins (I.seen input.old) (I.seen input.new) result }
 {

@@ -2,19 +2,16 @@
 //!
 //! - `coins`: coins that are written in a word or in a file.
 //! - `words`: what the words of a command line ask for.
-//! - `usage`: telling words that ask for nothing.
 //!
 //! Sources: Stim's command line, for the options of `sample` and `detect`; `docs/use/stim.md` says where it differs. The
 //! rest is this project's own.
 //!
-//! Proved: `parse_words` gives the job that the words ask for, `read_coins` the coins of a file, and
-//! `write_usage` tells words that ask for none. Jobs are those of `stab_jobs`.
+//! Proved: `parse_words` gives the job that the words ask for, and `read_coins` the coins of a file. Jobs are those of
+//! `stab_jobs`.
 #![tactic(auto)]
 
 mod coins;
-mod usage;
 mod words;
 
 pub use coins::{CoinsFault, NO_COINS, read_coins};
-pub use usage::write_usage;
 pub use words::{Usage, parse_words};

@@ -1,5 +1,6 @@
 //! The words of a command line.
 //!
+//! - `help`: what the help says.
 //! - `app`: the commands and their options, as the command line reader is told of them.
 //! - `options`: what the words say to each option.
 ghost use Rattle.std.specs.Prelude.{◌≡◌, map};
@@ -8,9 +9,10 @@ ghost use Rattle.stab_words.specs.Asked.{EndsReading, IsTold};
 ghost use Rattle.stab_words.specs.declared.words.Usage.TheVariants.{Memory};
 
 mod app;
+mod help;
 mod options;
 
-use app::{FORMATS, app};
+use app::{FORMATS, LETTERS, app};
 use clap::Error;
 use clap::error::ErrorKind;
 use options::job;
@@ -22,7 +24,7 @@ use std::alloc::{AllocError, Global};
 pub enum Usage {
     /// Help or the version was asked for, and this is its text.
     Help(String),
-    /// The words are wrong, as this text says.
+    /// Bad arguments, as this text says.
     Fault(String),
     /// Memory was refused.
     Memory,
@@ -57,12 +59,12 @@ fn usage_of(alloc: Global, error: &Error) -> Usage
 ///
 /// No job comes of words that ask for help or the version (`Usage::Help`), of words that the command
 /// line reader doesn't take, whose shots go beyond the last of a seed or have a first beside coins, or
-/// whose coins are not characters 0 and 1 (`Usage::Fault`), or where memory was refused
+/// whose coins are not characters 0 and 1 (`Usage::Fault`), or if memory was refused
 /// (`Usage::Memory`). A first shot beside coins is looked for first of these, and the coins last.
 pub fn parse_words(alloc: Global, words: &[&str]) -> Result<Job, Usage>
     ensures ends { EndsReading (map (λ w. w.now) words.now) result }
 {
-    let app = app(alloc, FORMATS.as_slice())?;
+    let app = app(alloc, FORMATS.as_slice(), LETTERS.as_slice())?;
     match app.try_get_matches_from(words) {
         Ok(matches) => {
             let (name, options) = matches.subcommand().unwrap();

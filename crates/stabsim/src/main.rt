@@ -2,20 +2,25 @@
 //! ask for, and ends with its status.
 //!
 //! - `files`: the files and streams that a run reads and writes.
+//! - `progress`: how far a search for a distance is.
 //!
 //! All that a job does is in `stab_commands`, and what words ask for in `stab_words`; here the words,
 //! files, standard streams and the status meet.
 #![tactic(auto)]
 
 mod files;
+mod progress;
 
 use files::{
     FirstLine, NotedWriter, ReadFile, Reader, Replaced, STANDARD_INPUT, Sink, Writer, are_one_file,
 };
-use stab_commands::{Command, FaultLayout, Job, NoWatcher, Source, run_job_watched, write_fault};
+use progress::SearchProgress;
+use stab_cli::{
+    CoinsFault, Command, FaultLayout, Job, NO_COINS, NoWatcher, Source, Usage, parse_words,
+    read_coins, run_job_watched, write_fault, write_usage,
+};
 use stab_pauli::{Device, Fault, Output, Refusal, write_all};
 use stab_results::Format;
-use stab_words::{CoinsFault, NO_COINS, Usage, parse_words, read_coins, write_usage};
 use std::io::{BufWriter, IsTerminal};
 use std::process::ExitCode;
 use std::rt::Env;
@@ -31,7 +36,7 @@ const ONE_INPUT: &str = "stabsim: standard input and --out are one file\n";
 
 const NO_MARKS: &str = "stabsim: no place is marked by I; --everywhere asks for all places\n";
 
-// What a terminal is shown behind the line of a circuit that was refused.
+// What a terminal is shown after the line of a circuit that was refused.
 const HINT: &str = "stabsim: what is wrong and where: give the same circuit to `stabsim check`\n";
 
 fn main(rt: HostRuntime) -> ExitCode {
@@ -64,7 +69,7 @@ fn words<R: Env + AllocGlobal>(rt: &R) -> Result<Vec<String>, Usage> {
     }
 }
 
-/// Runs a job. Where it refuses a circuit on a terminal, one more line says which command tells more.
+/// Runs a job. If it refuses a circuit on a terminal, one more line says which command tells more.
 fn run_hinted(rt: &HostRuntime, job: Job) -> u8 {
     let is_check = matches!(job.command, Command::Check);
     let mut line = FirstLine::new(rt.stderr());
@@ -83,7 +88,7 @@ fn run_apart<E: Output>(rt: &HostRuntime, job: Job, err: &mut E) -> u8 {
     }
 }
 
-/// Runs a job, with the coins of a file where it names one.
+/// Runs a job, with the coins of a file if it names one.
 fn run_with_coins<E: Output>(rt: &HostRuntime, mut job: Job, err: &mut E) -> u8 {
     if let Some(path) = &job.coins_path {
         match coins_of_file(rt, path.as_str(), err) {
@@ -94,7 +99,7 @@ fn run_with_coins<E: Output>(rt: &HostRuntime, mut job: Job, err: &mut E) -> u8 
     run_opened(rt, &job, err)
 }
 
-/// The coins of a file; or the status of the program, once it is told why there are none.
+/// The coins of a file; or the status of the program, once it is reported why there are none.
 fn coins_of_file<E: Output>(rt: &HostRuntime, path: &str, err: &mut E) -> Result<Vec<bool>, u8> {
     let mut file = match ReadFile::open(rt, path) {
         Ok(file) => file,
@@ -110,7 +115,7 @@ fn coins_of_file<E: Output>(rt: &HostRuntime, path: &str, err: &mut E) -> Result
     }
 }
 
-/// What is told of a job that would write a file that it reads.
+/// What is said of a job that would write a file that it reads.
 fn shared_file(rt: &HostRuntime, job: &Job) -> Option<&'static str> {
     let out = job.out_path.as_ref()?;
     let reads_input = job.in_path.is_none() || job.reads_script();
@@ -126,7 +131,7 @@ fn shared_file(rt: &HostRuntime, job: &Job) -> Option<&'static str> {
     }
 }
 
-/// Runs a job on the file that it reads. Where it names none, `edit` begins with the empty circuit,
+/// Runs a job on the file that it reads. If it names none, `edit` begins with the empty circuit,
 /// and any other command reads standard input.
 fn run_opened<E: Output>(rt: &HostRuntime, job: &Job, err: &mut E) -> u8 {
     match &job.in_path {
@@ -177,7 +182,7 @@ fn run_written<E: Output>(
 }
 
 /// Runs a job on what it reads and writes. All jobs come here, on devices of the same types, so the program
-/// has one copy of what they do. What they don't know is told behind it: a file that could not be read,
+/// has one copy of what they do. What they don't know is said after it: a file that could not be read,
 /// and that no place is marked.
 fn run_on<E: Output>(
     rt: &HostRuntime,
@@ -188,25 +193,39 @@ fn run_on<E: Output>(
     err: &mut E,
 ) -> u8 {
     let mut writer = NotedWriter::new(writer);
-    let status = run_job_watched::<_, _, _, _, NoWatcher>(
+    let mut progress = SearchProgress::new(rt.stderr(), shows_progress(job.command));
+    let status = run_job_watched::<_, _, _, _, NoWatcher, _>(
         rt.alloc(),
         job,
         &mut Device::new(&mut input),
         &mut Device::new(script),
         &mut Device::new(&mut writer),
         err,
+        &mut progress,
     );
     if let (Some(path), Some(error)) = (&job.in_path, input.error()) {
         name_file(rt, path.as_str(), Some(error), err);
     }
-    if status == 0 && writer.is_empty() && is_on_marks(job.command) {
+    let is_empty = match job.command {
+        Command::Distance(_) => progress.is_over_nothing(),
+        _ => writer.is_empty(),
+    };
+    if status == 0 && is_empty && is_on_marks(job.command) {
         let _ = write_all(err, NO_MARKS.as_bytes());
     }
     status
 }
 
-/// Whether a command writes at least one byte for each fault at a marked place, and no others. In the
-/// format b8 a fault may be of no byte.
+/// Whether a command reports how far its search is.
+fn shows_progress(command: Command) -> bool {
+    match command {
+        Command::Distance(options) => options.progress,
+        _ => false,
+    }
+}
+
+/// Whether a command looks at marked places alone, and shows if there are none: `distance` by a search over no
+/// errors, and `faults` by no byte, except in the format b8, in which a fault may be of no byte.
 fn is_on_marks(command: Command) -> bool {
     match command {
         Command::Faults {
@@ -214,11 +233,12 @@ fn is_on_marks(command: Command) -> bool {
             everywhere,
             ..
         } => !everywhere && layout != FaultLayout::Shots(Format::B8),
+        Command::Distance(options) => !options.everywhere,
         _ => false,
     }
 }
 
-/// Writes what is wrong with the words, and answers its status.
+/// Writes which arguments are bad, and answers its status.
 fn tell_mistake<E: Output>(told: &str, err: &mut E) -> u8 {
     let _ = write_all(err, told.as_bytes());
     2
@@ -230,7 +250,7 @@ fn tell_fault<E: Output>(refusal: Refusal, err: &mut E) -> u8 {
     1
 }
 
-/// Writes the line of a fault of a file that can't be opened or read, and behind it the file's name;
+/// Writes the line of a fault of a file that can't be opened or read, and after it the file's name;
 /// and answers the status.
 fn tell_path<E: Output>(
     rt: &HostRuntime,
@@ -244,7 +264,7 @@ fn tell_path<E: Output>(
     status
 }
 
-/// Writes a file's name and what the system said, if it said anything, where memory suffices.
+/// Writes a file's name and what the system said, if it said anything, if memory suffices.
 fn name_file<E: Output>(rt: &HostRuntime, path: &str, error: Option<&io::Error>, err: &mut E) {
     let line = match error {
         Some(error) => format!(in rt.alloc(); "stabsim: {path}: {error}\n"),

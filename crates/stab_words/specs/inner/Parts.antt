@@ -16,7 +16,7 @@ IsOption option arg = (rule_of arg ≡ option) × (arg.global ≡ false)
 abbrev pub IsApp : App → Command → Type 0
 IsApp app command = (app_of command ≡ app) × ((out-Command command).has_globals ≡ false)
 
--- a command with these options behind its own
+-- a command with these options after its own
 abbrev pub with_rules : App → List Rule → App
 with_rules app [] = app
 with_rules app (option ∷ options) = with_rules (with_rule app option) options
@@ -40,7 +40,7 @@ IsOneOf (first ∷ rest) name = (name ≡ first) ⊎ IsOneOf rest name
 
 -- the names of the program's commands
 abbrev pub command_names : List Text
-command_names = codes "sample" ∷ codes "detect" ∷ codes "stabilisers" ∷ codes "edit" ∷ codes "check" ∷ codes "deterministic" ∷ codes "faults" ∷ []
+command_names = codes "sample" ∷ codes "detect" ∷ codes "stabilisers" ∷ codes "edit" ∷ codes "check" ∷ codes "deterministic" ∷ codes "faults" ∷ codes "coins" ∷ codes "distance" ∷ []
 
 -- a name is that of one of them
 abbrev pub IsCommandName : Text → Type 0

@@ -4,25 +4,28 @@ ghost use Rattle.clap.specs.Words.{IsUnsignedIn, first_of, found_of, has_subcomm
 ghost use Rattle.stab_letters.specs.Limits.{most_qubits};
 ghost use Rattle.stab_run.specs.Limits.{most_stride};
 ghost use Rattle.stab_jobs.specs.Limits.{last_shot, most_shots, shots_of_seed};
-ghost use Rattle.stab_words.specs.Asked.{AreShots, IsCommand, IsFirst, IsJob, IsLayout, IsNamed, IsSet, IsSource, IsWritten, IsWrittenIfGiven, RefusesCoins, RefusesOptions, RefusesShots, first_beside_coins};
-ghost use Rattle.stab_words.specs.Options.{most_seed};
+ghost use Rattle.stab_words.specs.Asked.{AreLetters, AreShots, IsAskedDistance, IsCommand, IsFirst, IsJob, IsLayout, IsNamed, IsSet, IsSource, IsWritten, IsWrittenIfGiven, RefusesCoins, RefusesOptions, RefusesShots, first_beside_coins};
+ghost use Rattle.stab_words.specs.Options.{most_errors, most_seed};
 ghost use Rattle.stab_words.specs.declared.words.Usage.{Usage};
 ghost use Rattle.stab_words.specs.inner.Parts.{IsCommandName};
 
 use crate::coins::{NO_COINS, coins_of};
 use crate::words::Usage;
+use crate::words::app::MOST_ERRORS;
 use clap::ArgMatches;
-use stab_jobs::{Command, FaultLayout, Job, QubitCount, Shots, Source, Stride};
+use stab_jobs::{
+    Command, DistanceOptions, ErrorLetters, FaultLayout, Job, QubitCount, Shots, Source, Stride,
+};
 use stab_results::Format;
 use std::alloc::{AllocError, Global};
 
-// What is told of coins that are given twice.
+// What is said of coins that are given twice.
 const COINS_TWICE: &str = "stabsim: coins are given by --coins or by --coins_in, and not by both\n";
 
-// What is told of shots that go beyond the last of a seed.
+// What is said of shots that go beyond the last of a seed.
 const SHOTS_BEYOND: &str = "stabsim: the last shot of a seed is shot 18446744073709551615\n";
 
-// What is told of a first shot beside coins.
+// What is said of a first shot beside coins.
 const FIRST_BESIDE_COINS: &str =
     "stabsim: --first_shot is of a seed, and not beside --coins or --coins_in\n";
 
@@ -62,7 +65,7 @@ fn format(options: &ArgMatches) -> Format
     }
 }
 
-/// The layout of faults: shots in the format that `--out_format` names, and lines where it names none.
+/// The layout of faults or coins: shots in the format that `--out_format` names, and lines if it names none.
 fn layout(options: &ArgMatches) -> FaultLayout
     ensures layout { IsLayout (first_of (codes "out_format") (rows_of (found_of options.now))) result }
 {
@@ -83,7 +86,7 @@ fn number_of_shots(options: &ArgMatches) -> usize
     }
 }
 
-/// The number of `--first_shot`, and 0 where it isn't given. The command line reader takes no other
+/// The number of `--first_shot`, and 0 if it isn't given. The command line reader takes no other
 /// number.
 fn first_shot(options: &ArgMatches) -> u64
     ensures first { IsFirst (one_of (codes "first_shot") (rows_of (found_of options.now))) result }
@@ -132,8 +135,28 @@ fn stride(options: &ArgMatches) -> Stride
     }
 }
 
-/// The source of coins: what `--coins` writes, no coins yet where `--coins_in` names a file of them, and
-/// `--seed` where neither is there.
+/// The letters that `--letters` names. The command line reader takes no other name.
+fn letters(options: &ArgMatches) -> ErrorLetters
+    ensures letters { AreLetters (first_of (codes "letters") (rows_of (found_of options.now))) result }
+{
+    match text(options, "letters") {
+        Some("XZ") => ErrorLetters::XAndZ,
+        _ => ErrorLetters::All,
+    }
+}
+
+/// The number of `--most`, if it is given. The command line reader takes no other number.
+fn most(options: &ArgMatches) -> Option<usize>
+    ensures written { IsWrittenIfGiven 0 most_errors (one_of (codes "most") (rows_of (found_of options.now))) result }
+{
+    match number(options, "most") {
+        Some(number) if number <= MOST_ERRORS => Some(number as usize),
+        _ => None,
+    }
+}
+
+/// The source of coins: what `--coins` writes, no coins yet if `--coins_in` names a file of them, and
+/// `--seed` if neither is there.
 fn source(alloc: Global, options: &ArgMatches) -> Result<Source, Usage>
     ensures source { IfOk result (IsSource (first_of (codes "coins") (rows_of (found_of options.now))) (first_of (codes "coins_in") (rows_of (found_of options.now))) (one_of (codes "seed") (rows_of (found_of options.now)))) }
     ensures refused { IfErr result (RefusesCoins (first_of (codes "coins") (rows_of (found_of options.now))) (first_of (codes "coins_in") (rows_of (found_of options.now)))) }
@@ -159,6 +182,33 @@ fn path(alloc: Global, options: &ArgMatches, id: &str) -> Result<Option<String>,
     }
 }
 
+/// What `deterministic` is asked for.
+fn deterministic(options: &ArgMatches) -> Command
+    ensures command { IsCommand (codes "deterministic") (rows_of (found_of options.now)) result }
+{
+    if flag(options, "explain") {
+        Command::Explain
+    } else {
+        Command::Deterministic {
+            format: format(options),
+        }
+    }
+}
+
+/// What `distance` is asked for.
+fn distance(options: &ArgMatches) -> DistanceOptions
+    ensures asked { IsAskedDistance (rows_of (found_of options.now)) result }
+{
+    DistanceOptions {
+        everywhere: flag(options, "everywhere"),
+        letters: letters(options),
+        graphlike: flag(options, "graphlike"),
+        most: most(options),
+        sure_only: flag(options, "deterministic_only"),
+        progress: flag(options, "progress"),
+    }
+}
+
 /// The command of a name, with its own options.
 fn command(alloc: Global, name: &str, options: &ArgMatches) -> Result<Command, Usage>
     requires named { IsCommandName name.now }
@@ -177,14 +227,16 @@ fn command(alloc: Global, name: &str, options: &ArgMatches) -> Result<Command, U
         },
         "stabilisers" => Command::Stabilisers,
         "check" => Command::Check,
-        "deterministic" => Command::Deterministic {
-            format: format(options),
-        },
+        "deterministic" => deterministic(options),
         "faults" => Command::Faults {
             layout: layout(options),
             everywhere: flag(options, "everywhere"),
-            sure_only: flag(options, "sure_only"),
+            sure_only: flag(options, "deterministic_only"),
         },
+        "coins" => Command::Coins {
+            layout: layout(options),
+        },
+        "distance" => Command::Distance(distance(options)),
         _ => Command::Edit {
             framed: flag(options, "framed"),
             qubits: qubits(options),

@@ -11,5 +11,6 @@ returns c =
       ap app_of_fields c.after_help.ensures ∙ (ap app_of_fields c.about.ensures ∙ c.new.ensures.app),
       ap (λ fields. fields.has_globals) c.after_help.ensures ∙ (ap (λ fields. fields.has_globals) c.about.ensures ∙ c.new.ensures.local),
     ) in
-    let format = with_option _ c.in_ok-command.command c.named.result _ _ c.in_ok-command.ensures c.named.ensures.rule none in
-    record { app = c.with_files.ensures.app _ format }
+    let format = with_option _ c.in_ok-arg.field-0 c.named.result _ _ c.in_ok-arg.ensures c.named.ensures.rule none in
+    let explain = with_option _ c.in_ok-command.command c.flag.result _ _ c.in_ok-command.ensures c.flag.ensures.rule format in
+    record { app = c.with_files.ensures.app _ explain }

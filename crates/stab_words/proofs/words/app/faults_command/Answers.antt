@@ -13,5 +13,5 @@ returns c =
     ) in
     let layout = with_option _ c.in_ok-arg.field-0 c.one_name.result _ _ c.in_ok-arg.ensures c.one_name.ensures.rule none in
     let everywhere = with_option _ c.in_ok-arg-2.field-0 c.flag.result _ _ c.in_ok-arg-2.ensures c.flag.ensures.rule layout in
-    let sure_only = with_option _ c.in_ok-command.command c.flag-2.result _ _ c.in_ok-command.ensures c.flag-2.ensures.rule everywhere in
-    record { app = c.with_files.ensures.app _ sure_only }
+    let deterministic_only = with_option _ c.in_ok-command.command c.in_ok-deterministic_only.field-0 _ _ c.in_ok-command.ensures c.in_ok-deterministic_only.ensures.rule everywhere in
+    record { app = c.with_files.ensures.app _ deterministic_only }

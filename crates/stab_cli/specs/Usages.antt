@@ -9,8 +9,8 @@ use Rattle.stab_tables.specs.FaultLines.{TellsFault, TookOrFailed}
 use Rattle.stab_words.specs.declared.words.Usage.{Usage}
 use Rattle.stab_words.specs.declared.words.Usage.TheVariants.{Help, Fault as Wrong, Memory}
 
--- Words that are no job are told, with this status: help on the output, which is flushed, with 0, or as a failed write with 1 where the
--- output failed; a wrong word's text on the error output with 2; and refused memory as its fault with 1.
+-- Words that are no job are told, with this status: help on the output, which is flushed, with 0, or as a failed write with 1 if the
+-- output failed; the text of bad arguments on the error output with 2; and refused memory as its fault with 1.
 abbrev pub TellsUsage : Usage → OutputView → OutputView → OutputView → OutputView → ℕ → Type 0
 TellsUsage (Help text) o o' e e' status =
     ((status ≡ 0) × TookAndFlushed o o' (string_bytes text) × (e' ≡ e))

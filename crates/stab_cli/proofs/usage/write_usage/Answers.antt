@@ -2,7 +2,7 @@ use Rattle.std.proofs.Common.{◌∙◌, subst, inr}
 use Rattle.stab_io.specs.Refusals.{whole}
 use Rattle.stab_tables.specs.Endings.{FailsToSend}
 use Rattle.stab_tables.specs.FaultLines.{TellsFault}
-use Rattle.stab_words.proofs.usage.write_usage.Goals as goal
+use Rattle.stab_cli.proofs.usage.write_usage.Goals as goal
 
 pub returns-in-Err : goal.returns-in-Err
 returns-in-Err g c =

@@ -1,19 +1,19 @@
-//! Telling words that ask for no job.
+//! Reporting words that ask for no job.
 ghost use Rattle.std.specs.Prelude.{◌≡◌, MatchResult};
 ghost use Rattle.stab_io.specs.Refusals.{whole};
 ghost use Rattle.stab_io.specs.declared.refusal.Refusal.TheVariants.{WriteFault};
 ghost use Rattle.stab_tables.specs.Endings.{FailsToSend, TookAndFlushed};
 ghost use Rattle.stab_tables.specs.FaultLines.{TellsFault};
-ghost use Rattle.stab_words.specs.Usages.{TellsUsage};
+ghost use Rattle.stab_cli.specs.Usages.{TellsUsage};
 
-use crate::words::Usage;
 use stab_io::{DeviceFault, Fault, Output, Refusal, write_all};
 use stab_tables::write_fault;
+use stab_words::Usage;
 
-/// Tells why there is no job, and answers the status of the program: help goes to `out` with 0, a
-/// wrong word's text to `err` with 2, and refused memory is told on `err` as its fault with 1.
+/// Reports why there is no job, and answers the status of the program: help goes to `out` with 0, the
+/// text of bad arguments to `err` with 2, and refused memory is reported on `err` as its fault with 1.
 ///
-/// Help is flushed. Where it can't be written or flushed, that is refusal `WriteFault`, told on
+/// Help is flushed. If it can't be written or flushed, that is refusal `WriteFault`, reported on
 /// `err` with 1. No failure of `err` changes the status.
 pub fn write_usage<O: Output, E: Output>(usage: &Usage, out: &mut O, err: &mut E) -> u8
     ensures told { TellsUsage usage.now (O.seen out.old) (O.seen out.new) (E.seen err.old) (E.seen err.new) result }
@@ -42,7 +42,7 @@ fn write_flushed<O: Output>(out: &mut O, bytes: &[u8]) -> Result<(), Refusal>
     }
 }
 
-/// Tells a refusal of the whole program on its error output, and answers its status.
+/// Reports a refusal of the whole program on its error output, and answers its status.
 fn tell<E: Output>(refusal: Refusal, err: &mut E) -> u8
     ensures status { result ≡ 1 }
     ensures told { TellsFault (whole refusal) (E.seen err.old) (E.seen err.new) }
