@@ -2,9 +2,8 @@
 ghost use Rattle.std.specs.Prelude.{◌≡◌, vec_len, IsTrue};
 
 use row_texts::WorkedRow;
-use stab_commands::{Job, run_job};
+use stab_cli::{Job, Usage, run_job, write_usage};
 use stab_pauli::{CutInput, MemoryOutput};
-use stab_words::{Usage, write_usage};
 use std::alloc::{AllocError, Global};
 use std::fmt::{self, Display, Formatter, Write};
 

@@ -1,8 +1,7 @@
 //! The trial of a row: all its runs.
 use crate::run::{Devices, Ended, run};
 use row_texts::{Shown, WorkedRow};
-use stab_commands::Job;
-use stab_words::{Usage, parse_words};
+use stab_cli::{Job, Usage, parse_words};
 use std::alloc::{AllocError, Global};
 use std::fmt::{self, Display, Formatter, Write};
 

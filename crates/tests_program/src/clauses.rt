@@ -1,6 +1,6 @@
-//! Callers that ensure what a public call does, where no other caller asks for it.
+//! Callers that ensure what a public call does, if no other caller asks for it.
 //!
-//! They are proved, and never run: where a clause came to say less than it does, the proof of its
+//! They are proved, and never run: if a clause came to say less than it does, the proof of its
 //! caller here would fail.
 
 ghost use Rattle.std.specs.Prelude.{◌≡◌, true};
@@ -8,19 +8,21 @@ ghost use Rattle.stab_commands.specs.Jobs.{EndsJob, reads_script};
 ghost use Rattle.stab_commands.specs.Outputs.{EndsRun, detect_of, sample_of};
 ghost use Rattle.stab_commands.specs.Jobs.{CommandInTurn};
 
-use stab_commands::{Job, Source, Watcher, run_detect, run_job, run_job_watched, run_sample};
+use stab_commands::{
+    Job, Progress, Source, Watcher, run_detect, run_job, run_job_watched, run_sample,
+};
 use stab_pauli::{Fault, Input, Output};
 use stab_results::Format;
 use std::alloc::Global;
 
-/// A job is told to read a script where its command does.
+/// A job is told to read a script if its command does.
 fn told_to_read_a_script(job: &Job) -> bool
     ensures value { result ≡ reads_script job.now.command }
 {
     job.reads_script()
 }
 
-/// A job ends as its command does, with the status of that, and its fault is told, with the bit that it names.
+/// A job ends as its command does, with the status of that, and its fault is reported, with the bit that it names.
 fn run_to_its_end<I: Input, S: Input, O: Output, E: Output>(
     alloc: Global,
     job: &Job,
@@ -61,15 +63,16 @@ fn detect_seven<I: Input, O: Output>(
 }
 
 /// A script is read in turn with its replies.
-fn run_in_turn<I: Input, S: Input, O: Output, E: Output, W: Watcher<S, O>>(
+fn run_in_turn<I: Input, S: Input, O: Output, E: Output, W: Watcher<S, O>, P: Progress>(
     alloc: Global,
     job: &Job,
     input: &mut I,
     script: &mut S,
     out: &mut O,
     err: &mut E,
+    progress: &mut P,
 ) -> u8
     ensures turns { CommandInTurn job.now.command job.now.source (I.seen input.old) (I.seen input.new) (S.seen script.old) (S.seen script.new) (O.seen out.old) (W.log script.old) (W.log script.new) }
 {
-    run_job_watched::<I, S, O, E, W>(alloc, job, input, script, out, err)
+    run_job_watched::<I, S, O, E, W, P>(alloc, job, input, script, out, err, progress)
 }

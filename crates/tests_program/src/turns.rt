@@ -1,6 +1,6 @@
-//! What stands written when more of a script is asked for.
+//! What is written when more of a script is asked for.
 use crate::jobs::job_of;
-use stab_cli::{KeepsLog, LoggedInput, LoggedRead, run_job_watched};
+use stab_cli::{KeepsLog, LoggedInput, LoggedRead, Unwatched, run_job_watched};
 use stab_pauli::{MemoryInput, MemoryOutput};
 use std::alloc::{AllocError, Global};
 use std::test::Fail;
@@ -8,7 +8,7 @@ use std::test::Fail;
 /// Lines of 13, 13 and 18 bytes, whose replies have 3, 3 and 2.
 const SCRIPT: &[u8] = b"insert 0 X 0\ninsert 1 M 0\nshow measurements\n";
 
-/// How many bytes each read of the script hands over in pieces of 13, and how many stand written
+/// How many bytes each read of the script hands over in pieces of 13, and how many are written
 /// when it is made. The last read finds the end.
 const READS: [(usize, usize); 5] = [(13, 0), (13, 3), (13, 6), (5, 6), (0, 8)];
 
@@ -20,18 +20,19 @@ fn run_session(
 ) -> Result<u8, Fail> {
     let job = job_of(alloc, &["stabsim", "edit", "--qubits", "1"])?;
     let mut err = MemoryOutput::new(alloc, 64)?;
-    let status = run_job_watched::<_, _, _, _, KeepsLog>(
+    let status = run_job_watched::<_, _, _, _, KeepsLog, _>(
         alloc,
         &job,
         &mut MemoryInput::new(b""),
         script,
         out,
         &mut err,
+        &mut Unwatched,
     );
     Ok(status)
 }
 
-/// How many bytes each read handed over, and how many stood written when it was made.
+/// How many bytes each read handed over, and how many were written when it was made.
 fn reads_of(alloc: Global, log: &[LoggedRead]) -> Result<Vec<(usize, usize)>, AllocError> {
     let mut reads = Vec::new(alloc);
     for read in log {

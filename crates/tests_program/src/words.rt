@@ -211,6 +211,38 @@ const JOBS: &[(&str, &str)] = &[
         "stabsim faults --out_format=dets --sure_only --everywhere",
         "Faults { layout: Shots(Dets), everywhere: true, sure_only: true } Seed(0) None None",
     ),
+    (
+        "stabsim faults --deterministic_only",
+        "Faults { layout: Lines, everywhere: false, sure_only: true } Seed(0) None None",
+    ),
+    (
+        "stabsim deterministic --explain --out_format=b8 --out=b.txt",
+        "Explain Seed(0) None Some(\"b.txt\")",
+    ),
+    (
+        "stabsim coins --in a.stim",
+        "Coins { layout: Lines } Seed(0) Some(\"a.stim\") None",
+    ),
+    (
+        "stabsim coins --out_format hits",
+        "Coins { layout: Shots(Hits) } Seed(0) None None",
+    ),
+    (
+        "stabsim distance",
+        "Distance(DistanceOptions { everywhere: false, letters: All, graphlike: false, most: None, sure_only: false, progress: false }) Seed(0) None None",
+    ),
+    (
+        "stabsim distance --everywhere --letters=XZ --most 1000000000 --in=a.stim",
+        "Distance(DistanceOptions { everywhere: true, letters: XAndZ, graphlike: false, most: Some(1000000000), sure_only: false, progress: false }) Seed(0) Some(\"a.stim\") None",
+    ),
+    (
+        "stabsim distance --most=0 --graphlike --progress --deterministic_only --letters all",
+        "Distance(DistanceOptions { everywhere: false, letters: All, graphlike: true, most: Some(0), sure_only: true, progress: true }) Seed(0) None None",
+    ),
+    (
+        "stabsim distance --sure_only",
+        "Distance(DistanceOptions { everywhere: false, letters: All, graphlike: false, most: None, sure_only: true, progress: false }) Seed(0) None None",
+    ),
 ];
 
 #[test]
