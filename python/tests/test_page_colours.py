@@ -5,7 +5,8 @@ import pathlib
 import re
 
 import pytest
-from stabsim import page
+from browsing import Keys, needs_browser
+from stabsim import codes, page
 
 FOLDER = pathlib.Path(page.__file__).parent / "static"
 LEAST = {"text": 4.5, "mark": 3.0}
@@ -64,3 +65,42 @@ def test_each_role_of_the_shapes_is_measured():
     shapes = json.loads((FOLDER / "shapes.json").read_text())
     solid = {role[0] for role in shapes["roles"].values()} - {"op"}
     assert solid <= set(GROUNDS["mark"])
+
+
+# The least contrast of what is written on the page, of each text with the ground behind it, as the browser has computed both.
+WRITTEN = """
+const parse = (colour) => (colour.match(/[\\d.]+/g) ?? []).map(Number);
+const groundOf = (it) => {
+  for (; it; it = it.parentElement) {
+    const [r, g, b, clear = 1] = parse(getComputedStyle(it).backgroundColor);
+    if (clear === 1) return [r, g, b];
+  }
+  return [255, 255, 255];
+};
+const hex = (parts) => '#' + parts.slice(0, 3).map((part) => Math.round(part).toString(16).padStart(2, '0')).join('');
+const found = [];
+for (const it of document.querySelectorAll('body *')) {
+  const isWritten = [...it.childNodes].some((node) => node.nodeType === 3 && node.data.trim());
+  if (!isWritten || it.closest('svg, script') || !it.checkVisibility()) continue;
+  found.push([it.tagName + ' ' + it.className + ' ' + it.textContent.trim().slice(0, 30), hex(parse(getComputedStyle(it).color)), hex(groundOf(it))]);
+}
+return [document.documentElement.dataset.theme, found];
+"""
+
+
+@needs_browser
+@pytest.mark.parametrize("theme", ["light", "dark"])
+def test_what_is_written_on_the_page_stands_out(open_page, theme):
+    opened = open_page(codes.surface_code(3, 3))
+    opened.browser.execute_cdp_cmd("Emulation.setEmulatedMedia", {"features": [{"name": "prefers-color-scheme", "value": theme}]})
+    opened.go_to(6)
+    opened.type_on(10, "x")
+    opened.wait(lambda: len(opened.history()) == 2)
+    opened.click("#about-distance .ask")
+    opened.choose("0+")
+    opened.press("i", "MXX 1", Keys.ENTER)
+    opened.wait(lambda: opened.find("refusal").text)
+    seen, written = opened.browser.execute_script(WRITTEN)
+    opened.browser.execute_cdp_cmd("Emulation.setEmulatedMedia", {"features": []})
+    assert seen == theme and len(written) > 100
+    assert {text: round(contrast(*colours), 2) for text, *colours in written if contrast(*colours) < LEAST["text"]} == {}

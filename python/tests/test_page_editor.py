@@ -1,10 +1,12 @@
 """Circuits that are drawn on the page by mouse and keys, by events that the browser itself makes."""
 
 import http.client
+import time
 import urllib.parse
 import xml.etree.ElementTree
 
 import pytest
+import stabsim
 from browsing import Keys, needs_browser
 from stabsim import codes
 
@@ -142,6 +144,8 @@ def test_a_surface_code_is_drawn_from_nothing(open_page):
         elif not (len(records) == 2 and len(wanted[at - 1][2]) == 2):
             draw_detectors(page, [wanted[at]], measured)
     assert lines_of(page.circuit(), int) == wanted
+    # By its flows too it does what the code does; its qubits have other numbers, so only parities of records are compared.
+    assert stabsim.Circuit(page.circuit()).same_flows(stabsim.Circuit(code), qubits=())
     page.wait(lambda: page.ask("page.shown.state.sure ? page.shown.state.sure.every((it) => it === 1) : false"))
 
 
@@ -287,7 +291,7 @@ def test_in_a_block_a_gate_is_put_into_each_round_and_an_error_into_one(open_pag
     page.choose_qubit(0)
     do(page, "s")
     assert page.history()[-1] == "insert 1/2 S 0"
-    assert page.find("round-said").text == "round 2 of 3 in block 1"
+    assert page.find("round-said").text == "round 1 of block 1, 0 to 2"
     do(page, "z")
     assert page.history()[-1] == "insert 2/3 Z 0, in round 1 of 1 alone"
 
@@ -329,6 +333,26 @@ def test_a_circuit_is_pasted_and_undo_brings_the_old_one_back(page):
     page.click("#undo")
     page.wait(lambda: page.circuit() == FOUR)
     assert not page.find("left-out").is_displayed()
+
+
+def dropped(page, **data):
+    """Drops something on the picture, by events of the browser's own. That a drop is taken the browser learns from one event for the
+    next, some time later."""
+    box = page.find("picture").rect
+    for kind in ("dragEnter", "dragOver", "dragOver", "drop"):
+        told = {"type": kind, "x": box["x"] + 90, "y": box["y"] + 90, "data": {"items": [], "dragOperationsMask": 1, **data}}
+        page.browser.execute_cdp_cmd("Input.dispatchDragEvent", told)
+        time.sleep(0.3)
+
+
+def test_a_circuit_is_dropped_as_a_file_or_as_text(page, tmp_path):
+    file = tmp_path / "dropped_file.stim"
+    file.write_text("R 3\nDEPOLARIZE1(0.1) 3\nM 3\n")
+    dropped(page, files=[str(file)])
+    page.wait(lambda: page.history() == ["opened", "open dropped_file.stim"])
+    assert page.circuit() == "R 3\nM 3\n" and page.find("left-out").text.startswith("The noise of 1 line")
+    dropped(page, items=[{"mimeType": "text/plain", "data": "H 2\n"}])
+    page.wait(lambda: page.history()[-1] == "open dropped.stim" and page.circuit() == "H 2\n")
 
 
 def test_a_link_holds_the_circuit(page, open_page):

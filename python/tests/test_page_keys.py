@@ -141,6 +141,9 @@ def test_the_tree_says_its_items_and_panes_are_one_tab_stop(page):
     page.choose("1")
     page.press(Keys.ARROW_DOWN)
     rows = "[...document.querySelectorAll('#text [role=treeitem]')].map((it) => [it.id, it.ariaLevel, it.ariaSelected])"
+    sizes = "[...document.querySelectorAll('#text [role=treeitem]')].map((it) => [it.ariaPosInSet, it.ariaSetSize])"
+    # Six items, and the row after them.
+    assert page.ask(sizes) == [[str(place), "7"] for place in range(1, 8)]
     page.wait(lambda: ["row-2", "1", "true"] in page.ask(rows))
     assert page.ask("document.getElementById('text').getAttribute('aria-activedescendant')") == "row-2"
     assert [row[2] for row in page.ask(rows)].count("true") == 1
@@ -149,6 +152,78 @@ def test_the_tree_says_its_items_and_panes_are_one_tab_stop(page):
     page.focus("#palette [data-tool='pick']")
     page.press(Keys.ARROW_RIGHT)
     assert page.browser.switch_to.active_element.get_attribute("data-tool") == "qubit" and page.ask(stops) == [1, 1, 1]
+
+
+# What the Tab key stops at, by panes of buttons and single fields; that of a round is there in a block alone.
+STOPS = ["tools", "text", "words", "round", "palette", "alone", "view", "picture", "timeline", "inspector", "since"]
+PANE = "const it = document.activeElement; return it.closest('#tools, #palette, #view')?.id ?? (it.id || it.closest('aside')?.id || 'none')"
+
+
+def test_the_tab_key_stops_once_in_each_pane(open_page):
+    page = open_page("R 0 1\nREPEAT 3 {\n    TICK\n    CX 0 1\n    TICK\n    MR 1\n    DETECTOR rec[-1]\n}\nTICK\nM 0\n")
+    page.go_to(3)
+    page.choose_qubit(0)
+    page.wait(lambda: "not known yet" not in page.find("about-errors").text)
+    page.focus("#mark")
+    found = [page.browser.execute_script(PANE)]
+    while len(found) < 20 and (len(found) < 2 or found[-1] != "none"):
+        page.press(Keys.TAB)
+        found.append(page.browser.execute_script(PANE))
+    assert found[:-1] == STOPS
+
+
+def test_in_the_inspector_arrows_lead_from_button_to_button(page):
+    page.choose_qubit(0)
+    page.wait(lambda: page.texts("#about-errors .link") == ["D0", "D0"])
+    page.focus("#about-qubit .link")
+    page.press(Keys.ARROW_DOWN, Keys.ARROW_DOWN)
+    assert page.browser.switch_to.active_element.text == "D0"
+    page.press(Keys.ENTER)
+    page.wait(lambda: page.ask("page.shown.bit") == "D0")
+    assert page.ask("document.querySelectorAll(`#inspector button[tabindex='0']`).length") == 1
+
+
+def test_arrows_move_between_detectors_on_the_timeline(open_page):
+    # Two places with a detector each at two times.
+    measured = "MR 0 1\nDETECTOR(0, 0, {0}) rec[-2]\nDETECTOR(0, 1, {0}) rec[-1]\nTICK\n"
+    page = open_page("R 0 1\nTICK\n" + measured.format(0) + measured.format(1))
+    page.choose_qubit(0)
+    page.wait(lambda: "not known yet" not in page.find("about-errors").text)
+    page.focus("#timeline")
+    chosen = []
+    for keys, held in ((Keys.ARROW_DOWN, ()), (Keys.ARROW_DOWN, ()), (Keys.ARROW_RIGHT, [Keys.SHIFT]), (Keys.ARROW_UP, ()), (Keys.ARROW_LEFT, [Keys.SHIFT])):
+        page.press(keys, held=held)
+        chosen.append(page.ask("page.shown.bit"))
+    assert chosen == ["D0", "D1", "D3", "D2", "D0"]
+    assert page.find("seen").get_attribute("textContent").startswith("D0 at (0, 0, 0) is 0")
+
+
+def test_escape_gives_the_focus_back(page):
+    def focused():
+        return page.browser.switch_to.active_element.get_attribute("id")
+    page.focus("#export")
+    page.press(Keys.ENTER)
+    page.wait(lambda: page.find("choice").is_displayed())
+    page.press(Keys.ESCAPE)
+    assert focused() == "export"
+    page.choose_qubit(0)
+    page.press("?")
+    assert page.find("keys").is_displayed()
+    page.press(Keys.ESCAPE)
+    assert focused() == "picture" and not page.find("keys").is_displayed()
+    # What has the focus has an outline.
+    page.press(Keys.F6)
+    assert page.browser.execute_script("const it = getComputedStyle(document.activeElement); return it.outlineStyle + it.outlineWidth") == "solid2px"
+
+
+def test_enter_in_the_field_of_a_round_takes_it_out(open_page):
+    page = open_page("R 0\nREPEAT 4 {\n    TICK\n    H 0\n}\n")
+    page.unfold(1)
+    page.choose("1/1")
+    page.focus("#round")
+    page.press("a", held=[Keys.CONTROL])
+    page.press("2", Keys.ENTER)
+    page.wait(lambda: page.history() == ["opened", "round 2 of 1 by itself"])
 
 
 def test_the_timeline_says_where_it_is(page):

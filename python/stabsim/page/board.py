@@ -115,6 +115,14 @@ class Board:
         first = max((number for number, entry in enumerate(made, 1) if entry.opens()), default=0)
         return "".join(edit.lines() for entry in made[first:] for edit in entry.forth)
 
+    def coins_of(self, bit: str) -> list[int]:
+        """The numbers of the coins that decide a detector or observable, as D3 or L0; none if it is the same for all coins."""
+        return [coin.number for coin in self.session.why(bit)]
+
+    def distance(self, most: int) -> list[str]:
+        """The lines that say the distance, up to so many errors, by the errors that the circuit marks."""
+        return [line.decode() for line in self.session.process.ask(f"show distance {most}\n".encode())]
+
     def save(self) -> str:
         """Writes the circuit to the file that may be written, and answers with its name. The file is the old one or the new one,
         and never a part: the new one is written beside it, and takes its name."""

@@ -3,7 +3,6 @@
 import asyncio
 import concurrent.futures
 import contextlib
-import importlib.resources
 import json
 import secrets
 from collections.abc import AsyncIterator, Coroutine
@@ -14,27 +13,18 @@ from aiohttp.typedefs import Handler
 
 import stabsim
 from stabsim.page.board import Board, Message, sure_line
+from stabsim.page.distances import DistanceSearch
 from stabsim.page.edits import Edit
+from stabsim.page.files import file_response, guard
+from stabsim.page.known import NOT_YET, QUESTIONS, Known, faults_or_why
 from stabsim.page.moment_faults import MomentFaults
 from stabsim.page.tabs import Tab
-from stabsim.page.ways import way_of
 
 HOST = "127.0.0.1"
 # The greatest message that a tab may send: a circuit, an item's text, or a question.
 MOST_BYTES = 1 << 25
 # How long tabs may take to end when the server does.
 LAST_SECONDS = 1.0
-# What each answer has beside it: nothing but the page's own files is loaded, no other page frames it, and none is told of its address.
-GUARDS = {
-    "Content-Security-Policy": "default-src 'none'; script-src 'self'; style-src 'self'; img-src 'self' data:; connect-src 'self'; "
-                               "base-uri 'none'; form-action 'none'; frame-ancestors 'none'",
-    "Cache-Control": "no-store",
-    "Referrer-Policy": "no-referrer",
-    "X-Content-Type-Options": "nosniff",
-    "X-Frame-Options": "DENY",
-}
-# Why there is no table of faults, once an edit was made.
-NOT_YET = "the table of faults is being made"
 
 
 class Server:
@@ -50,8 +40,8 @@ class Server:
         self.tasks: set[asyncio.Task[None]] = set()
         self.one_thread = concurrent.futures.ThreadPoolExecutor(1)
         self.background = concurrent.futures.ThreadPoolExecutor(1)
-        # The table of faults, or why there is none.
-        self.faults: MomentFaults | str = NOT_YET
+        self.known = Known()
+        self.distances = DistanceSearch(self.tell, self.start)
         # All tabs are told of what happens in the order in which it happens, and one that opens misses nothing.
         self.telling = asyncio.Lock()
         self.port = 0
@@ -106,6 +96,7 @@ class Server:
         """Tells one tab all there is, when it opens, or has missed an event; each later event it is told of."""
         async with self.telling:
             tab.tell(await self.call(self.board.opened))
+            tab.tell(self.distances.told)
             self.tabs.add(tab)
         self.later()
 
@@ -143,47 +134,53 @@ class Server:
 
     async def answer_to(self, tab: Tab, question: Message) -> Message:
         asked = question["ask"]
-        if asked == "edit":
-            edits, inside = [Edit.of_message(it) for it in question["edits"]], question.get("round")
-            if not edits:
-                raise ValueError("no edit")
-            if inside:
-                return await self.change(self.board.edit_in_round, edits, str(inside["place"]), int(inside["number"]))
-            return await self.change(self.board.edit, edits)
+        if asked in ("edit", "split", "open", "go"):
+            return await self.changed_by(question)
+        if asked in QUESTIONS:
+            return await self.known.answer_to(question)
+        if asked == "mark":
+            async with self.telling:
+                self.tell(await self.call(self.board.mark))
+        elif asked == "all":
+            await self.tell_all_to(tab)
+        elif asked == "sign":
+            return {"sign": "0+-"[await self.call(self.board.session.sign, str(question["pauli"]))]}
+        elif asked == "why":
+            return {"coins": await self.call(self.board.coins_of, str(question["bit"]))}
+        elif asked == "distance":
+            await self.distances.ask(self.call, self.board)
+        elif asked == "end distance":
+            self.distances.end()
+        elif asked == "export":
+            return {"text": await self.call(self.board.script if question["what"] == "script" else self.board.text)}
+        elif asked == "save":
+            return {"said": f"written to {await self.call(self.board.save)}"}
+        else:
+            raise ValueError(f"nothing is known of {asked}")
+        return {}
+
+    async def changed_by(self, question: Message) -> Message:
+        """Makes what a tab asks to be changed."""
+        asked = question["ask"]
         if asked == "split":
             return await self.change(self.board.split, str(question["place"]), int(question["round"]))
         if asked == "open":
             return await self.change(self.board.open, str(question["text"]), str(question["name"]))
         if asked == "go":
             return await self.change(self.board.go, int(question["position"]))
-        if asked == "mark":
-            async with self.telling:
-                self.tell(await self.call(self.board.mark))
-            return {}
-        if asked == "all":
-            await self.tell_all_to(tab)
-            return {}
-        if asked == "sign":
-            return {"sign": "0+-"[await self.call(self.board.session.sign, str(question["pauli"]))]}
-        if asked == "faults":
-            return self.flips_at(int(question["moment"]), int(question["qubit"]))
-        if asked == "way":
-            return await self.way_of(int(question["moment"]), int(question["qubit"]), str(question["letter"]))
-        if asked == "region":
-            return await self.region_of(str(question["bit"]))
-        if asked == "slice":
-            return await self.slice_at(int(question["moment"]))
-        if asked == "export":
-            return {"text": await self.call(self.board.script if question["what"] == "script" else self.board.text)}
-        if asked == "save":
-            return {"said": f"written to {await self.call(self.board.save)}"}
-        raise ValueError(f"nothing is known of {asked}")
+        edits, inside = [Edit.of_message(it) for it in question["edits"]], question.get("round")
+        if not edits:
+            raise ValueError("no edit")
+        if inside:
+            return await self.change(self.board.edit_in_round, edits, str(inside["place"]), int(inside["number"]))
+        return await self.change(self.board.edit, edits)
 
     async def change(self, function: Any, *values: Any) -> Message:
         async with self.telling:
             event = await self.call(function, *values)
-            self.faults = NOT_YET
+            self.known.faults = NOT_YET
             self.tell(event)
+            self.distances.changed(self.board.age)
         self.later()
         return {}
 
@@ -207,7 +204,7 @@ class Server:
             text = await self.call(self.board.text)
             if self.board.sure is None:
                 await self.found_sure(age, await self.in_background(sure_line, text))
-            if self.faults == NOT_YET and age == self.board.age:
+            if self.known.faults == NOT_YET and age == self.board.age:
                 await self.found_faults(age, await self.in_background(faults_or_why, text))
         except stabsim.StabsimError:
             # Nothing is told of it; where the session has ended, the next question says so.
@@ -222,59 +219,11 @@ class Server:
     async def found_faults(self, age: int, faults: MomentFaults | str) -> None:
         async with self.telling:
             if age == self.board.age:
-                self.faults = faults
+                self.known.faults = faults
                 self.tell({"event": "faults", "age": age})
 
     async def in_background(self, function: Any, value: Any) -> Any:
         return await asyncio.get_running_loop().run_in_executor(self.background, function, value)
-
-    def flips_at(self, moment: int, qubit: int) -> Message:
-        return {} if isinstance(self.faults, str) else {"flips": self.faults.flips(moment, qubit)}
-
-    async def region_of(self, bit: str) -> Message:
-        """The region of a bit, or why there is none to be told."""
-        if isinstance(self.faults, str):
-            return {"why": self.faults}
-        return {"region": await asyncio.to_thread(self.faults.region, bit)}
-
-    async def way_of(self, moment: int, qubit: int, letter: str) -> Message:
-        """The way of a Pauli, or why there is none to be told."""
-        if isinstance(self.faults, str):
-            return {"why": self.faults}
-        if letter not in ("X", "Y", "Z") or not 0 <= qubit < self.faults.qubits or not 0 <= moment < self.faults.moments:
-            raise ValueError("there is no such place for a Pauli")
-        return {"way": await asyncio.to_thread(way_of, self.faults, moment, qubit, letter)}
-
-    async def slice_at(self, moment: int) -> Message:
-        """All regions at the end of a moment, or why none can be told."""
-        if isinstance(self.faults, str):
-            return {"why": self.faults}
-        return {"slice": await asyncio.to_thread(self.faults.slice, moment)}
-
-
-async def guard(request: web.Request, response: web.StreamResponse) -> None:
-    """Gives an answer its guards, a refusal too."""
-    response.headers.update(GUARDS)
-
-
-def faults_or_why(text: str) -> MomentFaults | str:
-    """The table of faults of a circuit, or why there is none."""
-    try:
-        return MomentFaults.of_circuit(text)
-    except stabsim.Refused as refused:
-        return f"there is no table of faults: it was refused as {refused.number} {refused.name}"
-
-
-TYPES = {"html": "text/html", "css": "text/css", "js": "text/javascript", "json": "application/json"}
-
-
-def file_response(name: str) -> web.Response:
-    """A file of the page, by a name without folders."""
-    kind = TYPES.get(name.rpartition(".")[2])
-    folder = importlib.resources.files("stabsim.page") / "static"
-    if kind is None or "/" in name or "\\" in name or not (folder / name).is_file():
-        raise web.HTTPNotFound(text="no such file\n")
-    return web.Response(body=(folder / name).read_bytes(), content_type=kind, charset="utf-8")
 
 
 @contextlib.asynccontextmanager

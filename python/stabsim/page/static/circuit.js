@@ -4,15 +4,17 @@
 // those of all its rounds, and in `once` those of one; an item that acts may have a `cut` in front of it (cuts.js). A path is the list
 // of an item's place in the outermost list, then in the block there, and so on, as the editing session counts them.
 
-import { forget, recount } from "./counts.js";
+import { before, forget, recount } from "./counts.js";
 import { cutList } from "./cuts.js";
+import { isPair, isRecorded, resets } from "./instructions.js";
 
 const HEAD = /^([A-Za-z][A-Za-z0-9_]*)(?:\[[^\]]*\])?(?:\(([^)]*)\))?\s*(.*)$/;
 const NAMES = {
   CNOT: "CX", ZCX: "CX", ZCY: "CY", ZCZ: "CZ", H_XZ: "H", SQRT_Z: "S", SQRT_Z_DAG: "S_DAG", SWAPCX: "SWAPCX",
   MZ: "M", MRZ: "MR", RZ: "R",
 };
-const RECORDED = new Set(["M", "MX", "MY", "MR", "MRX", "MRY", "MPP"]);
+const DECLARING = new Set(["DETECTOR", "OBSERVABLE_INCLUDE"]);
+const WITHOUT_STEPS = new Set(["TICK", "QUBIT_COORDS", "SHIFT_COORDS"]);
 
 // The items of a circuit's text.
 export function parse(text) {
@@ -46,7 +48,7 @@ function withoutComment(line) {
 
 function blockOf(line) {
   const head = HEAD.exec(line.slice(0, -1).trim());
-  return { text: line.slice(0, -1).trim(), count: Number(head[3]), items: [], once: null, ticks: 0, cut: false, records: 0, detectors: 0 };
+  return { text: line.slice(0, -1).trim(), count: Number(head[3]), items: [], once: null, cut: false };
 }
 
 function lineOf(line) {
@@ -58,11 +60,20 @@ function lineOf(line) {
     text: line,
     name,
     targets,
-    ticks: name === "TICK" ? 1 : 0,
     cut: false,
-    records: RECORDED.has(name) ? targets.length : 0,
+    ticks: name === "TICK" ? 1 : 0,
+    records: isRecorded(name) ? targets.length : 0,
     detectors: name === "DETECTOR" ? 1 : 0,
+    steps: stepsOf(name, targets.length),
+    coins: isRecorded(name) || resets(name) ? targets.length : 0,
   };
+}
+
+// A step is a target, a pair, or what declares a detector or adds to an observable.
+function stepsOf(name, targets) {
+  if (WITHOUT_STEPS.has(name)) return 0;
+  if (DECLARING.has(name)) return 1;
+  return isPair(name) ? targets / 2 : targets;
 }
 
 // The item that one line, or one block with its lines, stands for.
@@ -123,8 +134,9 @@ export function blocksAround(items, path) {
   return blocks;
 }
 
-// The place of the thing with a number: "detectors" or "ticks". Answers {item, path, rounds, records}, with the
-// round of each block around it and how many records there are before it; or null where there are not so many.
+// The place of the thing with a number, of a name that is counted (counts.js). Answers {item, path, rounds, records, number}, with the
+// round of each block around it, how many records there are before its item, and which of the item's own it is; or null where there are
+// not so many.
 export function findNumbered(items, name, number) {
   let left = number;
   const path = [];
@@ -141,11 +153,34 @@ export function findNumbered(items, name, number) {
     if (place < 0) return null;
     const item = list[place];
     path.push(place);
-    if (!item.items) return { item, path, rounds, records };
+    if (!item.items) return { item, path, rounds, records, number: left };
     const round = Math.floor(left / item.once[name]);
     rounds.push(round);
     left -= round * item.once[name];
     records += round * item.once.records;
     list = item.items;
   }
+}
+
+// How many things of a name come before the item at a path, in the given round of each block around it, else in the first.
+export function countBefore(items, name, path, rounds = []) {
+  let count = 0;
+  let list = items;
+  path.forEach((place, deep) => {
+    count += before(list)[name][Math.min(place, list.length)];
+    const item = list[place];
+    if (item?.items && deep + 1 < path.length) count += (rounds[deep] ?? 0) * item.once[name];
+    list = item?.items ?? [];
+  });
+  return count;
+}
+
+// The round of each block around the item at a path in which the circuit's step of a number is the item's.
+export function roundsOfStep(items, path, step) {
+  let left = step - countBefore(items, "steps", path);
+  return blocksAround(items, path).map((block) => {
+    const round = Math.max(0, Math.min(block.count - 1, Math.floor(left / block.once.steps)));
+    left -= round * block.once.steps;
+    return round;
+  });
 }

@@ -1,19 +1,17 @@
-// How many ticks, moments, records and detectors items have, their rounds written out.
+// How many ticks, moments, records, detectors, steps and coins items have, their rounds written out. Each target that is measured or
+// reset has a coin, whether or not that decides anything.
 
-const NAMES = ["ticks", "bounds", "records", "detectors"];
+const NAMES = ["ticks", "bounds", "records", "detectors", "steps", "coins"];
 
 // The places at which an item ends moments: a TICK is one, and a cut in front of an item.
 const boundsOf = (item) => (item.items ? item.bounds : item.ticks) + (item.cut ? 1 : 0);
 
+const countOf = (item, name) => (name === "bounds" ? boundsOf(item) : item[name]);
+
 export function countsOfList(items) {
-  const sum = { ticks: 0, bounds: 0, records: 0, detectors: 0 };
-  for (const item of items) {
-    sum.ticks += item.ticks;
-    sum.bounds += boundsOf(item);
-    sum.records += item.records;
-    sum.detectors += item.detectors;
-  }
-  return sum;
+  const sums = Object.fromEntries(NAMES.map((name) => [name, 0]));
+  for (const item of items) for (const name of NAMES) sums[name] += countOf(item, name);
+  return sums;
 }
 
 // Counts what a block has anew, once its items are right.
@@ -35,17 +33,12 @@ export function forget(list) {
   kept.delete(list);
 }
 
-// What comes before each item of a list, in order: how many bounds, ticks, records and detectors.
+// What comes before each item of a list, in order: how many of each name.
 export const before = (list) => derived(list, "sums", sumsOf);
 
 function sumsOf(list) {
   const sums = Object.fromEntries(NAMES.map((name) => [name, new Float64Array(list.length + 1)]));
-  list.forEach((item, place) => {
-    sums.ticks[place + 1] = sums.ticks[place] + item.ticks;
-    sums.bounds[place + 1] = sums.bounds[place] + boundsOf(item);
-    sums.records[place + 1] = sums.records[place] + item.records;
-    sums.detectors[place + 1] = sums.detectors[place] + item.detectors;
-  });
+  for (const name of NAMES) list.forEach((item, place) => { sums[name][place + 1] = sums[name][place] + countOf(item, name); });
   return sums;
 }
 

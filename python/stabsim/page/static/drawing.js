@@ -1,13 +1,13 @@
 // The drawing of a moment, as elements (glyphs.js): what is measured where, gates, and over them what is known of detectors.
 //
-// A scene is {places, ancillas, box, hasCoordinates, instructions, recordName, faces, region, way, neighbours, chosen}, with what is drawn
-// for the pointer: {pending, spots, frame}; a view says where a place is seen: {scale, x, y, width, height, near}. A drawing follows from
-// both, wherever it is written.
+// A scene (scene.js) is {places, ancillas, box, hasCoordinates, instructions, recordName, faces, region, coins, way, set, neighbours,
+// chosen}, with what is drawn for the pointer: {pending, spots, frame}; a view says where a place is seen: {scale, x, y, width, height,
+// near}. A drawing follows from both, wherever it is written.
 
 import { PITCH, gates, outline, pairs } from "./glyphs.js";
 import { groundElements } from "./ground_drawing.js";
 import { factorsOf, isPair, isRecord, pairsOf, qubitOf, qubitsOf } from "./instructions.js";
-import { faceElements, letterElements, neighbourElements, plateAt, regionElements, wayElements } from "./region_drawing.js";
+import { coinElements, errorElements, faceElements, letterElements, neighbourElements, plateAt, regionElements } from "./region_drawing.js";
 
 const NUMBERS_FROM = 40;
 const LABELS_FROM = 16;
@@ -33,9 +33,10 @@ export function drawingOf(scene, view) {
     ...numberElements(sheet, operations.busy),
     ...operations.over,
     ...choiceElements(sheet),
+    ...coinElements(sheet),
     ...letterElements(sheet, operations.busy),
     ...[...operations.plates].flatMap(([qubit, letters]) => plateElements(sheet, qubit, letters)),
-    ...wayElements(sheet),
+    ...errorElements(sheet),
   ];
 }
 

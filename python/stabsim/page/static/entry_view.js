@@ -27,7 +27,8 @@ export class EntryView {
       event.preventDefault();
       this.#send();
     });
-    this.#find(".split").addEventListener("click", () => this.#act.split(this.#path, Number(this.#find("#round").value)));
+    this.#find(".split").addEventListener("click", () => this.#split());
+    this.#find("#round").addEventListener("keydown", (event) => this.#roundKey(event));
     this.show(null, null, 0);
   }
 
@@ -96,6 +97,18 @@ export class EntryView {
   async #send() {
     if (this.#path === null) return;
     if (await this.#act.send(this.#kind, this.#path, this.#field.value.trim())) this.#act.leave();
+  }
+
+  #split() {
+    this.#act.split(this.#path, Number(this.#find("#round").value));
+  }
+
+  #roundKey(event) {
+    event.stopPropagation();
+    if (event.key === "Escape") this.#act.leave();
+    if (event.key !== "Enter") return;
+    event.preventDefault();
+    this.#split();
   }
 
   // Enter sends the item. The key that opened it may still be held down, and types nothing.

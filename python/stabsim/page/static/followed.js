@@ -1,4 +1,4 @@
-// What is followed through time: the region of a detector or observable, and the way of an error.
+// What is followed through time: the region of a detector or observable, or the coins that decide it; and the way of an error.
 
 export class Followed {
   // The detector or observable whose region is shown, as D3 or L0.
@@ -6,37 +6,50 @@ export class Followed {
   // The letters of its region by moments, or why none is told.
   region = {};
   why = "";
+  // Where the coins are thrown that decide it (coins.js), or null where that is not known, or none does.
+  coins = null;
   // The error that is followed: {moment, qubit, letter, letters}, with its letters by moments, or null.
   way = null;
   #knowledge;
-  #changed;
+  #page;
 
-  // `changed()` is called after each change.
-  constructor(knowledge, changed) {
-    [this.#knowledge, this.#changed] = [knowledge, changed];
+  // `page` has changed(), which is called after each change, isRandom(bit) and placesOfCoins(numbers).
+  constructor(knowledge, page) {
+    [this.#knowledge, this.#page] = [knowledge, page];
   }
 
   async chooseBit(bit) {
     this.bit = bit;
-    [this.region, this.why] = [{}, bit === null ? "" : "its region is asked for"];
-    this.#changed();
+    [this.region, this.why, this.coins] = [{}, bit === null ? "" : "its region is asked for", null];
+    this.#page.changed();
     if (bit === null) return;
+    this.explain();
     const found = await this.#knowledge.region(bit);
     if (this.bit !== bit) return;
     [this.region, this.why] = [found.region, found.why];
-    this.#changed();
+    this.#page.changed();
+  }
+
+  // Asks which coins decide the bit, if it is known that some do.
+  async explain() {
+    const { bit } = this;
+    if (bit === null || !this.#page.isRandom(bit)) return;
+    const numbers = await this.#knowledge.coins(bit);
+    if (this.bit !== bit || !numbers) return;
+    this.coins = this.#page.placesOfCoins(numbers);
+    this.#page.changed();
   }
 
   // Follows an error on a qubit at the end of a moment, or with null none.
   async follow(error) {
     const way = error && { ...error, letters: { [error.moment]: { [error.qubit]: error.letter } } };
     this.way = way;
-    this.#changed();
+    this.#page.changed();
     if (!way) return;
     const found = await this.#knowledge.way(way.moment, way.qubit, way.letter);
     if (this.way !== way || found.why) return;
     this.way = { ...way, letters: found.letters };
-    this.#changed();
+    this.#page.changed();
   }
 
   // Asks anew, once more is known.

@@ -1,15 +1,17 @@
 // What is chosen, at places that never move: the qubit, what an error there would flip, and the detector.
 
+import { code, fill, icon, line, link, quiet, title } from "./boxes.js";
 import { findNumbered } from "./circuit.js";
-import { iconOf } from "./svg_pen.js";
 
 const MOST_NAMES = 8;
+const MOST_COINS = 6;
 
 export class Inspector {
   #boxes;
   #act;
 
-  // `act` has choose(bit), select(path), and follow(letter), which shows the way of an error on the qubit.
+  // `act` has choose(bit), select(path), follow(letter), which shows the way of an error on the qubit, and goTo(place), which shows what
+  // has {moment, path}.
   constructor(boxes, act) {
     this.#boxes = boxes;
     this.#act = act;
@@ -50,20 +52,21 @@ export class Inspector {
   #names(names, why) {
     if (!names) return [quiet(why, "span")];
     if (!names.length) return [quiet("nothing", "span")];
-    const shown = names.slice(0, MOST_NAMES).flatMap((name) => [this.#button(name, () => this.#act.choose(name)), " "]);
+    const shown = names.slice(0, MOST_NAMES).flatMap((name) => [link(name, () => this.#act.choose(name)), " "]);
     return names.length > MOST_NAMES ? [...shown, `and ${names.length - MOST_NAMES} more`] : shown;
   }
 
-  // state: {items, detectors, observables, coordinates}; `kind` says how the bit is drawn (timeline_view.js), `region` is what is said of
-  // its region.
-  detector(bit, state, { kind, region }) {
+  // state: {items, detectors, observables, coordinates}; `kind` says how the bit is drawn (state.js), `region` is what is said of its
+  // region, and `coins` where the coins are thrown that decide it (coins.js), or null where that is not known.
+  detector(bit, state, { kind, region, coins }) {
     const place = this.#boxes.detector;
     if (bit === null) return void fill(place, title("No detector chosen"), quiet("Click one on the timeline, or in the list above."));
     const number = Number(bit.slice(1));
     const value = (bit.startsWith("D") ? state.detectors : state.observables)[number];
     const said = { random: "a coin decides it", flipped: `${value}, flipped`, bit1: "1", bit0: "0" }[kind];
+    const decided = coins?.length ? [` decided by ${coins.length > 1 ? `${coins.length} coins` : "the coin"}: `, ...this.#coins(coins)] : [` ${said}`];
     const role = { random: "quiet", flipped: "flip", bit1: "one", bit0: "zero" }[kind];
-    const now = line(icon(kind, 12, role), ` ${said}`);
+    const now = line(icon(kind, 12, role), ...decided);
     now.className = `bit ${kind}`;
     const about = document.createElement("p");
     about.id = "region";
@@ -81,42 +84,12 @@ export class Inspector {
     return [head, line(`records ${records.join(" + ") || "none"}`)];
   }
 
+  #coins(coins) {
+    const shown = coins.slice(0, MOST_COINS).flatMap((coin, i) => [i ? ", " : "", link(coin.name, () => this.#act.goTo(coin)), ` at tick ${coin.tick}`]);
+    return coins.length > MOST_COINS ? [...shown, `, and ${coins.length - MOST_COINS} more`] : shown;
+  }
+
   #itemButton(path) {
-    return this.#button(path.join("/"), () => this.#act.select(path));
+    return link(path.join("/"), () => this.#act.select(path));
   }
-
-  #button(words, act) {
-    const button = document.createElement("button");
-    button.className = "link";
-    button.textContent = words;
-    button.addEventListener("click", act);
-    return button;
-  }
-}
-
-// A box that is one tab stop, and keeps the focus where it is filled anew.
-function fill(place, ...parts) {
-  const buttons = () => [...place.querySelectorAll("button")];
-  const at = buttons().indexOf(document.activeElement);
-  place.replaceChildren(...parts);
-  if (at >= 0) (buttons()[at] ?? buttons().at(-1))?.focus();
-}
-
-function element(name, className, ...parts) {
-  const made = document.createElement(name);
-  if (className) made.className = className;
-  made.append(...parts);
-  return made;
-}
-
-const line = (...parts) => element("p", "", ...parts);
-const code = (words) => element("code", "", words);
-const quiet = (words, name = "p") => element(name, "none", words);
-const title = (words, small) => element("h3", "", words, ...(small ? [" ", element("small", "", small)] : []));
-
-function icon(glyph, side, role, label = "") {
-  const made = document.createElement("span");
-  made.className = "icon";
-  made.innerHTML = iconOf(glyph, side, role, label);
-  return made;
 }

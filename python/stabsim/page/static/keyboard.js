@@ -3,10 +3,11 @@
 import { ALL_KEYS, commandOf, isField, keyOf, letterOf } from "./keys.js";
 import { momentAt, momentsOf } from "./moments.js";
 import { neighbourOf } from "./places.js";
+import { Roving } from "./roving.js";
 import { roundOf } from "./timeline.js";
 
 const PANES = ["tools", "text", "words", "palette", "picture", "view", "timeline", "inspector"];
-const ROVING = ["tools", "palette", "view"];
+const ROVING = ["tools", "palette", "view", "inspector"];
 const ARROWS = { ArrowLeft: [-1, 0], ArrowRight: [1, 0], ArrowUp: [0, -1], ArrowDown: [0, 1] };
 
 // How far a key pans, in pixels.
@@ -16,12 +17,12 @@ const by = (id) => document.getElementById(id);
 
 export class Keyboard {
   #page;
+  #roving = new Map(ROVING.map((id) => [id, new Roving(by(id))]));
 
-  // `page` has shown, editor, menu, layout, openMenu(qubit), chooseBit(bit) and press(id), which clicks a button.
+  // `page` has shown, editor, menu, layout, timeline, openMenu(qubit), chooseBit(bit) and press(id), which clicks a button.
   constructor(page) {
     this.#page = page;
     document.addEventListener("keydown", (event) => this.#key(event));
-    for (const id of ROVING) this.#rove(by(id), 0);
     sayKeys(by("keys"), by("hints"));
   }
 
@@ -58,17 +59,25 @@ export class Keyboard {
 
   #inPane(event) {
     const pane = PANES.find((id) => by(id).contains(event.target));
-    if (pane === "timeline") return this.#onTimeline(event.key);
+    if (pane === "timeline") return this.#onTimeline(event);
     if (pane === "picture") return this.#onPicture(event);
     const by_ = { ArrowLeft: -1, ArrowUp: -1, ArrowRight: 1, ArrowDown: 1 }[event.key];
-    if (!by_ || !(ROVING.includes(pane) || pane === "inspector")) return false;
-    this.#rove(by(pane), by_, true);
+    if (!by_ || !this.#roving.has(pane)) return false;
+    this.#roving.get(pane).move(by_);
     return true;
   }
 
   // The next detector, or the one before.
   #bit(by_) {
     const bit = this.#page.shown.bitBeside(by_);
+    if (bit !== null) this.#page.chooseBit(bit);
+  }
+
+  // The nearest detector that way on the timeline.
+  #bitThere(direction) {
+    const { shown, timeline } = this.#page;
+    if (!shown.bit?.startsWith("D")) return void this.#bit(1);
+    const bit = timeline.beside(shown.bit, direction);
     if (bit !== null) this.#page.chooseBit(bit);
   }
 
@@ -91,11 +100,14 @@ export class Keyboard {
     return true;
   }
 
-  #onTimeline(key) {
+  #onTimeline({ key, shiftKey }) {
     const { shown } = this.#page;
+    if (ARROWS[key] && (shiftKey || ARROWS[key][1])) {
+      this.#bitThere(ARROWS[key]);
+      return true;
+    }
     const keys = {
-      ArrowLeft: () => shown.goTo(shown.moment - 1), ArrowRight: () => shown.goTo(shown.moment + 1), ArrowDown: () => shown.goTo(shown.moment - 1),
-      ArrowUp: () => shown.goTo(shown.moment + 1), Home: () => shown.goTo(0), End: () => shown.goTo(momentsOf(shown.state.items) - 1),
+      ArrowLeft: () => shown.goTo(shown.moment - 1), ArrowRight: () => shown.goTo(shown.moment + 1), Home: () => shown.goTo(0), End: () => shown.goTo(momentsOf(shown.state.items) - 1),
       PageUp: () => this.#round(-1), PageDown: () => this.#round(1),
     };
     keys[key]?.();
@@ -126,16 +138,8 @@ export class Keyboard {
     if (shown.tool !== "pick" || shown.waiting.length) shown.takeTool("pick");
     else if (shown.way !== null) shown.follow(null);
     else if (shown.bit !== null) shown.chooseBit(null);
+    else if (shown.set.length) shown.showSet([]);
     else shown.choose(null);
-  }
-
-  #rove(pane, by_, isFocused = false) {
-    const buttons = [...pane.querySelectorAll("button:not(:disabled)")];
-    if (!buttons.length) return;
-    const now = Math.max(0, buttons.indexOf(document.activeElement));
-    const next = buttons.at((now + by_) % buttons.length);
-    for (const button of pane.querySelectorAll("button")) button.tabIndex = button === next ? 0 : -1;
-    if (isFocused) next.focus();
   }
 
   #nextPane(event) {
@@ -143,8 +147,8 @@ export class Keyboard {
     const now = PANES.findIndex((id) => by(id).contains(document.activeElement));
     const step = event.shiftKey ? -1 : 1;
     for (let i = 1; i <= PANES.length; i += 1) {
-      const pane = by(PANES[(Math.max(now, step < 0 ? 0 : -1) + step * i + 2 * PANES.length) % PANES.length]);
-      const stop = pane.tabIndex >= 0 && !pane.disabled ? pane : pane.querySelector("button[tabindex='0']:not(:disabled), button:not(:disabled)");
+      const id = PANES[(Math.max(now, step < 0 ? 0 : -1) + step * i + 2 * PANES.length) % PANES.length];
+      const stop = this.#roving.has(id) ? this.#roving.get(id).stop : by(id).disabled ? null : by(id);
       if (!stop) continue;
       stop.focus();
       return;

@@ -30,7 +30,7 @@ export const ALL_KEYS = [
   ["m M, r R, n", "M, MX; R, RX; MR"], ["c v V w", "CX, CZ, CY, SWAP of the chosen two; of others with what is clicked next"],
   ["p", "measure the product of the chosen"], ["Delete", "take out what acts on them here"],
   ["t T", "a tick put in here, the one that ends this taken out"], ["< >", "move what acts on them a tick back, on; or drag it to a tick"],
-  ["Ctrl-C X V", "copy what acts on them, cut it, put it in at another tick"], [", .", "the detector before, the next"],
+  ["Ctrl-C X V", "copy what acts on them, cut it, put it in at another tick"], [", .", "the detector before, the next"], ["↑ ↓", "on the timeline: the nearest detector that way; with Shift ← → too"],
   ["d D", "a detector of the chosen records; one for each, with the record before"], ["o", "the chosen records go into observable 0"],
   ["q", "put qubits on the grid"], ["Enter", "what else there is for a qubit"],
   ["+ - 0", "greater, smaller, all; the wheel zooms"], ["Ctrl-drag", "pan; also by the right button, or Ctrl and an arrow"],

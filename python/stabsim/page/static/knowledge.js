@@ -13,6 +13,7 @@ export class Knowledge {
   #ask;
   #slices = new Map();
   #flips = new Map();
+  #coins = new Map();
 
   // `ask(question)` asks the server.
   constructor(ask) {
@@ -22,6 +23,7 @@ export class Knowledge {
   forget() {
     this.#slices.clear();
     this.#flips.clear();
+    this.#coins.clear();
   }
 
   // The region of a bit as letters by moments, {region}, or {why} there is none.
@@ -34,6 +36,11 @@ export class Knowledge {
   async way(moment, qubit, letter) {
     const answer = await this.#ask({ ask: "way", moment, qubit, letter }).catch(() => ({}));
     return { letters: answer.way ?? {}, why: answer.why ?? answer.refused ?? "" };
+  }
+
+  // The numbers of the coins that decide a bit; null where the program does not tell them.
+  coins(bit) {
+    return this.#kept(this.#coins, bit, { ask: "why", bit }, (answer) => answer.coins ?? null);
   }
 
   // What X, Y and Z on a qubit at the end of a moment would flip; null until the table is there.

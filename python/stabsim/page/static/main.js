@@ -1,9 +1,10 @@
 // The page: what the server says goes into the views, and what a person does goes to the server.
 
 import { Carrier } from "./carrying.js";
-import { pathOf, textOf } from "./circuit.js";
+import { countBefore, pathOf, textOf } from "./circuit.js";
 import { isCopied, linesOf, takeCopies } from "./clipboard.js";
 import { exchangeThemes, followSystem } from "./colours.js";
+import { DistanceView } from "./distance_view.js";
 import { Editor } from "./editor.js";
 import { pathOfRound } from "./editing.js";
 import { EntryView } from "./entry_view.js";
@@ -50,7 +51,12 @@ const views = {
     tool: () => shown.tool,
   }),
   timeline: new TimelineView(by("timeline"), { goTo: (moment) => shown.goTo(moment), choose: chooseBit, tip: showTip }),
-  inspector: new Inspector({ qubit: by("about-qubit"), errors: by("about-errors"), detector: by("about-detector") }, { choose: chooseBit, select: (path) => shown.select(path), follow: (letter) => shown.follow(shown.inspected, letter) }),
+  inspector: new Inspector({ qubit: by("about-qubit"), errors: by("about-errors"), detector: by("about-detector") }, {
+    choose: chooseBit, select: (path) => shown.select(path), follow: (letter) => shown.follow(shown.inspected, letter), goTo,
+  }),
+  distance: new DistanceView(by("about-distance"), {
+    ask: () => ask({ ask: "distance" }), end: () => ask({ ask: "end distance" }), show: (set) => shown.state && shown.showSet(set), goTo,
+  }),
   history: new HistoryView(by("edits"), (position) => ask({ ask: "go", position })),
   palette: new Palette(by("palette"), (name) => editor.take(name)),
 };
@@ -60,7 +66,7 @@ const knowledge = new Knowledge((question) => link.ask(question));
 const shown = new Shown(views, knowledge);
 const editor = new Editor(shown, { send, say, menu: (qubit, offers) => menu.open(by("picture"), placeOf(qubit), offers) });
 const carrier = new Carrier({ shown, editor, timeline: views.timeline, tip: showWords, say });
-new Keyboard({ shown, editor, menu, layout: views.layout, openMenu, chooseBit, press: (id) => by(id).click() });
+new Keyboard({ shown, editor, menu, layout: views.layout, timeline: views.timeline, openMenu, chooseBit, press: (id) => by(id).click() });
 
 function hear(event) {
   const started = performance.now();
@@ -75,6 +81,7 @@ function hear(event) {
   else if (state && event.event === "marked") state.mark(event.position);
   else {
     if (event.event === "faults" && event.age === state?.age) shown.known();
+    if (event.event === "distance" && event.age === state?.age) views.distance.take(event, state.items);
     return;
   }
   shown.take(event.event);
@@ -159,10 +166,18 @@ async function split(path, round) {
   else shown.select([...pathOfRound(block, round), path.at(-1)]);
 }
 
-// Shows the moment of an item that was chosen in the text.
+// Shows the moment of an item that was chosen in the text, and the detector that it declares, in a block that of the first round.
 function select(path, item) {
-  if (item) shown.select(path);
-  else shown.showItem(path);
+  if (!item) return void shown.showItem(path);
+  shown.select(path);
+  if (item.name === "DETECTOR") shown.chooseBit(`D${countBefore(shown.state.items, "detectors", path)}`);
+  else if (item.name === "OBSERVABLE_INCLUDE") shown.chooseBit(`L${/\((\d+)\)/.exec(item.text)[1]}`);
+}
+
+// Shows what stands at a place, {moment, path}.
+function goTo({ moment, path }) {
+  shown.goTo(moment);
+  shown.select(path, false);
 }
 
 function write(kind, path, item) {
@@ -176,11 +191,12 @@ function leaveEntry() {
   views.text.focus();
 }
 
-// Chooses a bit, and its item in the text if it is a detector.
+// Chooses a bit, and its item in the text if it is a detector; readers are told of it.
 function chooseBit(bit) {
   shown.chooseBit(bit);
-  const path = saidOfBit(bit, shown.state)?.path;
+  const { words, path } = saidOfBit(bit, shown.state);
   if (path) shown.select(path, false);
+  by("seen").textContent = words;
 }
 
 function showTip(bit, place) {

@@ -37,10 +37,7 @@ export class Palette {
   }
 
   show(name) {
-    for (const [tool, button] of this.#buttons) {
-      button.ariaChecked = tool === name;
-      button.tabIndex = tool === name ? 0 : -1;
-    }
+    for (const [tool, button] of this.#buttons) button.ariaChecked = tool === name;
   }
 
   #button([name, key, title = name, icon], take) {

@@ -71,7 +71,7 @@ function nearOf(places) {
   return least === Infinity ? 1 : least;
 }
 
-// The qubit nearest to another in a direction; null where there is none.
+// What stands nearest to a place in a direction, by its name; null where nothing does.
 export function neighbourOf(places, from, [across, down]) {
   let [best, least] = [null, Infinity];
   for (const [qubit, [x, y]] of places) {

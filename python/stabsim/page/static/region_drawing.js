@@ -1,5 +1,7 @@
-// What is drawn of detectors in a moment: the faces of checks, the chosen region with its letters, and regions beside it.
+// What is drawn of detectors in a moment: the faces of checks, the chosen region with its letters or the coins that decide the bit,
+// regions beside it, and errors.
 
+import { WRONG } from "./fault_set.js";
 import { circle, outline } from "./glyphs.js";
 
 const PATTERN_FROM = 18;
@@ -84,24 +86,39 @@ export function letterElements({ at, side, scene: { region } }, busy) {
   });
 }
 
-// The error that is followed: a ring round each of its qubits, with its letter above on the right.
-export function wayElements({ at, side, scene: { way } }) {
-  if (!way) return [];
-  const radius = Math.max(7, side * 0.86);
-  const size = Math.max(9, Math.min(26, side * 0.8));
+// Errors: a ring round each of their qubits, with the letter above on the right. Of a set that flips an observable unseen all are drawn,
+// with a broken ring if they are at other moments; then the error that is followed.
+export function errorElements({ at, side, scene: { set = [], way } }) {
+  const followed = [...(way ?? [])].map(([qubit, letter]) => ({ qubit, letter, isHere: true }));
+  return [...set, ...followed].filter(({ qubit }) => at(qubit)).flatMap(({ qubit, letter, isHere }) => errorAt(letter, at(qubit), side, isHere));
+}
+
+function errorAt(letter, [x, y], side, isHere) {
+  const path = circle(x, y, Math.max(7, side * 0.86));
+  const size = Math.max(9, Math.min(26, side * (isHere ? 0.8 : 0.6)));
   const away = side >= 12 ? side * 0.6 : 0;
-  return [...way].filter(([qubit]) => at(qubit)).flatMap(([qubit, letter]) => {
+  const rim = [{ path, stroke: "sheet", width: 4 }, { path, stroke: "ink", width: 1.75, dash: isHere ? undefined : [3, 4] }];
+  return [...rim, ...plateAt(letter, x + away, y - away, size)];
+}
+
+// The coins that decide the chosen bit: a diamond round what is measured, with the mark of such a bit below on the left; it is broken
+// if the coin is thrown at another moment.
+export function coinElements({ at, side, scene: { coins } }) {
+  const reach = Math.max(9, side * 0.98);
+  const away = side >= 12 ? side * 0.6 : 0;
+  const size = Math.max(9, Math.min(22, side * 0.66));
+  return [...(coins ?? [])].filter(([qubit]) => at(qubit)).flatMap(([qubit, isHere]) => {
     const [x, y] = at(qubit);
+    const path = [["M", x - reach, y], ["L", x, y - reach], ["L", x + reach, y], ["L", x, y + reach], ["Z"]];
     return [
-      { path: circle(x, y, radius), stroke: "sheet", width: 4 }, { path: circle(x, y, radius), stroke: "ink", width: 1.75 }, ...plateAt(letter, x + away, y - away, size),
+      { path, stroke: "sheet", width: 4 }, { path, stroke: "ink", width: 1.75, dash: isHere ? undefined : [3, 4] },
+      { path: circle(x - away, y + away, size * 0.62), fill: "sheet" }, { glyph: "random", x: x - away, y: y + away, side: size, role: "quiet" },
     ];
   });
 }
 
-// A letter as its shape, with a rim so that it stands off from what is under it.
+// A letter as its shape, or a wrong record, with a rim so that it stands off from what is under it.
 export function plateAt(letter, x, y, size) {
-  return [
-    { path: circle(x, y, size * 0.62), fill: "sheet" },
-    { glyph: letter, x, y, side: size, role: roleOf(letter), label: size >= 12 ? letter : "" },
-  ];
+  const mark = letter === WRONG ? { glyph: "measure", role: "m", label: "!" } : { glyph: letter, role: roleOf(letter), label: letter };
+  return [{ path: circle(x, y, size * 0.62), fill: "sheet" }, { ...mark, x, y, side: size, label: size >= 12 ? mark.label : "" }];
 }

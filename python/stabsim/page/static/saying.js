@@ -1,6 +1,7 @@
-// What is said of the moment that is shown, and of a qubit there.
+// What is said of the moment that is shown, of a qubit there, and of a detector. Rounds are counted from 0, as all else is.
 
 import { momentsOf, nameOf } from "./moments.js";
+import { saidOfRegion } from "./regions.js";
 import { roundOf } from "./timeline.js";
 
 const by = (id) => document.getElementById(id);
@@ -11,7 +12,7 @@ export function sayMoment({ state: { items }, moment, instructions, round }) {
   const { name } = nameOf(items, moment);
   const { path, rounds } = roundOf(instructions);
   const block = path.slice(0, rounds.length).reduce((list, place) => (list.items ?? list)[place], items);
-  const said = rounds.length ? `round ${rounds.at(-1) + 1} of ${block.count} in block ${path.slice(0, rounds.length).join("/")}` : "outside blocks";
+  const said = rounds.length ? saidOfRound(path.slice(0, rounds.length), rounds.at(-1), block.count) : "outside blocks";
   by("moment-said").textContent = `tick ${name}`;
   by("round-said").textContent = rounds.length ? said : "";
   by("alone").disabled = round === null;
@@ -22,8 +23,22 @@ export function sayMoment({ state: { items }, moment, instructions, round }) {
   return `tick ${name} · ${said}`;
 }
 
-// Says to readers what is seen of a qubit, or of none: the name of what acts on it, and its letter of a region.
-export function saySeen(where, qubit, name, letter) {
-  const words = [`qubit ${qubit}`, ...(name ? [name] : []), ...(letter ? [`region ${letter}`] : [])];
-  by("seen").textContent = qubit === null ? where : `${words.join(", ")}; ${where}`;
+// A round of the block at a path, with which rounds that has.
+function saidOfRound(path, round, count) {
+  return `round ${round} of block ${path.join("/")}${count > 1 ? `, 0 to ${count - 1}` : ""}`;
+}
+
+// Says to readers what is seen of a qubit, or of none: the name of what acts on it, its letter of a region, whether its coin decides the
+// chosen bit, and the letter of an error.
+export function saySeen(where, qubit, { name, letter, hasCoin, error }) {
+  const words = [`qubit ${qubit}`, name ?? "", letter ? `region ${letter}` : "", hasCoin ? "its coin decides" : "", error ? `error ${error}` : ""];
+  by("seen").textContent = qubit === null ? where : `${words.filter(Boolean).join(", ")}; ${where}`;
+}
+
+// What is said of a bit beside the picture: {kind, region, coins}. `kind` says how it is drawn (state.js).
+export function aboutBit({ state, bit, moment }, { region, why, coins }, kind) {
+  if (bit === null) return { kind: "", region: "", coins: null };
+  const isRandom = state.isRandom(bit);
+  const said = isRandom ? "a coin decides it, so that nothing flips it" : saidOfRegion(bit, region, (it) => nameOf(state.items, it).name, moment);
+  return { kind, region: why || said, coins: isRandom ? coins : null };
 }

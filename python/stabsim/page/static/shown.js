@@ -1,13 +1,13 @@
 // What this tab shows of the circuit: a moment, the qubits and the detector that are chosen, and the tool at hand; drawn by the views.
 
 import { blocksAround, itemAt, pathOf } from "./circuit.js";
+import { placesOfCoins } from "./coins.js";
 import { Followed } from "./followed.js";
 import { acts, qubitsOf } from "./instructions.js";
-import { endOf, momentAt, momentOf, momentsOf, momentsOfDetectors, nameOf } from "./moments.js";
+import { endOf, momentAt, momentOf, momentsOf, momentsOfDetectors } from "./moments.js";
 import { sayNumbers } from "./numbers.js";
-import { nameOfRecord } from "./records.js";
-import { mapOf, saidOfRegion } from "./regions.js";
-import { sayMoment, saySeen } from "./saying.js";
+import { aboutBit, sayMoment, saySeen } from "./saying.js";
+import { sceneOf, timeOf } from "./scene.js";
 
 const by = (id) => document.getElementById(id);
 
@@ -24,6 +24,8 @@ export class Shown {
   waiting = [];
   since = "edit";
   instructions = [];
+  // The errors of a set that flips an observable unseen, at their places (fault_set.js).
+  set = [];
   #views;
   #knowledge;
   #followed;
@@ -35,7 +37,9 @@ export class Shown {
   constructor(views, knowledge) {
     this.#views = views;
     this.#knowledge = knowledge;
-    this.#followed = new Followed(knowledge, () => this.#drawAll());
+    this.#followed = new Followed(knowledge, {
+      changed: () => this.#drawAll(), isRandom: (bit) => this.state.isRandom(bit), placesOfCoins: (numbers) => placesOfCoins(this.state.items, numbers),
+    });
   }
 
   // The detector or observable whose region is shown, as D3 or L0.
@@ -57,7 +61,7 @@ export class Shown {
       this.chosen = this.chosen.filter((qubit) => state.placement.places.has(qubit));
       this.moment = Math.min(this.moment, momentsOf(state.items) - 1);
       this.#neighbours = [];
-      this.#followed.way = null;
+      [this.#followed.way, this.set] = [null, []];
       this.#views.text.show(state.items, (first, behind) => this.#flagOf(first, behind));
       this.#showEntry(kind === "opened");
       sayNumbers(state);
@@ -66,6 +70,7 @@ export class Shown {
     } else {
       this.#views.text.show(state.items, (first, behind) => this.#flagOf(first, behind));
       this.#drawTime(false);
+      if (kind === "sure") this.#followed.explain();
     }
     if (kind !== "sure") this.#views.history.show(state.entries, state.position, state.markedAt);
     this.#sayBit();
@@ -152,6 +157,12 @@ export class Shown {
     return this.#followed.follow(letter && { moment: this.moment, qubit, letter });
   }
 
+  // Shows a set of errors, or with an empty one none.
+  showSet(set) {
+    this.set = set;
+    this.#drawAll();
+  }
+
   // The detector beside the chosen one by its number, or the first one from this moment on; null where there is none.
   bitBeside(by_) {
     const number = this.bit?.startsWith("D") ? Number(this.bit.slice(1)) + by_ : momentsOfDetectors(this.state.items).findIndex((moment) => moment >= this.moment);
@@ -204,27 +215,11 @@ export class Shown {
 
   // What drawing.js draws, with what is chosen.
   scene() {
-    const { state, moment } = this;
-    return {
-      ...state.placement,
-      ancillas: state.ancillas,
-      instructions: this.instructions,
-      recordName: ({ path }, target) => nameOfRecord(state.items, moment, path, Number(/-?\d+/.exec(target)[0])),
-      faces: this.#faces,
-      region: mapOf(this.#followed.region[moment]),
-      way: mapOf(this.way?.letters[moment]),
-      neighbours: this.#neighbours,
-      chosen: this.chosen,
-      waiting: this.waiting,
-    };
+    return sceneOf(this, this.#followed, { faces: this.#faces, neighbours: this.#neighbours });
   }
 
   #drawTime(isEdited) {
-    const { state, moment, bit } = this;
-    this.#views.timeline.show({
-      items: state.items, moments: momentsOf(state.items), moment, bit, region: this.#followed.region, way: this.way, observables: state.observables,
-      coordinates: state.coordinates, kindOf: (it) => this.#kindOf(it), isTold: (number) => state.isTold(number, this.#flips()),
-    }, isEdited);
+    this.#views.timeline.show(timeOf(this, this.#followed, this.#flips()), isEdited);
   }
 
   #flips() {
@@ -276,7 +271,11 @@ export class Shown {
       qubit, kind: this.state.ancillas.has(qubit) ? "ancilla" : "data", at: at?.length ? at : null, item: found?.item, path: found?.path,
       more: this.#hovered === null ? this.chosen.length - 1 : 0,
     }, this.where);
-    saySeen(this.where, qubit, found?.item.name, this.#followed.region[this.moment]?.[qubit]);
+    const { coins, set } = this.scene();
+    saySeen(this.where, qubit, {
+      name: found?.item.name, letter: this.#followed.region[this.moment]?.[qubit], hasCoin: coins.has(qubit),
+      error: set.find((it) => it.qubit === qubit && it.isHere)?.letter,
+    });
     if (qubit === null) return void inspector.errors(null, "—");
     const { moment } = this;
     const flips = await this.#knowledge.flips(moment, qubit);
@@ -285,12 +284,7 @@ export class Shown {
   }
 
   #sayBit() {
-    const { state, bit, moment } = this;
-    let region = "";
-    if (bit !== null && this.#followed.why) region = this.#followed.why;
-    else if (bit !== null && state.isRandom(bit)) region = "a coin decides it, so that nothing flips it";
-    else if (bit !== null) region = saidOfRegion(bit, this.#followed.region, (it) => nameOf(state.items, it).name, moment);
-    const kind = bit === null ? "" : this.#kindOf(bit);
-    this.#views.inspector.detector(bit, state, { kind, region });
+    const { state, bit } = this;
+    this.#views.inspector.detector(bit, state, aboutBit(this, this.#followed, bit && this.#kindOf(bit)));
   }
 }

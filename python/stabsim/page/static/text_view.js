@@ -147,6 +147,8 @@ export class TextView {
     line.role = "treeitem";
     line.id = `row-${name}${run ? "+" : ""}`;
     line.ariaLevel = path.length;
+    line.ariaPosInSet = path.at(-1) + 1;
+    line.ariaSetSize = (blocksAround(this.#items, path).at(-1)?.items ?? this.#items).length + (path.length > 1 ? 0 : 1);
     line.ariaSelected = isSelected;
     line.style.top = `${number * this.#row}px`;
     line.dataset.path = run ? `${name}+` : name;

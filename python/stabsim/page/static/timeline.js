@@ -94,14 +94,8 @@ export class Timeline {
 
   #bandOf(path, rounds) {
     if (!rounds.length) return { label: "once", short: "", isBlock: false, isOdd: false };
-    let list = this.#items;
-    let count = 0;
-    for (let deep = 0; deep < rounds.length; deep += 1) {
-      count = list[path[deep]].count;
-      list = list[path[deep]].items;
-    }
-    const round = rounds.at(-1) + 1;
-    return { label: `${path.slice(0, rounds.length).join("/")}: ${round} of ${count}`, short: String(round), isBlock: true, isOdd: round % 2 === 0 };
+    const round = rounds.at(-1);
+    return { label: `${path.slice(0, rounds.length).join("/")}: round ${round}`, short: String(round), isBlock: true, isOdd: round % 2 === 1 };
   }
 }
 

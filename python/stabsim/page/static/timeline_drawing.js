@@ -4,6 +4,7 @@
 // the moments in sight from `first` to `last`, the one to which something is dragged as `aim`, and the picture of all detectors as they
 // are if nothing is known of them as `ground`.
 
+import { WRONG } from "./fault_set.js";
 import { circle, gates, pairs } from "./glyphs.js";
 import { isPair, isRecord } from "./instructions.js";
 
@@ -22,8 +23,9 @@ export function timelineOf(sheet) {
     ...bands(sheet),
     { ...head, fill: "chosen" },
     ...ticks(sheet),
-    ...wayElements(sheet),
+    ...errorElements(sheet),
     ...thread(sheet),
+    ...coinThread(sheet),
     ...dots(sheet),
     { ...head, stroke: "accent", width: 1.5 },
     ...(aim === null ? [] : [{ ...columnOf(aim), stroke: "accent", width: 2, dash: [4, 3] }]),
@@ -38,7 +40,7 @@ function names() {
   return said.map(([words, y]) => ({ words, x: 10, y, size: 11, fill: "quiet", align: "left" }));
 }
 
-// Rounds as bands, each with the block and how many of its rounds it is; what stands in no block is between them.
+// Rounds as bands, each with its block and its number; what stands in no block is between them.
 function bands({ line, first, last, x, step, height }) {
   const elements = [];
   for (const { from, to, label, short, isOdd, isBlock } of line.bands(first, last)) {
@@ -69,15 +71,20 @@ function ticks({ line, shown, first, last, x, step }) {
   return elements;
 }
 
-// The way of an error: at each moment its letter, or a grey mark for several, and on how many qubits it is.
-function wayElements({ shown: { way }, first, last, x, step }) {
+// The way of an error, or a set of them: at each moment the letter, or a grey mark for several, and on how many qubits it is.
+function errorElements({ shown: { way, set }, first, last, x, step }) {
   const side = Math.max(5, Math.min(16, step * 0.84));
-  return Object.entries(way?.letters ?? {}).map(([moment, letters]) => [Number(moment), Object.values(letters)])
-    .filter(([moment]) => moment >= first && moment <= last).map(([moment, letters]) => {
-      const isOne = new Set(letters).size === 1;
-      const label = side < 12 ? "" : letters.length > 1 ? String(letters.length) : letters[0];
-      return { glyph: isOne ? letters[0] : "gate", role: isOne ? letters[0].toLowerCase() : "op", x: x(moment), y: ERROR, side, label };
-    });
+  return Object.entries(way?.letters ?? set).map(([moment, letters]) => [Number(moment), Object.values(letters)])
+    .filter(([moment]) => moment >= first && moment <= last)
+    .map(([moment, letters]) => ({ ...errorMark(letters, side), x: x(moment), y: ERROR, side }));
+}
+
+function errorMark(letters, side) {
+  const [letter] = letters;
+  const count = side < 12 || letters.length === 1 ? "" : String(letters.length);
+  if (new Set(letters).size > 1) return { glyph: "gate", role: "op", label: count };
+  if (letter === WRONG) return { glyph: "measure", role: "m", label: count || (side < 12 ? "" : "!") };
+  return { glyph: letter, role: letter.toLowerCase(), label: count || (side < 12 ? "" : letter) };
 }
 
 // The region of the chosen bit through time: at each moment the letters that it has there.
@@ -94,6 +101,15 @@ function thread({ shown: { bit, region }, first, last, x, at, step, height }) {
     }));
   }
   return elements;
+}
+
+// The coins that decide the chosen bit: a broken line from the first of them.
+function coinThread({ shown: { bit, coins }, x, at, height }) {
+  if (!coins?.length) return [];
+  const moments = [...new Set(coins.map(({ moment }) => moment))].sort((a, b) => a - b);
+  const [end, y] = bit.startsWith("D") ? at(bit) : [x(moments.at(-1)), height - 26];
+  const marks = moments.map((moment) => ({ ...dotOf("random"), x: x(moment), y, side: 10 }));
+  return [{ path: [["M", x(moments[0]), y], ["L", end, y]], stroke: "quiet", width: 1.5, dash: [3, 3] }, ...marks];
 }
 
 const sizeOfDots = ({ rowHeight, step }) => Math.max(3.5, Math.min(9, rowHeight * 0.8, step * 0.8));

@@ -3,6 +3,7 @@
 
 import { CanvasPen } from "./canvas_pen.js";
 import { theme } from "./colours.js";
+import { neighbourOf } from "./places.js";
 import { Timeline } from "./timeline.js";
 import { LEFT, OPERATIONS, TOP, groundOf, timelineOf } from "./timeline_drawing.js";
 
@@ -44,9 +45,10 @@ export class TimelineView {
     }).observe(canvas);
   }
 
-  // state: {items, moments, moment, observables, coordinates, isTold, kindOf, bit, region, way}: `kindOf(bit)` says how a bit is drawn
-  // (state.js), `isTold(number)` whether a detector is drawn otherwise than as 0, `bit` is the chosen one, and `region` has its letters
-  // by moment, as `way.letters` has those of an error; `way` may be null.
+  // state: {items, moments, moment, observables, coordinates, isTold, kindOf, bit, region, coins, way, set}: `kindOf(bit)` says how a bit
+  // is drawn (state.js), `isTold(number)` whether a detector is drawn otherwise than as 0, `bit` is the chosen one, `coins` are those that
+  // decide it, and `region` has its letters by moment, as `way.letters` has those of an error and `set` those of several; `coins` and `way`
+  // may be null.
   show(state, isFresh) {
     const isOther = this.#shown?.items !== state.items;
     if (isFresh || !this.#line) {
@@ -64,6 +66,12 @@ export class TimelineView {
   at(bit) {
     const number = Number(bit.slice(1));
     return bit.startsWith("D") ? [this.#dotX(number), this.#dotY(number)] : this.#observableAt(number);
+  }
+
+  // The detector nearest to another in a direction, as [1, 0] to the right; null if there is none.
+  beside(bit, direction) {
+    const places = new Map([...this.#line.moments.keys()].map((number) => [`D${number}`, this.at(`D${number}`)]));
+    return neighbourOf(places, this.at(bit), direction);
   }
 
   // The moment under a place of the window; null where that is not on the timeline.

@@ -1,0 +1,30 @@
+"""The page's own files, and what guards each answer of the server."""
+
+import importlib.resources
+
+from aiohttp import web
+
+# What each answer has beside it: nothing but the page's own files is loaded, no other page frames it, and none is told of its address.
+GUARDS = {
+    "Content-Security-Policy": "default-src 'none'; script-src 'self'; style-src 'self'; img-src 'self' data:; connect-src 'self'; "
+                               "base-uri 'none'; form-action 'none'; frame-ancestors 'none'",
+    "Cache-Control": "no-store",
+    "Referrer-Policy": "no-referrer",
+    "X-Content-Type-Options": "nosniff",
+    "X-Frame-Options": "DENY",
+}
+TYPES = {"html": "text/html", "css": "text/css", "js": "text/javascript", "json": "application/json"}
+
+
+async def guard(request: web.Request, response: web.StreamResponse) -> None:
+    """Gives an answer its guards, a refusal too."""
+    response.headers.update(GUARDS)
+
+
+def file_response(name: str) -> web.Response:
+    """A file of the page, by a name without folders."""
+    kind = TYPES.get(name.rpartition(".")[2])
+    folder = importlib.resources.files("stabsim.page") / "static"
+    if kind is None or "/" in name or "\\" in name or not (folder / name).is_file():
+        raise web.HTTPNotFound(text="no such file\n")
+    return web.Response(body=(folder / name).read_bytes(), content_type=kind, charset="utf-8")

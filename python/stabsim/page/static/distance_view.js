@@ -1,0 +1,73 @@
+// The distance of the circuit: the least number of errors that flip an observable and no detector, with such errors.
+
+import { element, fill, icon, line, link, quiet, title } from "./boxes.js";
+import { WRONG, placesOfErrors } from "./fault_set.js";
+
+const ABOUT = "How few errors flip an observable unseen?";
+const MARKED = { true: "where I marks them", false: "everywhere" };
+
+export class DistanceView {
+  #box;
+  #act;
+  // What the server told last (distances.py), and the errors at their places.
+  #told = { state: "none" };
+  #set = [];
+
+  // `act` has ask(), end(), show(set), which draws errors, and goTo(error), which shows where one is.
+  constructor(box, act) {
+    [this.#box, this.#act] = [box, act];
+    this.#draw();
+  }
+
+  // Takes what was told of the circuit with these items.
+  take(told, items) {
+    this.#told = told;
+    this.#set = placesOfErrors(items, told.errors);
+    this.#draw();
+    this.#act.show(this.#set);
+  }
+
+  #draw() {
+    const { state, first, is_marked: isMarked } = this.#told;
+    const number = /^distance (\d+)/.exec(first ?? "")?.[1];
+    const where = ["running", "found"].includes(state) ? `of errors ${MARKED[isMarked]}` : "";
+    const head = title(`Distance${number ? ` ${number}` : ""}`, where);
+    const isRunning = state === "running";
+    const button = element("button", "ask", isRunning ? "End" : "Ask");
+    button.title = isRunning ? "end the search" : "ask for the distance of the circuit as it is";
+    button.addEventListener("click", isRunning ? this.#act.end : this.#act.ask);
+    fill(this.#box, element("div", "head", head, button), ...this.#said());
+  }
+
+  #said() {
+    const { state, first, said, before } = this.#told;
+    const earlier = before ? [quiet(`before the last edits: ${before}`)] : [];
+    if (state === "running") return [status(said || "it is looked for"), ...earlier];
+    if (state === "refused") return [status(said, "bad"), ...earlier];
+    if (state !== "found") return [quiet(said || ABOUT), ...earlier];
+    return [this.#set.length ? this.#errors() : status(first.startsWith("none up to") ? first : "no set of errors flips an observable unseen"), ...earlier];
+  }
+
+  #errors() {
+    const made = line(...this.#set.flatMap((error) => [element("span", "error-of-set", this.#error(error), ` at tick ${error.tick}`), " "]));
+    made.setAttribute("role", "status");
+    return made;
+  }
+
+  #error(error) {
+    const [letter] = error.letters.values();
+    const mark = letter === WRONG ? icon("measure", 12, "m", "!") : icon(letter, 12, letter.toLowerCase(), letter);
+    const made = link("", () => {
+      this.#act.show(this.#set);
+      this.#act.goTo(error);
+    });
+    made.append(mark, error.name);
+    return made;
+  }
+}
+
+function status(words, className = "") {
+  const made = element("p", className, words);
+  made.setAttribute("role", "status");
+  return made;
+}

@@ -1,0 +1,34 @@
+// What the views are given of what is shown: the picture of a moment (drawing.js), and time (timeline_view.js).
+
+import { qubitsOfCoins } from "./coins.js";
+import { lettersAt, lettersByMoments } from "./fault_set.js";
+import { momentsOf } from "./moments.js";
+import { nameOfRecord } from "./records.js";
+import { mapOf } from "./regions.js";
+
+// `shown` has state, moment, instructions, chosen, waiting and set; `followed` is what followed.js has; `known` has {faces, neighbours}.
+export function sceneOf({ state, moment, instructions, chosen, waiting, set }, followed, { faces, neighbours }) {
+  return {
+    ...state.placement,
+    ancillas: state.ancillas,
+    instructions,
+    recordName: ({ path }, target) => nameOfRecord(state.items, moment, path, Number(/-?\d+/.exec(target)[0])),
+    faces,
+    region: mapOf(followed.region[moment]),
+    coins: qubitsOfCoins(followed.coins ?? [], moment),
+    way: mapOf(followed.way?.letters[moment]),
+    set: lettersAt(set, moment),
+    neighbours,
+    chosen,
+    waiting,
+  };
+}
+
+// `flips` has the bits that are drawn as flipped.
+export function timeOf({ state, moment, set }, { bit, region, coins, way }, flips) {
+  return {
+    items: state.items, moments: momentsOf(state.items), moment, bit, region, coins, way, set: lettersByMoments(set),
+    observables: state.observables, coordinates: state.coordinates,
+    kindOf: (it) => state.kindOf(it, flips), isTold: (number) => state.isTold(number, flips),
+  };
+}
