@@ -17,9 +17,10 @@ from typing import TYPE_CHECKING
 __version__ = "0.2.0"
 
 __all__ = [
-    "BadErrorModel", "BadShots", "Block", "Cause", "Changed", "Circuit", "CircuitError", "Collection", "Decoder", "Diagram", "ErrorModel", "FaultTable", "Flow", "Instruction",
-    "Item", "ItemSteps", "MissingProgram", "NotDecomposed", "Numbers", "OtherExperiment", "Path", "Predict", "ProgramFailed", "Rate",
-    "Refused", "Seeded", "Session", "SessionEnded", "SessionNumbers", "SparseMatrix", "StabsimError", "StimCircuit", "Sums", "Sure",
+    "BadErrorModel", "BadShots", "Block", "Cause", "Changed", "Circuit", "CircuitError", "CoinTable", "Collection", "DecidingCoin", "Decoder",
+    "Diagram", "Distance", "ErrorModel", "FaultTable", "Flow", "Instruction", "Item", "ItemSteps", "MissingProgram", "NotDecomposed", "Numbers",
+    "OtherExperiment", "Parity", "Path", "Predict", "ProgramFailed", "RandomBit", "Rate", "Refused", "SameDistribution", "SameFlows", "Seeded",
+    "Session", "SessionEnded", "SessionNumbers", "SparseMatrix", "StabsimError", "StimCircuit", "Sums", "Sure",
     "UnsupportedNoise", "codes", "collect", "combine", "error_model", "find_program", "fit_rate", "from_stim", "m2d", "plot",
     "rate_per_round", "read_shots", "without_noise", "write_shots",
 ]
@@ -31,21 +32,25 @@ if TYPE_CHECKING:
     from stabsim.causes import Cause
     from stabsim.circuit import Circuit
     from stabsim.circuit_errors import CircuitError
+    from stabsim.coins import CoinTable
     from stabsim.collecting import Collection, collect
     from stabsim.counting import Decoder, Predict
     from stabsim.diagrams import Diagram
+    from stabsim.distances import Distance
     from stabsim.errors import (
         BadErrorModel, BadShots, MissingProgram, NotDecomposed, OtherExperiment, ProgramFailed, Refused, SessionEnded, StabsimError,
         UnsupportedNoise,
     )
     from stabsim.faults import FaultTable
-    from stabsim.flows import Flow
+    from stabsim.flows import Flow, SameFlows
     from stabsim.formats import read_shots, write_shots
     from stabsim.measured import m2d
     from stabsim.models import ErrorModel, error_model
+    from stabsim.parities import Parity, SameDistribution
     from stabsim.plotting import plot
     from stabsim.program import find_program
     from stabsim.profile import without_noise
+    from stabsim.random_bits import DecidingCoin, RandomBit
     from stabsim.rates import Rate, fit_rate, rate_per_round
     from stabsim.reading import Block, Instruction, Item
     from stabsim.script import Path
@@ -64,19 +69,23 @@ else:
         "causes": ("Cause",),
         "circuit": ("Circuit",),
         "circuit_errors": ("CircuitError",),
+        "coins": ("CoinTable",),
         "collecting": ("Collection", "collect"),
         "counting": ("Decoder", "Predict"),
         "diagrams": ("Diagram",),
+        "distances": ("Distance",),
         "errors": ("BadErrorModel", "BadShots", "MissingProgram", "NotDecomposed", "OtherExperiment", "ProgramFailed", "Refused", "SessionEnded",
                    "StabsimError", "UnsupportedNoise"),
         "faults": ("FaultTable",),
-        "flows": ("Flow",),
+        "flows": ("Flow", "SameFlows"),
         "formats": ("read_shots", "write_shots"),
         "measured": ("m2d",),
         "models": ("ErrorModel", "error_model"),
+        "parities": ("Parity", "SameDistribution"),
         "plotting": ("plot",),
         "program": ("find_program",),
         "profile": ("without_noise",),
+        "random_bits": ("DecidingCoin", "RandomBit"),
         "rates": ("Rate", "fit_rate", "rate_per_round"),
         "reading": ("Block", "Instruction", "Item"),
         "script": ("Path",),

@@ -3,8 +3,14 @@
 import functools
 from dataclasses import dataclass
 
-from stabsim import bits, program
-from stabsim.faults import FaultTable, table_of
+import numpy as np
+
+from stabsim import bits, coins, faults, program
+from stabsim.coins import CoinTable
+from stabsim.coordinates import detector_coordinates
+from stabsim.distances import Distance, Letters, distance_of, of_marks, option_words
+from stabsim.faults import FaultTable
+from stabsim.random_bits import RandomBit, bit_of
 from stabsim.sampling import Sampled
 from stabsim.sure import Sure, sure_of
 
@@ -83,4 +89,52 @@ class Asked(Sampled):
         """
         has = self.numbers()
         words = ["--everywhere"] * everywhere + ["--sure_only"] * sure_only
-        return table_of(program.run(["faults", *words], self.text), has.detectors, has.observables, everywhere)
+        return faults.table_of(program.run(["faults", *words], self.text), has.detectors, has.observables, everywhere)
+
+    def coins(self) -> CoinTable:
+        """Which records, detectors and observables each coin flips that decides an outcome.
+
+        >>> import stabsim
+        >>> table = stabsim.Circuit("H 0\\nX 1\\nCX 0 1\\nM 0 1\\nDETECTOR rec[-1]").coins()
+        >>> print(table, table.paths, table.numbers, table.flipped(0), table.constants())
+        <stabsim.CoinTable: 1 coins, 2 records, 1 detectors, 0 observables> ['3'] [0] [0 1 2] [False  True  True]
+        """
+        widths = self.widths()
+        words = [["sample"], ["detect", "--append_observables"]]
+        parts = [program.run([*its, "--coins", "", "--out_format", "b8"], self.text) for its in words]
+        counts = (widths[0], widths[1] + widths[2])
+        constants = np.concatenate([bits.of_b8(part, 1, count)[0] for part, count in zip(parts, counts)])
+        return coins.table_of(program.run(["coins"], self.text), widths, constants)
+
+    def explain(self) -> list[RandomBit]:
+        """Why detectors and observables are random: for each that is not the same for all coins, which coins decide it.
+
+        >>> import stabsim
+        >>> for bit in stabsim.Circuit("MX 0 0\\nDETECTOR rec[-1]\\nDETECTOR rec[-1] rec[-2]").explain():
+        ...     print(bit, bit.coins)
+        D0 of item 1 is decided by item 0 (DecidingCoin(number=0, path='0'),)
+        """
+        self.numbers()
+        lines = program.run(["deterministic", "--explain"], self.text).decode().splitlines()
+        rows = detector_coordinates(self.text) if lines else np.zeros((0, 0))
+        return [bit_of(line, rows) for line in lines]
+
+    def distance(self, *, everywhere: bool = False, letters: Letters = "all", most: int | None = None, graphlike: bool = False,
+                 sure_only: bool = False) -> Distance:
+        """The least number of errors that flip an observable and no detector: exact, for any circuit.
+
+        Errors are X, Y and Z at each target of `I`; I[X], I[Y], I[Z] and I[XZ] have these letters alone, and I[pairs] all fifteen
+        products on each pair of its targets. With everywhere they are those of circuit-level noise: behind gates and resets, in front
+        of measurements, and each record wrong by itself. letters: with XZ only errors of X alone and of Z alone. most: up to so many
+        errors are looked for. graphlike: only errors that flip at most two detectors, which takes less time. Raises stabsim.Refused, 18 NotDeterministic, as `faults` does; with sure_only random bits are left out.
+
+        >>> import stabsim
+        >>> c = stabsim.Circuit("R 0 1 2\\nI[X] 0 1 2\\nMPP Z0*Z1 Z1*Z2\\nDETECTOR rec[-1]\\nDETECTOR rec[-2]\\nM 0\\nOBSERVABLE_INCLUDE(0) rec[-1]")
+        >>> print(c.distance(), c.distance(most=2), sep="; ")
+        distance 3 of all errors; none up to 2 of all errors
+        """
+        self.numbers()
+        words = [*["--everywhere"] * everywhere, *([] if letters == "all" else ["--letters", letters]), *option_words(most, graphlike),
+                 *["--deterministic_only"] * sure_only]
+        found = distance_of(program.run(["distance", *words], self.text).decode())
+        return found if everywhere else of_marks(found, self.text)

@@ -6,8 +6,11 @@ from typing import NamedTuple
 import numpy as np
 from numpy.typing import NDArray
 
+from stabsim.circuit_errors import CircuitError
 from stabsim.combining import starts_of
 from stabsim.marking import Source
+from stabsim.placing import placed
+from stabsim.reading import Item
 
 
 class Cause(NamedTuple):
@@ -34,24 +37,37 @@ class Causes:
     """Which errors of a circuit each mechanism is made of.
 
     sources: the errors by instruction, one after another; mechanisms: int32 (errors,), the mechanism of each error, in the order of the
-    sources and of all of their times, -1 of one that flips nothing.
+    sources and of all of their times, -1 of one that flips nothing; items: those of the circuit with its noise.
     """
 
     sources: tuple[Source, ...]
     mechanisms: NDArray[np.int32]
+    items: tuple[Item, ...]
 
     def of(self, mechanism: int) -> list[Cause]:
         """The errors that make a mechanism, by their lines."""
-        firsts = starts_of(np.array([source.times() for source in self.sources], dtype=np.int64))
-        errors = np.flatnonzero(self.mechanisms == mechanism)
-        numbers = np.searchsorted(firsts, errors, side="right") - 1
-        found = [cause_of(self.sources[number], error - int(firsts[number])) for number, error in zip(numbers.tolist(), errors.tolist())]
+        found = [cause_of(source, rounds, at) for source, rounds, at in self.times_of(mechanism)]
         return sorted(found, key=lambda cause: (cause.line, cause.rounds, cause.error))
 
+    def error_of(self, mechanism: int) -> CircuitError:
+        """One of the errors that make a mechanism, the first, at its place in the circuit without noise."""
+        return min((placed(self.items, *its) for its in self.times_of(mechanism)), key=lambda error: (error.steps, str(error)))
 
-def cause_of(source: Source, time: int) -> Cause:
+    def times_of(self, mechanism: int) -> list[tuple[Source, list[int], int]]:
+        """The errors that make a mechanism: of which source, in which rounds of the blocks around it, and which of its times in these."""
+        firsts = starts_of(np.array([source.times() for source in self.sources], dtype=np.int64))
+        errors = np.flatnonzero(self.mechanisms == mechanism)
+        found = []
+        for error, number in zip(errors.tolist(), (np.searchsorted(firsts, errors, side="right") - 1).tolist()):
+            source = self.sources[number]
+            shape = (*(count for count, _ in reversed(source.blocks)), len(source.marks))
+            *rounds, at = map(int, np.unravel_index(error - int(firsts[number]), shape))
+            found.append((source, rounds, at))
+        return found
+
+
+def cause_of(source: Source, rounds: list[int], at: int) -> Cause:
     """One of all times of a source."""
-    *rounds, at = map(int, np.unravel_index(time, (*(count for count, _ in reversed(source.blocks)), len(source.marks))))
     if source.is_record:
         error = f"record of {source.targets[at]}"
     else:

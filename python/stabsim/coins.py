@@ -18,6 +18,11 @@ class CoinTable:
     indptr: int64 (coins + 1,), and indices: int64 (flips,): row i flips indices[indptr[i]:indptr[i + 1]], ascending, where a record is its
     number, detectors are counted on behind the records, and observables behind the detectors.
     records, detectors, observables: int, how many of each the circuit has.
+
+    >>> import stabsim
+    >>> table = stabsim.Circuit("H 0\\nCX 0 1\\nM 0\\nX 1\\nM 1\\nDETECTOR rec[-1]").coins()
+    >>> table.paths.tolist(), table.numbers.tolist(), table.dense().astype(int).tolist(), table.constants().astype(int).tolist()
+    (['2'], [0], [[1, 1, 1]], [0, 1, 1])
     """
 
     steps: NDArray[np.int64]

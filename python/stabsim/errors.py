@@ -2,11 +2,24 @@
 
 
 class StabsimError(Exception):
-    """Anything that this package raises of its own."""
+    """Anything that this package raises of its own.
+
+    >>> import stabsim
+    >>> issubclass(stabsim.Refused, stabsim.StabsimError)
+    True
+    """
 
 
 class MissingProgram(StabsimError):
-    """There is no program, or one that is too old for this package."""
+    """There is no program, or one that is too old for this package.
+
+    >>> import os, unittest.mock
+    >>> import stabsim
+    >>> with unittest.mock.patch.dict(os.environ, STABSIM="/no/program"):
+    ...     stabsim.find_program()  # doctest: +ELLIPSIS
+    Traceback (most recent call last):
+    stabsim.errors.MissingProgram: STABSIM names /no/program, which does not start: ...
+    """
 
 
 class Refused(StabsimError):
@@ -40,11 +53,25 @@ class Refused(StabsimError):
 
 
 class ProgramFailed(StabsimError):
-    """The program ended in a way that is no answer and no refusal, as where it was killed."""
+    """The program ended in a way that is no answer and no refusal, as where it was killed.
+
+    >>> import stabsim.program
+    >>> stabsim.program.run(["sample", "--shots", "many"], "M 0")  # doctest: +ELLIPSIS
+    Traceback (most recent call last):
+    stabsim.errors.ProgramFailed: ... ended with status 2: ...
+    """
 
 
 class SessionEnded(StabsimError):
-    """A session's program has ended, or what it said is no reply: no more can be asked of the session."""
+    """A session's program has ended, or what it said is no reply: no more can be asked of the session.
+
+    >>> import stabsim
+    >>> session = stabsim.Circuit("M 0").edit()
+    >>> session.close()
+    >>> session.records()
+    Traceback (most recent call last):
+    stabsim.errors.SessionEnded: the session has ended: it was closed
+    """
 
 
 class UnsupportedNoise(StabsimError):
@@ -88,12 +115,40 @@ class BadErrorModel(StabsimError):
 
 
 class BadShots(StabsimError):
-    """A file has no shots of the format and the numbers of bits that were named."""
+    """A file has no shots of the format and the numbers of bits that were named.
+
+    >>> import stabsim
+    >>> import os, tempfile
+    >>> with tempfile.TemporaryDirectory() as folder:
+    ...     stabsim.Circuit("012").to_file(os.path.join(folder, "shots.01"))
+    ...     stabsim.read_shots(os.path.join(folder, "shots.01"), format="01", num_measurements=3)  # doctest: +ELLIPSIS
+    Traceback (most recent call last):
+    stabsim.errors.BadShots: ...
+    """
 
 
 class NotDecomposed(StabsimError):
-    """An error mechanism flips more than two detectors, and no other mechanisms together flip the same."""
+    """An error mechanism flips more than two detectors, and no other mechanisms together flip the same.
+
+    >>> import stabsim
+    >>> three = "R 0\\nX_ERROR(0.1) 0\\nM 0\\n" + 3 * "DETECTOR rec[-1]\\n"
+    >>> stabsim.error_model(three, decompose=True)  # doctest: +ELLIPSIS
+    Traceback (most recent call last):
+    stabsim.errors.NotDecomposed: ...
+    """
 
 
 class OtherExperiment(StabsimError):
-    """A file of counts belongs to another seed or another error model, or another process writes to it."""
+    """A file of counts belongs to another seed or another error model, or another process writes to it.
+
+    >>> import os, tempfile
+    >>> import numpy, stabsim
+    >>> def nothing(model):
+    ...     return lambda detectors: numpy.zeros((len(detectors), model.observables), dtype=bool)
+    >>> models = {"one": stabsim.ErrorModel.from_dem("error(0.1) D0 L0")}
+    >>> with tempfile.TemporaryDirectory() as folder:
+    ...     for seed in (1, 2):
+    ...         counted = list(stabsim.collect(models, ("none", nothing), shots=1024, seed=seed, save=os.path.join(folder, "counts.csv")))  # doctest: +ELLIPSIS
+    Traceback (most recent call last):
+    stabsim.errors.OtherExperiment: ...
+    """

@@ -82,6 +82,11 @@ class SameFlows:
     """Whether two circuits have the same flows; it is true where they do.
 
     same: bool. flow: if not, a Flow that one has and the other has not; first: bool, whether it is the first that has it.
+
+    >>> import stabsim
+    >>> found = stabsim.Circuit("S 0").same_flows(stabsim.Circuit("S_DAG 0"))
+    >>> bool(found), str(found.flow), found.first
+    (False, 'X0 -> Y0', True)
     """
 
     same: bool

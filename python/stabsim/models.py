@@ -13,13 +13,17 @@ from numpy.typing import NDArray
 from stabsim import bits, chunks, combining, dem, drawing, program, sparse
 from stabsim.causes import Cause, Causes
 from stabsim.circuit import Circuit
+from stabsim.circuit_errors import CircuitError
 from stabsim.coordinates import detector_rows, places_of
 from stabsim.decomposing import Parts, parts_of
+from stabsim.distances import Distance
 from stabsim.errors import Refused
 from stabsim.faults import FaultTable
 from stabsim.judging import in_users_words, judged
 from stabsim.marking import Marked, Source, marked
+from stabsim.model_distance import distance_of_model
 from stabsim.profile import Profile
+from stabsim.reading import Item
 from stabsim.seeds import SeededBits, SeededBytes, drawn_seed, seeded
 
 if TYPE_CHECKING:
@@ -136,6 +140,27 @@ class ErrorModel:
             raise ValueError("this model was read, and not made of a circuit, so what makes its mechanisms is not known")
         return self.causes.of(mechanism)
 
+    def distance(self, *, most: int | None = None, graphlike: bool = False) -> Distance:
+        """The least number of mechanisms that flip an observable and together no detector, by the program: of those that have a chance,
+        each counts as one error. `Distance.mechanisms` has their numbers; of a model that was made of a circuit, `Distance.errors` has
+        an error for each, at its place in the circuit without noise. most, graphlike: as of `Circuit.distance`.
+
+        >>> import stabsim
+        >>> c = stabsim.from_stim("R 0 1\\nX_ERROR(0.1) 0 1\\nM 0 1\\nDETECTOR rec[-1] rec[-2]\\nOBSERVABLE_INCLUDE(0) rec[-1]")
+        >>> found = stabsim.error_model(c).distance()
+        >>> print(found, found.mechanisms, [(str(error), error.steps) for error in found.errors])
+        distance 2 of all errors (0, 1) [('X0', 2), ('X1', 2)]
+        """
+        found = distance_of_model(self, most, graphlike)
+        return found if self.causes is None else replace(found, errors=tuple(self.error_of(it, self.causes) for it in found.mechanisms))
+
+    def error_of(self, mechanism: int, causes: Causes) -> CircuitError:
+        """The first of the errors that make a mechanism, with what it flips."""
+        flipped = self.flipped(mechanism).tolist()
+        detectors = tuple(it for it in flipped if it < self.detectors)
+        return replace(causes.error_of(mechanism), detectors=detectors,
+                       observables=tuple(it - self.detectors for it in flipped[len(detectors):]))
+
     @property
     def dem(self) -> str:
         """The model as text of Stim's detector error models, which Stim and PyMatching read; parts have `^` between them."""
@@ -238,7 +263,7 @@ def error_model(circuit: "str | StimCircuit", *, decompose: bool = False, ignore
     """
     profile = judged(circuit) if isinstance(circuit, str) else circuit.profile
     marks, table = faults_of(profile, approximate_disjoint_errors, sure_only)
-    model = model_of(marks, table, detector_rows(places_of(profile.circuit.items())))
+    model = model_of(marks, table, detector_rows(places_of(profile.circuit.items())), profile.noisy.items())
     if not decompose:
         return model
     return replace(model, parts=parts_of(model.chances, model.indptr, model.indices, model.detectors, ignore_decomposition_failures))
@@ -259,8 +284,8 @@ def faults_of(profile: Profile, approximate: bool, sure_only: bool) -> tuple[Mar
         raise Refused(refused.number, refused.name, None, MARKS_COUNT if refused.name == "TooManySteps" else "") from None
 
 
-def model_of(circuit: Marked, table: FaultTable, coordinates: NDArray[np.float64]) -> ErrorModel:
-    """The model of a marked circuit, whose table of faults has X and Z of each mark, one after the other."""
+def model_of(circuit: Marked, table: FaultTable, coordinates: NDArray[np.float64], items: tuple[Item, ...]) -> ErrorModel:
+    """The model of a marked circuit, whose table of faults has X and Z of each mark, one after the other; items: those with noise."""
     parts = [errors_of(source, table) for source in circuit.sources]
     counts = [len(chances) for chances, _, _ in parts]
     firsts = combining.starts_of(np.array(counts, dtype=np.int64))
@@ -271,7 +296,7 @@ def model_of(circuit: Marked, table: FaultTable, coordinates: NDArray[np.float64
         np.concatenate(nothing + [columns for _, _, columns in parts]),
     )
     return ErrorModel(joined.chances, joined.indptr, joined.indices, table.detectors, table.observables, coordinates, circuit.approximated,
-                      causes=Causes(tuple(circuit.sources), joined.mechanisms.astype(np.int32)))
+                      causes=Causes(tuple(circuit.sources), joined.mechanisms.astype(np.int32), items))
 
 
 def errors_of(source: Source, table: FaultTable) -> tuple[NDArray[np.float64], NDArray[np.int64], NDArray[np.int64]]:

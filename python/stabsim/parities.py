@@ -20,6 +20,10 @@ class Parity(NamedTuple):
     """Some records whose parity is the same for all coins.
 
     records: tuple of int, ascending, from 0; value: bool, the parity.
+
+    >>> import stabsim
+    >>> stabsim.Circuit("MX 0 !0").missing_detectors()
+    [Parity(records=(0, 1), value=True)]
     """
 
     records: tuple[int, ...]
@@ -32,6 +36,11 @@ class SameDistribution:
 
     same: bool. parity: tuple of int, if not, records whose parity differs; first, second: what it is in each, True, False, or None if
     coins decide it.
+
+    >>> import stabsim
+    >>> found = stabsim.Circuit("M 0 1").same_distribution(stabsim.Circuit("M 0\\nMX 1"))
+    >>> bool(found), found.parity, found.first, found.second
+    (False, (1,), False, None)
     """
 
     same: bool

@@ -1,13 +1,16 @@
-"""Questions on what a circuit does, answered by the program of circuits with more in them."""
+"""Questions on what a circuit does, answered by the program of circuits with more in them, or made of its answers."""
 
-from collections.abc import Sequence
+from collections.abc import Iterable, Sequence
 from dataclasses import dataclass
 
 import numpy as np
 from numpy.typing import NDArray
 
+from stabsim import flow_group, parities
 from stabsim.asked import Asked
-from stabsim.flows import Flow, asking_text
+from stabsim.flows import Flow, SameFlows, asking_text
+from stabsim.parities import Parity, SameDistribution
+from stabsim.reading import items_of
 
 
 @dataclass(frozen=True)
@@ -36,3 +39,72 @@ class Questioned(Asked):
         is_negative = asked.detect(1, seed=0)[0, before.detectors :]
         found: NDArray[np.bool_] = is_sure & (is_negative == np.array([flow.sign for flow in flows], dtype=np.bool_))
         return found
+
+    def flow_generators(self, *, qubits: Iterable[int] | None = None, records: bool = True) -> list[Flow]:
+        """Flows of which all others of the circuit are products, signs included.
+
+        qubits: only flows on these, in front and behind; records: whether flows may name records. The circuit has up to 512 qubits.
+
+        >>> import stabsim
+        >>> for flow in stabsim.Circuit("R 1\\nCX 0 1\\nMX 0").flow_generators():
+        ...     print(flow)
+        X0 -> X1 xor rec[-1]
+        Z0 -> Z1
+        1 -> X0 xor rec[-1]
+        """
+        return self.generators_on(self.numbers().qubits, qubits, records)
+
+    def generators_on(self, count: int, qubits: Iterable[int] | None, records: bool) -> list[Flow]:
+        """The generators with so many qubits, as many as the circuit names or more."""
+        rows = flow_group.joint_rows(Asked(flow_group.measured_text(self.text, [], count)).stabilisers(), count)
+        found = flow_group.generators_of(Asked(flow_group.measured_text(self.text, rows, count)).coins(), rows, count)
+        return found if qubits is None and records else flow_group.within(found, qubits, records, count)
+
+    def same_flows(self, other: "Questioned", *, qubits: Iterable[int] | None = None, records: bool = True) -> SameFlows:
+        """Whether another circuit has the same flows, and else a flow that one of them has and the other has not.
+
+        qubits, records: only flows on these qubits, or that name no records, as of `flow_generators`. With records both circuits have
+        as many, else a ValueError is raised.
+
+        >>> import stabsim
+        >>> swap = stabsim.Circuit("CX 0 1 1 0 0 1")
+        >>> bool(swap.same_flows(stabsim.Circuit("SWAP 0 1")))
+        True
+        >>> found = swap.same_flows(stabsim.Circuit("SWAP 0 1\\nX 0"))
+        >>> print(found.same, found.flow, found.first)
+        False Z1 -> Z0 True
+        """
+        has = [circuit.numbers() for circuit in (self, other)]
+        if records and has[0].records != has[1].records:
+            raise ValueError(f"{has[0].records} records and {has[1].records} have no flows in common; records=False leaves them out")
+        count, some = max(its.qubits for its in has), None if qubits is None else list(qubits)
+        for circuit, another in ((self, other), (other, self)):
+            flows = circuit.generators_on(count, some, records)
+            lacking = np.flatnonzero(~another.flows_that_hold(flows))
+            if len(lacking):
+                return SameFlows(False, flows[lacking[0]], circuit is self)
+        return SameFlows(True)
+
+    def missing_detectors(self) -> list[Parity]:
+        """Parities of records that are the same for all coins, and that the circuit's detectors and observables don't give: such that all
+        others are sums of these and those. Each has few records, which are near in time. `Circuit.with_detectors` puts them in.
+
+        >>> import stabsim
+        >>> c = stabsim.Circuit("R 0\\nREPEAT 3 {\\nMX 0\\n}\\nX 0\\nMX 0\\nDETECTOR rec[-2] rec[-3]")
+        >>> c.missing_detectors()
+        [Parity(records=(0, 1), value=False), Parity(records=(2, 3), value=False)]
+        """
+        return parities.missing_of(self.coins(), items_of(self.text))
+
+    def same_distribution(self, other: "Questioned") -> SameDistribution:
+        """Whether another circuit with as many records gives the same distribution of them, and else a parity in which they differ.
+
+        >>> import stabsim
+        >>> pair = stabsim.Circuit("H 0\\nCX 0 1\\nM 0 1")
+        >>> bool(pair.same_distribution(stabsim.Circuit("MPP X0*X1\\nM 0 1")))
+        Traceback (most recent call last):
+        ValueError: 2 records and 3 have no distribution in common
+        >>> pair.same_distribution(stabsim.Circuit("H 0 1\\nM 0 1"))
+        SameDistribution(same=False, parity=(0, 1), first=False, second=None)
+        """
+        return parities.compared(self.coins(), other.coins())

@@ -1,5 +1,6 @@
 """An editing session: a circuit that is run and kept, its edits, and what is asked of it."""
 
+import re
 from collections.abc import Callable, Iterable
 from types import TracebackType
 
@@ -8,11 +9,13 @@ from numpy.typing import NDArray
 
 from stabsim import bits, program
 from stabsim.circuit_errors import CircuitError
+from stabsim.distances import Distance, distance_of, of_marks
 from stabsim.errors import Refused
 from stabsim.explaining import explaining
 from stabsim.framed import FramedProcess
 from stabsim.history import Change, History, Request
 from stabsim.inserting import put_in
+from stabsim.random_bits import DecidingCoin, coins_of
 from stabsim.rounds import longest_part, parts_of_block, place_behind
 from stabsim.script import Path, edit_lines, path_text
 from stabsim.session_answers import Changed, ItemSteps, SessionNumbers
@@ -201,6 +204,31 @@ class Session:
         """Which detectors and observables of the circuit as it is now are the same for all coins: `Circuit.deterministic` of it."""
         return sure_of(bits.of_text(self.line("show deterministic")), self.numbers().detectors)
 
+    def why(self, bit: str) -> tuple[DecidingCoin, ...]:
+        """The coins that decide a detector, as D37, or an observable, as L0: none if it is the same for all coins.
+
+        >>> import stabsim
+        >>> with stabsim.Circuit("R 0\\nM 0\\nDETECTOR rec[-1]").edit() as session:
+        ...     session.insert(1, "H 0")
+        ...     session.why("D0")
+        (DecidingCoin(number=1, path='2'),)
+        """
+        return coins_of(text_of_lines(self.process.ask(f"show why {bit_name(bit)}\n".encode())))
+
+    def distance(self, most: int) -> Distance:
+        """The distance of the circuit as it is now, by the errors that it marks, up to so many of them: `Circuit.distance` of it.
+
+        >>> import stabsim
+        >>> with stabsim.Circuit("R 0 1\\nI[X] 0 1\\nM 0 1\\nDETECTOR rec[-1] rec[-2]\\nOBSERVABLE_INCLUDE(0) rec[-1]").edit() as session:
+        ...     print(session.distance(5))
+        ...     session.replace(1, "I[X] 0")
+        ...     print(session.distance(5))
+        distance 2 of all errors
+        none of all errors
+        """
+        lines = text_of_lines(self.process.ask(f"show distance {most}\n".encode()))
+        return of_marks(distance_of(lines), self.circuit())
+
     def sign(self, pauli: str) -> int:
         """1 if the string, as X0*Z3 or -X0 or with a letter for each qubit, stabilises the state, -1 if its negative does, 0 if neither
         does.
@@ -271,6 +299,13 @@ class Session:
         if len(lines) != 1:
             raise self.process.broken(f"{request} was answered by {len(lines)} lines")
         return lines[0]
+
+
+def bit_name(text: str) -> str:
+    """The name of a detector or an observable."""
+    if not re.fullmatch(r"[DL]\d+", text):
+        raise ValueError(f"{text!r} is no detector, as D37, and no observable, as L0")
+    return text
 
 
 def delete_line(path: str) -> bytes:

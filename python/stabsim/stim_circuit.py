@@ -8,6 +8,7 @@ from typing import Literal, overload
 from stabsim import names, noisy_shots
 from stabsim.circuit import Circuit
 from stabsim.diagrams import Diagram, Kind, Ticks, model_diagram, ticks_of_detectors
+from stabsim.distances import Distance
 from stabsim.judging import judged
 from stabsim.models import ErrorModel, error_model
 from stabsim.profile import Profile
@@ -115,6 +116,18 @@ class StimCircuit:
             flips = self.known_model.sample(shots, seed=seed, first_shot=first_shot)
             both = seeded(flips[0] ^ both[0], flips[0].seed), seeded(flips[1] ^ both[1], flips[1].seed)
         return both if separate_observables else both[0]
+
+    def distance(self, *, most: int | None = None, graphlike: bool = False, sure_only: bool = False) -> Distance:
+        """The least number of errors of the noise that flip an observable and no detector: `ErrorModel.distance`, for which chances don't
+        count, so disjoint errors are taken for independent ones. Errors have their places in `circuit`, of which `edit` opens a session.
+        For circuit-level noise, whatever the noise of this circuit, ask `circuit.distance(everywhere=True)`.
+
+        >>> import stabsim
+        >>> c = stabsim.from_stim("R 0 1\\nX_ERROR(0.1) 0 1\\nM 0\\nM(0.1) 1\\nDETECTOR rec[-1] rec[-2]\\nOBSERVABLE_INCLUDE(0) rec[-1]")
+        >>> [str(error) for error in c.distance().errors]
+        ['X0', 'X1']
+        """
+        return error_model(self, approximate_disjoint_errors=True, sure_only=sure_only).distance(most=most, graphlike=graphlike)
 
     def edit(self, *, qubits: int | None = None, seed: int = 0, stride: int | None = None) -> Session:
         """An editing session that begins with `circuit`, the one without noise, as by `Circuit.edit`."""

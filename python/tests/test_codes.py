@@ -8,6 +8,7 @@ import sys
 import numpy as np
 import pytest
 import stabsim
+from searching import Search
 from stabsim import codes
 
 HAMMING = [[1, 0, 1, 0, 1, 0, 1], [0, 1, 1, 0, 0, 1, 1], [0, 0, 0, 1, 1, 1, 1]]
@@ -149,43 +150,13 @@ DISTANCES = {
 }
 
 
-class Search:
-    """Looks for the fewest mechanisms of a model that flip an observable and together no detector: the distance of its circuit."""
-
-    def __init__(self, model):
-        self.detectors = model.detectors
-        self.mechanisms = [frozenset(model.flipped(number).tolist()) for number in range(len(model))]
-        self.touching = {}
-        self.by_detectors = {}
-        for flips in self.mechanisms:
-            self.by_detectors.setdefault(self.seen(flips), []).append(flips)
-            for detector in self.seen(flips):
-                self.touching.setdefault(detector, []).append(flips)
-
-    def seen(self, flips):
-        return frozenset(it for it in flips if it < self.detectors)
-
-    def distance(self):
-        """One of them flips an observable: with each such it is tried whether no more, one more, two more .. make a set."""
-        first = [flips for flips in self.mechanisms if flips != self.seen(flips)]
-        return next(size for size in itertools.count(1) if any(self.is_hidden(flips, size - 1) for flips in first))
-
-    def is_hidden(self, flips, more):
-        """Whether so many more mechanisms flip all detectors back, and not the observables."""
-        seen = self.seen(flips)
-        if more == 0 or not seen:
-            return not seen and bool(flips)
-        if more == 1:
-            return any(flips != last for last in self.by_detectors.get(seen, []))
-        # Some mechanism has to flip back each detector: that is tried of one that few of them flip.
-        rare = min(seen, key=lambda detector: len(self.touching[detector]))
-        return any(self.is_hidden(flips ^ other, more - 1) for other in self.touching[rare])
-
-
 @pytest.mark.parametrize("name", DISTANCES)
-def test_a_circuit_has_the_distance_that_is_said(name):
+def test_a_circuit_has_the_distance_that_is_said(name, answering):
     make, given, *distances = DISTANCES[name]
-    assert [Search(stabsim.error_model(make(**given, noise=noise))).distance() for noise in (UNIFORM, PHENOMENOLOGICAL, DATA)] == distances
+    models = [stabsim.error_model(make(**given, noise=noise)) for noise in (UNIFORM, PHENOMENOLOGICAL, DATA)]
+    assert [model.distance().distance for model in models] == distances
+    # The slow search finds no other for the first.
+    assert Search.of_model(models[0]).distance() == distances[0]
 
 
 def test_the_search_finds_what_all_sets_have():
@@ -194,7 +165,7 @@ def test_the_search_finds_what_all_sets_have():
         flips = [frozenset(model.flipped(number).tolist()) for number in range(len(model))]
         sets = ((size, some) for size in range(1, 4) for some in itertools.combinations(flips, size))
         least = next(size for size, some in sets if functools.reduce(frozenset.symmetric_difference, some) == {model.detectors})
-        assert least == Search(model).distance()
+        assert least == Search.of_model(model).distance()
 
 
 def test_noise_comes_off_again():

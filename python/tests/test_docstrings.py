@@ -13,7 +13,7 @@ WITH_EXAMPLES = [name for name in MODULES if ">>> " in pathlib.Path(importlib.ut
 
 
 @pytest.mark.parametrize("name", WITH_EXAMPLES)
-def test_the_examples_of_a_module_hold(name, tmp_path, monkeypatch):
+def test_the_examples_of_a_module_hold(name, tmp_path, monkeypatch, answering):
     monkeypatch.chdir(tmp_path)
     failed, tried = doctest.testmod(importlib.import_module(name))
     assert tried and not failed
@@ -25,5 +25,5 @@ UNDOCUMENTED = {"Decoder", "Item", "Path", "Predict", "codes"}
 
 
 @pytest.mark.parametrize("name", [name for name in stabsim.__all__ if name not in UNDOCUMENTED])
-def test_a_public_name_has_a_docstring(name):
-    assert getattr(stabsim, name).__doc__
+def test_a_public_name_has_a_docstring_with_an_example(name):
+    assert ">>> " in getattr(stabsim, name).__doc__

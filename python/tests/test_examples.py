@@ -4,6 +4,8 @@ import importlib.util
 import itertools
 import math
 import pathlib
+import subprocess
+import sys
 
 import numpy as np
 import pytest
@@ -66,12 +68,27 @@ def test_a_picture_is_drawn(tmp_path):
     assert (tmp_path / "picture.png").read_bytes().startswith(b"\x89PNG")
 
 
-def test_the_worst_fault_has_as_many_errors_as_an_exhaustive_search_finds(monkeypatch, capsys):
+def test_the_worst_fault_of_the_other_schedule_has_an_error_less(monkeypatch, capsys, answering):
     worst = example("worst_fault")
     # Of distance 3, where no two errors of the good schedule go unseen and two of the bad one do: test_codes.py looks through all.
     monkeypatch.setattr(worst, "DISTANCE", 3)
     worst.main()
     lines = capsys.readouterr().out.splitlines()
     assert [line for line in lines if not line.startswith(" ")] == [
-        "as it is: 3 faults flip the observable unseen", "with the middle gates of each round exchanged: 2 faults flip the observable unseen"]
-    assert len(lines) == 2 + 3 + 2
+        "as it is:", "distance 3 of all errors", "with the middle gates of each round exchanged:", "distance 2 of all errors"]
+    assert lines.count("  together: detectors [], observables [0]") == 2 and len(lines) == 4 + 2 + 3 + 2
+
+
+def test_the_first_hour_finds_what_the_file_hides(tmp_path, answering):
+    pytest.importorskip("matplotlib")
+    pytest.importorskip("networkx")
+    words = [sys.executable, "-B", EXAMPLES / "first_hour.py", "threshold.png"]
+    done = subprocess.run(words, cwd=tmp_path, capture_output=True, text=True, check=True)
+    lines = done.stdout.splitlines()
+    # The detector at (4, 4) in the first round, line 46, names the record of a check of X, which line 42 makes.
+    assert lines[1] == "D2 of item 34 is decided by item 31, which are lines 46 and 42"
+    assert lines[2:4] == ["Parity(records=(6,), value=False)", "True True False"]
+    # Without it two errors go unseen, and with the right record three.
+    assert lines[4:7] == ["distance 2 of all errors", "DETECTOR(4, 4, 0) rec[-2] True", "distance 3 of all errors"]
+    assert "detectors=array([]," in lines[8] and "observables=array([0])" in lines[8] and len(lines) == 9 + 6
+    assert (tmp_path / "threshold.png").read_bytes().startswith(b"\x89PNG")

@@ -7,9 +7,10 @@ import random
 import numpy as np
 import pytest
 import stabsim
-from coins_by_runs import table_by_runs
 from stabsim import flow_group
 from stabsim.flows import Flow
+
+pytestmark = pytest.mark.usefixtures("answering")
 
 ONE = {"I": np.eye(2), "X": np.array([[0, 1], [1, 0]]), "Y": np.array([[0, -1j], [1j, 0]]), "Z": np.diag([1, -1])}
 GATES = {"H": (ONE["X"] + ONE["Z"]) / np.sqrt(2), "S": np.diag([1, 1j]), **{letter: ONE[letter] for letter in "XYZ"}}
@@ -105,13 +106,12 @@ def test_flows_are_those_of_the_matrices(seed):
         assert not circuit.has_flow(flow) and not circuit.has_flow(opposite(flow))
 
 
-def generators(text, qubits=QUBITS):
-    """What `Circuit.flow_generators` answers, with coins by runs."""
-    rows = flow_group.joint_rows(stabsim.Circuit(flow_group.measured_text(text, [], qubits)).stabilisers(), qubits)
-    return flow_group.generators_of(table_by_runs(stabsim.Circuit(flow_group.measured_text(text, rows, qubits))), rows, qubits)
+def generators(text):
+    """The generators of a circuit that perhaps does not name both qubits."""
+    return stabsim.Circuit(f"QUBIT_COORDS(0) {QUBITS - 1}\n{text}").flow_generators()
 
 
-@pytest.mark.parametrize("seed", range(16))
+@pytest.mark.parametrize("seed", range(12))
 def test_generators_make_all_flows_of_the_matrices(seed):
     count = seed % 4
     text = random_text(seed, count)
@@ -120,19 +120,19 @@ def test_generators_make_all_flows_of_the_matrices(seed):
     assert all(holds(flow, branches, count) for flow in found)
     true = [flow for flow in all_flows(count) if holds(flow, branches, count) or holds(opposite(flow), branches, count)]
     assert len(true) == 2 ** len(found)
-    products = {flow_group.product_of_flows(some, QUBITS) for size in range(len(found) + 1) for some in itertools.combinations(found, size)}
+    products = all_products(found)
     assert len(products) == len(true)
     assert all(holds(flow, branches, count) for flow in products)
 
 
-@pytest.mark.parametrize("seed", range(10))
+@pytest.mark.parametrize("seed", range(6))
 def test_flows_on_some_qubits_and_without_records_are_those_of_all_that_are(seed):
     text = random_text(seed + 50, 2)
     found = generators(text)
-    products = {flow_group.product_of_flows(some, QUBITS) for size in range(len(found) + 1) for some in itertools.combinations(found, size)}
+    products = all_products(found)
     for qubits, has_records in (([0], True), (None, False), ([1], False)):
-        some = flow_group.within(found, qubits, has_records, QUBITS)
-        made = {flow_group.product_of_flows(its, QUBITS) for size in range(len(some) + 1) for its in itertools.combinations(some, size)}
+        some = stabsim.Circuit(f"QUBIT_COORDS(0) {QUBITS - 1}\n{text}").flow_generators(qubits=qubits, records=has_records)
+        made = all_products(some)
         inside = set(range(QUBITS)) if qubits is None else set(qubits)
         expected = {flow for flow in products if {qubit for qubit, _ in flow.input + flow.output} <= inside and (has_records or not flow.records)}
         assert made == expected
@@ -145,6 +145,51 @@ def test_flows_by_hand():
     assert [str(flow) for flow in generators("R 0\nR 1")] == ["1 -> Z0", "1 -> Z1"]
     # What a measurement repeats is a flow of records alone.
     assert [str(flow) for flow in generators("M 0\nM 0\nR 1")][-1] == "1 -> rec[-2] xor rec[-1]"
+
+
+def all_products(flows):
+    return {flow_group.product_of_flows(some, QUBITS) for size in range(len(flows) + 1) for some in itertools.combinations(flows, size)}
+
+
+@pytest.mark.parametrize("seed", range(12))
+def test_circuits_have_the_same_flows_if_their_matrices_do(seed):
+    count = 1 + seed % 2
+    first = stabsim.Circuit(random_text(seed, count))
+    # Another circuit, or the same one with a gate more, which may do nothing to it, as Z behind a measurement of Z whose record controls it.
+    more = ["Z 0", "CX rec[-1] 0", "Y 1\nY 1"][seed // 3 % 3]
+    second = stabsim.Circuit(random_text(seed + 100, count) if seed % 3 == 0 else f"{first.text}\n{more}")
+    branches = [branches_of(circuit.text) for circuit in (first, second)]
+    signed = [{it for flow in all_flows(count) for it in (flow, opposite(flow)) if holds(it, its, count)} for its in branches]
+    found = first.same_flows(second)
+    assert bool(found) == (signed[0] == signed[1])
+    if not found:
+        had, lacking = signed if found.first else reversed(signed)
+        assert found.flow in had and found.flow not in lacking
+
+
+def test_two_ways_to_do_the_same():
+    direct = stabsim.Circuit("MPP Z0*Z1")
+    by_another = stabsim.Circuit("R 2\nCX 0 2 1 2\nM 2")
+    # What the third qubit was is lost, and else they do the same.
+    found = direct.same_flows(by_another)
+    assert not found and {qubit for qubit, _ in found.flow.input + found.flow.output} == {2}
+    assert direct.same_flows(by_another, qubits=[0, 1])
+    assert not direct.same_flows(stabsim.Circuit("R 2\nCX 0 2\nM 2"), qubits=[0, 1])
+    # A sign counts.
+    found = direct.same_flows(stabsim.Circuit("MPP !Z0*Z1"))
+    assert not found and found.first and found.flow.records == (-1,)
+
+
+def test_teleportation_is_a_move_whatever_its_records():
+    begin = "R 1 2\nH 1\nCX 1 2 0 1\nH 0\nM 0 1\n"
+    teleportation = stabsim.Circuit(begin + "CX rec[-1] 2\nCZ rec[-2] 2\nR 0 1")
+    move = stabsim.Circuit("R 2\nSWAP 0 2\nR 1")
+    assert teleportation.same_flows(move, records=False) and move.same_flows(teleportation, records=False)
+    without = stabsim.Circuit(begin + "CZ rec[-2] 2\nR 0 1")
+    found = without.same_flows(move, records=False)
+    assert not found and not found.first and str(found.flow) == "Z0 -> Z2"
+    with pytest.raises(ValueError, match="no flows in common"):
+        teleportation.same_flows(move)
 
 
 @pytest.mark.parametrize("text, again", [
@@ -179,3 +224,4 @@ def test_qubits_that_a_circuit_does_not_name_stay_as_they_are():
 def test_many_qubits_have_flows():
     circuit = stabsim.Circuit("H " + " ".join(map(str, range(512))))
     assert circuit.has_flow("X511 -> Z511") and not circuit.has_flow("Y511 -> Y511") and circuit.has_flow("Y511 -> -Y511")
+    assert [str(flow) for flow in circuit.flow_generators()[:3]] == ["X0 -> Z0", "Z0 -> X0", "X1 -> Z1"]

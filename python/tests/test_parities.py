@@ -6,8 +6,10 @@ import random
 import numpy as np
 import pytest
 import stabsim
-from coins_by_runs import all_runs, table_by_runs
+from coins_by_runs import bits_of
 from stabsim import codes, coins, parities
+
+pytestmark = pytest.mark.usefixtures("answering")
 
 
 def span_of(records):
@@ -72,17 +74,12 @@ def test_missing_parities_complete_the_known_ones_and_span_little(seed):
     assert sorted(map(span_of, missing)) == least_spans(columns, known)
 
 
-def missing_of(circuit):
-    return parities.missing_of(table_by_runs(circuit), circuit.items)
-
-
 @pytest.mark.parametrize("text", [codes.surface_code(3, 2, written_out=True), codes.colour_code(3, 1, written_out=True),
                                   codes.bacon_shor_code(2, 2, written_out=True), codes.repetition_code(3, 2, written_out=True)],
                          ids=["surface", "colour", "Bacon-Shor", "repetition"])
 def test_a_detector_that_was_taken_out_is_found(text):
     whole = stabsim.Circuit(text)
-    table = table_by_runs(whole)
-    missing = parities.missing_of(table, whole.items)
+    table, missing = whole.coins(), whole.missing_detectors()
     # At the end of the Bacon-Shor code each pair along a row is measured once more, by its two qubits, and not the product of a row alone.
     assert missing == ([((7, 8, 9), False)] if "Bacon" in text else [])
     lines = text.splitlines()
@@ -100,16 +97,21 @@ def test_a_detector_that_was_taken_out_is_found(text):
         mended = less.with_detectors(found)
         assert mended.deterministic().detectors.all()
         assert parities.missing_of(table, mended.items) == []
+        if place == detectors[-1]:
+            assert less.missing_detectors() == found and mended.missing_detectors() == []
 
 
 def test_missing_detectors_by_hand():
-    assert missing_of(stabsim.Circuit("MX 0 0 0")) == [((0, 1), False), ((1, 2), False)]
-    assert missing_of(stabsim.Circuit("X 0\nM 0\nM 1")) == [((0,), True), ((1,), False)]
-    assert missing_of(stabsim.Circuit("MX 0 0 0\nDETECTOR rec[-1] rec[-3]")) == [((0, 1), False)]
+    def missing(text):
+        return stabsim.Circuit(text).missing_detectors()
+
+    assert missing("MX 0 0 0") == [((0, 1), False), ((1, 2), False)]
+    assert missing("X 0\nM 0\nM 1") == [((0,), True), ((1,), False)]
+    assert missing("MX 0 0 0\nDETECTOR rec[-1] rec[-3]") == [((0, 1), False)]
     # A detector that coins decide gives nothing, and an observable does.
-    assert missing_of(stabsim.Circuit("MX 0 0\nDETECTOR rec[-1]")) == [((0, 1), False)]
-    assert missing_of(stabsim.Circuit("MX 0 0\nOBSERVABLE_INCLUDE(2) rec[-1]\nOBSERVABLE_INCLUDE(2) rec[-2]")) == []
-    assert missing_of(stabsim.Circuit("REPEAT 2 {\nMX 0\n}\nREPEAT 1 {\nMX 0\nDETECTOR rec[-1] rec[-2]\n}")) == [((0, 1), False)]
+    assert missing("MX 0 0\nDETECTOR rec[-1]") == [((0, 1), False)]
+    assert missing("MX 0 0\nOBSERVABLE_INCLUDE(2) rec[-1]\nOBSERVABLE_INCLUDE(2) rec[-2]") == []
+    assert missing("REPEAT 2 {\nMX 0\n}\nREPEAT 1 {\nMX 0\nDETECTOR rec[-1] rec[-2]\n}") == [((0, 1), False)]
 
 
 def test_records_of_detectors_are_those_of_the_written_out_circuit():
@@ -127,11 +129,18 @@ def random_circuit(seed, records=4):
     return stabsim.Circuit("\n".join(lines))
 
 
-@pytest.mark.parametrize("seed", range(30))
+def all_runs(circuit):
+    """The records of the runs of all coins, each once, as a set of tuples."""
+    has = circuit.numbers()
+    every = itertools.product((0, 1), repeat=has.coins)
+    return {tuple(map(int, bits_of(circuit.text, sequence)[: has.records])) for sequence in every}
+
+
+@pytest.mark.parametrize("seed", range(20))
 def test_distributions_are_the_same_if_the_runs_of_all_coins_are(seed):
     first, second = random_circuit(seed, 3), random_circuit(seed + 1000, 3)
     slow = [all_runs(circuit) for circuit in (first, second)]
-    found = parities.compared(table_by_runs(first), table_by_runs(second))
+    found = first.same_distribution(second)
     assert bool(found) == (slow[0] == slow[1])
     if not found:
         values = [{sum(run[place] for place in found.parity) % 2 for run in runs} for runs in slow]
@@ -142,11 +151,11 @@ def test_distributions_are_the_same_if_the_runs_of_all_coins_are(seed):
 def test_a_measurement_is_like_one_by_another_qubit():
     direct = stabsim.Circuit("R 0 1 2\nH 0\nMPP X0*X1\nM 0 1")
     by_another = stabsim.Circuit("R 0 1 2\nH 0\nH 2\nCX 2 0 2 1\nH 2\nM 2\nM 0 1")
-    assert parities.compared(table_by_runs(direct), table_by_runs(by_another))
-    other = parities.compared(table_by_runs(direct), table_by_runs(stabsim.Circuit("R 0 1\nM 0 1\nM 0")))
+    assert direct.same_distribution(by_another)
+    other = direct.same_distribution(stabsim.Circuit("R 0 1\nM 0 1\nM 0"))
     assert not other and other.first is None and other.second is False
     with pytest.raises(ValueError, match="in common"):
-        parities.compared(table_by_runs(direct), table_by_runs(stabsim.Circuit("M 0")))
+        direct.same_distribution(stabsim.Circuit("M 0"))
 
 
 def test_the_lines_of_a_table_are_read():

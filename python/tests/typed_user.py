@@ -79,6 +79,22 @@ def drawn(circuit: Circuit, flow: stabsim.Flow) -> bool:
     return circuit.with_detectors([(0, 1)]).has_flow(flow) and circuit.has_flow("X0 -> Z0 xor rec[-1]")
 
 
+def asked(circuit: Circuit, other: Circuit) -> list[int]:
+    table: stabsim.CoinTable = circuit.coins()
+    reasons: dict[str, tuple[stabsim.DecidingCoin, ...]] = {bit.name: bit.coins for bit in circuit.explain()}
+    parities: list[stabsim.Parity] = circuit.missing_detectors()
+    flows: list[stabsim.Flow] = circuit.flow_generators(qubits=range(3), records=False)
+    same: stabsim.SameFlows = circuit.same_flows(other, records=False)
+    if not (same and circuit.same_distribution(other)):
+        print(same.flow, reasons, table.constants().sum(), len(flows))
+    found: stabsim.Distance = circuit.distance(everywhere=True, letters="XZ", most=4)
+    with circuit.with_detectors(parities).edit() as session:
+        session.insert_errors(found.errors)
+        print([coin.path for coin in session.why("D0")], session.distance(3).distance)
+    model = error_model(circuit.text)
+    return [error.steps for error in stabsim.from_stim(circuit.text).distance(graphlike=True).errors] + list(model.distance(most=3).mechanisms)
+
+
 def noisy(text: str) -> int:
     read: stabsim.StimCircuit = stabsim.from_stim(text)
     chances: list[float] = [chance for channel in read.noise for chance in channel.numbers()]
