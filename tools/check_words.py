@@ -1,9 +1,9 @@
 #!/usr/bin/env python3
-"""Compares the commands, options and formats of completions/ and man/ with those that the built program's --help names.
+"""Compares the commands, options and named values of completions/ and man/ with those that the built program's --help names.
 
     tools/check_words.py
 
-So are the lines of scripts that the manual page names. It ends with 1 where one is missing, or where one is named that the program
+So are the lines of scripts that the manual page names. It ends with 1 if one is missing, or if one is named that the program
 doesn't have. The completion for bash is asked as bash asks it, which takes the = of --out_format=dets for a word by itself.
 """
 
@@ -18,7 +18,7 @@ TOP = pathlib.Path(__file__).resolve().parent.parent
 PROGRAM = find_program()
 OPTION = re.compile(r"--[a-z_]+")
 WITH_VALUE = re.compile(r"(--[a-z_]+) <")
-FORMATS = re.compile(r"\[possible values: (.*)\]")
+NAMED = re.compile(r"(--[a-z_]+) <.*\[possible values: (.*)\]")
 # A line of a script with what it does, in the help of `edit`.
 SCRIPT_LINE = re.compile(r"^  ([a-z].*?)  ", re.MULTILINE)
 
@@ -50,7 +50,7 @@ def zsh_words(command):
 
 
 def zsh_with_value(command):
-    """The options that zsh completes a value of, behind a space or a =."""
+    """The options that zsh completes a value of, after a space or a =."""
     text = (TOP / "completions" / "_stabsim").read_text()
     return set(re.findall(r"(--[a-z_]+)=\[", text.split(f"_stabsim_{command}() {{", 1)[1].split("\n}\n", 1)[0]))
 
@@ -65,7 +65,7 @@ def man_words(head, end):
 
 
 def man_script_lines():
-    """What stands in bold behind each .TP of the section on scripts."""
+    """What is in bold after each .TP of the section on scripts."""
     found = set()
     for line in re.findall(r"\.TP\n(\.BR? .*)", man_section(".SH SCRIPT", ".SH")):
         found |= set(re.findall(r'"([a-z][^"]*)"', line)) or {line.removeprefix(".B ")}
@@ -90,10 +90,9 @@ def main():
         compare(f"{command} in zsh", zsh_words(command), options)
         help_text = text_of([PROGRAM, command, "--help"])
         compare(f"the values of {command} in zsh", zsh_with_value(command), set(WITH_VALUE.findall(help_text)))
-        formats = {name for found in FORMATS.findall(help_text) for name in found.split(", ")}
-        if formats:
-            compare(f"formats of {command} in bash", bash_words([command, "--out_format"]), formats)
-            compare(f"formats of {command} behind a = in bash", bash_words([command, "--out_format", "="]), formats)
+        for option, names in NAMED.findall(help_text):
+            compare(f"{option} of {command} in bash", bash_words([command, option]), set(names.split(", ")))
+            compare(f"{option} of {command} after a = in bash", bash_words([command, option, "="]), set(names.split(", ")))
         compare(f"{command} in the manual", man_words(f".SS {command}", ".S"), options)
     compare("what follows help in bash", bash_words(["help"]), commands - {"help"})
     compare("the script of the manual", man_script_lines(), set(SCRIPT_LINE.findall(text_of([PROGRAM, "edit", "--help"]))))

@@ -62,6 +62,10 @@ RUNS = [
     Run(["deterministic", "--out_format", "dets", "--in", str(CIRCUIT)]),
     Run(["faults", "--everywhere", "--in", str(CIRCUIT)]),
     Run(["faults", "--everywhere", "--out_format", "b8", "--in", str(TOP / "examples" / "teleportation.stim")]),
+    Run(["coins", "--in", str(TOP / "examples" / "teleportation.stim")]),
+    Run(["coins", "--out_format", "hits", "--in", str(BELL)]),
+    Run(["distance", "--everywhere", "--in", str(CIRCUIT)]),
+    Run(["distance", "--everywhere", "--graphlike", "--in", str(CIRCUIT)]),
     Run(["edit", "--stride", "4", "--in", str(CIRCUIT)]),
     Run(["edit", "--stride", "2", "--seed", "7", "--in", str(BELL)], script=BELL_SCRIPT),
     Run(["sample", "--shots", "none"], status=2),
@@ -191,6 +195,7 @@ def runs_of_parities(folder: pathlib.Path) -> Iterator[Run]:
     yield Run([*detect, "--shots", "2", "--seed", "7"])
     yield Run([*detect, "--shots", "12", "--coins", "1011", f"--out={out}"], out=out)
     yield Run(["deterministic", "--in", str(parities)])
+    yield Run(["deterministic", "--explain", "--in", str(parities)])
 
 
 def runs_of_marks(folder: pathlib.Path) -> Iterator[Run]:
@@ -199,6 +204,7 @@ def runs_of_marks(folder: pathlib.Path) -> Iterator[Run]:
     marked.write_text("R 0\nI 0\nM 0\nDETECTOR rec[-1]\nOBSERVABLE_INCLUDE(0) rec[-1]\n")
     yield Run(["faults", "--in", str(marked)])
     yield Run(["faults", "--out_format", "01", "--in", str(marked)])
+    yield Run(["distance", "--in", str(marked)])
 
 
 def try_memory(library: pathlib.Path, folder: pathlib.Path) -> None:

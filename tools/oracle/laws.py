@@ -9,6 +9,8 @@ from collections.abc import Callable, Sequence
 from random import Random
 
 from . import formats, printing
+from .coin_laws import coins_add, coins_turned
+from .distance_laws import distances_by_sets
 from .fault_laws import faults_as_edits
 from .making import Maker, damaged, small_circuit
 from .numbers import check
@@ -287,5 +289,6 @@ LAWS: dict[str, Callable[[Random, Program], Wrong]] = {
     "edited as anew": edited_as_anew, "formats of one another": bits_in_each_format, "checked as run": checked_as_run,
     "faults as edits": faults_as_edits, "shots by themselves": shots_by_themselves, "blocks as written out": blocks_as_written_out,
     "sessions as written out": sessions_as_written_out, "lines that come again": lines_that_come_again,
-    "far apart as side by side": far_apart_as_side_by_side,
+    "far apart as side by side": far_apart_as_side_by_side, "coins turned": coins_turned, "coins add": coins_add,
+    "distances by sets": distances_by_sets,
 }

@@ -10,7 +10,7 @@ from program import TOP, find_program
 PROGRAM = find_program()
 # The longest, in seconds, that a run is waited for.
 TIME_LIMIT = 60
-COMMANDS = ("sample", "detect", "stabilisers", "edit", "check", "deterministic", "faults")
+COMMANDS = ("sample", "detect", "stabilisers", "edit", "check", "deterministic", "faults", "coins", "distance")
 NO_MARKS = "stabsim: no place is marked by I; --everywhere asks for all places\n"
 TOO_LONG = "stabsim: refused 14 TooLong\n"
 READ_FAULT = "stabsim: refused 15 ReadFault\n"

@@ -93,7 +93,7 @@ def test_a_closed_stream_fails_where_it_is_needed_and_changes_nothing_else(tmp_p
 @pytest.mark.parametrize("command", [command for command in COMMANDS if command != "edit"])
 def test_no_command_but_edit_reads_a_script(circuit: pathlib.Path, command: str) -> None:
     words = [command, "--in", circuit]
-    assert run(words, closed=(0,)) == (0, run(words)[1], NO_MARKS if command == "faults" else "")
+    assert run(words, closed=(0,)) == (0, run(words)[1], NO_MARKS if command in ("faults", "distance") else "")
 
 
 def test_faults_says_that_no_place_is_marked(tmp_path: pathlib.Path, circuit: pathlib.Path) -> None:
@@ -109,6 +109,25 @@ def test_faults_says_that_no_place_is_marked(tmp_path: pathlib.Path, circuit: pa
     assert run([*words, "--out_format", "b8"]) == (0, "", "")
     circuit.write_text("CX 0 0\n")
     assert run(words) == (1, "", "stabsim: line 1: refused 4 BadPairing\n")
+
+
+def test_distance_says_that_no_error_is_marked(circuit: pathlib.Path) -> None:
+    words = ["distance", "--in", circuit]
+    circuit.write_text("R 0\nM 0\nOBSERVABLE_INCLUDE(0) rec[-1]\n")
+    assert run(words) == (0, "none\n", NO_MARKS)
+    assert run([*words, "--everywhere"])[2] == ""
+    circuit.write_text("R 0\nI[Y] 0\nM 0\nOBSERVABLE_INCLUDE(0) rec[-1]\n")
+    assert run(words) == (0, "distance 1 of all errors\n1 1 Y0 L0\n", "")
+
+
+def test_distance_reports_each_number_of_errors_that_is_excluded(circuit: pathlib.Path) -> None:
+    # Two flips of a bit that is measured twice, and compared, are seen by no detector.
+    circuit.write_text("R 0 1\nI[X] 0 1\nM 0 1\nDETECTOR rec[-1] rec[-2]\nOBSERVABLE_INCLUDE(0) rec[-1]\n")
+    words = ["distance", "--in", circuit]
+    answer = "distance 2 of all errors\n2 1 X0 D0\n3 1 X1 D0 L0\n"
+    assert run(words) == (0, answer, "")
+    assert run([*words, "--progress"]) == (0, answer, "distance: no set of 1\n")
+    assert run([*words, "--progress", "--most", "1"]) == (0, "none up to 1\n", "distance: no set of 1\n")
 
 
 @pytest.fixture(name="coins")

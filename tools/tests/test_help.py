@@ -15,10 +15,13 @@ LAST = [
     ("  ./stabsim ", " --in examples/"),
     ("", ""),
     ("raw", "no reference sample is subtracted."),
-    ("Refusals", "refusals.md"),
+    ("Refusals", "docs/use/refusals.md"),
 ]
 # Commands, and an option that each of them doesn't have.
-OF_OTHERS = [("sample", "--append_observables"), ("stabilisers", "--shots"), ("edit", "--first_shot"), ("deterministic", "--seed"), ("faults", "--coins")]
+OF_OTHERS = [
+    ("sample", "--append_observables"), ("stabilisers", "--shots"), ("edit", "--first_shot"), ("deterministic", "--seed"), ("faults", "--coins"),
+    ("coins", "--seed"), ("distance", "--out_format"),
+]
 STRIDE = "How many steps lie between two checkpoints"
 
 
