@@ -215,8 +215,9 @@ class Session:
         """
         return coins_of(text_of_lines(self.process.ask(f"show why {bit_name(bit)}\n".encode())))
 
-    def distance(self, most: int) -> Distance:
-        """The distance of the circuit as it is now, by the errors that it marks, up to so many of them: `Circuit.distance` of it.
+    def distance(self, most: int, *, everywhere: bool = False) -> Distance:
+        """The distance of the circuit as it is now, by the errors that it marks, or by errors everywhere, up to so many of them:
+        `Circuit.distance` of it.
 
         >>> import stabsim
         >>> with stabsim.Circuit("R 0 1\\nI[X] 0 1\\nM 0 1\\nDETECTOR rec[-1] rec[-2]\\nOBSERVABLE_INCLUDE(0) rec[-1]").edit() as session:
@@ -226,8 +227,8 @@ class Session:
         distance 2 of all errors
         none of all errors
         """
-        lines = text_of_lines(self.process.ask(f"show distance {most}\n".encode()))
-        return of_marks(distance_of(lines), self.circuit())
+        found = distance_of(text_of_lines(self.process.ask(f"show distance {most}{' everywhere' * everywhere}\n".encode())))
+        return found if everywhere else of_marks(found, self.circuit())
 
     def sign(self, pauli: str) -> int:
         """1 if the string, as X0*Z3 or -X0 or with a letter for each qubit, stabilises the state, -1 if its negative does, 0 if neither

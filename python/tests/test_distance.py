@@ -92,6 +92,7 @@ def test_a_circuit_without_marks_says_so():
     assert "everywhere=True" in str(circuit.distance()) and circuit.distance(everywhere=True).distance == 1
     with circuit.edit() as session:
         assert "no place is marked" in session.distance(3).searched
+        assert session.distance(3, everywhere=True) == circuit.distance(everywhere=True)
 
 
 def test_what_coins_decide_is_refused_or_left_out():
