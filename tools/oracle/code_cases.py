@@ -169,7 +169,9 @@ def cases(run: Program, seconds: float, seed: int) -> Iterator[Wrong]:
     """What is wrong in each case, or None: dense circuits are tried for some seconds."""
     dice = Random(seed)
     yield from circuits_of_codes()
-    named = {file.name: file.read_text() for file in sorted(EXAMPLES.glob("*.stim"))} | CODES
+    # Texts with noise are for the package.
+    files = [file for file in sorted(EXAMPLES.glob("*.stim")) if not file.name.startswith("noisy_")]
+    named = {file.name: file.read_text() for file in files} | CODES
     for name, text in named.items():
         yield circuit(run, name, text, dice)
     end = time.monotonic() + seconds
