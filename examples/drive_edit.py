@@ -5,9 +5,11 @@
 
 It asks a repetition code which detectors and observables an X on each qubit flips. Where an observable flips, it puts a
 second X behind the first and looks whether that undoes it. A reply that is refused, or is missing since the program ended,
-ends the driver with what was asked and replied: it is never taken for bits. It needs Python alone.
+ends the driver with what was asked and replied: it is never taken for bits. It needs Python alone, and runs the program that the
+environment variable STABSIM names, else `./stabsim`.
 """
 
+import os
 import pathlib
 import subprocess
 
@@ -25,7 +27,7 @@ class Session:
     """An editing session: the reply to each line is read before another one is sent."""
 
     def __init__(self, circuit):
-        words = [TOP / "stabsim", "edit", "--in", circuit]
+        words = [os.environ.get("STABSIM", TOP / "stabsim"), "edit", "--in", circuit]
         self.program = subprocess.Popen(words, stdin=subprocess.PIPE, stdout=subprocess.PIPE, text=True, bufsize=1)
 
     def send(self, *lines):
