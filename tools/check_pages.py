@@ -66,8 +66,6 @@ PLAINER = {
     r"\b[Ll]ater that (?:day|night|evening)\b": "what is, without what was",
     r"\bfrom nothing\b": "from scratch",
 }
-# Pages that still have such phrases. A page that is rewritten leaves this list, and none comes to it.
-NOT_YET_PLAIN = {"docs/use/page.md"}
 NAMED_PAGE = re.compile(r"\bdocs/[\w/-]+\.md")
 DEFINED = re.compile(r"(?:(?:abbrev|unfoldable|opaque|pub|record|data)\s+)+([^\s:({]+)|  (?:pub )?(\S+) :")
 
@@ -196,7 +194,7 @@ def too_many_words() -> Iterator[str]:
 def plainer_phrases(page: Path) -> Iterator[str]:
     """Phrases of a page that have a plainer form."""
     text = re.sub(r"`[^`\n]*`", "`", prose(page))
-    for phrase, plainer in PLAINER.items() if name_of(page) not in NOT_YET_PLAIN else ():
+    for phrase, plainer in PLAINER.items():
         for found in re.finditer(phrase, text, re.MULTILINE):
             around = " ".join(text[max(0, found.start() - 20):found.end() + 20].split())
             yield f"\"{around}\": write {plainer}"
