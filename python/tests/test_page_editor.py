@@ -1,10 +1,5 @@
 """Circuits that are drawn on the page by mouse and keys, by events that the browser itself makes."""
 
-import http.client
-import time
-import urllib.parse
-import xml.etree.ElementTree
-
 import pytest
 import stabsim
 from browsing import Keys, needs_browser
@@ -322,83 +317,6 @@ def test_the_wheel_zooms_at_the_pointer_and_with_ctrl_a_drag_pans(page):
 def wheel(page, spot, turned):
     box = page.find("picture").rect
     return {"type": "mouseWheel", "x": box["x"] + spot[0], "y": box["y"] + spot[1], "deltaX": 0, "deltaY": turned}
-
-
-def test_a_circuit_is_pasted_and_undo_brings_the_old_one_back(page):
-    page.browser.execute_script(
-        "const data = new DataTransfer(); data.setData('text', arguments[0]);"
-        "document.body.dispatchEvent(new ClipboardEvent('paste', {clipboardData: data, bubbles: true, cancelable: true}));", "H 5\nX_ERROR(0.1) 5\nM 5\n")
-    page.wait(lambda: page.history() == ["opened", "open pasted.stim"])
-    assert page.circuit() == "H 5\nM 5\n" and page.find("left-out").text.startswith("The noise of 1 line")
-    page.click("#undo")
-    page.wait(lambda: page.circuit() == FOUR)
-    assert not page.find("left-out").is_displayed()
-
-
-def dropped(page, **data):
-    """Drops something on the picture, by events of the browser's own. That a drop is taken the browser learns from one event for the
-    next, some time later."""
-    box = page.find("picture").rect
-    for kind in ("dragEnter", "dragOver", "dragOver", "drop"):
-        told = {"type": kind, "x": box["x"] + 90, "y": box["y"] + 90, "data": {"items": [], "dragOperationsMask": 1, **data}}
-        page.browser.execute_cdp_cmd("Input.dispatchDragEvent", told)
-        time.sleep(0.3)
-
-
-def test_a_circuit_is_dropped_as_a_file_or_as_text(page, tmp_path):
-    file = tmp_path / "dropped_file.stim"
-    file.write_text("R 3\nDEPOLARIZE1(0.1) 3\nM 3\n")
-    dropped(page, files=[str(file)])
-    page.wait(lambda: page.history() == ["opened", "open dropped_file.stim"])
-    assert page.circuit() == "R 3\nM 3\n" and page.find("left-out").text.startswith("The noise of 1 line")
-    dropped(page, items=[{"mimeType": "text/plain", "data": "H 2\n"}])
-    page.wait(lambda: page.history()[-1] == "open dropped.stim" and page.circuit() == "H 2\n")
-
-
-def test_a_link_holds_the_circuit(page, open_page):
-    page.go_to(1)
-    page.type_on(2, "y")
-    page.wait(lambda: len(page.history()) == 2)
-    page.click("#link")
-    page.wait(lambda: "#circuit=" in page.browser.current_url)
-    letters = urllib.parse.urlsplit(page.browser.current_url).fragment
-    drawn = page.circuit()
-    other = open_page("H 0\n")
-    page.browser.execute_script("location.hash = arguments[0]; location.reload()", letters)
-    other.wait(lambda: other.history() == ["opened", "open linked.stim"] and other.circuit() == drawn)
-    assert "circuit=" not in other.browser.current_url
-
-
-def test_what_is_seen_is_exported_as_svg_and_without_a_file_the_browser_saves(page):
-    def given(*clicks):
-        made = page.browser.execute_async_script(
-            "const done = arguments[1]; const make = URL.createObjectURL;"
-            "URL.createObjectURL = (blob) => { blob.text().then(done); URL.createObjectURL = make; return make(blob); };"
-            "for (const find of arguments[0]) [...document.querySelectorAll('button')].find((it) => it.textContent.startsWith(find)).click();", list(clicks))
-        return made
-
-    page.go_to(1)
-    svg = xml.etree.ElementTree.fromstring(given("Export", "SVG"))
-    words = [text.text for text in svg.iter("{http://www.w3.org/2000/svg}text")]
-    # The numbers of the qubits; coordinates stand at the edges.
-    assert {"0", "1", "2", "3"} <= set(words) and len(list(svg)) > 20
-    assert given("Save") == FOUR
-
-
-def test_answers_are_guarded(page):
-    parts = urllib.parse.urlsplit(page.address)
-    for path in (f"/?{parts.query}", "/static/main.js", "/nothing"):
-        connection = http.client.HTTPConnection(parts.hostname, parts.port)
-        connection.request("GET", path)
-        headers = connection.getresponse().headers
-        connection.close()
-        assert headers["X-Content-Type-Options"] == "nosniff" and headers["Referrer-Policy"] == "no-referrer"
-        assert headers["X-Frame-Options"] == "DENY" and "script-src 'self';" in headers["Content-Security-Policy"]
-
-
-def test_by_a_public_port_the_page_is_open_to_its_tunnel(open_page):
-    page = open_page(FOUR, "--public-port", "1", is_opened=False)
-    assert page.address.startswith("http://127.0.0.1:1/?token=")
 
 
 def test_nothing_jumps(page):
