@@ -13,19 +13,7 @@ sys.path[:0] = PLACES
 os.environ["PYTHONPATH"] = os.pathsep.join(PLACES + [it for it in [os.environ.get("PYTHONPATH")] if it])
 os.environ["PYTHONDONTWRITEBYTECODE"] = "1"
 
-from answering import answering_program  # noqa: E402: it stands in a place that was named above
-from browsing import Page, open_browser  # noqa: E402
-
-
-@pytest.fixture(scope="session")
-def answering_path(tmp_path_factory):
-    return answering_program(tmp_path_factory.mktemp("answering"))
-
-
-@pytest.fixture
-def answering(answering_path, monkeypatch):
-    """The package finds a program that answers all that it asks."""
-    monkeypatch.setenv("STABSIM", answering_path)
+from browsing import Page, open_browser  # noqa: E402: it stands in a place that was named above
 
 
 @pytest.fixture(scope="session")

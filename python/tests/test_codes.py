@@ -151,7 +151,7 @@ DISTANCES = {
 
 
 @pytest.mark.parametrize("name", DISTANCES)
-def test_a_circuit_has_the_distance_that_is_said(name, answering):
+def test_a_circuit_has_the_distance_that_is_said(name):
     make, given, *distances = DISTANCES[name]
     models = [stabsim.error_model(make(**given, noise=noise)) for noise in (UNIFORM, PHENOMENOLOGICAL, DATA)]
     assert [model.distance().distance for model in models] == distances

@@ -9,8 +9,6 @@ from searching import least_by_all_sets
 from stabsim import codes
 from stabsim.distances import distance_of
 
-pytestmark = pytest.mark.usefixtures("answering")
-
 # The generators of the five-qubit code, and of Steane's, with the logical Z of both, and marks on all data qubits.
 FIVE = "MPP X0*Z1*Z2*X3 X1*Z2*Z3*X4 X0*X2*Z3*Z4 Z0*X1*X3*Z4"
 STEANE = "MPP " + " ".join("*".join(f"{letter}{qubit}" for qubit in its) for letter in "XZ" for its in [(0, 2, 4, 6), (1, 2, 5, 6), (3, 4, 5, 6)])

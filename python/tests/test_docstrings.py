@@ -13,7 +13,7 @@ WITH_EXAMPLES = [name for name in MODULES if ">>> " in pathlib.Path(importlib.ut
 
 
 @pytest.mark.parametrize("name", WITH_EXAMPLES)
-def test_the_examples_of_a_module_hold(name, tmp_path, monkeypatch, answering):
+def test_the_examples_of_a_module_hold(name, tmp_path, monkeypatch):
     monkeypatch.chdir(tmp_path)
     failed, tried = doctest.testmod(importlib.import_module(name))
     assert tried and not failed

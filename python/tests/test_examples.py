@@ -68,7 +68,7 @@ def test_a_picture_is_drawn(tmp_path):
     assert (tmp_path / "picture.png").read_bytes().startswith(b"\x89PNG")
 
 
-def test_the_worst_fault_of_the_other_schedule_has_an_error_less(monkeypatch, capsys, answering):
+def test_the_worst_fault_of_the_other_schedule_has_an_error_less(monkeypatch, capsys):
     worst = example("worst_fault")
     # Of distance 3, where no two errors of the good schedule go unseen and two of the bad one do: test_codes.py looks through all.
     monkeypatch.setattr(worst, "DISTANCE", 3)
@@ -79,7 +79,7 @@ def test_the_worst_fault_of_the_other_schedule_has_an_error_less(monkeypatch, ca
     assert lines.count("  together: detectors [], observables [0]") == 2 and len(lines) == 4 + 2 + 3 + 2
 
 
-def test_the_first_hour_finds_what_the_file_hides(tmp_path, answering):
+def test_the_first_hour_finds_what_the_file_hides(tmp_path):
     pytest.importorskip("matplotlib")
     pytest.importorskip("networkx")
     words = [sys.executable, "-B", EXAMPLES / "first_hour.py", "threshold.png"]

@@ -1,16 +1,12 @@
 """Why a detector is random, and the distance, on the page in a browser."""
 
 import os
-import subprocess
 
-import pytest
 import stabsim
 from browsing import Keys, needs_browser
 from stabsim import codes
 
 pytestmark = needs_browser
-KNOWS = subprocess.run([stabsim.find_program(), "distance", "--help"], capture_output=True, check=False).returncode == 0
-needs_answers = pytest.mark.skipif(not KNOWS, reason="the program says no distance, and not why a bit is random")
 
 # By hand: each M of qubit 1 is decided by a coin of its own, since RX comes between; D1 compares both, and D0 is sure.
 RANDOM = """QUBIT_COORDS(0, 0) 0
@@ -51,7 +47,6 @@ def about(page, name):
     return page.find(f"about-{name}").text
 
 
-@needs_answers
 def test_a_random_detector_says_which_measurements_make_it_so(open_page):
     page = open_page(RANDOM)
     page.click_bit("D1")
@@ -67,7 +62,6 @@ def test_a_random_detector_says_which_measurements_make_it_so(open_page):
     assert coins(page) == []
 
 
-@needs_answers
 def test_a_detector_is_chosen_in_the_tree_too(open_page):
     page = open_page(RANDOM)
     page.focus("#text")
@@ -78,7 +72,6 @@ def test_a_detector_is_chosen_in_the_tree_too(open_page):
     page.wait(lambda: page.ask("page.shown.bit") == "D0")
 
 
-@needs_answers
 def test_what_makes_a_detector_random_follows_edits(open_page):
     page = open_page(RANDOM)
     page.click_bit("D1")
@@ -99,7 +92,6 @@ def shown_set(page):
     return sorted(page.ask("page.shown.scene().set.map(({qubit, letter, isHere}) => letter + qubit + (isHere ? '' : ' elsewhere'))"))
 
 
-@needs_answers
 def test_the_distance_by_marked_errors_is_shown_with_its_set(open_page):
     page = open_page(MARKED)
     ask_distance(page)
@@ -133,7 +125,6 @@ def exchange_layers(page, first):
     page.wait(lambda: len(page.history()) == count + 3)
 
 
-@needs_answers
 def test_a_schedule_is_exchanged_and_the_distance_falls(open_page):
     code, bad = codes.surface_code(3, 2), codes.surface_code(3, 2, bad_schedule=True)
     page = open_page(code)
@@ -146,7 +137,6 @@ def test_a_schedule_is_exchanged_and_the_distance_falls(open_page):
     assert "before the last edits: distance 3 of all errors" in about(page, "distance")
     ask_distance(page)
     page.wait(lambda: page.texts("#about-distance h3") == ["Distance 2 of errors everywhere"])
-
 
 SLOW = """#!/bin/sh
 [ "$1" = distance ] || exec "{program}" "$@"

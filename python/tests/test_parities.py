@@ -9,8 +9,6 @@ import stabsim
 from coins_by_runs import bits_of
 from stabsim import codes, coins, parities
 
-pytestmark = pytest.mark.usefixtures("answering")
-
 
 def span_of(records):
     return max(records) - min(records)
