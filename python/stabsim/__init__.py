@@ -7,8 +7,8 @@
 - `collect`: counts logical errors of many error models, on many cores, with a file to go on from.
 - `codes`: circuits of codes; it needs no numpy.
 
-Everything is computed by the program, which is found by the variable STABSIM, in this repository, or on the PATH. What the package
-adds, what it makes of Stim's text, error models and their samples, no proof covers. docs/use/python.md of the repository begins with examples.
+Everything is computed by the program, which is found by the variable STABSIM, in this repository, or on the PATH. No proof covers what the
+package adds: what it makes of Stim's text, error models and their samples. docs/use/python.md of the repository begins with examples.
 """
 
 import importlib
@@ -63,7 +63,7 @@ if TYPE_CHECKING:
     from stabsim.sure import Sure
     from stabsim.totals import combine
 else:
-    # Where each name stands.
+    # Where each name is.
     HOMES = {
         "asked": ("Numbers",),
         "causes": ("Cause",),

@@ -65,7 +65,7 @@ class Asked(Sampled):
         return program.run(["stabilisers", *program.seed_words(seed)], self.text).decode().split()
 
     def deterministic(self) -> Sure:
-        """Which detectors, bool (detectors,), and observables, bool (observables,), are the same for all coins.
+        """Which detectors, bool (detectors,), and observables, bool (observables,), are the same for all random bits.
 
         >>> import stabsim
         >>> sure = stabsim.Circuit("MX 0 0\\nDETECTOR rec[-1]\\nDETECTOR rec[-1] rec[-2]").deterministic()
@@ -79,7 +79,7 @@ class Asked(Sampled):
     def faults(self, *, everywhere: bool = False, sure_only: bool = False) -> FaultTable:
         """Which detectors and observables each single fault flips: at the targets of `I` alone, or everywhere.
 
-        Raises stabsim.Refused, 18 NotDeterministic, where a detector or observable is not the same for all coins; with
+        Raises stabsim.Refused, 18 NotDeterministic, if a detector or observable is not the same for all random bits; with
         sure_only such ones count as never flipped.
 
         >>> import stabsim
@@ -107,7 +107,7 @@ class Asked(Sampled):
         return coins.table_of(program.run(["coins"], self.text), widths, constants)
 
     def explain(self) -> list[RandomBit]:
-        """Why detectors and observables are random: for each that is not the same for all coins, which coins decide it.
+        """Why detectors and observables are random: for each that is not the same for all random bits, which coins decide it.
 
         >>> import stabsim
         >>> for bit in stabsim.Circuit("MX 0 0\\nDETECTOR rec[-1]\\nDETECTOR rec[-1] rec[-2]").explain():
@@ -124,9 +124,11 @@ class Asked(Sampled):
         """The least number of errors that flip an observable and no detector: exact, for any circuit.
 
         Errors are X, Y and Z at each target of `I`; I[X], I[Y], I[Z] and I[XZ] have these letters alone, and I[pairs] all fifteen
-        products on each pair of its targets. With everywhere they are those of circuit-level noise: behind gates and resets, in front
-        of measurements, and each record wrong by itself. letters: with XZ only errors of X alone and of Z alone. most: up to so many
-        errors are looked for. graphlike: only errors that flip at most two detectors, which takes less time. Raises stabsim.Refused, 18 NotDeterministic, as `faults` does; with sure_only random bits are left out.
+        products on each pair of its targets. With everywhere they are those of circuit-level noise: after gates and resets, before
+        measurements, and each record wrong by itself. letters: with XZ only errors of X alone and of Z alone. most: the most errors
+        that are looked for. graphlike: only errors that flip at most two detectors, after any other gave way to the X and the Z at each
+        of its qubits, which takes less time. Raises stabsim.Refused, 18 NotDeterministic, as `faults` does; with sure_only random bits
+        are left out.
 
         >>> import stabsim
         >>> c = stabsim.Circuit("R 0 1 2\\nI[X] 0 1 2\\nMPP Z0*Z1 Z1*Z2\\nDETECTOR rec[-1]\\nDETECTOR rec[-2]\\nM 0\\nOBSERVABLE_INCLUDE(0) rec[-1]")

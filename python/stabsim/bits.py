@@ -7,7 +7,7 @@ from numpy.typing import NDArray
 
 
 def bytes_of_shot(bits: int) -> int:
-    """How many bytes a shot of so many bits has in the format b8."""
+    """How many bytes a shot of this many bits has in the format b8."""
     return (bits + 7) // 8
 
 

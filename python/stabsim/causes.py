@@ -1,4 +1,4 @@
-"""What of a circuit's noise makes a mechanism of its error model."""
+"""Which part of a circuit's noise makes a mechanism of its error model."""
 
 from dataclasses import dataclass
 from typing import NamedTuple

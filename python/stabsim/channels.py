@@ -28,7 +28,7 @@ MOST_GENERATORS = 6
 
 
 def depolarising(chance: float, qubits: int) -> Errors | None:
-    """The errors of a channel that makes each other Pauli equally likely; None where it has no independent form."""
+    """The errors of a channel that makes each other Pauli equally likely; None if it has no independent form."""
     names = ONE if qubits == 1 else TWO
     shrink = 1 - chance * (len(names) + 1) / len(names)
     if shrink < 0:
@@ -67,7 +67,7 @@ def independent(chances: Errors) -> Errors | None:
 
 
 def group_of(names: list[str]) -> dict[str, int] | None:
-    """All products of some Paulis of one length, but for the identity and for signs: each with the set of generators that it is the
+    """All products of some Paulis of one length, except the identity, up to signs: each with the set of generators that it is the
     product of, as a number in base 2. None if there are too many."""
     elements = [0]
     for name in names:

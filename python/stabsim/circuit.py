@@ -25,7 +25,7 @@ from stabsim.sizes import Sizes, sizes_of
 class Circuit(Questioned):
     """A circuit in Stim's circuit text without noise, which stays as it is.
 
-    text: str; left_out: the lines of noise, counted from 1, that a file had and the text has not. Neither can be set.
+    text: str; left_out: the lines of noise, counted from 1, that a file had and the text does not have. Neither can be set.
     Properties ask nothing of the program: they are read from the text. Methods have the program read it, and raise stabsim.Refused,
     with the words of `stabsim check`, if it refuses the circuit, and stabsim.MissingProgram if there is none. `from_stim` reads
     instructions of Stim's that the program does not read.
@@ -80,7 +80,7 @@ class Circuit(Questioned):
         return self.text
 
     def about_noise(self) -> str:
-        """How much noise a file had that this circuit has not."""
+        """How much noise a file had that this circuit does not have."""
         count = len(self.left_out)
         return f"the noise of {count} line{'s' * (count > 1)} is left out"
 
@@ -147,7 +147,7 @@ class Circuit(Questioned):
         return Circuit(closed_text(self.text) + closed_text(other.text))
 
     def __mul__(self, count: int) -> "Circuit":
-        """The circuit as a block of so many rounds; 1 and 0 of them need none."""
+        """The circuit as a block of this many rounds; 1 and 0 rounds need no block."""
         if not isinstance(count, int):
             return NotImplemented
         if count < 0:
@@ -172,7 +172,7 @@ class Circuit(Questioned):
     # What is asked of the program.
 
     def detector_coordinates(self) -> NDArray[np.float64]:
-        """The coordinates of each detector, float64 (detectors, width): width is the most that one has, and nan stands where
+        """The coordinates of each detector, float64 (detectors, width): width is the most that one has, and nan is there if
         another has none. SHIFT_COORDS counts, also in blocks, as in Stim. The program judges the circuit first.
 
         >>> import stabsim
@@ -185,7 +185,7 @@ class Circuit(Questioned):
         return coordinates.detector_coordinates(self.text)
 
     def qubit_coordinates(self) -> NDArray[np.float64]:
-        """The coordinates of each qubit, float64 (qubits, width), nan where a qubit has none.
+        """The coordinates of each qubit, float64 (qubits, width), nan if a qubit has none.
 
         >>> import stabsim
         >>> stabsim.Circuit("QUBIT_COORDS(3, 4) 1").qubit_coordinates().tolist()
@@ -197,7 +197,7 @@ class Circuit(Questioned):
         """A picture, which a notebook shows and `save` writes as SVG, in light and dark colours.
 
         - `timeline`: a wire for each qubit; a block is drawn once.
-        - `timeslice`: what acts on the qubits, where they lie, behind the TICK of this number, or with tick=0 from the beginning on.
+        - `timeslice`: what acts on the qubits, where they lie, after the TICK of this number, or with tick=0 from the beginning on.
         - `detslice`: the regions of detectors at that TICK: which Paulis there flip each. detectors: some alone, as 3, "D3" or "L0".
         - `matchgraph`: detectors, and a line for each single fault of X or Z that flips one or two of them.
 
@@ -225,6 +225,6 @@ class Circuit(Questioned):
         try:
             return Session(self.text, qubits=qubits, seed=seed, stride=stride)
         except Refused:
-            # Where the text itself is at fault, this raises the same in words.
+            # If the text itself is at fault, this raises the same in words.
             self.numbers()
             raise

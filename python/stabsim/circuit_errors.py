@@ -12,7 +12,7 @@ class CircuitError:
 
     steps: int, how many steps are in front of it once blocks are written out; path: str, of its item; paulis: tuple of pairs of a qubit
     and its letter, none of a wrong record; record: int, the number of the record that is wrong, or None; detectors, observables: tuples
-    of int, what it flips by itself, where that is known.
+    of int, what it flips by itself, if that is known.
 
     >>> import stabsim
     >>> error = stabsim.CircuitError.of_line("1207 3/0/2 X3*Z4 D24 L0")

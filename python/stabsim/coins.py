@@ -13,10 +13,10 @@ class CoinTable:
     """For each coin that decides an outcome the bits that it flips. A run's bits are those of coins 0, exclusive or the rows of the coins
     that are 1.
 
-    steps: int64 (coins,), how many steps stand in front once blocks are written out; paths: str (coins,), the path of its item;
+    steps: int64 (coins,), how many steps are in front once blocks are written out; paths: str (coins,), the path of its item;
     numbers: int64 (coins,), its number among all coins.
     indptr: int64 (coins + 1,), and indices: int64 (flips,): row i flips indices[indptr[i]:indptr[i + 1]], ascending, where a record is its
-    number, detectors are counted on behind the records, and observables behind the detectors.
+    number, detectors are counted on after the records, and observables after the detectors.
     records, detectors, observables: int, how many of each the circuit has.
 
     >>> import stabsim

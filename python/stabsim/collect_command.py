@@ -78,7 +78,7 @@ def value_of(word: str) -> int | float | str:
 def decoder_of(words: str) -> tuple[str, Decoder]:
     """The function of a module, as module:function, with these as its name."""
     module, _, name = words.partition(":")
-    # The folder of the command is no place for modules where a command of a package runs.
+    # The folder of the command is no place for modules when a command of a package runs.
     if os.getcwd() not in sys.path:
         sys.path.insert(0, os.getcwd())
     decoder: Decoder = getattr(importlib.import_module(module), name)
@@ -104,7 +104,7 @@ def count(given: argparse.Namespace) -> list[Sums]:
         raise ValueError(f"two files are named {min(twice)}")
     decoder = decoder_of(given.decoder)
     models = {name: model_of(path, given.decompose) for name, path in zip(names, given.files)}
-    # Of an interrupt this process is told, and ends the others.
+    # This process gets an interrupt, and ends the others.
     with ProcessPoolExecutor(given.processes, initializer=signal.signal, initargs=(signal.SIGINT, signal.SIG_IGN)) as executor:
         counting = collect(models, decoder, shots=given.shots, errors=given.errors, seed=given.seed, executor=executor, save=given.save,
                            metadata={name: metadata_of(name) for name in names})

@@ -65,7 +65,7 @@ class Work:
         return first, self.next_shot - first
 
     def came(self, part: Counted) -> Iterator[Counted]:
-        """Counts a part, and those behind it that came before it, as far as they are wanted."""
+        """Counts a part, and those that follow it but came earlier, as far as they are wanted."""
         self.early[part.first_shot] = part
         while not self.is_done() and self.sums.shots in self.early:
             counted = self.early.pop(self.sums.shots)
@@ -157,13 +157,13 @@ class Collection(Iterator[Sums]):
 def collect(models: Mapping[str, ErrorModel], decoder: Decoder | tuple[str, Decoder], *, shots: int | None = None,
             errors: int | None = None, seed: int, executor: Executor | None = None, save: Path | None = None, part_shots: int = 8192,
             waiting: int = 64, metadata: Mapping[str, Mapping[str, Any]] | None = None, postselect: Postselect | None = None) -> Collection:
-    """Counts logical errors of each model until it has so many shots or so many errors, whichever is first. It starts at once.
+    """Counts logical errors of each model until it has this many shots or this many errors, whichever is first. It starts at once.
 
     models: error models by name. decoder: a function of a model that gives a function from detectors, a bool array
     (shots, detectors), to predicted observables, an array (shots, observables); with an executor of processes both are sent there,
     once to each. A decoder has a name: its module's and its own, or the one that is given, as ("name", function).
     seed: of all shots; each model has a seed of its own by this and its name. executor: of concurrent.futures; without it a thread
-    of its own counts. save: a file of counts, which is gone on from where it is there: by the names of model and decoder; part_shots:
+    of its own counts. save: a file of counts, from which counting goes on if it is there: by the names of model and decoder; part_shots:
     about how many shots a part has; waiting: how many parts may be with the executor at once. metadata: what is to be kept of a model,
     by its name, as JSON has it; without it the file's. postselect: by the name of a model, or as a function of it, a bool array
     (detectors,): shots in which one of these detectors is flipped are discarded.
@@ -187,7 +187,7 @@ def collect(models: Mapping[str, ErrorModel], decoder: Decoder | tuple[str, Deco
     masks = {name: mask_of(name, model, postselect) for name, model in models.items()}
     works = {name: Work(Key(name, decoder_name, fingerprint_of(model, masks[name]), seed_of(name, seed)), shots, errors, said[name])
              for name, model in models.items()}
-    # What makes its mechanisms no decoder asks for.
+    # No decoder asks what makes its mechanisms.
     loads = {name: Load(replace(model, causes=None), function, masks[name]) for name, model in models.items()}
     return Collection(works, loads, size, executor, save, waiting)
 

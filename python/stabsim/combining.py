@@ -26,7 +26,7 @@ def rows_of(rows: Numbers, indptr: Numbers, indices: Numbers) -> tuple[Numbers, 
     """The entries of some rows of a CSR matrix: for each entry the place of its row among those asked for, and its column."""
     lengths = indptr[rows + 1] - indptr[rows]
     of_row = np.repeat(np.arange(len(rows)), lengths)
-    # Each entry's number: where its row begins, and how many of the row's stand in front of it.
+    # Each entry's number: where its row begins, and how many of the row's are in front of it.
     inside = np.arange(len(of_row)) - np.repeat(np.cumsum(lengths) - lengths, lengths)
     return of_row, indices[np.repeat(indptr[rows], lengths) + inside]
 
@@ -69,7 +69,7 @@ def places_in_order(indptr: Numbers, columns: Numbers) -> Numbers:
     rows have the place of the first of them."""
     lengths = np.diff(indptr)
     places = np.zeros(len(lengths), dtype=np.int64)
-    # Rows that are equal up to some entry share a place. By their next entry they are told apart, until they end or each is alone.
+    # Rows that are equal up to some entry share a place. By their next entry they are distinguished, until they end or each is alone.
     active = np.arange(len(lengths))
     width = int(columns.max(initial=0)) + 2
     entry = 0

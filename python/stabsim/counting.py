@@ -22,7 +22,7 @@ MOST_EXPERIMENTS = 4
 
 @dataclass(frozen=True, eq=False)
 class Load:
-    """What a worker needs to count parts of a model: it is sent to a worker that has it not.
+    """What a worker needs to count parts of a model: it is sent to a worker that does not have it.
 
     postselect: bool (detectors,), those of which none may be 1 in a shot that is kept; or None.
     """
@@ -58,7 +58,7 @@ class Counted:
 
 @dataclass(frozen=True)
 class Missing:
-    """A process has not what it needs for a part."""
+    """A process does not have what it needs for a part."""
 
     part: Part
     worker: str

@@ -10,7 +10,7 @@ from stabsim.combining import rows_of, starts_of
 from stabsim.edges import MOST_OBSERVABLES, Edges, Mechanisms, likeliest
 from stabsim.errors import NotDecomposed
 
-# For each mechanism the numbers of those that flip the same together: its own, where it is not taken apart.
+# For each mechanism the numbers of those that flip the same together: its own, if it is not taken apart.
 Parts = tuple[tuple[int, ...], ...]
 
 # Detectors, ascending.
@@ -50,7 +50,7 @@ class Table:
         return tuple(flipped[:size]), sum(1 << (it - self.detectors) for it in flipped[size:])
 
     def of_size(self, size: int) -> Mechanisms:
-        """The mechanisms of so many detectors, if there are few enough observables."""
+        """The mechanisms of this many detectors, if there are few enough observables."""
         numbers = np.flatnonzero(self.sizes == size)
         detectors = self.indices[self.indptr[numbers][:, None] + np.arange(size)]
         of_row, columns = rows_of(numbers, self.indptr, self.indices)

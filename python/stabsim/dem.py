@@ -39,7 +39,7 @@ class Flat:
     moved: Place = ()
 
     def rounds(self, count: int, line: int) -> "Flat":
-        """The same so many times, one behind the other."""
+        """The same this many times, one after the other."""
         if count * max(len(self.chances), len(self.targets), len(self.places)) > MOST or count * self.shift > MOST:
             raise BadErrorModel(line, f"written out, this block would have more than {MOST} errors, targets or detectors")
         steps = np.array([len(self.chances), 0, self.shift, 0]) * np.arange(count)[:, None, None]
@@ -85,7 +85,7 @@ class Run:
             raise BadErrorModel(item.line, f"{item.name.lower()} is nothing that an error model has")
 
     def add_error(self, item: Instruction) -> None:
-        """Reads the parts of an error, between which `^` stands."""
+        """Reads the parts of an error, between which `^` is."""
         chances = numbers_of(item)
         if len(chances) != 1 or not 0 <= chances[0] <= 1:
             raise BadErrorModel(item.line, "an error has one chance, from 0 to 1")
@@ -201,7 +201,7 @@ def read(text: str) -> Read:
     observables = max(int(numbers[is_observable].max(initial=-1)) + 1, flat.observables)
     columns = numbers + detectors * is_observable
     errors = len(flat.chances)
-    # Parts of errors that have several come behind all errors, as errors of chance 0, so that each is a mechanism.
+    # Parts of errors that have several come after all errors, as errors of chance 0, so that each is a mechanism.
     _, several = np.unique(flat.targets[:, :2], axis=0, return_inverse=True)
     is_part = np.bincount(flat.targets[:, 0], weights=flat.targets[:, 1], minlength=errors)[flat.targets[:, 0]] > 0
     part_numbers, of_part = np.unique(several[is_part], return_inverse=True)

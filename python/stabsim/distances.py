@@ -17,9 +17,9 @@ UNMARKED = "no errors, since no place is marked by I, and everywhere=True asks f
 class Distance:
     """The least number of errors that flip an observable and together no detector, and that many such errors.
 
-    distance: int, or None if there are none; most: int, if it is only known that there are none up to so many, else None. errors: tuple
+    distance: int, or None if there are none; most: int, if it is only known that there are none up to this many, else None. errors: tuple
     of CircuitError, which `Session.insert_errors` takes; mechanisms: of an error model, tuple of int, their numbers. searched: str:
-    all errors, or graph-like errors, which are those that flip at most two detectors.
+    all errors, or graph-like errors, which are those that flip at most two detectors, among them parts of others.
 
     >>> import stabsim
     >>> c = stabsim.Circuit("R 0 1\\nI[X] 0 1\\nM 0 1\\nDETECTOR rec[-1] rec[-2]\\nOBSERVABLE_INCLUDE(0) rec[-1]")

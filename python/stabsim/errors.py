@@ -25,7 +25,7 @@ class MissingProgram(StabsimError):
 class Refused(StabsimError):
     """The program refused a circuit, an edit or a question.
 
-    number: int, and name: str, as docs/use/refusals.md lists them; line: int, counted from 1, or None where
+    number: int, and name: str, as docs/use/refusals.md lists them; line: int, counted from 1, or None if
     the refusal belongs to no line; explanation: str, lines that say what is wrong and what to do, as `stabsim check` has them,
     perhaps none.
 
@@ -36,7 +36,7 @@ class Refused(StabsimError):
     2: X 1 rec[-1]
            ^^^^^^^
     This instruction takes qubits, and no records.
-    Give it a qubit's number; a record stands first in a pair of CX, CY or CZ.
+    Give it a qubit's number; a record comes first in a pair of CX, CY or CZ.
     """
 
     def __init__(self, number: int, name: str, line: int | None = None, explanation: str = "") -> None:
@@ -53,7 +53,7 @@ class Refused(StabsimError):
 
 
 class ProgramFailed(StabsimError):
-    """The program ended in a way that is no answer and no refusal, as where it was killed.
+    """The program ended in a way that is no answer and no refusal, such as when it was killed.
 
     >>> import stabsim.program
     >>> stabsim.program.run(["sample", "--shots", "many"], "M 0")  # doctest: +ELLIPSIS

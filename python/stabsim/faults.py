@@ -12,7 +12,7 @@ from stabsim.table_lines import rows_of
 class FaultTable:
     """Which detectors and observables each single fault flips; docs/use/faults.md says which faults there are.
 
-    steps: int64 (faults,), how many steps stand in front of the fault once blocks are written out.
+    steps: int64 (faults,), how many steps are in front of the fault once blocks are written out.
     paths: str (faults,), the path of its item.
     paulis: str (faults,), X or Z.
     qubits: int64 (faults,).
@@ -45,7 +45,7 @@ class FaultTable:
         return f"<stabsim.FaultTable: {len(self)} faults, {self.detectors} detectors, {self.observables} observables{marks}>"
 
     def flipped(self, fault: int) -> NDArray[np.int64]:
-        """What a fault flips, int64 (flips,): detectors, and observables counted on behind them."""
+        """What a fault flips, int64 (flips,): detectors, and observables counted on after them."""
         return self.indices[self.indptr[fault] : self.indptr[fault + 1]]
 
     def dense(self) -> NDArray[np.bool_]:

@@ -47,7 +47,7 @@ def product_of(vector: int, order: Sequence[int]) -> Product:
 
 
 def measured_text(text: str, rows: Iterable[Product], qubits: int) -> str:
-    """A circuit with references, behind which each row is measured."""
+    """A circuit with references, after which each row is measured."""
     return with_references(text, qubits) + measuring(rows)
 
 

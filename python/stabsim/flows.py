@@ -15,7 +15,7 @@ DENSE = re.compile(r"[IXYZ_]+")
 
 @dataclass(frozen=True)
 class Flow:
-    """A Pauli in front of a circuit, and what it has become behind it: `X0*Z1 -> -Y2 xor rec[-1]`.
+    """A Pauli in front of a circuit, and what it has become after it: `X0*Z1 -> -Y2 xor rec[-1]`.
 
     input, output: tuples of pairs of a qubit and its letter, ascending; is_negative: whether the output has a minus; records: tuple of
     int, records whose parity the output's sign has too, from the end, so -1 is the last.
@@ -61,27 +61,27 @@ class Flow:
         return f"{pauli_text(self.input)} -> {' xor '.join(words)}"
 
     def placed(self, records: int) -> tuple[int, ...]:
-        """Its records from the beginning, of a circuit with so many. IndexError if there is no such record."""
+        """Its records from the beginning, of a circuit with this many. IndexError if there is no such record."""
         found = tuple(record + records if record < 0 else record for record in self.records)
         if not all(0 <= record < records for record in found):
             raise IndexError(f"{self} names a record that is none of {records}")
         return found
 
     def joint(self, qubits: int) -> Product:
-        """The letters of its output, and those of its input on the references of so many qubits."""
+        """The letters of its output, and those of its input on the references of this many qubits."""
         return dict(self.output) | {qubit + qubits: letter for qubit, letter in self.input}
 
     @property
     def sign(self) -> bool:
-        """Whether the joint product is negative where the records are 0: a Bell pair has the product of two Y with a minus."""
+        """Whether the joint product is negative if the records are 0: a Bell pair has the product of two Y with a minus."""
         return self.is_negative ^ (sum(letter == "Y" for _, letter in self.input) % 2 == 1)
 
 
 @dataclass(frozen=True)
 class SameFlows:
-    """Whether two circuits have the same flows; it is true where they do.
+    """Whether two circuits have the same flows; it is true if they do.
 
-    same: bool. flow: if not, a Flow that one has and the other has not; first: bool, whether it is the first that has it.
+    same: bool. flow: if not, a Flow that one has and the other does not have; first: bool, whether it is the first that has it.
 
     >>> import stabsim
     >>> found = stabsim.Circuit("S 0").same_flows(stabsim.Circuit("S_DAG 0"))
@@ -116,7 +116,7 @@ def pauli_text(letters: Iterable[tuple[int, str]]) -> str:
 
 
 def with_references(text: str, qubits: int) -> str:
-    """A circuit's text with a reference behind its qubits for each: with Bell pairs of both in front."""
+    """A circuit's text with a reference after its qubits for each: with Bell pairs of both in front."""
     if qubits > MOST_QUBITS:
         raise ValueError(f"flows are of circuits of up to {MOST_QUBITS} qubits, since each has a reference, and not of {qubits}")
     references = range(qubits, 2 * qubits)

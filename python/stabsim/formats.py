@@ -127,7 +127,7 @@ def write_b8(shots: Bits, kinds: Kinds) -> bytes:
 
 
 def read_r8(data: Bytes, kinds: Kinds) -> Bits:
-    # With the 1 that is put behind its bits each shot has one bit more, so all of them are one long run of bits.
+    # With the 1 that is put after its bits each shot has one bit more, so all of them are one long run of bits.
     length = sum(kinds.values()) + 1
     is_one = data != LONG
     behind = np.cumsum(data.astype(np.int64) + is_one)
@@ -170,7 +170,7 @@ def words_of(data: Bytes, separator: int) -> Words:
 def places_in(data: Bytes, starts: NDArray[np.int64], ends: NDArray[np.int64]) -> NDArray[np.int64]:
     """The numbers from starts to ends, each of 1 to 9 digits."""
     lengths = ends - starts
-    # How many digits stand in front of each byte: between the ends of a number there are as many as it is long.
+    # How many digits are in front of each byte: between the ends of a number there are as many as it is long.
     digits = starts_of(np.logical_and(data >= ZERO, data <= ZERO + 9).astype(np.int64))
     if np.any((lengths < 1) | (lengths > 9) | (digits[ends] - digits[starts] != lengths)):
         raise BadShots("a place is no number")

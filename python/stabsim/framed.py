@@ -39,7 +39,7 @@ class FramedProcess:
         return self.process.pid
 
     def close(self) -> None:
-        """Ends the process; where it has ended already, it stays so."""
+        """Ends the process; if it has ended already, it stays so."""
         self.ended = self.ended or "it was closed"
         self.end_process()
         for pipe in (self.process.stdout, self.process.stderr):
@@ -47,7 +47,7 @@ class FramedProcess:
                 pipe.close()
 
     def ask(self, request: bytes) -> list[bytes]:
-        """The lines of the reply to one request of one line or more; raises Refused where it is one."""
+        """The lines of the reply to one request of one line or more; raises Refused if it is one."""
         if not self.lock.acquire(blocking=False):
             raise RuntimeError("another thread is in a call of this session")
         try:
@@ -57,7 +57,7 @@ class FramedProcess:
         except (Refused, SessionEnded):
             raise
         except BaseException as fault:
-            # What was sent or read so far is not known, so no later reply could be told from this one.
+            # What was sent or read so far is not known, so no later reply could be distinguished from this one.
             self.ended = self.ended or f"a call was broken off: {fault!r}"
             raise
         finally:

@@ -25,7 +25,7 @@ class Found:
 
 
 def steps_of(item: Instruction) -> int:
-    """How many steps an instruction has: one for each target or pair, and one where it declares a detector or observable."""
+    """How many steps an instruction has: one for each target or pair, and one if it declares a detector or observable."""
     if item.name in names.ANNOTATIONS:
         return int(item.name in ("DETECTOR", "OBSERVABLE_INCLUDE"))
     return len(item.targets) // (2 if item.name in names.TWO_QUBITS else 1)
@@ -48,7 +48,7 @@ def total(items: Iterable[Item], is_record: bool) -> int:
 
 
 def located(items: tuple[Item, ...], number: int, is_record: bool, above: str = "") -> Found:
-    """Where the step, or record, of a number is, counted from 0: behind all of the steps it is behind all items. IndexError if there is
+    """Where the step, or record, of a number is, counted from 0: past all of the steps it is after all items. IndexError if there is
     none."""
     for place, item in enumerate(items):
         path = f"{above}{place}"
@@ -61,7 +61,7 @@ def located(items: tuple[Item, ...], number: int, is_record: bool, above: str = 
         else:
             return Found(path, item, number)
     if number or is_record:
-        raise IndexError(f"there {'is no such record' if is_record else 'are not so many steps'} in the circuit")
+        raise IndexError(f"there {'is no such record' if is_record else 'are not as many steps'} in the circuit")
     return Found(f"{above}{len(items)}", None)
 
 

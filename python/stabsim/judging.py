@@ -22,6 +22,6 @@ def in_users_words(refused: Refused, profile: Profile) -> Refused:
     try:
         items = copy.items()
     except Refused:
-        # Where blocks are not closed no item is named.
+        # If blocks are not closed, no item is named.
         items = ()
     return as_written(refused, copy.lines, copy.origins, items, profile.text)

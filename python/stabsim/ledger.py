@@ -14,7 +14,7 @@ from stabsim.counting import Counted
 from stabsim.errors import OtherExperiment
 
 FIELDS = ("name", "decoder", "model", "seed", "first_shot", "shots", "errors", "seconds", "discards", "metadata")
-# What a file has that was begun before shots were left out and metadata kept; it is gone on with.
+# What a file has that was begun before shots were left out and metadata kept; counting goes on with it.
 SHORT_FIELDS = FIELDS[:8]
 # What a file of counts began with before decoders had names.
 OLDER = "name,model,seed,first_shot,shots,errors,seconds\n"
@@ -86,7 +86,7 @@ class Ledger:
                                   "another file")
 
     def parts_of(self, key: Key) -> list[Counted]:
-        """The parts of a key that the file has, in the order of their shots. Other decoders' parts are no matter."""
+        """The parts of a key that the file has, in the order of their shots. Other decoders' parts do not matter."""
         found = []
         for row in self.rows:
             if (row["name"], row["decoder"]) != (key.name, key.decoder):

@@ -15,7 +15,7 @@ from stabsim.targets import apart, qubits_of
 
 Marks = NDArray[np.int64]
 
-# A letter that anticommutes with each: put in front of a measurement it turns the outcome over, behind it it makes good.
+# A letter that anticommutes with each: put in front of a measurement it turns the outcome over, and after the measurement it undoes that.
 OTHER = {"X": "Z", "Y": "X", "Z": "X"}
 
 
@@ -135,7 +135,7 @@ class Marker:
         return self.independent_of(dict(zip(ONE if item.name.endswith("1") else TWO, chances)), [item])
 
     def independent_of(self, disjoint: Errors, items: list[Instruction]) -> Errors:
-        """The independent errors that make disjoint ones of some lines, or these themselves where they may be taken for such."""
+        """The independent errors that make disjoint ones of some lines, or these themselves if they may be taken for such."""
         found = independent(disjoint)
         if found is not None:
             return found
@@ -146,7 +146,7 @@ class Marker:
         return disjoint
 
     def chain(self, items: list[Instruction], first: int) -> tuple[list[Source], int]:
-        """Writes a mark for each qubit of an error on several, and of those behind it that may happen if none before them did."""
+        """Writes a mark for each qubit of an error on several, and of those after it that may happen if none before them did."""
         errors = [paulis_of(item) for item in items]
         qubits = list(dict.fromkeys(qubit for error in errors for qubit in error))
         disjoint: Errors = {}
@@ -168,7 +168,7 @@ class Marker:
 
     def measurement(self, item: Instruction, first: int) -> tuple[list[Source], int]:
         """Writes a measurement whose record may be wrong: as if a Pauli in front of it turned the outcome over, and the same
-        behind it made good again. A reset behind the outcome forgets it by itself."""
+        after it undid that. A reset after the outcome forgets it by itself."""
         [chance] = chances_of(item, 1)
         is_reset = item.name.startswith("MR")
         sources: list[Source] = []
@@ -224,12 +224,12 @@ def paulis_of(item: Instruction) -> dict[str, int]:
 
 
 def chances_of(item: Instruction, count: int) -> list[float]:
-    """The arguments, which are so many chances and make no more than 1 together."""
+    """The arguments, which are this many chances and make no more than 1 together."""
     try:
         chances = item.numbers()
     except Refused:
         chances = []
-    # A sum of chances such as fifteen fifteenths is 1 but for rounding.
+    # A sum of chances such as fifteen fifteenths is 1 up to rounding.
     if len(chances) != count or not all(0 <= chance <= 1 for chance in chances) or sum(chances) > 1 + 1e-9:
         raise UnsupportedNoise(item.line, f"{item.name} wants {count} chance{'s' * (count > 1)} of at most 1 in all")
     return chances
@@ -243,7 +243,7 @@ def mark_of(name: str, target: str) -> tuple[str, str]:
 
 
 def marked(items: Sequence[Item], approximate: bool) -> Marked:
-    """The circuit of items with noise, with marks; approximate takes disjoint errors for independent ones where need be."""
+    """The circuit of items with noise, with marks; approximate takes disjoint errors for independent ones if need be."""
     marker = Marker(approximate)
     sources, _ = marker.items(items, 0)
     lines = "".join(line + "\n" for line in marker.lines)

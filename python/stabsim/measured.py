@@ -50,7 +50,7 @@ def m2d(circuit: Circuit, records: Bits | Packed, *, separate_observables: bool 
 
 
 def parities(records: Bits, rows: Numbers, columns: Numbers, count: int) -> Bits:
-    """The sum modulo 2 of the records in the columns of each of so many rows; the pairs are ascending."""
+    """The sum modulo 2 of the records in the columns of each of this many rows; the pairs are ascending."""
     some, begins = np.unique(rows, return_index=True)
     found = np.zeros((len(records), count), dtype=np.bool_)
     for start in range(0, len(records), TOGETHER) if len(some) else ():

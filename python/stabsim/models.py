@@ -32,7 +32,7 @@ if TYPE_CHECKING:
 Bits = NDArray[np.bool_]
 Packed = NDArray[np.uint8]
 
-MARKS_COUNT = "A step more is counted for each qubit that an error may meet, in front of a measurement and behind it: these are too many."
+MARKS_COUNT = "A step more is counted for each qubit that an error may meet, before a measurement and after it: these are too many."
 
 
 @dataclass(frozen=True, eq=False)
@@ -42,11 +42,11 @@ class ErrorModel:
     chances: float64 (mechanisms,).
     indptr: int64 (mechanisms + 1,), and indices: int64 (flips,): mechanism i flips indices[indptr[i]:indptr[i + 1]], ascending,
     where a detector is its number, and an observable is `detectors` and its number. No two mechanisms flip the same, and
-    they stand in the order of what they flip.
+    they are in the order of what they flip.
     detectors, observables: int, how many of each there are.
-    coordinates: float64 (detectors, width), nan where a detector has none.
-    approximated: the lines of the circuit whose disjoint errors were taken for independent ones, where that was asked for.
-    parts: where the model is decomposed, for each mechanism the numbers of those that `dem` writes it as: its own, or for one
+    coordinates: float64 (detectors, width), nan if a detector has none.
+    approximated: the lines of the circuit whose disjoint errors were taken for independent ones, if that was asked for.
+    parts: if the model is decomposed, for each mechanism the numbers of those that `dem` writes it as: its own, or for one
     that flips more than two detectors those of others that flip the same together.
     causes: of a model that was made of a circuit, what `explain` looks up.
 
@@ -101,7 +101,7 @@ class ErrorModel:
         return f"<stabsim.ErrorModel: {len(self)} mechanisms, {self.detectors} detectors, {self.observables} observables{about}>"
 
     def flipped(self, mechanism: int) -> NDArray[np.int64]:
-        """What a mechanism flips, int64 (flips,): detectors, and observables counted on behind them."""
+        """What a mechanism flips, int64 (flips,): detectors, and observables counted on after them."""
         return self.indices[self.indptr[mechanism] : self.indptr[mechanism + 1]]
 
     def check_matrices(self) -> tuple[Bits, Bits]:
@@ -143,7 +143,7 @@ class ErrorModel:
     def distance(self, *, most: int | None = None, graphlike: bool = False) -> Distance:
         """The least number of mechanisms that flip an observable and together no detector, by the program: of those that have a chance,
         each counts as one error. `Distance.mechanisms` has their numbers; of a model that was made of a circuit, `Distance.errors` has
-        an error for each, at its place in the circuit without noise. most, graphlike: as of `Circuit.distance`.
+        an error for each, at its place in the circuit without noise. most, graphlike: as of `Circuit.distance`; a mechanism has no parts.
 
         >>> import stabsim
         >>> c = stabsim.from_stim("R 0 1\\nX_ERROR(0.1) 0 1\\nM 0 1\\nDETECTOR rec[-1] rec[-2]\\nOBSERVABLE_INCLUDE(0) rec[-1]")
@@ -246,12 +246,12 @@ def error_model(circuit: "str | StimCircuit", *, decompose: bool = False, ignore
     """The detector error model of a circuit of Stim's with noise: of its text, or what `from_stim` made of it.
 
     The circuit's noise may be X_ERROR, Y_ERROR, Z_ERROR, DEPOLARIZE1, DEPOLARIZE2, PAULI_CHANNEL_1, PAULI_CHANNEL_2, E with perhaps
-    ELSE_CORRELATED_ERROR behind it, and a chance of a wrong record, as M(0.01), on all measurements; stabsim.UnsupportedNoise names
+    ELSE_CORRELATED_ERROR after it, and a chance of a wrong record, as M(0.01), on all measurements; stabsim.UnsupportedNoise names
     the line of other noise. The program says what single errors flip. Errors that flip the same are joined, and those that flip
     nothing are left out. stabsim.Refused names lines and items of the user's text.
 
     decompose: name for each mechanism that flips more than two detectors others that flip the same together, for decoders by
-    matching; stabsim.NotDecomposed tells of one that has none, or with ignore_decomposition_failures it stays whole.
+    matching; stabsim.NotDecomposed names one that has none, or with ignore_decomposition_failures it stays whole.
     approximate_disjoint_errors: if a PAULI_CHANNEL, or E with ELSE_CORRELATED_ERROR, is no product of independent errors, take its
     disjoint errors for such; the model names these lines. sure_only: leave out detectors and observables that coins decide, which else
     are refused.
@@ -305,7 +305,7 @@ def errors_of(source: Source, table: FaultTable) -> tuple[NDArray[np.float64], N
     rows = []
     errors = []
     for place, letter in enumerate(source.letters):
-        # X of a mark is an even line of the table, and Z the odd one behind it; Y is both.
+        # X of a mark is an even line of the table, and Z the odd one after it; Y is both.
         for second in [0] * (letter in "XY") + [1] * (letter in "ZY"):
             rows.append(2 * marks[:, place] + second)
             errors.append(np.arange(len(marks)))

@@ -116,7 +116,7 @@ def add_items(plan: Plan, items: Sequence[Item]) -> None:
 
 
 def check_chained(item: Instruction, before: Item | None) -> None:
-    """An error that may happen if others did not stands right behind one of them."""
+    """An error that may happen if others did not is right after one of them."""
     if before is None or before.name not in names.CORRELATED:
         raise UnsupportedNoise(item.line, f"{item.name} follows {names.FIRST} or another {item.name} on the line in front of it")
 

@@ -17,7 +17,7 @@ Records = frozenset[int]
 
 
 class Parity(NamedTuple):
-    """Some records whose parity is the same for all coins.
+    """Some records whose parity is the same for all random bits.
 
     records: tuple of int, ascending, from 0; value: bool, the parity.
 
@@ -32,7 +32,7 @@ class Parity(NamedTuple):
 
 @dataclass(frozen=True)
 class SameDistribution:
-    """Whether two circuits give the same distribution of records; it is true where they do.
+    """Whether two circuits give the same distribution of records; it is true if they do.
 
     same: bool. parity: tuple of int, if not, records whose parity differs; first, second: what it is in each, True, False, or None if
     coins decide it.
@@ -82,7 +82,7 @@ def local_parities(columns: Sequence[int], fixed: int | None = None) -> list[Rec
 
 
 def known_parities(items: Iterable[Item]) -> list[Records]:
-    """The records of each detector, and behind them those of each observable."""
+    """The records of each detector, and after them those of each observable."""
     detectors: list[Records] = []
     observables: dict[int, Records] = {}
     for observable, records in declared(items, 0):
@@ -183,7 +183,7 @@ def value_of(records: Records, columns: Sequence[int], constants: NDArray[np.boo
 
 
 def detector_lines(parities: Iterable[Parity | Iterable[int]], records: int) -> str:
-    """A DETECTOR line for each parity, behind so many records."""
+    """A DETECTOR line for each parity, after this many records."""
     lines = []
     for parity in parities:
         its = parity.records if isinstance(parity, Parity) else tuple(parity)

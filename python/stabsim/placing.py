@@ -31,7 +31,7 @@ def placed(items: Sequence[Item], source: Source, rounds: Sequence[int], at: int
 
 
 def at_item(item: Instruction, source: Source, at: int, before: CircuitError) -> CircuitError:
-    """The error of a source at its item, before which there are so many steps and records."""
+    """The error of a source at its item, before which there are this many steps and records."""
     if not source.is_record:
         each = len(source.letters)
         paulis = zip(map(int, source.targets[at * each : (at + 1) * each]), source.letters)

@@ -9,7 +9,7 @@ from stabsim.sums import Sums
 
 Number = str | float | Callable[[Sums], float]
 
-# Colours that also differ for those who don't tell red from green, by Okabe and Ito, and a mark beside each.
+# Colours that also differ for those who can't distinguish red from green, by Okabe and Ito, and a mark beside each.
 COLOURS = ("#0072b2", "#d55e00", "#009e73", "#cc79a7", "#e69f00", "#56b4e9", "#000000")
 MARKS = "osD^vPX"
 
@@ -21,7 +21,7 @@ def plot(counted: Iterable[Sums], *, x: Number, group: str | Callable[[Sums], An
     x: what is drawn to the right, and rounds: of how many rounds one is taken (`rate_per_round`): a number, the name of one in the
     metadata, or a function of the sums. group: a name in the metadata, or a function. axes: matplotlib's; without it new ones. Each point is
     the likeliest rate, with a bar over those that are less likely by up to this factor (`fit_rate`). If there are no errors, a
-    triangle stands at the greatest of them. It needs matplotlib (Debian: python3-matplotlib).
+    triangle is at the greatest of them. It needs matplotlib (Debian: python3-matplotlib).
 
     >>> import matplotlib, stabsim
     >>> matplotlib.use("Agg")

@@ -72,7 +72,7 @@ def checked(path: str, where: str) -> str:
 
 
 def bytes_of(text: str) -> bytes:
-    """A text as it stood in its file, also where some bytes of it are no UTF-8."""
+    """A text as it was in its file, even if some bytes of it are no UTF-8."""
     return text.encode("utf-8", "surrogateescape")
 
 
@@ -82,7 +82,7 @@ def text_of(data: bytes) -> str:
 
 
 def seed_words(seed: int) -> list[str]:
-    """The option of a seed; raises ValueError where it is out of range."""
+    """The option of a seed; raises ValueError if it is out of range."""
     if not 0 <= seed < 2**64:
         raise ValueError(f"the seed {seed} is not in 0..2**64")
     return ["--seed", str(seed)]
@@ -108,7 +108,7 @@ def run(words: list[str], text: str) -> bytes:
 
 
 def failure(program: str, status: int, said: str, why: str = "") -> Exception:
-    """What to raise where a program ended with a status other than 0 and said this on standard error; why: what explains a refusal,
+    """What to raise if a program ended with a status other than 0 and said this on standard error; why: what explains a refusal,
     if it was not said there."""
     refused = REFUSAL.search(said)
     if refused:

@@ -18,7 +18,7 @@ class Questioned(Asked):
     """A circuit as what is asked of its records and flows."""
 
     def has_flow(self, flow: str | Flow) -> bool:
-        """Whether the circuit turns a Pauli in front of it into one behind it, up to records, signs included. docs/use/flows.md says more.
+        """Whether the circuit turns a Pauli in front of it into one after it, up to records, signs included. docs/use/flows.md says more.
 
         flow: as "X0*Z1 -> -Y2 xor rec[-1]"; 1 is no Pauli. The circuit and the flow name up to 512 qubits, and those that the circuit does
         not name stay as they are. ValueError or IndexError at a misspelt flow.
@@ -43,7 +43,7 @@ class Questioned(Asked):
     def flow_generators(self, *, qubits: Iterable[int] | None = None, records: bool = True) -> list[Flow]:
         """Flows of which all others of the circuit are products, signs included.
 
-        qubits: only flows on these, in front and behind; records: whether flows may name records. The circuit has up to 512 qubits.
+        qubits: only flows on these, in front and after; records: whether flows may name records. The circuit has up to 512 qubits.
 
         >>> import stabsim
         >>> for flow in stabsim.Circuit("R 1\\nCX 0 1\\nMX 0").flow_generators():
@@ -55,13 +55,13 @@ class Questioned(Asked):
         return self.generators_on(self.numbers().qubits, qubits, records)
 
     def generators_on(self, count: int, qubits: Iterable[int] | None, records: bool) -> list[Flow]:
-        """The generators with so many qubits, as many as the circuit names or more."""
+        """The generators with this many qubits, as many as the circuit names or more."""
         rows = flow_group.joint_rows(Asked(flow_group.measured_text(self.text, [], count)).stabilisers(), count)
         found = flow_group.generators_of(Asked(flow_group.measured_text(self.text, rows, count)).coins(), rows, count)
         return found if qubits is None and records else flow_group.within(found, qubits, records, count)
 
     def same_flows(self, other: "Questioned", *, qubits: Iterable[int] | None = None, records: bool = True) -> SameFlows:
-        """Whether another circuit has the same flows, and else a flow that one of them has and the other has not.
+        """Whether another circuit has the same flows, and else a flow that one of them has and the other does not have.
 
         qubits, records: only flows on these qubits, or that name no records, as of `flow_generators`. With records both circuits have
         as many, else a ValueError is raised.
@@ -86,7 +86,7 @@ class Questioned(Asked):
         return SameFlows(True)
 
     def missing_detectors(self) -> list[Parity]:
-        """Parities of records that are the same for all coins, and that the circuit's detectors and observables don't give: such that all
+        """Parities of records that are the same for all random bits, and that the circuit's detectors and observables don't give: such that all
         others are sums of these and those. Each has few records, which are near in time. `Circuit.with_detectors` puts them in.
 
         >>> import stabsim

@@ -7,9 +7,10 @@ from stabsim import program
 from stabsim.errors import Refused
 from stabsim.reading import PARTS, SPACING, WORD, Item, Line, content_of, items_of, lines_of, walk
 
-ITEM = re.compile(r"\bitem (\d+(?:/\d+)*)")
+# The path of an item, or of the item that takes a coin, as in c40@66/3.
+ITEM = re.compile(r"(\bitem |\bc\d+@)(\d+(?:/\d+)*)")
 
-# A line of more bytes is quoted in part: so many of them, of which some stand in front of what carets are under, between these dots.
+# A line of more bytes is quoted in part: this many of them, of which some are in front of what carets are under, between these dots.
 MOST_WHOLE = 120
 WINDOW = 100
 BEFORE = 40
@@ -64,16 +65,16 @@ def as_written(refused: Refused, made: Sequence[str], origins: Sequence[int], it
     explanation = "\n".join(lines)
     if ITEM.search(explanation):
         paths = paths_in(items, text)
-        explanation = ITEM.sub(lambda found: f"item {paths.get(found[1], found[1])}", explanation)
+        explanation = ITEM.sub(lambda found: found[1] + paths.get(found[2], found[2]), explanation)
     return Refused(refused.number, refused.name, line, explanation)
 
 
 def requoted(line: Line, made: Line, quote: str, carets: str) -> list[str]:
-    """The user's line with carets under what stands in a made one above those of its quote."""
+    """The user's line with carets under what is in a made one above those of its quote."""
     head = len(f"{made.number}: ")
     part = quote[head:]
     if part != shown(made.text):
-        # A part of a long line stands between dots where it was cut.
+        # A part of a long line is between dots where it was cut.
         head += len(CUT) * part.startswith(CUT)
         part = part.removeprefix(CUT).removesuffix(CUT)
     start = shown(made.text).find(part) + carets.find("^") - head

@@ -8,7 +8,7 @@ import numpy as np
 from numpy.typing import NDArray
 
 COIN = re.compile(r"c(\d+)@([\d/]+)")
-# The program may write a detector's coordinates in brackets.
+# A detector's coordinates in brackets are those of its line, without shifts.
 LINE = re.compile(r"([DL]\d+) ([\d/]+)(?: \([^)]*\))?((?: c\d+@[\d/]+)+)")
 
 
@@ -26,7 +26,7 @@ class DecidingCoin(NamedTuple):
 
 @dataclass(frozen=True)
 class RandomBit:
-    """A detector or an observable that is not the same for all coins.
+    """A detector or an observable that is not the same for all random bits.
 
     name: str, as D37 or L0; path: str, of its item, of an observable the first that adds to it; coordinates: tuple of float; coins: a
     tuple of DecidingCoin, those that decide it.
@@ -55,7 +55,8 @@ def coins_of(text: str) -> tuple[DecidingCoin, ...]:
 
 
 def bit_of(line: str, coordinates: NDArray[np.float64]) -> RandomBit:
-    """The bit of a line such as `D37 69 c12@12 c40@66/3`; coordinates: float64 (detectors, width), nan where a detector has none."""
+    """The bit of a line such as `D37 69 (1, 3, 2) c12@12 c40@66/3`; coordinates: float64 (detectors, width) with shifts, nan if a
+    detector has none."""
     found = LINE.fullmatch(line)
     if not found:
         raise ValueError(f"{line!r} says of no bit what decides it")

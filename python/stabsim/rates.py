@@ -18,12 +18,12 @@ class Rate(NamedTuple):
     high: float
 
     def per_round(self, rounds: float) -> "Rate":
-        """The rate of one of so many rounds, by `rate_per_round`."""
+        """The rate of one of this many rounds, by `rate_per_round`."""
         return Rate(*(rate_per_round(rate, rounds) for rate in self))
 
 
 def fit_rate(shots: int, errors: int, *, max_likelihood_factor: float = 1000.0) -> Rate:
-    """The rate under which so many errors in so many shots are likeliest, and the least and the greatest under which they are less likely
+    """The rate under which this many errors in this many shots are likeliest, and the least and the greatest under which they are less likely
     by this factor. Without shots all rates are as likely, and one half is taken.
 
     >>> import stabsim
@@ -49,7 +49,7 @@ def fit_rate(shots: int, errors: int, *, max_likelihood_factor: float = 1000.0) 
 
 
 def rate_per_round(rate: float, rounds: float) -> float:
-    """The rate p of one round of which an odd number of so many rounds errs with this rate: (1 - (1 - 2 rate)^(1 / rounds)) / 2. Of a rate
+    """The rate p of one round with which an odd number of this many rounds errs at this rate: (1 - (1 - 2 rate)^(1 / rounds)) / 2. For a rate
     above one half it is 1 less that of 1 less the rate.
 
     >>> import stabsim
@@ -64,7 +64,7 @@ def rate_per_round(rate: float, rounds: float) -> float:
 
 
 def logarithm(shots: int, errors: int, rate: float) -> float:
-    """The logarithm of how likely so many errors in so many shots are, but for what is the same for all rates."""
+    """The logarithm of how likely this many errors in this many shots are, up to what is the same for all rates."""
     found = errors * math.log(rate) if errors else 0.0
     return found + (shots - errors) * math.log1p(-rate) if shots > errors else found
 

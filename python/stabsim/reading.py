@@ -1,6 +1,6 @@
 """The one reader of circuit text in the package: lines, and the instructions and blocks that they make.
 
-It cuts a text as the program does. Whether names, arguments and targets are right, the program judges.
+It cuts a text as the program does. The program judges whether names, arguments and targets are right.
 """
 
 import functools
@@ -170,7 +170,7 @@ def indented(text: str) -> str:
 
 @functools.lru_cache(maxsize=8192)
 def parts_of(content: str) -> Parts | None:
-    """The parts of a line's content, which may open a block; None if no name stands in front."""
+    """The parts of a line's content, which may open a block; None if no name is in front."""
     found = PARTS.match(content.removesuffix("{"))
     if not found:
         return None
@@ -259,7 +259,7 @@ def is_number(word: str) -> bool:
 
 
 def closed_text(text: str) -> str:
-    """A text with an end of its last line. Raises Refused if its blocks are not closed, since what is put behind it would be in them."""
+    """A text with an end of its last line. Raises Refused if its blocks are not closed, since what is put after it would be in them."""
     items_of(text)
     return text if text.endswith("\n") or not text else text + "\n"
 
@@ -274,7 +274,7 @@ def walk(items: Iterable[Item]) -> Iterator[Item]:
 
 def lines_at(text: str, path: str) -> tuple[int, int]:
     """The line, counted from 0, at which the item at a path begins, and that at which the next one would. The path may be the one
-    behind a list's last item; then both are the line at which an item would be put in. ValueError if there is no such path."""
+    after a list's last item; then both are the line at which an item would be put in. ValueError if there is no such path."""
     items, end = items_of(text), len(text.removesuffix("\n").split("\n")) if text else 0
     *outer, last = map(int, path.split("/"))
     for place in outer:

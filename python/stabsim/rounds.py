@@ -1,4 +1,4 @@
-"""Rounds of a block that stand by themselves."""
+"""Rounds of a block that are blocks by themselves."""
 
 from stabsim.errors import Refused
 from stabsim.reading import Block, headed, items_of
@@ -16,8 +16,8 @@ def block_of(text: str) -> Block:
 
 
 def parts_of_block(text: str, round_number: int) -> list[str]:
-    """The blocks that a block becomes where one of its rounds, counted from 0, is split off: the rounds before it, that round,
-    and the rounds behind it, without those that have none. ValueError where the text is no block or has no such round."""
+    """The blocks that a block becomes if one of its rounds, counted from 0, is split off: the rounds before it, that round,
+    and the rounds after it, without those that have none. ValueError if the text is no block or has no such round."""
     block = block_of(text)
     if not 0 <= round_number < block.repeat:
         raise ValueError("there is no such round")
@@ -33,6 +33,6 @@ def longest_part(parts: list[str]) -> int:
 
 
 def place_behind(place: str, number: int = 1) -> str:
-    """The path of the item so many places behind the one at a path, in the same list."""
+    """The path of the item this many places after the one at a path, in the same list."""
     *outer, last = place.split("/")
     return "/".join([*outer, str(int(last) + number)])

@@ -33,7 +33,7 @@ class Sampled:
         """The records of shots first_shot, first_shot + 1 .. of a seed, as a bool array (shots, records). Without a seed a fresh one is
         drawn; the array keeps it as `seed`. With bit_packed bit k is bit k % 8 of byte k // 8, uint8 (shots, (records + 7) // 8).
 
-        With an executor of concurrent.futures the shots are split into so many parts, which gives the same array.
+        With an executor of concurrent.futures the shots are split into this many parts, which gives the same array.
 
         >>> import stabsim
         >>> c = stabsim.Circuit("X 0\\nM 0 1\\n")
@@ -69,7 +69,7 @@ class Sampled:
         records. With separate_observables a pair: that array, and the observables as a bool array (shots, observables). Without a seed
         a fresh one is drawn; the arrays keep it as `seed`. With bit_packed each is packed as those of `sample`.
 
-        With an executor of concurrent.futures the shots are split into so many parts, which gives the same arrays.
+        With an executor of concurrent.futures the shots are split into this many parts, which gives the same arrays.
 
         >>> import stabsim
         >>> c = stabsim.Circuit("X 0\\nM 0 1\\nDETECTOR rec[-2]\\nOBSERVABLE_INCLUDE(0) rec[-1]\\n")
@@ -123,6 +123,6 @@ class Sampled:
 
     def packed(self, what: shot_parts.What, width: int, shots: int, seed: int, first_shot: int, executor: Executor | None,
                parts: int) -> NDArray[np.uint8]:
-        """Shots of so many bits, packed, from one run of the program or from several."""
+        """Shots of this many bits, packed, from one run of the program or from several."""
         asked = shot_parts.Shots(self.text, what, seed, first_shot, shots)
         return bits.packed_of_b8(shot_parts.bytes_of(asked, executor, parts), shots, width)

@@ -26,7 +26,7 @@ def path_text(path: Path) -> str:
 def edit_lines(words: str, item: str) -> bytes:
     """An edit that puts an item in: its words, and the item's text, which is one line or one whole block.
 
-    A text of several lines is taken as a block's, up to the line that closes it. Any line behind that would be a command of
+    A text of several lines is taken as a block's, up to the line that closes it. Any line after that would be a command of
     its own, so a text that is not exactly one item is refused here.
     """
     text = f"{words} {item.strip(SPACING)}"

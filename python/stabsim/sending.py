@@ -1,4 +1,4 @@
-"""Parts with an executor, and models sent to the workers that have them not."""
+"""Parts with an executor, and models sent to the workers without them."""
 
 from collections.abc import Iterator, Mapping
 from concurrent.futures import FIRST_COMPLETED, Executor, Future, wait
@@ -9,7 +9,7 @@ from stabsim.counting import Counted, Load, Missing, Part, count
 class Sending:
     """Parts that are with an executor.
 
-    A part goes without its model, except the first of each model. A worker that has not the model answers with just that, and the part
+    A part goes without its model, except the first of each model. A worker without the model answers with just that, and the part
     is sent again: with the model, unless one is on its way to this worker. An executor doesn't say which worker takes a part: if
     another one took the model, the worker asks again.
     """

@@ -28,8 +28,8 @@ class Session:
     """A circuit that is run, kept, and changed by edits. Made by `Circuit.edit`.
 
     It is a context manager, and its process ends with it. One thread at a time uses it. An edit that is refused raises
-    stabsim.Refused, with words for a fault of the item's own, and changes nothing. Where the process has ended, or was interrupted
-    in a reply, every call raises stabsim.SessionEnded. All calls but `close` ask the program, so none is a property.
+    stabsim.Refused, with words for a fault of the item's own, and changes nothing. If the process has ended, or was interrupted
+    in a reply, every call raises stabsim.SessionEnded. All calls except `close` ask the program, so none is a property.
 
     >>> import stabsim
     >>> with stabsim.Circuit("H 0\\nCX 0 1\\nM 0 1\\nDETECTOR rec[-1] rec[-2]").edit() as session:
@@ -64,7 +64,7 @@ class Session:
     # Edits. A path is a number, or numbers that lead into blocks, as 3/0/2.
 
     def insert(self, path: Path, text: str) -> None:
-        """Puts an item, one instruction or one whole block, in front of the one at the path, or behind all of its list.
+        """Puts an item, one instruction or one whole block, in front of the one at the path, or after all of its list.
 
         >>> import stabsim
         >>> with stabsim.Circuit("REPEAT 2 {\\n    M 0\\n}").edit() as session:
@@ -106,7 +106,7 @@ class Session:
 
     def split(self, path: Path, round_number: int) -> None:
         """Splits a round, counted from 0, off the block at the path, so that it can be edited by itself: the rounds before it
-        become a block, that round one, and the rounds behind it one; a part without rounds is left out. The steps stay, so
+        become a block, that round one, and the rounds after it one; a part without rounds is left out. The steps stay, so
         nothing is run and no bit changes.
 
         >>> import stabsim
@@ -121,7 +121,7 @@ class Session:
 
     def insert_errors(self, errors: Iterable[CircuitError]) -> None:
         """Puts errors in, all by one edit: Paulis as gates at their steps, and wrong records as measurements that are inverted. Rounds
-        are split off blocks, and items cut in two, where errors are within them; steps and records of the circuit stay as they are.
+        are split off blocks, and items cut in two, if errors are within them; steps and records of the circuit stay as they are.
 
         errors: as `Circuit.distance` finds them. IndexError if the circuit has no such step or record.
 
@@ -154,11 +154,11 @@ class Session:
         self.history.join(before)
 
     def undo(self) -> bool:
-        """Takes the last edit back, by the edit that is its inverse; False where there is none."""
+        """Takes the last edit back, by the edit that is its inverse; False if there is none."""
         return self.retrace(self.history.last_done(), self.history.undone)
 
     def redo(self) -> bool:
-        """Makes the edit again that was last taken back; False where there is none."""
+        """Makes the edit again that was last taken back; False if there is none."""
         return self.retrace(self.history.last_undone(), self.history.redone)
 
     # Questions.
@@ -184,7 +184,7 @@ class Session:
         return bits.of_text(self.line("show observables"))
 
     def stabilisers(self) -> list[str]:
-        """The reduced rows of the group that stabilises the state behind the circuit: a signed string for each qubit."""
+        """The reduced rows of the group that stabilises the state after the circuit: a signed string for each qubit."""
         return [line.decode() for line in self.process.ask(b"show stabilisers\n")]
 
     def circuit(self) -> str:
@@ -196,16 +196,16 @@ class Session:
         return text_of_lines(self.process.ask(f"show item {path_text(path)}\n".encode()))
 
     def place(self, path: Path) -> ItemSteps:
-        """Where the steps of the item at the path stand in the unrolled circuit, and which records, detectors and coins they make."""
+        """Where the steps of the item at the path are in the unrolled circuit, and which records, detectors and coins they make."""
         numbers = list(map(int, self.line(f"show place {path_text(path)}").split()))
         return ItemSteps(*(range(first, first + count) for first, count in zip(numbers[::2], numbers[1::2], strict=True)))
 
     def deterministic(self) -> Sure:
-        """Which detectors and observables of the circuit as it is now are the same for all coins: `Circuit.deterministic` of it."""
+        """Which detectors and observables of the circuit as it is now are the same for all random bits: `Circuit.deterministic` of it."""
         return sure_of(bits.of_text(self.line("show deterministic")), self.numbers().detectors)
 
     def why(self, bit: str) -> tuple[DecidingCoin, ...]:
-        """The coins that decide a detector, as D37, or an observable, as L0: none if it is the same for all coins.
+        """The coins that decide a detector, as D37, or an observable, as L0: none if it is the same for all random bits.
 
         >>> import stabsim
         >>> with stabsim.Circuit("R 0\\nM 0\\nDETECTOR rec[-1]").edit() as session:
@@ -216,7 +216,7 @@ class Session:
         return coins_of(text_of_lines(self.process.ask(f"show why {bit_name(bit)}\n".encode())))
 
     def distance(self, most: int, *, everywhere: bool = False) -> Distance:
-        """The distance of the circuit as it is now, by the errors that it marks, or by errors everywhere, up to so many of them:
+        """The distance of the circuit as it is now, by the errors that it marks, or by errors everywhere, up to this many of them:
         `Circuit.distance` of it.
 
         >>> import stabsim
@@ -246,7 +246,7 @@ class Session:
         self.process.ask(b"mark\n")
 
     def changed(self, *, records: bool = False) -> Changed:
-        """What differs from the mark: detectors and observables, and records where they are asked for."""
+        """What differs from the mark: detectors and observables, and records if they are asked for."""
         lines = self.process.ask(b"show changed\n") + (self.process.ask(b"show changed records\n") if records else [])
         places: dict[str, list[int]] = {"D": [], "L": [], "M": []}
         lengths = {}
@@ -268,7 +268,7 @@ class Session:
         self.history.add(change)
 
     def retrace(self, requests: tuple[Request, ...], moved: Callable[[], None]) -> bool:
-        """Makes the edits that go a step back, or forth again, where there are some."""
+        """Makes the edits that go a step back, or forth again, if there are some."""
         if not requests:
             return False
         self.carry_out(requests)
@@ -276,7 +276,7 @@ class Session:
         return True
 
     def carry_out(self, requests: tuple[Request, ...]) -> None:
-        """Makes edits in their order. Where one is refused, those before it are taken back."""
+        """Makes edits in their order. If one is refused, those before it are taken back."""
         for number, request in enumerate(requests):
             try:
                 self.process.ask(request.lines)
@@ -286,7 +286,7 @@ class Session:
                 raise
 
     def old_item(self, path: str) -> str:
-        """The text of an item that an edit is to take out; where there is none the edit itself is refused."""
+        """The text of an item that an edit is to take out; if there is none the edit itself is refused."""
         try:
             return self.item(path)
         except Refused:
@@ -315,7 +315,7 @@ def delete_line(path: str) -> bytes:
 
 def joining(path: str, block: str, round_number: int) -> tuple[Request, ...]:
     """The edits that take a split back: the longest part becomes the whole block, and the others go, the last one first. So there
-    are never fewer records than at the end, and no lookback is refused on the way. None where the block has no such round: the split
+    are never fewer records than at the end, and no lookback is refused on the way. None if the block has no such round: the split
     itself is then refused."""
     try:
         parts = parts_of_block(block, round_number)

@@ -17,7 +17,7 @@ WORDS = {"sample": ["sample"], "detect": ["detect"], "detect_both": ["detect", "
 
 @dataclass(frozen=True)
 class Shots:
-    """What is asked of the program: so many shots of a seed from a first one on, of a circuit's text."""
+    """What is asked of the program: this many shots of a seed from a first one on, of a circuit's text."""
 
     text: str
     what: What
@@ -36,7 +36,7 @@ def bytes_of(shots: Shots, executor: Executor | None, parts: int) -> bytes:
 
 
 def split(shots: Shots, parts: int) -> Iterator[Shots]:
-    """The shots in so many parts of about the same length, none empty and none over what one run takes."""
+    """The shots in this many parts of about the same length, none empty and none over what one run takes."""
     parts = min(max(parts, -(-shots.count // MOST_SHOTS)), max(shots.count, 1))
     bounds = [shots.first + part * shots.count // parts for part in range(parts + 1)]
     for first, end in itertools.pairwise(bounds):
@@ -46,5 +46,5 @@ def split(shots: Shots, parts: int) -> Iterator[Shots]:
 def run(shots: Shots) -> bytes:
     """One run of the program. A worker in another process, or on another machine, finds its program by itself."""
     words = [*WORDS[shots.what], "--shots", str(shots.count), *program.seed_words(shots.seed), "--out_format", "b8"]
-    # Where shots begin at 0, also a program that knows no other serves.
+    # If shots begin at 0, also a program that knows no other serves.
     return program.run(words + (["--first_shot", str(shots.first)] if shots.first else []), shots.text)

@@ -23,7 +23,7 @@ class Sizes:
     ticks: int = 0
 
     def before(self, later: "Sizes", rounds: int) -> "Sizes":
-        """With so many rounds of others behind."""
+        """With this many rounds of others after it."""
         return Sizes(max(self.qubits, later.qubits), self.records + rounds * later.records, self.detectors + rounds * later.detectors,
                      max(self.observables, later.observables), self.ticks + rounds * later.ticks)
 

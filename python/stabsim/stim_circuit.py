@@ -57,7 +57,7 @@ class StimCircuit:
 
     @functools.cached_property
     def items_of_line(self) -> Mapping[int, tuple[str, ...]]:
-        """For each of the user's lines from which items of `circuit` come, their paths, one behind the other."""
+        """For each of the user's lines from which items of `circuit` come, their paths, one after the other."""
         found: dict[int, tuple[str, ...]] = {}
         for path, line in self.line_of_item.items():
             found[line] = (*found.get(line, ()), path)
@@ -65,7 +65,7 @@ class StimCircuit:
 
     @property
     def left_out(self) -> list[str]:
-        """What `circuit` has not that the text has, a note for each line of noise."""
+        """What the text has and `circuit` does not have, a note for each line of noise."""
         return [f"line {line}: {what}" for line, what in self.profile.left_out.items()]
 
     @functools.cached_property
@@ -103,8 +103,8 @@ class StimCircuit:
         turned over by what the noise flips. With separate_observables a pair: that array, and the observables as a bool array
         (shots, observables).
 
-        With noise each detector and observable must be the same for all coins: stabsim.Refused names the first that is not.
-        stabsim.UnsupportedNoise tells of noise that is not made of independent errors.
+        With noise each detector and observable must be the same for all random bits: stabsim.Refused names the first that is not.
+        stabsim.UnsupportedNoise names noise that is not made of independent errors.
 
         >>> import stabsim
         >>> stabsim.from_stim("X 0\\nX_ERROR(1) 0\\nM 0\\nDETECTOR rec[-1]").detect(2, seed=7).tolist()
@@ -174,7 +174,7 @@ def noise_of(items: tuple[Item, ...], list_path: str) -> Iterator[Instruction]:
 def from_stim(text: str) -> StimCircuit:
     """Reads a circuit of Stim's: all of its gates and measurements, with noise.
 
-    Instructions that the program does not read become those that it reads. Raises stabsim.Refused, with the user's line, where
+    Instructions that the program does not read become those that it reads. Raises stabsim.Refused, with the user's line, if
     something can't be: sweep bits, Pauli targets of observables, over 1,024 qubits, or what Stim refuses too; and
     stabsim.UnsupportedNoise at heralded errors, which make records.
 

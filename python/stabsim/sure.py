@@ -1,4 +1,4 @@
-"""Which detectors and observables are the same for all coins."""
+"""Which detectors and observables are the same for all random bits."""
 
 from typing import NamedTuple
 
@@ -7,7 +7,7 @@ from numpy.typing import NDArray
 
 
 class Sure(NamedTuple):
-    """What is the same for all coins: detectors is a bool array (detectors,), observables a bool array (observables,).
+    """What is the same for all random bits: detectors is a bool array (detectors,), observables a bool array (observables,).
 
     >>> import stabsim
     >>> stabsim.Circuit("MX 0\\nOBSERVABLE_INCLUDE(0) rec[-1]").deterministic().observables.tolist()
@@ -19,5 +19,5 @@ class Sure(NamedTuple):
 
 
 def sure_of(bits: NDArray[np.bool_], detectors: int) -> Sure:
-    """The bits of so many detectors, and behind them of the observables."""
+    """The bits of this many detectors, and after them of the observables."""
     return Sure(bits[:detectors], bits[detectors:])

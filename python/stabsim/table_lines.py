@@ -50,14 +50,14 @@ def rows_of(lines: bytes, firsts: Mapping[str, int]) -> Rows:
 
 
 def begins_of(ends: NDArray[np.int64]) -> NDArray[np.int64]:
-    """Where each of several stretches begins that lie one behind the other and have these ends."""
+    """Where each of several stretches begins that lie one after the other and have these ends."""
     begins = np.zeros(len(ends), dtype=np.int64)
     begins[1:] = ends[:-1] + 1
     return begins
 
 
 def numbers_in(data: NDArray[np.uint8], starts: NDArray[np.int64], ends: NDArray[np.int64]) -> NDArray[np.int64]:
-    """The numbers whose digits stand from starts to ends, int64 (words,): digit by digit, of all words at once."""
+    """The numbers whose digits are from starts to ends, int64 (words,): digit by digit, of all words at once."""
     numbers = np.zeros(len(starts), dtype=np.int64)
     lengths = ends - starts
     for place in range(int(lengths.max(initial=0))):
@@ -67,7 +67,7 @@ def numbers_in(data: NDArray[np.uint8], starts: NDArray[np.int64], ends: NDArray
 
 
 def words_in(data: NDArray[np.uint8], starts: NDArray[np.int64], ends: NDArray[np.int64]) -> NDArray[np.str_]:
-    """The words that stand from starts to ends, as an array of str (words,): letter by letter, of all words at once."""
+    """The words from starts to ends, as an array of str (words,): letter by letter, of all words at once."""
     lengths = ends - starts
     width = int(lengths.max(initial=1))
     letters = np.zeros((len(starts), width), dtype=np.uint32)

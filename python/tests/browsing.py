@@ -27,7 +27,7 @@ if not MISSING:
 # The longest, in seconds, that anything is waited for.
 LONGEST = 60
 
-# Keys as the browser is told of them while they are held down.
+# Keys as the browser is given them while they are held down.
 HELD = {
     "x": {"key": "x", "code": "KeyX", "text": "x", "windowsVirtualKeyCode": 88},
     "i": {"key": "i", "code": "KeyI", "text": "i", "windowsVirtualKeyCode": 73},
@@ -135,7 +135,7 @@ class Page:
         return self.ask("page.views.layout.at(words[0])", qubit)
 
     def choose_qubit(self, *numbers):
-        """Clicks qubits, those behind the first with Shift, by one chain of events."""
+        """Clicks qubits, those after the first with Shift, by one chain of events."""
         picture = self.find("picture")
         width, height = picture.rect["width"], picture.rect["height"]
         chain = ActionChains(self.browser, duration=0)
@@ -163,7 +163,7 @@ class Page:
         self.browser.execute_cdp_cmd("Input.dispatchKeyEvent", {"type": "keyUp", **{word: key[word] for word in key if word != "text"}})
 
     def point_at(self, selector, left=None, top=None, chain=None):
-        """Moves the pointer to the middle of an element, or so many pixels from its upper left corner; goes on with a chain of events."""
+        """Moves the pointer to the middle of an element, or to a spot given in pixels from its upper left corner; goes on with a chain of events."""
         element = self.browser.find_element(By.CSS_SELECTOR, selector)
         chain = chain or ActionChains(self.browser, duration=0)
         if left is None:

@@ -13,7 +13,7 @@ sys.path[:0] = PLACES
 os.environ["PYTHONPATH"] = os.pathsep.join(PLACES + [it for it in [os.environ.get("PYTHONPATH")] if it])
 os.environ["PYTHONDONTWRITEBYTECODE"] = "1"
 
-from browsing import Page, open_browser  # noqa: E402: it stands in a place that was named above
+from browsing import Page, open_browser  # noqa: E402: its folder was named above
 
 
 @pytest.fixture(scope="session")

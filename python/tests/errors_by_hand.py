@@ -30,7 +30,7 @@ class Error(NamedTuple):
 
 
 class Faults:
-    """What X and Z flip, by the steps in front and the qubit: behind one step is in front of the next."""
+    """What X and Z flip, by the steps in front and the qubit: after one step is in front of the next."""
 
     def __init__(self, text, words):
         self.rows = {}
@@ -39,7 +39,7 @@ class Faults:
             self.rows[int(steps), int(fault[1:]), fault[0]] = frozenset(flips)
 
     def product(self, path, paulis):
-        """The error of letters at qubits, each behind so many steps; Y is X and Z."""
+        """The error of letters at qubits, each after this many steps; Y is X and Z."""
         flips = frozenset()
         for steps, qubit, letter in paulis:
             for part in "XZ" if letter == "Y" else letter:
@@ -47,7 +47,7 @@ class Faults:
         return Error(paulis[0][0], path, "*".join(f"{letter}{qubit}" for _, qubit, letter in paulis), flips)
 
     def products(self, path, places):
-        """All products of letters at some of the places, each so many steps and a qubit."""
+        """All products of letters at some of the places, each this many steps and a qubit."""
         for letters in itertools.product("IXYZ", repeat=len(places)):
             paulis = [(*place, letter) for place, letter in zip(places, letters) if letter != "I"]
             if paulis:
@@ -68,7 +68,7 @@ def marked_errors(text, words):
 
 
 def all_errors(text, words):
-    """Circuit-level noise: behind gates and resets, in front of measurements, and wrong records."""
+    """Circuit-level noise: after gates and resets, in front of measurements, and wrong records."""
     faults, steps, records = Faults(text, ["--everywhere", *words]), 0, 0
     for item in written_out(items_of(text)):
         if item.name in MEASUREMENTS:
@@ -84,7 +84,7 @@ def all_errors(text, words):
 
 
 def measured_errors(faults, item, target, steps, record):
-    """The errors in front of one measured target, and that its record is wrong: as by a letter in front, and behind it once more."""
+    """The errors in front of one measured target, and that its record is wrong: as if by a letter in front, and once more after it."""
     letter = item.name[-1] if item.name[-1] in "XY" else "Z"
     factors = [FACTOR.fullmatch(part) or (part, "", letter, part.lstrip("!")) for part in target.split("*")]
     for factor in factors:

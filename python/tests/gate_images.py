@@ -1,6 +1,6 @@
 """What each of Stim's gates makes of X and Z on each of its qubits, restated from the definitions in Stim's list of gates.
 
-A gate on one qubit has the images of X and Z; one on two those of X_, Z_, _X and _Z. Of a square root of a product P, as SPP, an image
+A gate on one qubit has the images of X and Z; one on two those of X_, Z_, _X and _Z. For a square root of a product P, as SPP, an image
 is worked out: what anticommutes with P becomes i times itself times P, and what commutes stays.
 """
 

@@ -1,6 +1,6 @@
 """A decoder for tests: an exact minimum-weight matching, by networkx, over the graph of an error model.
 
-Each part of a decomposed model is an edge between two detectors, or between one and the boundary. Of a model that is not decomposed the
+Each part of a decomposed model is an edge between two detectors, or between one and the boundary. In a model that is not decomposed, the
 mechanisms that flip more than two detectors have no edge, and are left out.
 """
 
@@ -24,7 +24,7 @@ def graph_of(model):
                 edge = (ends[-1], ends[0] if len(ends) == 2 else BOUNDARY, observables)
                 chances[edge] = chances.get(edge, 0.0) * (1 - chance) + chance * (1 - chances.get(edge, 0.0))
     graph = networkx.Graph()
-    # Of two edges that differ in observables alone the likelier one stays.
+    # If two edges differ only in observables, the likelier one stays.
     for (one, other, flips), chance in sorted(chances.items(), key=lambda item: item[1]):
         graph.add_edge(one, other, weight=math.log((1 - chance) / chance), flips=flips)
     return graph

@@ -5,7 +5,7 @@ import itertools
 
 
 class Search:
-    """Looks for the fewest of some errors, given by what they flip, where observables are counted on behind so many detectors."""
+    """Looks for the fewest of some errors, given by what they flip, where observables are counted on after this many detectors."""
 
     def __init__(self, errors, detectors):
         self.detectors = detectors
@@ -29,7 +29,7 @@ class Search:
 
     def least(self, most=None):
         """Such a set: one of it flips an observable, and with each such it is tried whether no more, one more .. make one. None if there
-        is none, or none of at most so many."""
+        is none, or none of at most this many."""
         if not self.is_there_any():
             return None
         first = [flips for flips in self.errors if flips != self.seen(flips)]
@@ -52,7 +52,7 @@ class Search:
         return any(detector >= self.detectors for detector in rows)
 
     def hiding(self, flips, more):
-        """So many more errors that flip all detectors back, and not the observables, or None."""
+        """This many more errors that flip all detectors back, and not the observables, or None."""
         seen = self.seen(flips)
         if more == 0 or not seen:
             return None if seen or not flips else []
@@ -68,7 +68,7 @@ class Search:
 
 
 def least_by_all_sets(errors, detectors, most):
-    """The fewest of at most so many errors, by looking through all sets; None if there are none."""
+    """The fewest of at most this many errors, by looking through all sets; None if there are none."""
     for size in range(1, most + 1):
         for some in itertools.combinations(errors, size):
             flips = functools.reduce(frozenset.symmetric_difference, map(frozenset, some))

@@ -1,4 +1,4 @@
-"""What the page's server tells its tabs of an edit: no more than what changed."""
+"""What the page's server says to its tabs of an edit: no more than what changed."""
 
 import json
 import subprocess
@@ -25,7 +25,7 @@ def board(tmp_path):
     opened.close()
 
 
-def test_an_edit_tells_what_it_flipped_and_its_own_entry_alone(board):
+def test_an_edit_says_what_it_flipped_and_its_own_entry_alone(board):
     board.edit([Edit("insert", str(BLOCK), "X 1")])
     told = board.edit([Edit("insert", str(BLOCK), "X 10")])
     assert set(told) == {"event", "age", "edits", "entries", "numbers", "position", "flipped"}
@@ -36,7 +36,19 @@ def test_an_edit_tells_what_it_flipped_and_its_own_entry_alone(board):
     assert len(json.dumps(told)) < 1_000
 
 
-def test_bits_are_told_anew_where_some_come_or_go(board):
+def test_a_tab_that_opens_hears_of_the_circuit_as_it_is(board):
+    before = board.opened()
+    assert board.opened() == before
+    board.edit([Edit("insert", "0", "QUBIT_COORDS(70, 70) 40")], "a name of its own")
+    now = board.opened()
+    assert now["circuit"] == "QUBIT_COORDS(70, 70) 40\n" + before["circuit"]
+    assert now["qubit_coordinates"][40] == [70, 70] and len(before["qubit_coordinates"]) <= 40
+    assert [entry["text"] for entry in now["entries"]] == ["a name of its own"]
+    board.go(0)
+    assert board.opened()["circuit"] == before["circuit"]
+
+
+def test_bits_are_said_anew_if_some_come_or_go(board):
     assert BITS <= set(board.edit([Edit("insert", str(len(LINES)), "DETECTOR rec[-1]")]))
     assert BITS <= set(board.go(0))
     board.edit([Edit("insert", "0", "X 1")])
@@ -44,7 +56,7 @@ def test_bits_are_told_anew_where_some_come_or_go(board):
     assert BITS <= set(board.edit([Edit("delete", str(BLOCK))]))
 
 
-def test_going_back_tells_no_entries(board):
+def test_going_back_says_no_entries(board):
     for qubit in (1, 3, 5):
         board.edit([Edit("insert", str(BLOCK), f"X {qubit}")])
     told = board.go(1)

@@ -14,7 +14,7 @@ def product(left, right):
 
 
 def disjoint(errors, qubits):
-    """The chance of each Pauli where errors happen independently, one convolution for each error."""
+    """The chance of each Pauli if errors happen independently, one convolution for each error."""
     chances = {"".join(it): float(it == ("I",) * qubits) for it in itertools.product("IXYZ", repeat=qubits)}
     for name, chance in errors.items():
         moved = {"".join(map(product, it, name)): part for it, part in chances.items()}

@@ -53,7 +53,7 @@ def test_the_array_says_what_the_five_formats_say():
     assert written("hits").decode() == "".join(line + "\n" for line in hits)
     assert written("dets").decode() == "".join(line + "\n" for line in dets)
     assert written("b8") == b"".join(int(line[::-1], 2).to_bytes(3, "little") for line in lines)
-    # Fewer than 255 zeros stand in front of each 1 here, the one that is put behind the bits too.
+    # Fewer than 255 zeros are in front of each 1 here, the one that is put after the bits too.
     assert written("r8") == b"".join(bytes(map(len, (line + "1").split("1")[:-1])) for line in lines)
 
 
@@ -281,7 +281,7 @@ def test_the_program_is_found_on_the_path(monkeypatch, tmp_path):
     link.write_text(f"#!/bin/sh\nexec '{found}' \"$@\"\n")
     link.chmod(link.stat().st_mode | stat.S_IXUSR)
     monkeypatch.setenv("PATH", str(link.parent), prepend=":")
-    # A copy of the package by itself, as where it is installed, has no program beside it.
+    # A copy of the package by itself, as if it is installed, has no program beside it.
     monkeypatch.setattr(program, "__file__", str(tmp_path / "site-packages" / "stabsim" / "program.py"))
     assert stabsim.find_program() == str(link)
     assert subprocess.run([link, "--version"], capture_output=True, check=True).stdout.startswith(b"stabsim ")

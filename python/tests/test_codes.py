@@ -93,11 +93,11 @@ OBSERVABLE_INCLUDE(0) rec[-1]
 
 
 def test_the_time_of_a_detector_is_its_third_coordinate():
-    # But for the repetition code, which lies on a line.
+    # Except for the repetition code, which lies on a line.
     for text in (text for name, text in TEXTS.items() if name != "repetition"):
         rounds = int(text.split(" round")[0].rsplit(" ", 1)[1])
         times = stabsim.Circuit(text).detector_coordinates()[:, 2].tolist()
-        # A round has as many detectors as another, but for the first and the end, which have the same.
+        # A round has as many detectors as another, except the first and the end, which have the same.
         ends = times.count(0.0)
         inner = (len(times) - 2 * ends) // max(rounds - 1, 1)
         assert times == [0.0] * ends + [float(now) for now in range(1, rounds) for _ in range(inner)] + [float(rounds)] * ends
@@ -113,7 +113,7 @@ def test_products_depolarise_on_their_qubits_and_have_wrong_records():
 
 
 def test_the_noise_of_each_code_has_a_name():
-    # Circuit-level where there are gates to err, and phenomenological plus data where checks are products.
+    # Circuit-level if there are gates to err, and phenomenological plus data if checks are products.
     for name, model in codes.NOISE_MODELS.items():
         text = codes.memory(name, 3).text(2)
         assert model == ("phenomenological plus data" if "MPP" in text else "circuit-level") and ("CX" in text) == ("MPP" not in text)

@@ -103,7 +103,7 @@ def test_explanations_by_hand():
 def test_a_spoilt_detector_of_a_code_is_explained_by_what_decides_it():
     circuit = stabsim.Circuit(codes.surface_code(3, 2, written_out=True))
     with circuit.edit() as session:
-        # Behind the resets a corner of the code is measured in X. One check of Z has it, whose first outcome is random then.
+        # After the resets a corner of the code is measured in X. One check of Z has it, whose first outcome is random then.
         session.insert(next(item.path for item in circuit if item.name == "TICK"), "MX 15")
         edited = stabsim.Circuit(session.circuit())
         [bit] = edited.explain()

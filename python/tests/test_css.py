@@ -45,7 +45,7 @@ def matrices_of(code):
 
 def distance(checks, logical, most):
     """The fewest qubits on which an operator commutes with all checks and anticommutes with a logical operator of the other letter, None
-    if there are more than so many.
+    if there are more than this many.
 
     The columns of a qubit say which checks and which logical operators it meets: a sum of columns that meets no check and some logical
     operator is wanted. Such a set is two halves that meet the same checks, and all halves are looked through.

@@ -190,7 +190,7 @@ def test_matching_by_parts_makes_fewer_logical_errors_and_fewer_with_more_distan
         better, worse = (without & ~with_parts).sum(), (with_parts & ~without).sum()
         # What a coin would do in the shots in which the two differ has this standard deviation.
         deviation = math.sqrt(better + worse)
-        # At distance 3 they differ by more; so few shots of more distance tell no difference, and docs/use/python.md has the rates of many.
+        # At distance 3 they differ by more; a few shots of more distance show no difference, and docs/use/python.md has the rates of many.
         assert better - worse > 3 * deviation if distance == 3 else abs(int(better) - int(worse)) <= 3 * deviation
     rates = [with_parts.mean() for with_parts, _ in counted.values()]
     assert rates[0] > rates[1] > rates[2]

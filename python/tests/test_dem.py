@@ -21,7 +21,7 @@ def same(one, other):
 @pytest.mark.parametrize("decompose", [False, True])
 def test_a_model_is_read_as_it_was_written(text, decompose, tmp_path):
     model = stabsim.error_model(text, decompose=decompose)
-    # Whether there are parts, a text says only of those that it has.
+    # A text shows that a model is decomposed only if some mechanism has several parts.
     if model.parts is not None and all(len(parts) == 1 for parts in model.parts):
         model = stabsim.error_model(text)
     assert same(stabsim.ErrorModel.from_dem(model.dem), model)
@@ -58,7 +58,7 @@ logical_observable L4
 """)
     assert lines_of(model.dem) == ["error(0.125) D0 D2", "error(0.25) D0 L1", "error(0.25) D1 L1", "error(0.25) D2 L1", "error(0.125) D3 D5",
                                    "error(0.25) D3 L1", "error(0.25) D4 L1", "error(0.25) D5 L1", "error(0.0625) D6"]
-    # D9 is behind shifts of six detectors.
+    # D9 is after shifts of six detectors.
     assert (model.detectors, model.observables) == (16, 5)
     wanted = {0: (0.5, 9), 3: (38, math.nan), 4: (38, 9), 5: (38, 9), 6: (68, math.nan), 7: (68, 9), 8: (68, 9)}
     for detector, place in enumerate(model.coordinates.tolist()):

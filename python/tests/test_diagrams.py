@@ -122,7 +122,7 @@ def test_products_of_one_instruction_share_a_layer_and_others_do_not():
     assert sizes("MPP X0*X1 X1*X2") == [2]
     assert sizes("MPP X0*X1\nMPP X1*X2") == [1, 1]
     assert sizes("CX 0 1 1 2") == [1, 1]
-    # A Pauli may stand on a gate, and nothing on that.
+    # A Pauli may be on a gate, and nothing on that.
     assert sizes("H 0\nX 0\nH 0") == [2, 1]
     with pytest.raises(ValueError, match="over 64 layers"):
         sizes("REPEAT 1000000 {\nH 0\n}")
@@ -190,7 +190,7 @@ def test_a_picture_is_svg_whose_colours_are_those_of_its_theme(picture, theme):
 
 
 def test_letters_differ_by_shape_and_pattern_too():
-    shapes = {letter: str(table()["shapes"][letter]["parts"]) for letter in "XYZ"}
+    shapes = {letter: str(table()["shapes"][letter]["far"]) for letter in "XYZ"}
     assert len(set(shapes.values())) == 3 and len({table()["hatch"][letter] for letter in "XYZ"}) == 3
 
 

@@ -52,7 +52,7 @@ def flipped(circuit, errors):
 
 
 def check_hidden(circuit, found):
-    """The errors that are told are as many as the distance, and flip an observable and no detector."""
+    """The errors that are reported are as many as the distance, and flip an observable and no detector."""
     assert len(found.errors) == found.distance
     detectors, observables = flipped(circuit, found.errors)
     assert not detectors and observables

@@ -16,7 +16,7 @@ EXAMPLES = pathlib.Path(__file__).resolve().parents[2] / "examples"
 
 
 def example(name):
-    """The module of an example; what it needs beside numpy may be missing."""
+    """The module of an example; what it needs besides numpy may be missing."""
     pytest.importorskip("networkx")
     spec = importlib.util.spec_from_file_location(name, EXAMPLES / f"{name}.py")
     module = importlib.util.module_from_spec(spec)
@@ -70,7 +70,7 @@ def test_a_picture_is_drawn(tmp_path):
 
 def test_the_worst_fault_of_the_other_schedule_has_an_error_less(monkeypatch, capsys):
     worst = example("worst_fault")
-    # Of distance 3, where no two errors of the good schedule go unseen and two of the bad one do: test_codes.py looks through all.
+    # Of distance 3, if no two errors of the good schedule go unseen and two of the bad one do: test_codes.py looks through all.
     monkeypatch.setattr(worst, "DISTANCE", 3)
     worst.main()
     lines = capsys.readouterr().out.splitlines()

@@ -1,4 +1,4 @@
-"""Flows, against the matrices of small circuits: a flow holds where it does for what each run does to a state."""
+"""Flows, against the matrices of small circuits: a flow holds if it does for what each run does to a state."""
 
 import functools
 import itertools
@@ -64,7 +64,7 @@ def holds(flow, branches, count):
 
 
 def all_flows(count):
-    """All flows of two qubits and so many records, without those with a minus."""
+    """All flows of two qubits and this many records, without those with a minus."""
     letters = [tuple((qubit, letter) for qubit, letter in enumerate(pair) if letter != "I") for pair in itertools.product("IXYZ", repeat=QUBITS)]
     for before, after in itertools.product(letters, repeat=2):
         for size in range(count + 1):
@@ -153,7 +153,7 @@ def all_products(flows):
 def test_circuits_have_the_same_flows_if_their_matrices_do(seed):
     count = 1 + seed % 2
     first = stabsim.Circuit(random_text(seed, count))
-    # Another circuit, or the same one with a gate more, which may do nothing to it, as Z behind a measurement of Z whose record controls it.
+    # Another circuit, or the same one with a gate more, which may do nothing to it, as Z after a measurement of Z whose record controls it.
     more = ["Z 0", "CX rec[-1] 0", "Y 1\nY 1"][seed // 3 % 3]
     second = stabsim.Circuit(random_text(seed + 100, count) if seed % 3 == 0 else f"{first.text}\n{more}")
     branches = [branches_of(circuit.text) for circuit in (first, second)]

@@ -14,7 +14,7 @@ NUMBERS = {"num_measurements": 2, "num_detectors": 1, "num_observables": 2}
 BYTES = {
     "01": b"10101\n00000\n01011\n",
     "b8": bytes([0b10101, 0, 0b11010]),
-    # Zeros before each 1, the 1 that is put behind the five bits included.
+    # Zeros before each 1, the 1 that is put after the five bits included.
     "r8": bytes([0, 1, 1, 0, 5, 1, 1, 0, 0]),
     "hits": b"0,2,4\n\n1,3,4\n",
     "dets": b"shot M0 D0 L1\nshot\nshot M1 L0 L1\n",

@@ -265,12 +265,12 @@ def test_a_refusal_names_the_line_of_the_noisy_text():
 def test_a_refusal_names_the_item_of_the_noisy_text():
     # With its marks the circuit has other items: those of a noisy measurement are three.
     text = "R 0\nX_ERROR(0.1) 0\nREPEAT 2 {\n    M(0.1) 0 0\n    X_ERROR(0.1) 0\n    M 0\n    DETECTOR rec[-4]\n}\n"
-    with pytest.raises(stabsim.Refused, match="3 records stand before item 2/3") as told:
+    with pytest.raises(stabsim.Refused, match="3 records are before item 2/3") as told:
         stabsim.error_model(text)
     assert told.value.number == 8 and told.value.explanation.startswith("7:     DETECTOR rec[-4]\n")
     with pytest.raises(stabsim.Refused) as told:
         stabsim.error_model("R 0\nM(0.1) 0 0\nI 0\nMX(0.1) 0\nDETECTOR rec[-2]\nDETECTOR rec[-1]\n")
-    assert told.value.number == 18 and told.value.explanation == "detector 1, item 5, is not the same for all coins"
+    assert told.value.number == 18 and told.value.explanation == "detector 1, item 5, is not the same for all coins: c3@3 decides it"
 
 
 def test_a_circuit_of_too_many_errors_is_refused_before_they_are_counted():
@@ -353,7 +353,7 @@ def test_chunks_are_the_shots_one_after_another():
     packed = list(zip(*model.iter_sample(3000, 700, seed=7, first_shot=100, bit_packed=True)))
     for bits, split in zip(whole, packed):
         assert np.array_equal(np.packbits(bits, axis=1, bitorder="little"), np.concatenate(split))
-    # What is wrong is told by the call, and not by the first chunk.
+    # What is wrong is determined by the call, and not by the first chunk.
     for wrong in ((-1, 5), (5, 0)):
         with pytest.raises(ValueError):
             model.iter_sample(*wrong, seed=1)

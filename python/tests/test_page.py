@@ -68,7 +68,7 @@ def test_an_item_is_put_in_and_taken_back(page):
     page.wait(lambda: page.row("0") == "0X 1")
 
 
-def test_a_refusal_stands_at_its_item(page):
+def test_a_refusal_is_shown_at_its_item(page):
     place = LINES.index("TICK")
     page.choose(str(place))
     page.click("#insert")
@@ -88,7 +88,7 @@ def test_a_pauli_on_a_qubit_flips_detectors_and_is_exported(page, tmp_path):
     assert flipped and told.startswith(" ".join(f"D{number}" for number in flipped))
 
 
-def test_a_place_tells_what_a_fault_would_flip(page):
+def test_a_place_says_what_a_fault_would_flip(page):
     page.go_to(6)
     page.wait(lambda: "nothing" in " ".join(told_of_errors(page, 10)) or "D" in " ".join(told_of_errors(page, 10)))
     with stabsim.Circuit(CODE).edit() as session:
@@ -120,7 +120,7 @@ def test_two_tabs_see_one_session(page):
     page.wait(lambda: len(page.history()) == 2)
 
 
-# Keeps the first edit from a tab, as where its machine slept.
+# Keeps the first edit from a tab, as if its machine slept.
 DEAF_ONCE = """
 const Real = window.WebSocket;
 window.WebSocket = class extends Real {

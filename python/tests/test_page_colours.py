@@ -67,7 +67,7 @@ def test_each_role_of_the_shapes_is_measured():
     assert solid <= set(GROUNDS["mark"])
 
 
-# The least contrast of what is written on the page, of each text with the ground behind it, as the browser has computed both.
+# The least contrast of what is written on the page, of each text with the ground under it, as the browser has computed both.
 WRITTEN = """
 const parse = (colour) => (colour.match(/[\\d.]+/g) ?? []).map(Number);
 const groundOf = (it) => {

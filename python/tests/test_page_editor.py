@@ -52,7 +52,7 @@ def do(page, *keys, held=()):
 
 
 def body(page):
-    """The items behind the places of qubits, without ticks at the end."""
+    """The items after the places of qubits, without ticks at the end."""
     return page.circuit().splitlines()[4:]
 
 
@@ -107,7 +107,7 @@ def lines_of(code, renumbered):
 
 
 def draw_detectors(page, code, measured):
-    """Draws detectors by the qubits of their records, where `measured` has the qubit of each record before them."""
+    """Draws detectors by the qubits of their records, if `measured` has the qubit of each record before them."""
     for name, _, records in code:
         page.choose_qubit(*dict.fromkeys(measured[int(record[4:-1])] for record in records))
         do(page, "o" if name == "OBSERVABLE_INCLUDE" else "d")
@@ -200,13 +200,25 @@ def test_a_gate_on_two_is_led_from_one_qubit_to_another(page):
     page.wait(lambda: "CX 2 0" in body(page))
 
 
-def test_of_several_qubits_each_goes_with_the_one_that_stands_alike(page):
+def test_of_several_qubits_each_goes_with_the_one_that_way(page):
     page.go_to(1)
     page.choose_qubit(0, 2, 1)
     page.press("v")
     page.point_at("#picture", *page.spot(3)).click().perform()
     page.wait(lambda: "CZ 0 2 1 3" in body(page))
     assert page.find("message").text == "1 of the chosen has no qubit there"
+    # The click shows the way even if the last of them has no partner there, and a drag from any of them does too.
+    page.press("v")
+    page.point_at("#picture", *page.ask("page.views.layout.spot(words)", 2, 0)).click().perform()
+    page.wait(lambda: "CZ 0 1 2 3" in body(page))
+    page.press("w")
+    page.drag(page.spot(0), page.spot(1))
+    page.wait(lambda: "SWAP 0 1 2 3" in body(page))
+    # Two places to the right of each there is none.
+    count = len(page.history())
+    page.press("c")
+    page.point_at("#picture", *page.ask("page.views.layout.spot(words)", 3, 0)).click().perform()
+    assert page.find("message").text == "none of the chosen has a qubit there" and len(page.history()) == count
 
 
 def test_a_tool_puts_a_qubit_where_there_is_none(open_page):
@@ -267,6 +279,45 @@ def test_ticks_are_put_in_and_taken_out_and_gates_moved(page):
     assert body(page) == ["R 0 1 2 3", "TICK", "CX 2 3", "CX 0 1", "TICK", "TICK", "M 0 1"]
     do(page, "t", held=[Keys.SHIFT])
     assert body(page) == ["R 0 1 2 3", "TICK", "CX 2 3", "CX 0 1", "TICK", "M 0 1"]
+
+
+def test_a_tick_is_moved_by_keys_and_by_its_mark(open_page):
+    page = open_page("\n".join(PLACES) + "\nR 0 1\nR 2 3\nTICK\nH 0\nH 1\nTICK\nM 0 1\n")
+    page.go_to(1)
+    page.focus("#timeline")
+    do(page, "{")
+    assert body(page) == ["R 0 1", "R 2 3", "TICK", "H 0", "TICK", "H 1", "M 0 1"]
+    # The tick is still that of the moment that is shown, and one entry of the history was made.
+    assert page.find("moment-said").text == "tick 1" and page.history()[1:] == ["move the end of tick 1"]
+    do(page, "}")
+    assert body(page) == ["R 0 1", "R 2 3", "TICK", "H 0", "H 1", "TICK", "M 0 1"]
+    page.go_to(2)
+    page.press("}")
+    page.wait(lambda: page.find("message").text == "no TICK ends this moment")
+    # Its mark is dragged: half of the next moment lies between H 0 and H 1.
+    drag_mark(page, 0, 1)
+    page.wait(lambda: body(page) == ["R 0 1", "R 2 3", "H 0", "TICK", "H 1", "TICK", "M 0 1"])
+    assert page.history()[-1] == "move the end of tick 0" and not page.find("tip").is_displayed()
+    page.press("z", held=[Keys.CONTROL])
+    page.wait(lambda: body(page)[2] == "TICK")
+    # A click on a mark goes to its moment.
+    page.point_at("#timeline", *page.ask("page.views.timeline.markOf(words[0])", 1)).click().perform()
+    assert page.find("moment-said").text == "tick 1" and len(page.history()) == 4
+
+
+def drag_mark(page, moment, target):
+    """Drags the mark of the tick that ends a moment to the middle of another."""
+    chain = page.point_at("#timeline", *page.ask("page.views.timeline.markOf(words[0])", moment)).click_and_hold()
+    page.point_at("#timeline", *page.ask("page.views.timeline.columnOf(words[0])", target), chain=chain).release().perform()
+
+
+def test_a_tick_that_may_not_be_moved_stays(open_page):
+    page = open_page("R 0\nREPEAT 2 {\n    H 0\n    TICK\n}\nTICK\nM 0\n")
+    before = page.circuit()
+    # Out of its round, and into another one, it is not moved.
+    drag_mark(page, 1, 2)
+    page.wait(lambda: page.find("message").text == "a tick is moved within its round")
+    assert page.circuit() == before and page.history() == ["opened"]
 
 
 def test_an_edit_of_several_parts_is_refused_whole(open_page):

@@ -25,7 +25,7 @@ def put_x(page):
 
 
 def put_z_last(page):
-    """A Z on qubit 3: when it has its entry, all that was asked before has been answered. Tells the entries."""
+    """A Z on qubit 3: when it has its entry, all that was asked before has been answered. Returns the entries."""
     page.type_on(3, "z")
     page.wait(lambda: page.history()[-1].endswith("Z 3"))
     return page.history()

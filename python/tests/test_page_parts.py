@@ -16,7 +16,7 @@ FOLDER = pathlib.Path(__file__).parent / "page_parts"
 
 
 def cuts_of(text):
-    """The lines in front of which moments end, but for the last."""
+    """The lines in front of which moments end, except the last."""
     lines = moments.marked(text, "mark").splitlines()
     return [place + 1 - number for number, place in enumerate(place for place, line in enumerate(lines) if line == "mark")][:-1]
 

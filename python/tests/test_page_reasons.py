@@ -8,7 +8,7 @@ from stabsim import codes
 
 pytestmark = needs_browser
 
-# By hand: each M of qubit 1 is decided by a coin of its own, since RX comes between; D1 compares both, and D0 is sure.
+# By hand: each M of qubit 1 is decided by a coin of its own, since RX comes between; D1 compares both, and D0 is deterministic.
 RANDOM = """QUBIT_COORDS(0, 0) 0
 QUBIT_COORDS(1, 0) 1
 R 0
@@ -56,7 +56,7 @@ def test_a_random_detector_says_which_measurements_make_it_so(open_page):
     # Each of them is a button that goes to its measurement.
     page.point_at("#about-detector .link:nth-of-type(2)").click().perform()
     assert page.find("moment-said").text == "tick 4" and coins(page) == [[1, True]]
-    # One that is sure has a region, and no coins.
+    # One that is deterministic has a region, and no coins.
     page.click_bit("D0")
     page.wait(lambda: page.texts("#region")[0].startswith("region of D0"))
     assert coins(page) == []
@@ -130,7 +130,7 @@ def test_a_schedule_is_exchanged_and_the_distance_falls(open_page):
     page = open_page(code)
     ask_distance(page)
     page.wait(lambda: page.texts("#about-distance h3") == ["Distance 3 of errors everywhere"])
-    # The second and the third layer of gates: of the first round, which stands by itself, and of the others, which are a block.
+    # The second and the third layer of gates: of the first round, which is by itself, and of the others, which are a block.
     exchange_layers(page, 3)
     exchange_layers(page, 10)
     assert [line for line in page.circuit().splitlines() if "CX" in line] == [line for line in bad.splitlines() if "CX" in line]
@@ -154,7 +154,7 @@ def is_running(file):
     return True
 
 
-def test_a_long_search_tells_how_far_it_is_and_can_be_ended(open_page, tmp_path, monkeypatch):
+def test_a_long_search_says_how_far_it_is_and_can_be_ended(open_page, tmp_path, monkeypatch):
     pid = tmp_path / "pid"
     slow = tmp_path / "slow"
     slow.write_text(SLOW.format(program=stabsim.find_program(), pid=pid))

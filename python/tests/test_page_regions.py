@@ -5,7 +5,7 @@ from browsing import Keys, needs_browser
 
 pytestmark = needs_browser
 
-# A Bell pair is measured by a product and corrected by its record, so that both detectors are sure.
+# A Bell pair is measured by a product and corrected by its record, so that both detectors are deterministic.
 CODE = """R 0 1 2
 TICK
 RX 2
@@ -28,7 +28,7 @@ def said(page):
     return "".join(page.texts("#region"))
 
 
-def test_a_detector_stands_at_its_moment_in_the_row_of_its_place(page):
+def test_a_detector_is_at_its_moment_in_the_row_of_its_place(page):
     places = {number: page.ask("page.views.timeline.at(words[0])", f"D{number}") for number in (0, 1)}
     assert places[0][1] == places[1][1] and places[0][0] < places[1][0]
     for number, spot in places.items():
@@ -36,7 +36,7 @@ def test_a_detector_stands_at_its_moment_in_the_row_of_its_place(page):
         page.wait(lambda: page.find("tip").text.startswith(f"D{number} at (0, 0, {number}, 7) is "))
 
 
-def test_the_region_of_a_detector_stands_on_the_qubits_tick_by_tick(page):
+def test_the_region_of_a_detector_is_on_the_qubits_tick_by_tick(page):
     # By hand: the record of the first product decides the sign of Z on qubit 0, with which X0*Z2 anticommutes, so between the
     # two products the region is X0 Z2, and the record has to be in the detector's set: the first product takes R away again.
     page.click_bit("D1")
@@ -112,7 +112,7 @@ def test_of_a_file_without_noise_nothing_is_said(page):
 
 
 def test_the_way_of_an_error_is_shown_tick_by_tick(open_page):
-    # By hand: X on the control is X on both behind the CX; the measured one is taken out of the way by its reset.
+    # By hand: X on the control is X on both after the CX; the measured one is taken out of the way by its reset.
     page = open_page("R 0 1\nTICK\nCX 0 1\nTICK\nMR 1\nDETECTOR rec[-1]\nTICK\nM 0\nDETECTOR rec[-1]\n")
     way = "Object.entries(page.shown.way?.letters ?? {}).map(([moment, on]) => `${moment} ` + Object.entries(on).map((it) => it.reverse().join('')).join(' '))"
     page.choose_qubit(0)

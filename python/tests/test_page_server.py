@@ -1,4 +1,4 @@
-"""The page's server and its tabs: one that does not read, one that opens while something is told, and what the server keeps."""
+"""The page's server and its tabs: one that does not read, one that opens while something is sent, and what the server keeps."""
 
 import asyncio
 import gc
@@ -25,7 +25,7 @@ SECONDS = 20
 
 
 class Asking:
-    """A tab as the server sees it: it asks, and keeps what it is told."""
+    """A tab as the server sees it: it asks, and keeps what it is sent."""
 
     def __init__(self, socket):
         self.socket = socket
@@ -66,7 +66,7 @@ def run_with_server(tmp_path, code, work):
 
 
 async def tell_until_one_is_behind(server, tab):
-    """Has a tab set marks, of each of which much is told, until another, which does not read, has more waiting than may."""
+    """Has a tab set marks, about each of which much is sent, until another, which does not read, has more waiting than may."""
     server.board.mark = lambda: {"event": "marked", "position": 0, "more": "so long" * 100_000}
     while not any(it.is_behind for it in server.tabs):
         assert "refused" not in await tab.ask(ask="mark")
@@ -132,7 +132,7 @@ def test_a_tab_that_opens_while_sure_bits_are_told_is_told_them_too(tmp_path, mo
         server.board.opened = opened_slowly
         second = await connect()
         assert await asyncio.to_thread(opening.wait, SECONDS)
-        # The sure bits are there once the second tab has been looked up, and before it hears of events.
+        # The deterministic bits are there once the second tab has been looked up, and before it hears of events.
         found.set()
         await asyncio.sleep(0.5)
         go_on.set()

@@ -29,7 +29,7 @@ def test_a_circuit_is_pasted_and_undo_brings_the_old_one_back(page):
 
 
 def dropped(page, **data):
-    """Drops something on the picture, by events of the browser's own. That a drop is taken the browser learns from one event for the
+    """Drops something on the picture, by events of the browser's own. The browser learns that a drop is taken from one event for the
     next, some time later."""
     box = page.find("picture").rect
     for kind in ("dragEnter", "dragOver", "dragOver", "drop"):
@@ -73,7 +73,7 @@ def test_what_is_seen_is_exported_as_svg_and_without_a_file_the_browser_saves(pa
     page.go_to(1)
     svg = xml.etree.ElementTree.fromstring(given("Export", "SVG"))
     words = [text.text for text in svg.iter("{http://www.w3.org/2000/svg}text")]
-    # The numbers of the qubits; coordinates stand at the edges.
+    # The numbers of the qubits; coordinates are at the edges.
     assert {"0", "1", "2", "3"} <= set(words) and len(list(svg)) > 20
     assert given("Save") == FOUR
 

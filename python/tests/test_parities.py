@@ -39,7 +39,7 @@ def rank_of(sets):
 
 
 def least_spans(columns, known):
-    """The spans of a basis of all sure parities beside known ones, each as little as can be, by looking through all of them."""
+    """The spans of a basis of all deterministic parities beside known ones, each as little as can be, by looking through all of them."""
     chosen, spans = list(known), []
     for its in sorted(filter(lambda it: is_sure(it, columns), subsets(len(columns))), key=span_of):
         if rank_of([*chosen, its]) > rank_of(chosen):

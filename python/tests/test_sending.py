@@ -58,7 +58,7 @@ def test_a_worker_asks_again_if_another_took_its_model():
     sending = Sending(played, {"m": LOAD}, 3)
     sending.fill(parts(3))
     for worker, sent in [
-        ("one", 1), ("two", 2),  # Two has it not, and it is sent behind the third part;
+        ("one", 1), ("two", 2),  # two does not have it, and it is sent after the third part;
         ("two", 2),  # that part comes back to two meanwhile, without it;
         ("one", 2),  # and one takes what was meant for two.
         ("two", 3), ("two", 3),

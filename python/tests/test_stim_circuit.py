@@ -114,7 +114,7 @@ def test_a_text_that_the_program_reads_is_the_same():
     ("X 0\nT 0\n", 1, 2, "2: T 0\n   ^\n"),
     ("X_ERROR(0.1) 0\nM 0\n}\n", 5, 3, "3: }\n"),
     ("ISWAP 0 1\nMXX 0 1\nREPEAT 3 {\n    M 0\n    CZ 1 rec[-4]\n}\n", 8, None, "5:     CZ 1 rec[-4]\n            ^^^^^^^\nThis looks back past the first record: "
-     "2 records stand before item 2/1"),
+     "2 records are before item 2/1"),
     ("ISWAP 0 1\nREPEAT 600000 {\n    CXSWAP 0 1\n}\n", 9, None, "2: REPEAT 600000 {\n   ^^^^^^^^^^^^^^^\nThere are more than 1048576 steps up to the end of item 1.\n"),
 ])
 def test_a_refusal_speaks_of_the_users_lines_and_items(text, number, line, said):
@@ -161,7 +161,7 @@ def test_a_model_names_the_users_lines():
     assert found.approximated == (3,)
     with pytest.raises(stabsim.Refused) as told:
         stabsim.error_model("ISWAP 0 1\nX_ERROR(0.1) 0\nMXX 0 1\nDETECTOR rec[-1]\n")
-    assert told.value.number == 18 and told.value.explanation == "detector 0, item 3, is not the same for all coins"
+    assert told.value.number == 18 and told.value.explanation == "detector 0, item 3, is not the same for all coins: c0@2 decides it"
 
 
 # With all chances 1 what happens is worked out by hand.

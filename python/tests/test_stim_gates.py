@@ -15,13 +15,13 @@ LETTERS = {"X": np.array([[0, 1], [1, 0]]), "Y": np.array([[0, -1j], [1j, 0]]), 
 
 
 def pairs(size):
-    """A Bell pair of each of some qubits with another behind them all."""
+    """A Bell pair of each of some qubits with another after all of them."""
     return "".join(f"H {qubit}\nCX {qubit} {size + qubit}\n" for qubit in range(size))
 
 
 def does(text, size, images):
     """Whether gates on the first qubits send X and Z of each of these to images: with its partner's letter each image then stabilises
-    the pairs, and so many independent strings say the whole state."""
+    the pairs, and this many independent strings determine the whole state."""
     with stabsim.from_stim(pairs(size) + text).edit(qubits=2 * size) as session:
         wanted = [image + "_" * place + letter + "_" * (size - place - 1)
                   for image, (place, letter) in zip(images, itertools.product(range(size), "XZ"), strict=True)]

@@ -126,7 +126,7 @@ def test_the_command_is_interrupted_and_goes_on_from_its_file(tmp_path):
         while not (tmp_path / "counts.csv").exists() or (tmp_path / "counts.csv").read_text().count("\n") < 3:
             assert time.monotonic() < until and running.poll() is None
             time.sleep(0.05)
-        # As a terminal does, which tells all processes of the command.
+        # As a terminal does, which signals all processes of the command.
         os.killpg(running.pid, signal.SIGINT)
         out, said = running.communicate(timeout=60)
     assert (running.returncode, out, said) == (130, "", "stabsim-collect: interrupted; the same words go on from counts.csv\n")

@@ -29,5 +29,5 @@ def test_the_package_and_its_user_are_typed(tmp_path):
     wrong = tmp_path / "wrong.py"
     wrong.write_text(WRONG)
     lines = said_of("stabsim", HERE / "typed_user.py", wrong)
-    # What is wrong in a program is found, and nothing else. Of a call with overloads there are notes beside.
+    # What is wrong in a program is found, and nothing else. For a call with overloads there are notes besides.
     assert list(dict.fromkeys(line.split("wrong.py:")[-1].split(":")[0] for line in lines[:-1])) == ["4", "5", "6"], lines

@@ -17,14 +17,14 @@ def said(way):
 
 def test_a_pauli_goes_over_gates_as_they_turn_it():
     faults = MomentFaults.of_circuit(PAIR)
-    # X behind the reset is Z behind H; Z on the control stays there.
+    # X after the reset is Z after H; Z on the control stays there.
     assert said(way_of(faults, 0, 0, "X")) == {0: "X0", 1: "Z0", 2: "Z0", 3: "Z0", 4: "Z0", 5: "Z0"}
     # X on the target stays too, and S turns it to Y and back.
     assert said(way_of(faults, 1, 1, "X")) == {1: "X1", 2: "X1", 3: "Y1", 4: "X1", 5: "X1"}
 
 
 def test_a_pauli_spreads_over_a_gate_on_two():
-    # The four checks of two data qubits by a third: X on the control is X on both behind the CX.
+    # The four checks of two data qubits by a third: X on the control is X on both after the CX.
     faults = MomentFaults.of_circuit("R 0 1 2\nTICK\nCX 0 1\nTICK\nCX 1 2\nTICK\nM 0 1 2\nDETECTOR rec[-3]\nDETECTOR rec[-2]\nDETECTOR rec[-1]\n")
     assert said(way_of(faults, 0, 0, "X")) == {0: "X0", 1: "X0 X1", 2: "X0 X1 X2"}
 

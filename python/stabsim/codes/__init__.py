@@ -25,7 +25,7 @@ The time of a detector is its third coordinate, or of the repetition code, which
 meets data qubits by gates, or phenomenological plus data, if checks are measured as products. The second leaves errors of such gates
 out, so rates of codes of the two can't be compared. `written_out` writes each round's lines, without a block. `deepest(NAME, distance)`
 is the most rounds that the limit of 1,048,576 steps allows. The first line of a text says how many steps and records the circuit has.
-ValueError tells of what is out of range.
+ValueError says what is out of range.
 
 The first two codes follow the layout that `stim gen` has for `surface_code:rotated_memory_z` and `repetition_code:memory`, written
 from its description: Stim was not at hand to compare with. `python3 -m stabsim.codes --help` prints circuits. None of this needs

@@ -10,7 +10,7 @@ MOST_DISTANCE = 32
 
 
 class BaconShor:
-    """The pairs of the Bacon-Shor code. Those of one gap between two lines stand side by side, and make a check."""
+    """The pairs of the Bacon-Shor code. Those of one gap between two lines are side by side, and make a check."""
 
     def __init__(self, distance: int) -> None:
         self.lines = range(distance)
@@ -23,7 +23,7 @@ class BaconShor:
         return x + y * len(self.lines)
 
     def back_of_gap(self, gap: int) -> list[int]:
-        """How many records before the end of a round those of a gap's pairs of Z stand."""
+        """How many records before the end of a round those of a gap's pairs of Z are."""
         return [len(self.level) - gap * len(self.lines) - i for i in self.lines]
 
     def back_of_columns(self, columns: Iterable[int]) -> list[int]:
@@ -56,7 +56,7 @@ def bacon_shor_memory(distance: int, noise: Noise | None = None) -> Memory:
     body.add("SHIFT_COORDS(0, 0, 1)")
     each = len(code.upright) + len(code.level)
     for behind in (len(code.level), 0):
-        # The checks of X stand before those of Z, and lie between rows.
+        # The checks of X are before those of Z, and lie between rows.
         for gap in code.gaps:
             back = [behind + it for it in code.back_of_gap(gap)]
             place = (0, gap + 0.5, 0) if behind else (gap + 0.5, 0, 0)

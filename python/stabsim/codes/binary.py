@@ -49,8 +49,8 @@ def rank(vectors: Iterable[int]) -> int:
 
 
 def kernel(rows: Sequence[int], width: int) -> list[int]:
-    """A basis of the vectors of so many entries that have an even number of ones in common with each row."""
-    # Behind each unit vector stands which rows it meets; what sums to no row is in the kernel.
+    """A basis of the vectors of this many entries that have an even number of ones in common with each row."""
+    # After each unit vector comes which rows it meets; what sums to no row is in the kernel.
     columns = [sum((row >> place & 1) << at for at, row in enumerate(rows)) for place in range(width)]
     basis: dict[int, tuple[int, int]] = {}
     found = []

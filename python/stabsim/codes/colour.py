@@ -16,7 +16,7 @@ def colour_memory(distance: int, noise: Noise | None = None) -> Memory:
         raise ValueError("the distance of a colour code is odd")
     side = distance + distance // 2
     rows = [[(2 * x + y, y) for x in range(side - y)] for y in range(side)]
-    # Every third place of the triangular lattice is the middle of a face, and data qubits lie round it.
+    # Every third place of the triangular lattice is the middle of a face, and data qubits lie around it.
     faces = [place for y, row in enumerate(rows) for x, place in enumerate(row) if (x + 2 * y) % 3 == 2]
     data = [place for row in rows for place in row if place not in faces]
     number = {place: i for i, place in enumerate(data)}
@@ -42,7 +42,7 @@ def colour_memory(distance: int, noise: Noise | None = None) -> Memory:
     body = Text(noise)
     measure_faces(body)
     body.add("SHIFT_COORDS(0, 0, 1)")
-    # The last coordinate tells the letter: 0 for X, 1 for Z.
+    # The last coordinate says the letter: 0 for X, 1 for Z.
     for letter in (0, 1):
         for i, face in enumerate(faces):
             back = (2 - letter) * each - i

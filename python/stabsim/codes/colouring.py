@@ -2,13 +2,13 @@
 
 from collections.abc import Sequence
 
-# Of a check or a qubit, whom it meets in each layer.
+# For a check or a qubit, which one it meets in each layer.
 Meetings = dict[int, int]
 
 
 def layers_of(checks: Sequence[Sequence[int]]) -> list[list[tuple[int, int]]]:
     """Each check with each of its qubits, as pairs (check, qubit), in as few layers as the most pairs that one check or qubit has: no
-    fewer will do, and by a theorem of König so many do."""
+    fewer will do, and by a theorem of König this many do."""
     sides: tuple[dict[int, Meetings], dict[int, Meetings]] = ({}, {})
     for check, qubits in enumerate(checks):
         for qubit in qubits:
@@ -37,5 +37,5 @@ def add_pair(sides: tuple[dict[int, Meetings], dict[int, Meetings]], check: int,
 
 
 def first_free(meetings: Meetings) -> int:
-    """The first layer in which one meets nobody."""
+    """The first layer in which one meets no other."""
     return next(layer for layer in range(len(meetings) + 1) if layer not in meetings)

@@ -33,7 +33,7 @@ class Numbers:
 
 
 def dense_circuit(qubits: int, steps: int, seed: int = 0) -> str:
-    """Random layers on so many qubits, cut off after exactly so many steps: gates on all qubits, each layer followed by
+    """Random layers on this many qubits, cut off after exactly this many steps: gates on all qubits, each layer followed by
     some random measurements and resets, and by detectors over random earlier records."""
     circuit = Text()
     numbers = Numbers(seed)

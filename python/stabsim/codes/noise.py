@@ -8,7 +8,7 @@ class Noise:
     """The chances of four kinds of error, each a float from 0 to 1; those that are 0 are left out of the text.
 
     before_round: DEPOLARIZE1 on each data qubit in front of each round.
-    after_gate: DEPOLARIZE1 or DEPOLARIZE2 behind each gate, and DEPOLARIZE1 on each qubit of a product behind its measurement.
+    after_gate: DEPOLARIZE1 or DEPOLARIZE2 after each gate, and DEPOLARIZE1 on each qubit of a product after its measurement.
     after_reset: the flip that a reset can meet, X_ERROR or, of a reset in X, Z_ERROR.
     before_measurement: the same in front of each measurement of a qubit; of products, which MPP measures, the chance that
     the record is wrong.
@@ -22,7 +22,7 @@ class Noise:
     @classmethod
     def uniform(cls, chance: float) -> "Noise":
         """Noise of one parameter: each of the four with this chance. `stabsim.codes.NOISE_MODELS` names what it is for each code:
-        circuit-level, or where products are measured phenomenological plus data."""
+        circuit-level, or, if products are measured, phenomenological plus data."""
         return cls(chance, chance, chance, chance)
 
     @classmethod

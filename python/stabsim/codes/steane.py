@@ -4,7 +4,7 @@ from stabsim.codes.noise import Noise
 from stabsim.codes.text import Memory, Text
 
 # Data qubits are 0 to 6. Check i of a letter acts on those whose number, counted from 1, has a 1 in binary digit i,
-# and they stand in the order in which it visits them: no two checks of a letter meet at a data qubit.
+# and they are in the order in which it visits them: no two checks of a letter meet at a data qubit.
 VISITS = ((0, 2, 4, 6), (1, 6, 5, 2), (6, 5, 3, 4))
 DATA = range(7)
 X_CHECKS = (7, 8, 9)

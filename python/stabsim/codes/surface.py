@@ -39,7 +39,7 @@ class SurfaceCode:
         return [self.number[place] for place in places]
 
     def back(self, check: Place) -> int:
-        """How many records before the end of a round the check's own stands."""
+        """How many records before the end of a round the check's own is."""
         return len(self.measured) - self.measured.index(check)
 
     def back_of_data(self, places: list[Place]) -> list[int]:
@@ -73,7 +73,7 @@ def surface_checks(distance: int) -> dict[str, list[Place]]:
     for x in range(distance + 1):
         for y in range(distance + 1):
             is_x = x % 2 != y % 2
-            # X checks stand on two of the four sides, Z checks on the other two.
+            # X checks are on two of the four sides, Z checks on the other two.
             if is_x and x in (0, distance) or not is_x and y in (0, distance):
                 continue
             checks["X" if is_x else "Z"].append((2 * x, 2 * y))

@@ -5,7 +5,7 @@ from collections.abc import Iterable, Sequence
 from stabsim.codes.limits import MOST_STEPS
 from stabsim.codes.noise import Noise
 
-# What a flip in front of a measurement, or behind a reset, is named.
+# What a flip in front of a measurement, or after a reset, is named.
 FLIPS = {"X": "Z_ERROR", "Y": "X_ERROR", "Z": "X_ERROR"}
 
 
@@ -24,7 +24,7 @@ class Text:
         self.records += records
 
     def err(self, channel: str, chance: float, qubits: Sequence[int]) -> None:
-        """A noise channel, where its chance is not 0."""
+        """A noise channel, if its chance is not 0."""
         if chance:
             self.add(words(f"{channel}({chance!r})", qubits))
 
@@ -53,8 +53,8 @@ class Text:
             self.err(flip, self.noise.after_reset, qubits)
 
     def products(self, letter: str, groups: Sequence[Sequence[int]]) -> None:
-        """One step and one record for each group of qubits, on which the product of this letter is measured. Each qubit errs behind
-        it as behind a gate, as often as it is in a group."""
+        """One step and one record for each group of qubits, on which the product of this letter is measured. Each qubit errs after
+        it as after a gate, as often as it is in a group."""
         targets = ["*".join(f"{letter}{qubit}" for qubit in group) for group in groups]
         chance = self.noise.before_measurement
         self.add(words(f"MPP({chance!r})" if chance else "MPP", targets), steps=len(groups), records=len(groups))
@@ -65,7 +65,7 @@ class Text:
         self.err("DEPOLARIZE1", self.noise.before_round, data)
 
     def detector(self, coordinates: Sequence[float], lookbacks: Iterable[int]) -> None:
-        """The parity of the records that lie so many before the end."""
+        """The parity of the records that lie this many before the end."""
         place = f"({', '.join(str(number) for number in coordinates)})" if coordinates else ""
         self.add(words("DETECTOR" + place, [f"rec[-{back}]" for back in lookbacks]), steps=1)
 
@@ -78,7 +78,7 @@ class Text:
         self.records += other.records
 
     def repeat(self, count: int, body: "Text", written_out: bool = False) -> None:
-        """The body, so many times; a block where that is more than once and not to be written out."""
+        """The body, this many times; a block if that is more than once and not to be written out."""
         if count == 1 or written_out:
             self.lines += count * body.lines
         elif count > 1:
@@ -92,7 +92,7 @@ def words(name: str, targets: Iterable[object]) -> str:
 
 
 def letter_of(name: str) -> str:
-    """The letter that a measurement or reset is in, as X of MRX; Z where its name has none."""
+    """The letter that a measurement or reset is in, as X of MRX; Z if its name has none."""
     return name[-1] if name[-1] in "XYZ" else "Z"
 
 
@@ -110,7 +110,7 @@ class Memory:
         return 1 + (MOST_STEPS - self.head.steps - self.tail.steps) // self.body.steps
 
     def text(self, rounds: int, written_out: bool = False) -> str:
-        """The circuit of so many rounds; raises ValueError where there are none, or over the limit on steps."""
+        """The circuit of this many rounds; raises ValueError if there are none, or over the limit on steps."""
         if not 1 <= rounds <= self.deepest():
             raise ValueError(f"{rounds} rounds are not in 1..={self.deepest()}, which fit {MOST_STEPS} steps")
         circuit = Text()

@@ -26,7 +26,7 @@ Ticks = int | range | Sequence[int]
 
 @dataclass(frozen=True)
 class Diagram:
-    """A picture, made by `Circuit.diagram`. A notebook shows it where it is the last value of a cell.
+    """A picture, made by `Circuit.diagram`. A notebook shows it if it is the last value of a cell.
 
     kind: str; width, height: float, in pixels.
 

@@ -26,7 +26,7 @@ class Path:
 
 @dataclass(frozen=True)
 class Words:
-    """A line of text; anchor: start, middle or end; halo: the colour of a rim by which it stands off, or none."""
+    """A line of text; anchor: start, middle or end; halo: the colour of a rim that sets it off, or none."""
 
     text: str
     x: float
@@ -102,7 +102,7 @@ def box(corner: Point, width: float, height: float, radius: float) -> tuple[str,
 
 
 def outline(points: Sequence[Point], margin: float) -> tuple[str, ...]:
-    """The hull of points, a margin round it, with round corners."""
+    """The hull of points, a margin around it, with round corners."""
     ring = hull(points)
     if len(ring) == 1:
         return circle(ring[0], margin)
@@ -112,7 +112,7 @@ def outline(points: Sequence[Point], margin: float) -> tuple[str, ...]:
         start, end = beside(before, corner, corner, margin), beside(corner, after, corner, margin)
         commands += [lined(start) if commands else moved(start)]
         if len(ring) == 2:
-            # Half a circle round each end, as two parts so that it is clear which way round it goes.
+            # Half a circle around each end, in two parts so that its direction is clear.
             commands.append(arc(margin, along(before, corner, corner, margin)))
         commands.append(arc(margin, end))
     return (*commands, "Z")
@@ -126,13 +126,13 @@ def direction(start: Point, end: Point) -> Point:
 
 
 def beside(start: Point, end: Point, at: Point, far: float) -> Point:
-    """On the left hand of who goes from one point to another, so far from a third."""
+    """On the left hand of who goes from one point to another, at a distance from a third."""
     across, down = direction(start, end)
     return at[0] + down * far, at[1] - across * far
 
 
 def along(start: Point, end: Point, at: Point, far: float) -> Point:
-    """So far from a point the way from one to another goes."""
+    """At a distance from a point, the way from one to another goes."""
     across, down = direction(start, end)
     return at[0] + across * far, at[1] + down * far
 
@@ -160,5 +160,5 @@ def half_hull(ordered: Sequence[Point]) -> list[Point]:
 
 
 def turn(start: Point, middle: Point, end: Point) -> float:
-    """Positive where one turns clockwise, as y goes down."""
+    """Positive if one turns clockwise, as y goes down."""
     return (middle[0] - start[0]) * (end[1] - start[1]) - (middle[1] - start[1]) * (end[0] - start[0])

@@ -36,7 +36,7 @@ class Graph:
 
 
 def graph_of(rows: list[tuple[str, NDArray[np.int64]]], detectors: int) -> Graph:
-    """The graph of errors: what makes each, and what it flips, observables counted on behind the detectors."""
+    """The graph of errors: what makes each, and what it flips, observables counted on after the detectors."""
     edges: dict[tuple[int, ...], Edges] = {}
     more, unseen = set(), set()
     for kind, flipped in rows:
@@ -59,7 +59,7 @@ def rows_of_faults(table: FaultTable) -> list[tuple[str, NDArray[np.int64]]]:
 
 
 def spots_of(coordinates: NDArray[np.float64], ticks: list[int]) -> list[Point]:
-    """Where each detector is drawn, in steps: by its coordinates, of which the third is time and goes upwards, or if it has none by its
+    """Where each detector is drawn, in steps: by its coordinates, of which the third is time and goes upwards, or, if it has none, by its
     tick and its place among those of that tick."""
     spots: list[Point] = []
     width = coordinates.shape[1]

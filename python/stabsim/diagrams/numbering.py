@@ -44,7 +44,7 @@ class Numbering:
         return LETTERS[min(self.depth, len(LETTERS) - 1)]
 
     def behind(self, once: Sizes, rounds: int) -> "Numbering":
-        """What comes before a place behind so many rounds."""
+        """What comes before a place after this many rounds."""
         return replace(self, ticks=self.ticks.plus(rounds * once.ticks), records=self.records.plus(rounds * once.records),
                        detectors=self.detectors.plus(rounds * once.detectors))
 

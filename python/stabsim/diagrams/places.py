@@ -1,4 +1,4 @@
-"""Where qubits are drawn: by their coordinates, or where they have none in rows."""
+"""Where qubits are drawn: by their coordinates, or if they have none in rows."""
 
 import math
 from collections.abc import Iterable
@@ -9,7 +9,7 @@ from numpy.typing import NDArray
 
 from stabsim.diagrams.elements import Point
 
-# The most qubits in one row where none has coordinates.
+# The most qubits in one row if none has coordinates.
 MOST_IN_ROW = 12
 # How far apart neighbours are, and how wide the margins, in pixels.
 PITCH = 58.0
@@ -33,12 +33,12 @@ class Places:
         return max(3.0, min(40.0, self.pitch * 0.54))
 
     def moved(self, across: float, down: float) -> "Places":
-        """The same, so far to the right and down."""
+        """The same, moved to the right and down."""
         return Places({qubit: (x + across, y + down) for qubit, (x, y) in self.at.items()}, self.width, self.height, self.pitch)
 
 
 def places_of(coordinates: NDArray[np.float64], used: Iterable[int]) -> Places:
-    """The places of qubits that have coordinates, float64 (qubits, width) with nan where there are none, or that are used."""
+    """The places of qubits that have coordinates, float64 (qubits, width) with nan if there are none, or that are used."""
     given = {qubit: (float(row[0]), float(row[1]) if len(row) > 1 and not math.isnan(row[1]) else 0.0)
              for qubit, row in enumerate(coordinates) if len(row) and not math.isnan(row[0])}
     given = apart(given)

@@ -15,7 +15,7 @@ def marked_text(items: Iterable[Item], tick: int, qubits: int) -> str:
 
 
 def regions_of(table: FaultTable) -> dict[int, Letters]:
-    """For each detector, and each observable counted on behind them, that has a region at the marks the letter on each qubit. Just the
+    """For each detector, and each observable counted on after them, that has a region at the marks the letter on each qubit. Just the
     Paulis that anticommute with the letters flip it."""
     regions: dict[int, Letters] = {}
     for fault in range(len(table)):

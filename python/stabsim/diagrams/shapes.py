@@ -4,6 +4,8 @@ import functools
 import json
 import pathlib
 import re
+from collections.abc import Callable
+from dataclasses import dataclass
 from typing import Any
 
 from stabsim.diagrams.elements import Glyph, Path, Point, Words, box, circle, line, polygon
@@ -14,7 +16,7 @@ COLOUR = re.compile(r"--([\w-]+): (#[0-9a-f]{6})")
 
 @functools.cache
 def table() -> dict[str, Any]:
-    """The table of shapes, of gates by their names, and of roles."""
+    """The table of shapes, marks, gates by their names, and roles."""
     found: dict[str, Any] = json.loads((STATIC / "shapes.json").read_text(encoding="utf-8"))
     return found
 
@@ -33,26 +35,36 @@ def families() -> dict[str, str]:
 
 
 def elements_of(glyph: Glyph) -> list[Path | Words]:
-    """The paths and words of a glyph: less of it where it is small, as glyphs.js does on the page."""
-    shape = table()["shapes"][glyph.shape]
+    """The paths and words of a glyph: less of it if it is small, as glyphs.js does on the page."""
     level = level_of(glyph.side)
-    solid, soft, edge = table()["roles"][glyph.role]
-    middle = (glyph.x, glyph.y)
+    solid, soft, edge, on = table()["roles"][glyph.role]
     if level == 0:
-        return [Path(circle(middle, 1.4), fill=solid)]
-    half = glyph.side / 2 * shape.get("scale", 1)
-    stroke = max(1.0, min(1.6, glyph.side / 14))
-    fills = {"solid": solid, "fill": soft, "paper": "sheet"}
+        return [Path(circle((glyph.x, glyph.y), 1.4), fill=solid)]
+    width = max(1.0, min(1.6, glyph.side / 14))
+    paints = {
+        "solid": Paint(solid), "fill": Paint(soft), "paper": Paint("sheet"), "on": Paint(on), "edge": Paint(edge, width),
+        "ink": Paint(edge, width * 1.25),
+    }
     found: list[Path | Words] = []
-    for part in shape["parts"] if level >= 2 or "far" not in shape else shape["far"]:
-        commands, paint = commands_of(part, middle, half), part[-1]
-        if paint in fills:
-            found.append(Path(commands, fill=fills[paint]))
-        else:
-            found.append(Path(commands, stroke=edge, width=stroke * (1.25 if paint == "ink" else 1)))
-    if glyph.label and level >= 2:
-        found += words_of(glyph, shape, half, level, edge)
+    for kind, *numbers, paint in parts_of(table()["shapes"][glyph.shape], level):
+        found += DRAWN[kind](glyph, numbers, paints[paint])
     return found
+
+
+@dataclass(frozen=True)
+class Paint:
+    """A colour: of a face, or with a width of a stroke."""
+
+    colour: str
+    width: float = 0.0
+
+
+def parts_of(shape: dict[str, Any], level: int) -> list[Any]:
+    """The parts of a shape at a level: those of a larger one if it has none of its own."""
+    parts: list[Any] = shape["full"]
+    for name in ("letter", "far")[: 3 - level]:
+        parts = shape.get(name, parts)
+    return parts
 
 
 def level_of(side: float) -> int:
@@ -61,28 +73,51 @@ def level_of(side: float) -> int:
     return sum(side >= levels[name] for name in ("full", "letter", "mark"))
 
 
-def words_of(glyph: Glyph, shape: dict[str, Any], half: float, level: int, edge: str) -> list[Words]:
-    """The label, and the words under it."""
-    fill = ("on-measure" if glyph.role == "m" else "on-pauli") if shape.get("inverse") else edge
-    brief = table()["brief"]
+def at(glyph: Glyph, x: float, y: float) -> Point:
+    """A point of a glyph's box in pixels."""
+    return glyph.x + x * glyph.side / 2, glyph.y + y * glyph.side / 2
+
+
+def painted(commands: tuple[str, ...], paint: Paint) -> list[Path | Words]:
+    return [Path(commands, stroke=paint.colour, width=paint.width) if paint.width else Path(commands, fill=paint.colour)]
+
+
+def draw_circle(glyph: Glyph, numbers: list[float], paint: Paint) -> list[Path | Words]:
+    x, y, radius = numbers
+    return painted(circle(at(glyph, x, y), radius * glyph.side / 2), paint)
+
+
+def draw_line(glyph: Glyph, numbers: list[float], paint: Paint) -> list[Path | Words]:
+    return painted(line(at(glyph, *numbers[:2]), at(glyph, *numbers[2:])), paint)
+
+
+def draw_box(glyph: Glyph, numbers: list[float], paint: Paint) -> list[Path | Words]:
+    x, y, width, height, corner = numbers
+    half = glyph.side / 2
+    return painted(box(at(glyph, x, y), width * half, height * half, corner * half), paint)
+
+
+def draw_polygon(glyph: Glyph, numbers: list[float], paint: Paint) -> list[Path | Words]:
+    return painted(polygon([at(glyph, x, y) for x, y in zip(numbers[::2], numbers[1::2])]), paint)
+
+
+def draw_label(glyph: Glyph, numbers: list[float], paint: Paint) -> list[Path | Words]:
+    """The label, shortened if there is no room for it; the more letters it has, the smaller they are."""
+    x, y, size = numbers
+    brief, letters = table()["brief"], table()["letters"]
     said = brief.get(glyph.label, glyph.label) if glyph.side < brief["below"] else glyph.label
-    has_small = bool(glyph.small) and level == 3
-    y = glyph.y + glyph.side * (0.02 - 0.13 * has_small) + shape.get("drop", 0) * half
-    part = 0.46 if len(said) > 2 else 0.52 if len(said) > 1 else 0.68
-    found = [Words(said, glyph.x, y, min(glyph.side * part * shape.get("text", 1), 20), fill, weight=600)]
-    if has_small:
-        found.append(Words(glyph.small, glyph.x, glyph.y + glyph.side * 0.27, glyph.side * 0.3, fill, weight=600))
-    return found
+    if not said:
+        return []
+    part = letters["part"][min(len(said), len(letters["part"])) - 1]
+    return [Words(said, *at(glyph, x, y), min(letters["most"], glyph.side * size * part), paint.colour, weight=600)]
 
 
-def commands_of(part: list[Any], middle: Point, half: float) -> tuple[str, ...]:
-    """The path of one part of a shape."""
-    kind, numbers = part[0], part[1:-1]
-    points = [(middle[0] + x * half, middle[1] + y * half) for x, y in zip(numbers[::2], numbers[1::2])]
-    if kind == "circle":
-        return circle(points[0], numbers[2] * half)
-    if kind == "line":
-        return line(*points)
-    if kind == "box":
-        return box(points[0], numbers[2] * half, numbers[3] * half, numbers[4] * half)
-    return polygon(points)
+def draw_small(glyph: Glyph, numbers: list[float], paint: Paint) -> list[Path | Words]:
+    x, y, size = numbers
+    return [Words(glyph.small, *at(glyph, x, y), glyph.side * size, paint.colour, weight=600)] if glyph.small else []
+
+
+# How each kind of part is drawn.
+DRAWN: dict[str, Callable[[Glyph, list[float], Paint], list[Path | Words]]] = {
+    "circle": draw_circle, "line": draw_line, "box": draw_box, "poly": draw_polygon, "label": draw_label, "small": draw_small,
+}

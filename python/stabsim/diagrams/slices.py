@@ -3,14 +3,14 @@
 from collections.abc import Callable, Mapping, Sequence
 from dataclasses import dataclass
 
-from stabsim.diagrams.elements import Element, Glyph, Path, Point, Words, line, middle_of, outline
+from stabsim.diagrams.elements import Element, Path, Point, Words, middle_of, outline
+from stabsim.diagrams.marks import Drawn, Values, marks_of
 from stabsim.diagrams.places import Places
 from stabsim.diagrams.shapes import table
 from stabsim.diagrams.targets import Action
 from stabsim.diagrams.ticks import Done
 
-# From which distance of neighbours numbers of qubits and names of detectors are written.
-NUMBERS_FROM = 34.0
+# From which distance of neighbours names of detectors are written.
 NAMES_FROM = 30.0
 TITLE_HEIGHT = 26.0
 MOST_WIDTH = 1600.0
@@ -22,44 +22,38 @@ Letters = dict[int, str]
 
 @dataclass(frozen=True)
 class Panel:
-    """One picture of several that stand side by side: what draws it where qubits are."""
+    """One picture of several that are side by side: what draws it where qubits are."""
 
     title: str
     draw: Callable[[Places], list[Element]]
 
 
-def ground(places: Places, busy: set[int]) -> list[Element]:
-    """Qubits on which nothing acts, and the numbers of all."""
-    found: list[Element] = [Glyph("data", *at, places.side * 0.78, "qubit") for qubit, at in places.at.items() if qubit not in busy]
-    if places.pitch < NUMBERS_FROM:
+def ground(places: Places, busy: Mapping[int, int]) -> list[Element]:
+    """Qubits on which nothing acts, and the numbers of all; busy: how often something acts on each qubit."""
+    found: list[Element] = []
+    for qubit, at in places.at.items():
+        if qubit not in busy:
+            found += marks_of("idle", {"shape": "data"}, [at], places.side).over
+    if places.pitch < table()["levels"]["numbers"]:
         return found
-    for qubit, (x, y) in places.at.items():
-        away = places.side * (0.56 if qubit in busy else 0.36)
-        found.append(Words(str(qubit), x + away, y + away + places.side * 0.08, 10, "quiet", "start", halo="sheet"))
+    for qubit, at in places.at.items():
+        found += marks_of("number beside" if qubit in busy else "number", {"number": str(qubit)}, [at], places.side).over
     return found
 
 
 def layer_elements(layer: Sequence[Done], places: Places) -> list[Element]:
     """What acts in one layer."""
-    products = [it.action for it in layer if it.action.name == "MPP"]
-    under: list[Element] = []
-    over: list[Element] = []
+    is_shared = share_qubits([it.action.qubits for it in layer if it.action.name == "MPP"])
+    drawn = Drawn()
     busy: dict[int, int] = {}
-    is_shared = share_qubits([action.qubits for action in products])
     for done in layer:
         action = done.action
-        if action.name == "MPP":
-            draw_product(action, places, is_shared, under, over)
-        elif len(action.qubits) == 2:
-            draw_pair(action, places, under, over)
-        elif action.record:
-            draw_controlled(done, places, under, over)
-        else:
-            draw_gate(action, places, busy, over)
-        if action.name != "MPP" or not is_shared:
+        name, values = look_of(done, is_shared, busy)
+        drawn.add(marks_of(name, values, [places.at[qubit] for qubit in action.qubits], places.side, factors_of(action)))
+        if name != "shared product":
             for qubit in action.qubits:
                 busy[qubit] = busy.get(qubit, 0) + 1
-    return [*under, *ground(places, set(busy)), *over]
+    return [*drawn.under, *ground(places, busy), *drawn.over]
 
 
 def share_qubits(groups: Sequence[Sequence[int]]) -> bool:
@@ -68,58 +62,30 @@ def share_qubits(groups: Sequence[Sequence[int]]) -> bool:
     return len(set(qubits)) < len(qubits)
 
 
-def draw_gate(action: Action, places: Places, busy: dict[int, int], over: list[Element]) -> None:
-    """A gate on one qubit; a Pauli on a qubit on which something acts before it stands beside that."""
-    [qubit] = action.qubits
-    x, y = places.at[qubit]
-    shape, label, small, role = table()["gates"][action.name]
-    if action.is_pauli and qubit in busy:
-        size = max(9.0, min(26.0, places.side * 0.8))
-        away = places.side * 0.6
-        over += plate(action.name, (x + away + (busy[qubit] - 1) * size * 0.7, y - away), size)
-    else:
-        over.append(Glyph(shape, x, y, places.side, role, label, small))
+def look_of(done: Done, is_shared: bool, busy: Mapping[int, int]) -> tuple[str, Values]:
+    """By which marks an action is drawn, with their values: drawing.js finds them alike."""
+    action = done.action
+    letter = action.name[-1]
+    if action.record:
+        return "controlled", {"letter": letter, "role": letter.lower(), "record": f"M{done.record}"}
+    if action.name == "MPP":
+        roles = {it["role"] for it in factors_of(action)}
+        return "shared product" if is_shared else "product", {"role": roles.pop() if len(roles) == 1 else "op"}
+    before = busy.get(action.qubits[0], 0)
+    if before and action.is_pauli:
+        return "error", {"shape": letter, "role": letter.lower(), "label": letter, "before": before - 1}
+    gate: Values = table()["gates"][action.name]
+    return gate["marks"], gate
 
 
-def draw_pair(action: Action, places: Places, under: list[Element], over: list[Element]) -> None:
-    """A gate on two qubits: a line, and a shape at each end."""
-    ends = [places.at[qubit] for qubit in action.qubits]
-    under.append(Path(line(*ends), stroke="wire", width=max(1.0, min(2.2, places.side / 10))))
-    over += [Glyph(shape, *at, places.side, "wire") for shape, at in zip(table()["pairs"][action.name], ends)]
-
-
-def draw_controlled(done: Done, places: Places, under: list[Element], over: list[Element]) -> None:
-    """A Pauli that a record controls: a dashed line from a classical mark with the record's number."""
-    [qubit] = done.action.qubits
-    (x, y), side, letter = places.at[qubit], places.side, done.action.name[-1]
-    left, top = x + side * 0.9, y - side * 0.95
-    under.append(Path(line((left, top), (x, y)), stroke="wire", width=1.5, dash=(4, 3)))
-    over += [Glyph("record", left, top, side, "wire"), Glyph("gate", x, y, side, letter.lower(), letter)]
-    if side >= 16:
-        over.append(Words(f"M{done.record}", left, top - side * 0.32 - 6, 10, is_mono=True, halo="sheet"))
-
-
-def draw_product(action: Action, places: Places, is_shared: bool, under: list[Element], over: list[Element]) -> None:
-    """A product: one outline, and its letters on its qubits, a little inwards where products share some."""
-    points = [places.at[qubit] for qubit in action.qubits]
-    middle, side = middle_of(points), places.side
-    corners = [inwards(point, middle, side) for point in points] if is_shared else points
-    kinds = {letter[-1].lower() for letter in action.letters}
-    role = kinds.pop() if len(kinds) == 1 else "op"
-    path = outline(corners, max(2.0, side * (0.36 if is_shared else 0.74)))
-    under += [Path(path, fill=f"{role}-soft", alpha=0.75), Path(path, stroke=role, width=max(1.0, min(1.75, side / 12)))]
-    if is_shared and side >= 12:
-        over.append(Glyph("measure", *middle, side * 0.5, "m", "M"))
-    for letter, (x, y) in zip(action.letters, corners):
-        if not is_shared:
-            over.append(Glyph("factor", x, y, side, letter[-1].lower(), letter))
-        elif side >= 9:
-            over.append(Words(letter, x, y, max(9.0, min(14.0, side * 0.44)), letter[-1].lower(), weight=700))
+def factors_of(action: Action) -> list[Values]:
+    """The letters of a product, with their roles."""
+    return [{"label": letter, "role": letter[-1].lower()} for letter in action.letters]
 
 
 def regions_elements(regions: Mapping[str, Letters], places: Places) -> list[Element]:
     """Qubits, and over them regions by their names, greater ones first, so that none hides another."""
-    found = ground(places, set())
+    found = ground(places, {})
     for name, letters in sorted(regions.items(), key=lambda it: -len(it[1])):
         found += region_elements(name, letters, places)
     return found
@@ -154,7 +120,7 @@ def most_frequent(letters: Letters) -> str:
 
 
 def name_place(corners: Sequence[Point], middle: Point, size: float) -> Point:
-    """Where a region's name is written: in its middle, or if a letter is there below it, or above the letter of a region of one qubit."""
+    """Where a region's name is written: in its middle, or, if a letter is there, below it, or above the letter of a region of one qubit."""
     if len(corners) == 1:
         return middle[0], middle[1] - size - 5
     is_taken = any(abs(x - middle[0]) < size and abs(y - middle[1]) < size for x, y in corners)
@@ -170,8 +136,8 @@ def inwards(point: Point, middle: Point, side: float) -> Point:
 
 
 def plate(letter: str, at: Point, size: float) -> list[Element]:
-    """A letter as its shape, with a rim so that it stands off from what is under it."""
-    return [Path(outline([at], size * 0.62), fill="sheet"), Glyph(letter, *at, size, letter.lower(), letter if size >= 12 else "")]
+    """A letter as its shape, with a rim that sets it off from what is under it."""
+    return marks_of("letter", {"shape": letter, "role": letter.lower(), "label": letter}, [at], size).over
 
 
 def side_by_side(panels: Sequence[Panel], places: Places) -> tuple[list[Element], float, float]:

@@ -15,7 +15,7 @@ ON_ONE = frozenset((*names.ONE_QUBIT, *names.RESETS, *names.MEASUREMENTS)) - {"M
 class Action:
     """What one target, pair or product of an instruction does.
 
-    name: of the instruction; qubits: on which it acts; letters: of a product, one for each of its qubits, with `!` where it is inverted;
+    name: of the instruction; qubits: on which it acts; letters: of a product, one for each of its qubits, with `!` if it is inverted;
     record: of a Pauli that a record controls, how far that lies back, else 0; place: which of the instruction's targets it is, from 0.
     """
 

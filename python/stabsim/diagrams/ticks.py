@@ -1,4 +1,4 @@
-"""What stands between two ticks, with the rounds of blocks written out, and the layers in which it is drawn."""
+"""What is between two ticks, with the rounds of blocks written out, and the layers in which it is drawn."""
 
 from collections.abc import Iterable, Iterator, Sequence
 from dataclasses import dataclass
@@ -57,7 +57,7 @@ def rounds_of(block: Block, once: Sizes, ticks: range, before: Sizes) -> Iterato
 
 
 def layers_of(instructions: Iterable[Placed]) -> list[list[Done]]:
-    """Actions in layers: a new one begins where a qubit would be acted on again. A Pauli may stand on what acts before it on its qubit,
+    """Actions in layers: a new one begins if a qubit would be acted on again. A Pauli may act after what acts before it on its qubit,
     as an error does that is put on a gate, and products of one instruction may share qubits."""
     layers: list[list[Done]] = [[]]
     on: dict[int, bool] = {}
@@ -77,14 +77,14 @@ def layers_of(instructions: Iterable[Placed]) -> list[list[Done]]:
 
 
 def record_of(action: Action, before: int) -> int:
-    """The number of the record that an action makes, or that controls it, with so many before its instruction; -1 if there is none."""
+    """The number of the record that an action makes, or that controls it, with this many before its instruction; -1 if there is none."""
     if action.is_measured:
         return before + action.place
     return before - action.record if action.record else -1
 
 
 def numbers_of(tick: int | range | Sequence[int], count: int) -> list[int]:
-    """The ticks that are asked for; IndexError at one that a circuit of so many has not."""
+    """The ticks that are asked for; IndexError at one that a circuit of this many lacks."""
     wanted = [tick] if isinstance(tick, int) else list(tick)
     for it in wanted:
         if not 0 <= it <= count:
@@ -93,7 +93,7 @@ def numbers_of(tick: int | range | Sequence[int], count: int) -> list[int]:
 
 
 def cut_at(items: Iterable[Item], tick: int, mark: str) -> list[str]:
-    """The lines of a circuit with a mark at a tick alone, and no other: the round of each block in which the tick is stands by itself, so
+    """The lines of a circuit with a mark at a tick alone, and no other: the round of each block of the tick is by itself, so
     that the steps stay the same. Instructions `I` are left out, since they would be marks too."""
     lines = [mark] if tick == 0 else []
     passed = 0

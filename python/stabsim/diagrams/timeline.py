@@ -6,6 +6,7 @@ from dataclasses import dataclass, field
 from stabsim import names
 from stabsim.diagrams.elements import Element, Glyph, Path, Words, box, line
 from stabsim.diagrams.numbering import Numbering
+from stabsim.diagrams.marks import marks_of
 from stabsim.diagrams.shapes import table
 from stabsim.diagrams.targets import Action, actions_of
 from stabsim.reading import Block, Instruction, Item
@@ -49,7 +50,7 @@ class Timeline:
         return TOP + (self.rows[qubit] + 0.5) * ROW
 
     def items(self, items: Iterable[Item], now: Numbering) -> Numbering:
-        """Draws items, and answers what is counted behind them."""
+        """Draws items, and answers what is counted after them."""
         for item in items:
             if isinstance(item, Block):
                 now = self.block(item, now)
@@ -128,11 +129,9 @@ class Timeline:
         """The shapes of an action at its ends."""
         if action.name == "MPP":
             self.over += [Glyph("factor", *at, SIDE, letter[-1].lower(), letter) for letter, at in zip(action.letters, ends)]
-        elif len(ends) == 2:
-            self.over += [Glyph(shape, *at, SIDE, "wire") for shape, at in zip(table()["pairs"][action.name], ends)]
         else:
-            shape, label, small, role = table()["gates"][action.name[-1] if action.record else action.name]
-            self.over.append(Glyph(shape, *ends[0], SIDE, role, label, small))
+            gate = table()["gates"][action.name[-1] if action.record else action.name]
+            self.over += marks_of(gate["marks"], gate, ends, SIDE).over
 
 
 def records_text(item: Instruction, now: Numbering) -> str:

@@ -18,7 +18,7 @@ def words() -> argparse.Namespace:
                         help="the circuit, which is read and not written, or a link that holds one; an empty circuit without it")
     parser.add_argument("--port", type=int, default=0, help="a port of 127.0.0.1; a free one without it")
     parser.add_argument("--public-port", metavar="PORT", type=int,
-                        help="the port in the address, where an ssh tunnel leads from another port to this one")
+                        help="the port in the address, if an ssh tunnel leads from another port to this one")
     parser.add_argument("--seed", type=int, default=0, help="the seed of the coins")
     parser.add_argument("--save", metavar="NAME", type=pathlib.Path, help="a file that the button Save writes the circuit to")
     return parser.parse_args()

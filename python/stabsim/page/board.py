@@ -51,28 +51,37 @@ class Board:
         self.session = stabsim.Circuit(source.text).edit(seed=seed)
         self.entries: list[Entry] = []
         self.position = 0
-        # How often the circuit was changed: a tab tells by it whether it has heard of all changes.
+        # How often the circuit was changed: by it a tab knows whether it has heard of all changes.
         self.age = 0
         self.marked_at = 0
         self.flipped: list[str] = []
         self.marked: set[str] = set()
         self.sure: str | None = None
+        # The circuit with its bits and coordinates, until the next edit: tabs ask for them when they open.
+        self.kept: Message | None = None
 
     def close(self) -> None:
         self.session.close()
 
     def opened(self) -> Message:
         """All that a tab has to know when it opens."""
-        circuit = self.session.circuit()
         return {
-            "event": "opened", "name": self.name, "left_out": self.left_out, "circuit": circuit, "sure": self.sure,
+            "event": "opened", "name": self.name, "left_out": self.left_out, "sure": self.sure,
             "entries": [entry.message() for entry in self.entries], "marked_at": self.marked_at,
-            "marked": sorted(self.marked, key=place_of), "saves": self.save_to is not None, **self._now(), **self._bits(circuit),
+            "marked": sorted(self.marked, key=place_of), "saves": self.save_to is not None, **self._now(), **self.whole(),
         }
 
-    def edit(self, edits: list[Edit]) -> Message:
-        """Makes edits as one entry, and says what they changed. Raises stabsim.Refused where one is refused, and nothing has changed."""
-        return self._enter(name_of(edits), edits)
+    def whole(self) -> Message:
+        """The circuit with its bits and coordinates."""
+        if self.kept is None:
+            circuit = self.session.circuit()
+            self.kept = {"circuit": circuit, **self._bits(circuit)}
+        return self.kept
+
+    def edit(self, edits: list[Edit], name: str = "") -> Message:
+        """Makes edits as one entry, with a name of its own if one is given, and says what they changed. Raises stabsim.Refused if one is
+        refused; nothing has changed then."""
+        return self._enter(name or name_of(edits), edits)
 
     def edit_in_round(self, edits: list[Edit], place: str, number: int) -> Message:
         """Makes edits in one round of a block that is first split off it."""
@@ -90,7 +99,7 @@ class Board:
         return self.edit([Edit("open", source.name, source.text, left_out=source.left_out)])
 
     def go(self, position: int) -> Message:
-        """Undoes or redoes edits until so many are made: all of them, or none where one is refused."""
+        """Undoes or redoes edits until this many are made: all of them, or none if one is refused."""
         if not 0 <= position <= len(self.entries):
             raise ValueError("no such place in the history")
         forward = position > self.position
@@ -120,7 +129,7 @@ class Board:
         return [coin.number for coin in self.session.why(bit)]
 
     def distance(self, most: int) -> list[str]:
-        """The lines that say the distance, up to so many errors, by the errors that the circuit marks."""
+        """The lines that say the distance, up to a number of errors, by the errors that the circuit marks."""
         return [line.decode() for line in self.session.process.ask(f"show distance {most}\n".encode())]
 
     def save(self) -> str:
@@ -152,7 +161,7 @@ class Board:
         return self._edited(entry, [entry], entry.moves_bits)
 
     def _carry_out(self, name: str, edits: list[Edit]) -> Entry:
-        """Makes edits in their order. Where one fails, in whatever way, those before it are taken back, and nothing has changed."""
+        """Makes edits in their order. If one fails, in whatever way, those before it are taken back, and nothing has changed."""
         back: list[Edit] = []
         moves_bits = False
         self._make_room(edits)
@@ -172,8 +181,8 @@ class Board:
         return Entry(name, edits, back, names_of(self.session.changed()), seconds, moves_bits)
 
     def _make_room(self, edits: list[Edit]) -> None:
-        """Opens the session anew on more qubits, where edits name some that it has not. The history stays, and each bit: a coin
-        is told by its place in the circuit and not by the qubits that there are."""
+        """Opens the session anew on more qubits, if edits name some that it lacks. The history stays, and each bit: a coin
+        is known by its place in the circuit and not by the qubits that there are."""
         now = room = self.session.numbers().qubits
         for edit in edits:
             if edit.kind in ("insert", "replace"):
@@ -185,6 +194,7 @@ class Board:
         """Takes another session in the place of the one there is."""
         self.session.close()
         self.session = session
+        self.kept = None
 
     def _make(self, edit: Edit) -> list[Edit]:
         """Makes one edit, and answers with those that take it back."""
@@ -213,10 +223,10 @@ class Board:
             self.session.delete(edit.place)
 
     def _edited(self, made: Entry, entries: list[Entry], moves_bits: bool) -> Message:
-        """What tabs are told of edits: no more than what changed, or all of another circuit. Entries are the new ones, which end
+        """What tabs hear of edits: no more than what changed, or all of another circuit. Entries are the new ones, which end
         at the position."""
         self.age += 1
-        self.sure = None
+        self.sure = self.kept = None
         self.flipped = made.changed
         if made.opens():
             # Marks are of bits, and those of another circuit are others.

@@ -16,12 +16,12 @@ from stabsim.reading import Block, Item, items_of
 # Up to how many marked errors the session itself is asked, and up to how many errors in a set: it answers at once then.
 MOST_AT_ONCE = 3000
 MOST_IN_SET = 4
-# What stands in front of what the program tells while it looks.
+# What the program writes in front of what it says while it looks.
 TOLD = "distance: "
 
 
 class DistanceSearch:
-    """What all tabs see of the distance: what was told last of it, and the search that goes on in a process of its own."""
+    """What all tabs see of the distance: what was said last of it, and the search that goes on in a process of its own."""
 
     def __init__(self, tell: Callable[[Message], None], start: Start) -> None:
         self.tell = tell
@@ -45,7 +45,7 @@ class DistanceSearch:
         self.begin(age, count > 0, text)
 
     def found(self, age: int, is_marked: bool, lines: list[str]) -> None:
-        """Tells what the program answered of the circuit that was changed so often."""
+        """Says what the program answered, of the circuit of an age."""
         errors = [{"steps": it.steps, "path": it.path, "name": str(it), "record": it.record} for it in map(CircuitError.of_line, lines[1:])]
         self.say("found", age, is_marked=is_marked, first=lines[0], errors=errors)
 
@@ -69,13 +69,13 @@ class DistanceSearch:
             self.say("none", age)
 
     def say(self, state: str, age: int, **more: Any) -> None:
-        """Tells all tabs; what was found before the circuit was changed is told with it."""
+        """Says it to all tabs, with what was found before the circuit was changed."""
         before = self.told["first"] if self.told["first"] and self.told["age"] != age else self.told["before"]
         self.told = message_of(state, age, before=before, **more)
         self.tell(self.told)
 
     async def search(self, age: int, is_marked: bool, text: str) -> None:
-        """Has a process look, and tells what it says, until it is there."""
+        """Has a process look, and says to tabs what it says, until the answer is there."""
         self.say("running", age, is_marked=is_marked)
         try:
             lines = await self.lines_of(age, is_marked, text)
@@ -105,7 +105,7 @@ class DistanceSearch:
         return written.splitlines()
 
     async def hear(self, process: Process, age: int, is_marked: bool) -> str:
-        """Tells what the process says while it looks; answers what else it says."""
+        """Says to tabs what the process says while it looks; answers what else it says."""
         rest = ""
         assert process.stderr
         async for line in process.stderr:
@@ -119,7 +119,7 @@ class DistanceSearch:
 
 def message_of(state: str, age: int, *, is_marked: bool = False, first: str = "", errors: list[Message] | None = None, said: str = "",
                before: str = "") -> Message:
-    """What tabs are told: `state` is none, running, refused or found. first: the first line of the answer, as `distance 3 of all errors`;
+    """What tabs hear: `state` is none, running, refused or found. first: the first line of the answer, as `distance 3 of all errors`;
     errors: those of the set; said: what is said else; before: the first line of the answer before the last edits."""
     return {"event": "distance", "state": state, "age": age, "is_marked": is_marked, "first": first, "errors": errors or [], "said": said,
             "before": before}

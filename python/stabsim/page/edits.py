@@ -26,7 +26,7 @@ class Edit:
 
     @classmethod
     def of_message(cls, message: dict[str, Any]) -> "Edit":
-        """What a tab asks for; ValueError where it is no edit."""
+        """What a tab asks for; ValueError if it is no edit."""
         kind, place, item = message.get("kind"), message.get("place"), message.get("item", "")
         if kind not in KINDS or not isinstance(place, str) or not isinstance(item, str):
             raise ValueError("no edit")
@@ -40,7 +40,7 @@ class Edit:
         return f"open {self.place}" if self.kind == "open" else self.lines().split("\n")[0]
 
     def may_move_bits(self) -> bool:
-        """Whether bits may come, go or move where its item is put in or taken out."""
+        """Whether bits may come, go or move if its item is put in or taken out."""
         return self.kind == "open" or any(word in self.item.upper() for word in MOVING)
 
     def lines(self) -> str:
@@ -59,7 +59,7 @@ def name_of(edits: list[Edit]) -> str:
 
 
 def undoing(edit: Edit, old: str) -> list[Edit]:
-    """The edits that take one back, where `old` is the text of the item that stood at its place before it."""
+    """The edits that take one back, with `old` the text of the item at its place before it."""
     if edit.kind == "insert":
         return [Edit("delete", edit.place)]
     if edit.kind == "split":
@@ -77,7 +77,7 @@ def joining(place: str, block: str, number: int) -> list[Edit]:
 
 
 def splitting(place: str, block: str, number: int) -> list[Edit]:
-    """The edits that split one round off a block, where `split` is not known.
+    """The edits that split one round off a block for those who know no `split`.
 
     The later parts are put in first, and the first part takes the place of the block last: so there are never fewer records
     than before, and no lookback is refused on the way.

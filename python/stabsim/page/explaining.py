@@ -10,12 +10,12 @@ from stabsim.reading import lines_at
 # The refusals of an edit that `check` explains: those of a circuit's text.
 EXPLAINED = range(1, 12)
 QUBIT_OUT_OF_RANGE = 6
-# The number of the line at fault, which stands in front of it.
+# The number of the line at fault, which is in front of it.
 LINE_NUMBER = re.compile(r"\d+: ")
 
 
 def explained(refused: stabsim.Refused, edit: Edit, circuit: str, qubits: int) -> stabsim.Refused:
-    """A refusal of an edit of a circuit, as a session of so many qubits writes it, with what is wrong: the line at fault, carets
+    """A refusal of an edit of a circuit, as a session of this many qubits writes it, with what is wrong: the line at fault, carets
     under the word, what is wrong with it, and what to do."""
     if edit.kind in ("split", "open") or refused.number not in EXPLAINED:
         return refused

@@ -14,7 +14,7 @@ from stabsim.reading import Instruction, lines_of
 # Letters X, Y and Z on qubits.
 Letters = dict[int, str]
 
-# What stands for a mark until the circuit's own are taken away: a comment that no circuit of a session has.
+# What takes the place of a mark until the circuit's own are taken away: a comment that no circuit of a session has.
 PLACE = "# mark"
 
 
@@ -31,7 +31,7 @@ class MomentFaults:
 
     @classmethod
     def of_circuit(cls, text: str) -> "MomentFaults":
-        """The table of a circuit; raises stabsim.Refused where its marks would be too many steps."""
+        """The table of a circuit; raises stabsim.Refused if its marks would be too many steps."""
         numbers = stabsim.Circuit(text).numbers()
         if not numbers.qubits:
             return cls(0, numbers.detectors, np.zeros(1, dtype=np.int64), np.zeros(0, dtype=np.int64), text)
@@ -64,7 +64,7 @@ class MomentFaults:
         return places
 
     def region(self, bit: str) -> dict[int, dict[int, str]]:
-        """The detecting region of a detector or observable, as `D3` or `L0`: at the end of each moment where it has letters, the
+        """The detecting region of a detector or observable, as `D3` or `L0`: at the end of each moment at which it has letters, the
         letter on each qubit. Just the Paulis that anticommute with the letters there flip the bit."""
         letters: dict[int, dict[int, str]] = {}
         hits = np.flatnonzero(self.indices == self.place(bit))
@@ -92,7 +92,7 @@ class MomentFaults:
         return f"D{place}" if place < self.detectors else f"L{place - self.detectors}"
 
     def place(self, name: str) -> int:
-        """The place of a bit among all; ValueError where the name is none."""
+        """The place of a bit among all; ValueError if the name is none."""
         if not re.fullmatch(r"[DL]\d+", name):
             raise ValueError(f"{name} is no detector and no observable")
         return int(name[1:]) + (self.detectors if name[0] == "L" else 0)

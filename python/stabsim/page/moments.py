@@ -1,7 +1,7 @@
-"""Where a circuit is cut into moments: at each TICK, and where an item acts on a qubit on which the moment has acted before.
+"""Where a circuit is cut into moments: at each TICK, and in front of an item that acts on a qubit on which the moment has acted before.
 
-`static/cuts.js` cuts by the same rules, so that both count moments alike. A Pauli may stand after one other item on its qubit, as an
-error does that is put on a gate. Where a block would meet what is before it, it is cut in front; where its rounds would meet each
+`static/cuts.js` cuts by the same rules, so that both count moments alike. A Pauli may come after one other item on its qubit, as an
+error does that is put on a gate. If a block would meet what is before it, it is cut in front; if its rounds would meet each
 other, each is cut in front of its first item that acts.
 """
 
@@ -24,7 +24,7 @@ QUBIT = re.compile(r"\d+")
 @dataclass
 class Body:
     """What a list of items comes to: the lines in front of which it is cut, the qubits of its first moment, those of its last with
-    whether a Pauli stands there after something else, whether there is more than one moment, and the line of its first item that
+    whether a Pauli acts there after something else, whether there is more than one moment, and the line of its first item that
     acts, if it has one and is not cut in front of it."""
 
     cuts: list[int] = field(default_factory=list)

@@ -2,6 +2,7 @@
 
 import base64
 import binascii
+import contextlib
 import pathlib
 import zlib
 from dataclasses import dataclass
@@ -11,7 +12,7 @@ from stabsim import program
 
 # What a circuit is called that came from nowhere.
 UNNAMED = "circuit.stim"
-# What stands in a link in front of the circuit, packed as by `packed`.
+# What a link has in front of the circuit, packed as by `packed`.
 LINK = "#circuit="
 # The longest text that a link may hold, in bytes: a short link can unpack to any length.
 MOST_BYTES = 1 << 25
@@ -33,6 +34,10 @@ class Opened:
 def opened(given: str, name: str = UNNAMED) -> Opened:
     """A text of Stim's as a circuit that the program reads, without its noise. A refusal names the line that was given. Raises
     stabsim.UnsupportedNoise at noise that can't be left out."""
+    with contextlib.suppress(stabsim.Refused):
+        # What the program reads has no noise, and is opened as it is; to look for some would take longer.
+        stabsim.Circuit(given).numbers()
+        return Opened(given, name)
     read = stabsim.from_stim(given)
     if not read.left_out:
         return Opened(read.circuit.text, name)
@@ -57,7 +62,7 @@ def packed(text: str) -> str:
 
 
 def unpacked(letters: str) -> str:
-    """The text that `packed` made letters of; raises BadLink where they are no such."""
+    """The text that `packed` made letters of; raises BadLink if they are not."""
     letters = letters.partition("&")[0]
     unpacking = zlib.decompressobj(-zlib.MAX_WBITS)
     try:

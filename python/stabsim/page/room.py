@@ -1,4 +1,4 @@
-"""How many qubits an item names, and whether a session may be opened anew on so many."""
+"""How many qubits an item names, and whether a session may be opened anew on more."""
 
 import re
 
@@ -16,7 +16,7 @@ QUBIT = re.compile(r"\d+")
 
 
 def qubits_named(text: str) -> int:
-    """One more than the greatest qubit that an item's text names; 0 where it names none, or is no item."""
+    """One more than the greatest qubit that an item's text names; 0 if it names none, or is no item."""
     try:
         return max(map(named_by, items_of(text)), default=0)
     except Refused:
@@ -31,7 +31,7 @@ def named_by(item: Item) -> int:
 
 
 def room_for(named: int, now: int) -> int:
-    """On how many qubits a session of `now` is opened anew so that `named` find room; `now` where it stays as it is."""
+    """On how many qubits a session of `now` is opened anew so that `named` find room; `now` if it stays as it is."""
     if named <= now or named > min(MOST_QUBITS, now + MOST_MORE):
         return now
     return min(MOST_QUBITS, -(-named // SPARE) * SPARE)

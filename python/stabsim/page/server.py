@@ -15,7 +15,7 @@ import stabsim
 from stabsim.page.board import Board, Message, sure_line
 from stabsim.page.distances import DistanceSearch
 from stabsim.page.edits import Edit
-from stabsim.page.files import file_response, guard
+from stabsim.page.files import file_response, guard, page_response
 from stabsim.page.known import NOT_YET, QUESTIONS, Known, faults_or_why
 from stabsim.page.moment_faults import MomentFaults
 from stabsim.page.tabs import Tab
@@ -23,6 +23,8 @@ from stabsim.page.tabs import Tab
 HOST = "127.0.0.1"
 # The greatest message that a tab may send: a circuit, an item's text, or a question.
 MOST_BYTES = 1 << 25
+# The longest name that a tab may give its edits.
+MOST_LETTERS = 80
 # How long tabs may take to end when the server does.
 LAST_SECONDS = 1.0
 
@@ -33,7 +35,7 @@ class Server:
     def __init__(self, board: Board, token: str, public_port: int | None = None) -> None:
         self.board = board
         self.token = token
-        # The port by which tabs come, where that is another than the server's own.
+        # The port by which tabs come, if that is another than the server's own.
         self.public_port = public_port
         self.tabs: set[Tab] = set()
         # Tasks, each kept until it ends: the loop itself would lose them.
@@ -42,7 +44,7 @@ class Server:
         self.background = concurrent.futures.ThreadPoolExecutor(1)
         self.known = Known()
         self.distances = DistanceSearch(self.tell, self.start)
-        # All tabs are told of what happens in the order in which it happens, and one that opens misses nothing.
+        # All tabs hear of what happens in the order in which it happens, and one that opens misses nothing.
         self.telling = asyncio.Lock()
         self.port = 0
 
@@ -71,13 +73,13 @@ class Server:
         return await handler(request)
 
     async def page(self, request: web.Request) -> web.Response:
-        return file_response("index.html")
+        return page_response()
 
     async def static(self, request: web.Request) -> web.Response:
         return file_response(request.match_info["name"])
 
     async def tab(self, request: web.Request) -> web.WebSocketResponse:
-        """One tab: it is told all there is, and then each event."""
+        """One tab: it hears all there is, and then each event."""
         # Nothing leaves the machine, so packing would only take time.
         socket = web.WebSocketResponse(max_msg_size=MOST_BYTES, compress=False)
         await socket.prepare(request)
@@ -93,7 +95,7 @@ class Server:
         return socket
 
     async def tell_all_to(self, tab: Tab) -> None:
-        """Tells one tab all there is, when it opens, or has missed an event; each later event it is told of."""
+        """Says to one tab all there is, when it opens, or has missed an event; it hears of each later event."""
         async with self.telling:
             tab.tell(await self.call(self.board.opened))
             tab.tell(self.distances.told)
@@ -101,13 +103,19 @@ class Server:
         self.later()
 
     async def close_tabs(self, app: web.Application) -> None:
-        """Where a tab is open the server would wait for it; one that does not read is left."""
+        """If a tab is open the server would wait for it; one that does not read is left."""
         for task in list(self.tasks):
             task.cancel()
         if self.tabs:
             await asyncio.wait([tab.end() for tab in self.tabs], timeout=LAST_SECONDS)
         for tab in self.tabs:
             tab.abandon()
+
+    async def prepare(self) -> None:
+        """Finds out what the first tab asks for, while the browser loads the page."""
+        # If the session has ended, the first tab hears of it.
+        with contextlib.suppress(stabsim.StabsimError):
+            await self.call(self.board.whole)
 
     def start(self, work: Coroutine[Any, Any, None]) -> asyncio.Task[None]:
         """Starts a task, which is kept until it ends."""
@@ -120,7 +128,7 @@ class Server:
         return await asyncio.get_running_loop().run_in_executor(self.one_thread, function, *values)
 
     async def answer(self, tab: Tab, data: str) -> None:
-        """Answers a question, and tells all tabs what it changed."""
+        """Answers a question, and says to all tabs what it changed."""
         question: Any = None
         try:
             question = json.loads(data)
@@ -173,7 +181,7 @@ class Server:
             raise ValueError("no edit")
         if inside:
             return await self.change(self.board.edit_in_round, edits, str(inside["place"]), int(inside["number"]))
-        return await self.change(self.board.edit, edits)
+        return await self.change(self.board.edit, edits, str(question.get("name", ""))[:MOST_LETTERS])
 
     async def change(self, function: Any, *values: Any) -> Message:
         async with self.telling:
@@ -185,7 +193,7 @@ class Server:
         return {}
 
     def tell(self, event: Message) -> None:
-        """Tells all tabs."""
+        """Says something to all tabs."""
         text = json.dumps(event)
         for tab in self.tabs:
             tab.tell_text(text)
@@ -207,7 +215,7 @@ class Server:
             if self.known.faults == NOT_YET and age == self.board.age:
                 await self.found_faults(age, await self.in_background(faults_or_why, text))
         except stabsim.StabsimError:
-            # Nothing is told of it; where the session has ended, the next question says so.
+            # Nothing is said of it; if the session has ended, the next question says so.
             return
 
     async def found_sure(self, age: int, sure: str) -> None:
@@ -234,6 +242,7 @@ async def listening(server: Server, port: int) -> AsyncIterator[str]:
     try:
         await web.TCPSite(runner, HOST, port).start()
         server.port = runner.addresses[0][1]
+        server.start(server.prepare())
         yield f"http://{HOST}:{server.public_port or server.port}/?token={server.token}"
     finally:
         await runner.cleanup()

@@ -15,11 +15,11 @@ Start = Callable[[Coroutine[Any, Any, None]], "asyncio.Task[None]"]
 MOST_WAITING = 1 << 24
 # The code and the reason by which such a tab is closed; the page shows the reason.
 BEHIND = 4000
-REASON = b"This tab did not read what it was told, and was closed: load the page anew."
+REASON = b"This tab did not read what it was sent, and was closed: load the page anew."
 
 
 class Tab:
-    """One tab. What it is told is sent as fast as it reads; if too much waits, it is closed, and told no more but that.
+    """One tab. What it is to hear is sent as fast as it reads; if too much waits, it is closed, and hears no more than that.
 
     start: starts a task that is kept until it ends.
     """

@@ -1,6 +1,6 @@
 """The way of a Pauli: what it has become at the end of each later moment.
 
-What a gate makes of it is told by the table of faults: it is what flips the same bits behind the gate. Where several do, the fewest
+What a gate makes of it follows from the table of faults: it is what flips the same bits after the gate. If several do, the fewest
 qubits and letters that stay are taken; so what flips nothing any more has gone.
 """
 
@@ -48,7 +48,7 @@ class Parts:
 
 
 def way_of(faults: MomentFaults, moment: int, qubit: int, letter: str) -> dict[int, Letters]:
-    """What a Pauli at the end of a moment has become at the end of that moment and of each later one where something is left of it."""
+    """What a Pauli at the end of a moment has become at the end of that moment and of each later one at which something is left of it."""
     walk = Walk(faults, {qubit: letter})
     found = {moment: {qubit: letter}}
     for later, items in enumerate(faults.acting[moment + 1:moment + MOST_MOMENTS], start=moment + 1):
@@ -93,7 +93,7 @@ class Walk:
             self.put(qubits[0], "I")
 
     def pass_gate(self, qubits: tuple[int, ...], moment: int) -> None:
-        """Has a gate make of the letters on its qubits what flips the same behind it."""
+        """Has a gate make of the letters on its qubits what flips the same after it."""
         now = tuple(self.letters.get(qubit, "I") for qubit in qubits)
         wanted = self.faults.flipped(moment - 1, dict(zip(qubits, now)))
         for letters in sorted(itertools.product("IXZY", repeat=len(qubits)), key=lambda it: (sum(one != "I" for one in it), it != now)):

@@ -9,17 +9,17 @@ import { endOf, momentAt, momentOf, momentsOf, momentsOfDetectors, nameOf } from
 const BLOCK = "R 0\nREPEAT 3 {\n    TICK\n    H 0\n    TICK\n    M 0\n    DETECTOR rec[-1]\n}\nM 0\n";
 const names = (items, moment) => momentAt(items, moment).map(({ item, rounds }) => `${item.name}${rounds.map((round) => ` ${round}`).join("")}`);
 
-test("a moment has what stands between two ticks, in the rounds in which it stands", () => {
+test("a moment has what is between two ticks, in its rounds", () => {
   const items = parseCircuit(BLOCK);
   assert.equal(momentsOf(items), 8);
   assert.deepEqual(names(items, 0), ["R", "TICK 0"]);
   assert.deepEqual(names(items, 2), ["M 0", "DETECTOR 0", "TICK 1"]);
-  // The M behind the block acts on the qubit of the last round's, so it is a moment of its own.
+  // The M after the block acts on the qubit of the last round's, so it is a moment of its own.
   assert.deepEqual(names(items, 6), ["M 2", "DETECTOR 2"]);
   assert.deepEqual(names(items, 7), ["M"]);
 });
 
-test("a detector stands in the moment that declares it", () => {
+test("a detector is in the moment that declares it", () => {
   assert.deepEqual([...momentsOfDetectors(parseCircuit(BLOCK))], [2, 4, 6]);
 });
 

@@ -41,7 +41,7 @@ test("a product has one outline with its letters on its qubits", () => {
   assert.deepEqual(glyphs(elements).filter(([glyph]) => glyph === "factor"), [["factor", "X", 0, 0], ["factor", "!Z", 0, 1]]);
 });
 
-test("an error on a gate stands beside it, above on the right", () => {
+test("an error on a gate is beside it, above on the right", () => {
   const [[, , x, y]] = glyphs(drawn("H 1\nX 1\n")).filter(([glyph]) => glyph === "X");
   assert.ok(x > 1 && y < 0);
 });
@@ -113,7 +113,7 @@ test("names are completed as far as they are the same", () => {
   assert.equal(completed("H 0 sqr"), null);
 });
 
-test("a gate joins the one in front of it, but an error stands by itself", () => {
+test("a gate joins the one in front of it, but an error is by itself", () => {
   const items = parseCircuit("H 0\nTICK\n");
   assert.deepEqual(putIn(items, 0, "H", [1, 2]).edits, [{ kind: "replace", place: "0", item: "H 0 1 2" }]);
   assert.deepEqual(putIn(items, 0, "H", [0]).edits, [{ kind: "insert", place: "1", item: "H 0" }]);
@@ -136,7 +136,7 @@ test("what is taken out or moved takes its pair with it", () => {
   assert.ok(moveTo(items, 0, [1], -1).why);
 });
 
-test("a new qubit has the least number that is free, behind the places of the others", () => {
+test("a new qubit has the least number that is free, after the places of the others", () => {
   const placement = { places: new Map([[0, [0, 0]], [2, [1, 0]]]), hasCoordinates: true };
   const made = putQubits(parseCircuit("QUBIT_COORDS(0, 0) 0\nQUBIT_COORDS(1, 0) 2\nH 0\n"), [[3, 4], [5, 6]], placement);
   const put = (place, item) => ({ kind: "insert", place, item });

@@ -1,4 +1,4 @@
-// Coins, steps and errors at their places: what the page works out of numbers that the program tells.
+// Coins, steps and errors at their places: what the page works out of numbers that the program gives.
 
 import assert from "node:assert/strict";
 import test from "node:test";

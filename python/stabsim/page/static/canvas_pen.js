@@ -14,7 +14,6 @@ export class CanvasPen {
   #hatches = new Map();
   #theme = null;
   #ratio = 1;
-  #kept = null;
 
   constructor(canvas) {
     this.#canvas = canvas;
@@ -38,28 +37,27 @@ export class CanvasPen {
   }
 
   draw(elements) {
-    for (const element of elements) {
+    for (let i = 0; i < elements.length; i += 1) {
+      const element = elements[i];
       if (element.glyph) this.#copy(element);
       else if (element.picture) this.#pen.drawImage(element.picture, 0, 0, element.width, element.height);
-      else if (element.path) this.#path(this.#pen, element);
+      else if (element.path) {
+        // Lines one after another that look alike are one path, which takes a fraction of the time.
+        const paths = [element.path];
+        while (isLikeLine(element, elements[i + 1])) paths.push(elements[i += 1].path);
+        this.#path(this.#pen, paths.length > 1 ? { ...element, path: paths.flat() } : element);
+      }
+      else if (element.boxes) this.#boxes(element);
       else this.#words(this.#pen, element);
     }
   }
 
-  // Keeps what was drawn, so that it can be shown again.
-  keep() {
-    const { width, height } = this.#canvas;
-    if (this.#kept?.width !== width || this.#kept?.height !== height) this.#kept = new OffscreenCanvas(width, height);
-    const pen = this.#kept.getContext("2d");
-    pen.clearRect(0, 0, width, height);
-    pen.drawImage(this.#canvas, 0, 0);
-  }
-
-  // Shows what was kept, moved and stretched, on a canvas that is as large as it is shown.
-  showKept(left, top, part) {
-    const [width, height] = [this.#canvas.width / this.#ratio, this.#canvas.height / this.#ratio];
-    this.#pen.clearRect(0, 0, width, height);
-    this.#pen.drawImage(this.#kept, left, top, width * part, height * part);
+  // One path of many boxes would take a hundred times as long.
+  #boxes({ boxes, fill, alpha = 1 }) {
+    this.#pen.globalAlpha = alpha;
+    this.#pen.fillStyle = colourOf(fill);
+    for (const [x, y, width, height] of boxes) this.#pen.fillRect(x, y, width, height);
+    this.#pen.globalAlpha = 1;
   }
 
   // A picture of elements by themselves, which `draw` takes as {picture, width, height}.
@@ -142,11 +140,17 @@ export class CanvasPen {
     pen.fillText(words, x, y);
   }
 
-  // Patterns tell letters apart without colour.
+  // By patterns letters are told apart without colour.
   #hatch(letter) {
     if (!this.#hatches.has(letter)) this.#hatches.set(letter, this.#pen.createPattern(tileOf(letter), "repeat"));
     return this.#hatches.get(letter);
   }
+}
+
+// Whether two elements are lines of the same colour and width. Faces are not taken together, since they may lie over each other.
+function isLikeLine(one, other) {
+  return other?.path && one.stroke && one.stroke === other.stroke && one.width === other.width && !one.fill && !other.fill && !one.hatch && !other.hatch
+    && !one.dash && !other.dash && one.alpha === other.alpha && (one.alpha ?? 1) === 1;
 }
 
 function tileOf(letter) {

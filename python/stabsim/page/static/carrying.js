@@ -19,9 +19,10 @@ export class Carrier {
     tip(moment === null ? `drop ${what} on a tick of the timeline` : `${what}: to tick ${nameOf(shown.state.items, moment).name}`, place);
   }
 
+  // Moves it to the tick at a place of the window; without a place, or at none, nothing is moved.
   drop(qubit, place) {
     const { editor, timeline, tip, say } = this.#page;
-    const moment = timeline.momentUnder(place);
+    const moment = place && timeline.momentUnder(place);
     timeline.aim(null);
     tip("");
     if (moment === null) say("dropped on no tick: nothing is moved");

@@ -6,7 +6,7 @@
 
 import { before, forget, recount } from "./counts.js";
 import { cutList } from "./cuts.js";
-import { isPair, isRecorded, resets } from "./instructions.js";
+import { acts, isPair, isRecorded, qubitsOf, resets } from "./instructions.js";
 
 const HEAD = /^([A-Za-z][A-Za-z0-9_]*)(?:\[[^\]]*\])?(?:\(([^)]*)\))?\s*(.*)$/;
 const NAMES = {
@@ -20,6 +20,7 @@ const WITHOUT_STEPS = new Set(["TICK", "QUBIT_COORDS", "SHIFT_COORDS"]);
 export function parse(text) {
   const outermost = [];
   const open = [];
+  const known = new Map();
   for (const raw of text.split("\n")) {
     const line = withoutComment(raw).trim();
     if (!line) continue;
@@ -27,7 +28,7 @@ export function parse(text) {
       recount(open.pop());
       continue;
     }
-    const item = line.endsWith("{") ? blockOf(line) : lineOf(line);
+    const item = line.endsWith("{") ? blockOf(line) : lineKnown(line, known);
     (open.at(-1)?.items ?? outermost).push(item);
     if (item.items) open.push(item);
   }
@@ -51,11 +52,23 @@ function blockOf(line) {
   return { text: line.slice(0, -1).trim(), count: Number(head[3]), items: [], once: null, cut: false };
 }
 
+// Lines of the same text, as those of rounds that are written out, share their targets.
+function lineKnown(line, known) {
+  const first = known.get(line);
+  if (first) return { ...first };
+  const item = lineOf(line);
+  if (acts(item.name)) {
+    qubitsOf(item);
+    known.set(line, item);
+  }
+  return item;
+}
+
 function lineOf(line) {
   const [, written, , rest] = HEAD.exec(line);
   const upper = written.toUpperCase();
   const name = NAMES[upper] ?? upper;
-  const targets = rest ? rest.split(/\s+/) : [];
+  const targets = rest ? wordsOf(rest) : [];
   return {
     text: line,
     name,
@@ -69,6 +82,9 @@ function lineOf(line) {
   };
 }
 
+// Words between single spaces, as the session writes them, are cut in half the time.
+const wordsOf = (text) => (text.includes("  ") || text.includes("\t") || text.includes("\r") ? text.split(/\s+/) : text.split(" "));
+
 // A step is a target, a pair, or what declares a detector or adds to an observable.
 function stepsOf(name, targets) {
   if (WITHOUT_STEPS.has(name)) return 0;
@@ -76,12 +92,12 @@ function stepsOf(name, targets) {
   return isPair(name) ? targets / 2 : targets;
 }
 
-// The item that one line, or one block with its lines, stands for.
+// The item that one line, or one block with its lines, makes.
 export function itemOf(text) {
   return parse(text)[0];
 }
 
-// The text of an item, each line behind as many spaces as it is deep.
+// The text of an item, each line indented as deep as it is.
 export function textOf(item, depth = 0) {
   const margin = "    ".repeat(depth);
   if (!item.items) return margin + item.text;
@@ -89,7 +105,7 @@ export function textOf(item, depth = 0) {
   return [`${margin}${item.text} {`, ...body, `${margin}}`].join("\n");
 }
 
-// The list in which a path's last place stands.
+// The list that has a path's last place.
 const listAt = (items, path) => blocksAround(items, path).at(-1)?.items ?? items;
 
 export function itemAt(items, path) {
@@ -114,7 +130,7 @@ export function applyEdit(items, edit) {
   cutList(items, path[0], path[0] + (edit.kind === "split" ? 3 : 1));
 }
 
-// The blocks that a block becomes where a round is split off: the rounds before it, that round, and the rounds behind it.
+// The blocks that a block becomes if a round is split off: the rounds before it, that round, and the rounds after it.
 function partsOf(block, round) {
   return [round, 1, block.count - round - 1].filter(Boolean).map((count) => {
     const part = { ...block, text: block.text.replace(/\d+$/, count), count, items: structuredClone(block.items) };
@@ -135,8 +151,8 @@ export function blocksAround(items, path) {
 }
 
 // The place of the thing with a number, of a name that is counted (counts.js). Answers {item, path, rounds, records, number}, with the
-// round of each block around it, how many records there are before its item, and which of the item's own it is; or null where there are
-// not so many.
+// round of each block around it, how many records there are before its item, and which of the item's own it is; or null if there are
+// fewer.
 export function findNumbered(items, name, number) {
   let left = number;
   const path = [];

@@ -13,7 +13,7 @@ export const isCopied = (text) => text.startsWith(MARK);
 // The lines of what was copied.
 export const linesOf = (text) => parse(text).map((item) => item.text);
 
-// What acts on qubits at a moment as text; "" where nothing does.
+// What acts on qubits at a moment as text; "" if nothing does.
 export function copied(items, moment, qubits) {
   const lines = actingOn(items, moment, qubits);
   return lines.length ? `${MARK}${nameOf(items, moment).name}\n${lines.join("\n")}\n` : "";

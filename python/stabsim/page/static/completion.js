@@ -2,8 +2,8 @@
 
 import { NAMES } from "./instructions.js";
 
-// What completes the name that stands at the end of a text, at the beginning of its line: {typed, words, names}, with what was typed, what
-// takes its place, and all names that begin so; null where nothing does, or it is complete.
+// What completes the name at the end of a text, at the beginning of its line: {typed, words, names}, with what was typed, what
+// takes its place, and all names that begin so; null if nothing does, or it is complete.
 export function completed(text) {
   const typed = /(?:^|\n)[ \t]*([A-Za-z][A-Za-z_]*)$/.exec(text)?.[1];
   if (!typed) return null;

@@ -6,7 +6,7 @@ import { qubitsOf } from "./instructions.js";
 
 const PAULIS = new Set(["X", "Y", "Z"]);
 
-// Cuts a list, or the part of it from the last TICK in front of `from` to the next one behind `to`.
+// Cuts a list, or the part of it from the last TICK in front of `from` to the next one after `to`.
 export function cutList(list, from = 0, to = list.length) {
   let first = Math.min(from, list.length);
   while (first > 0 && list[first - 1].name !== "TICK") first -= 1;
@@ -16,7 +16,7 @@ export function cutList(list, from = 0, to = list.length) {
   for (let place = first; place < end; place += 1) cutItem(list[place], on);
 }
 
-// `on` has the qubits of the moment so far, each with whether a Pauli stands on it after something else.
+// `on` has the qubits of the moment so far, each with whether a Pauli acts on it after something else.
 function cutItem(item, on) {
   item.cut = false;
   if (item.name === "TICK") on.clear();
@@ -38,7 +38,7 @@ function act(on, qubits, isPauli) {
   } else for (const qubit of qubits) on.set(qubit, false);
 }
 
-// Where a block would meet what is before it, it is cut in front; where its rounds would meet each other, each is cut in front of its
+// If a block would meet what is before it, it is cut in front; if its rounds would meet each other, each is cut in front of its
 // first item that acts.
 function cutBlock(block, on) {
   cutList(block.items);

@@ -9,7 +9,7 @@ const MARKED = { true: "where I marks them", false: "everywhere" };
 export class DistanceView {
   #box;
   #act;
-  // What the server told last (distances.py), and the errors at their places.
+  // What the server said last (distances.py), and the errors at their places.
   #told = { state: "none" };
   #set = [];
 
@@ -19,7 +19,7 @@ export class DistanceView {
     this.#draw();
   }
 
-  // Takes what was told of the circuit with these items.
+  // Takes what was said of the circuit with these items.
   take(told, items) {
     this.#told = told;
     this.#set = placesOfErrors(items, told.errors);

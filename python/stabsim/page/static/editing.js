@@ -1,20 +1,20 @@
 // The edits that tools and keys make of a circuit. Each answers {edits, round, shown}: what the session is asked for, the round
-// {place, number} that is split off first, or null, and where what was put in then stands, {path, rounds}; or {why} where nothing is
+// {place, number} that is split off first, or null, and where what was put in then is, {path, rounds}; or {why} if nothing is
 // to be done.
 
 import { itemAt } from "./circuit.js";
 import { PAULIS, groupsOf, isPair, isSingle, qubitsOf } from "./instructions.js";
-import { beginOf, endOf, momentAt, momentsOf } from "./moments.js";
+import { beginOf, endOf, momentAt, momentsOf, nameOf } from "./moments.js";
 
 const inBlock = ({ rounds }) => rounds.length > 0;
 
-// Where a round of a block stands once it is split off: behind the rounds before, where there are some.
+// Where a round of a block is once it is split off: after the rounds before it, if there are any.
 export const pathOfRound = (block, round) => [...block.slice(0, -1), block.at(-1) + (round > 0 ? 1 : 0)];
 
-// Whether an edit at a place can be made in its round alone: in a block that stands in no other, and has several rounds.
+// Whether an edit at a place can be made in its round alone: in a block that is in no other, and has several rounds.
 const isAlone = (items, { path, rounds }) => rounds.length === 1 && items[path[0]].count > 1;
 
-// Makes edits those of one round alone, where `alone` says so and their place is in a block.
+// Makes edits those of one round alone, if `alone` says so and their place is in a block.
 function inRound(items, edits, where, alone) {
   if (!alone || !isAlone(items, where)) return { edits, round: null, shown: where };
   const [block] = where.path;
@@ -27,7 +27,7 @@ function inRound(items, edits, where, alone) {
   };
 }
 
-// Puts a gate, measurement or reset on qubits at the end of a moment. Of a gate that stands there already, and on other qubits, that
+// Puts a gate, measurement or reset on qubits at the end of a moment. If the same gate is there already, on other qubits, that
 // instruction goes on; an error stays by itself.
 export function putIn(items, moment, name, qubits, alone) {
   const where = endOf(items, moment);
@@ -55,13 +55,13 @@ export function measureProduct(items, moment, letter, qubits, alone) {
   return putIn(items, moment, "MPP", [qubits.map((qubit) => `${letter}${qubit}`).join("*")], alone);
 }
 
-// Takes out what acts on qubits at a moment, with the other qubits of its pair or product; where nothing does, the places of qubits
+// Takes out what acts on qubits at a moment, with the other qubits of its pair or product; if nothing does, the places of qubits
 // on which nothing acts at all.
 export function takeOut(items, moment, qubits, alone, isUsed) {
   const touched = touching(items, moment, qubits);
   if (!touched.length) return takePlaces(items, qubits.filter((qubit) => !isUsed(qubit)));
   if (new Set(touched.map(({ path, rounds }) => `${path[0]} ${rounds.join("/")}`)).size > 1 && touched.some(inBlock) && alone) {
-    return { why: "these stand in several rounds: have the edit made in each round" };
+    return { why: "these are in several rounds: have the edit made in each round" };
   }
   return inRound(items, lastFirst(touched).map(({ item, path }) => without(item, path, qubits)), touched[0], alone);
 }
@@ -84,7 +84,7 @@ function changedTo(item, path, groups) {
   return groups.length ? { kind: "replace", place, item: `${headOf(item)} ${groups.flatMap(({ words }) => words).join(" ")}` } : { kind: "delete", place };
 }
 
-// What stands in front of an item's targets: its name, with a tag and arguments.
+// What is in front of an item's targets: its name, with a tag and arguments.
 const headOf = (item) => /^\S+?(?:\[[^\]]*\])?(?:\([^)]*\))?(?=\s|$)/.exec(item.text)[0];
 
 function takePlaces(items, qubits) {
@@ -115,20 +115,21 @@ export function moveTo(items, moment, qubits, target) {
   const touched = touching(items, moment, qubits);
   if (!touched.length) return { why: "nothing acts on these qubits here" };
   if (target < 0 || target >= momentsOf(items)) return { why: "there is no such tick" };
-  if (target === moment) return { why: "it stands at this tick already" };
+  if (target === moment) return { why: "it is at this tick already" };
   const to = target < moment || isCutFrom(items, target) ? endOf(items, target) : beginOf(items, target);
   const isElsewhere = touched.some(({ path, rounds }) => path.slice(0, -1).join() !== to.path.slice(0, -1).join() || rounds.join() !== to.rounds.join());
   if (isElsewhere) return { why: "the tick is not in the same round" };
   const taken = lastFirst(touched).map(({ item, path }) => without(item, path, qubits));
   const put = touched.map(({ item }) => partOf(item, qubits));
-  // Each list keeps its places in front of where it is changed, so the later change is made first.
-  if (target < moment) return { edits: [...taken, ...put.reverse().map((item) => ({ kind: "insert", place: to.path.join("/"), item }))], round: null, shown: to };
+  const name = `move ${put[0]}${put.length > 1 ? ` and ${put.length - 1} more` : ""} to tick ${nameOf(items, target).name}`;
+  // The later change is made first, so that it moves no place of the other.
+  if (target < moment) return { edits: [...taken, ...put.reverse().map((item) => ({ kind: "insert", place: to.path.join("/"), item }))], round: null, shown: to, name };
   const gone = taken.filter(({ kind }) => kind === "delete").length;
   const path = [...to.path.slice(0, -1), to.path.at(-1) - gone];
-  return { edits: [...put.reverse().map((item) => ({ kind: "insert", place: to.path.join("/"), item })), ...taken], round: null, shown: { ...to, path } };
+  return { edits: [...put.reverse().map((item) => ({ kind: "insert", place: to.path.join("/"), item })), ...taken], round: null, shown: { ...to, path }, name };
 }
 
-// Whether no TICK stands between a moment and the one before it.
+// Whether no TICK is between a moment and the one before it.
 const isCutFrom = (items, moment) => itemAt(items, endOf(items, moment - 1).path)?.name !== "TICK";
 
 // Puts lines in at the end of a moment.
@@ -137,20 +138,7 @@ export function putLines(items, moment, lines) {
   return { edits: [...lines].reverse().map((item) => ({ kind: "insert", place: where.path.join("/"), item })), round: null, shown: where };
 }
 
-// Puts a tick in at the end of a moment: what comes later stands in a tick of its own.
-export function putTick(items, moment) {
-  const { path, rounds } = endOf(items, moment);
-  return { edits: [{ kind: "insert", place: path.join("/"), item: "TICK" }], round: null, shown: { path: [...path.slice(0, -1), path.at(-1) + 1], rounds } };
-}
-
-// Takes out the tick that ends a moment.
-export function takeTick(items, moment) {
-  const { path } = endOf(items, moment);
-  if (itemAt(items, path)?.name !== "TICK") return { why: "no TICK ends this moment" };
-  return { edits: [{ kind: "delete", place: path.join("/") }], round: null, shown: null };
-}
-
-// Puts qubits on places of the grid: their lines stand behind those of the qubits before them. Where qubits stand by their gates alone,
+// Puts qubits on places of the grid: their lines come after those of the qubits before them. If qubits are placed by their gates alone,
 // their places are written down too, so that they stay.
 export function putQubits(items, places, placement) {
   const qubits = [];
@@ -163,7 +151,7 @@ export function putQubits(items, places, placement) {
   return { edits, round: null, shown: null, qubits };
 }
 
-// Puts in what acts on new qubits, and then their places, which stand in front of it.
+// Puts in what acts on new qubits, and then their places, which come before it.
 export function withQubits(acting, { edits }) {
   if (acting.why) return acting;
   const { path, rounds } = acting.shown;

@@ -6,25 +6,26 @@ import { nameOf } from "./moments.js";
 import { titleOf, toolOf } from "./palette.js";
 import { partnersOf } from "./pairing.js";
 import { putDetector, putObservable } from "./records.js";
+import { moveTick, putTick, stepTick, takeTick } from "./ticks.js";
 
 export class Editor {
   #shown;
   #act;
   #last = Promise.resolve();
 
-  // `act` has send(edits, round), which answers whether they were made; say(words, isBad); and menu(qubit, offers).
+  // `act` has send(edits, round, name), which answers whether they were made; say(words, isBad); and menu(qubit, offers).
   constructor(shown, act) {
     this.#shown = shown;
     this.#act = act;
   }
 
-  // Makes the edits that `edits(state, moment)` answers as editing.js does, and shows where what was put in stands. They are worked out
+  // Makes the edits that `edits(state, moment)` answers as editing.js does, and shows what was put in. They are worked out
   // once those before them are made, since each edit moves what comes after it: keys may be quicker than the program.
   make(edits) {
     const inTurn = async () => {
-      const { edits: wanted, round, shown, why } = edits(this.#shown.state, this.#shown.moment);
+      const { edits: wanted, round, shown, name, why } = edits(this.#shown.state, this.#shown.moment);
       if (why) return void this.#act.say(why, true);
-      if (!await this.#act.send(wanted, round)) return false;
+      if (!await this.#act.send(wanted, round, name)) return false;
       if (shown) {
         this.#shown.goToPath(shown.path, shown.rounds);
         this.#shown.select(shown.path, false);
@@ -38,7 +39,7 @@ export class Editor {
   // Takes up a tool: it acts on what is chosen, if that is enough for it, and else on what is clicked next.
   take(name) {
     const { chosen } = this.#shown;
-    if (name === "TICK") return this.make(({ items }, moment) => editing.putTick(items, moment));
+    if (name === "TICK") return this.make(({ items }, moment) => putTick(items, moment));
     if (name === "DETECTOR") return this.#detector(false);
     if (name === "MPP") return this.#product();
     if (isPair(name) ? this.#isPaired(name) : isSingle(name) && chosen.length) {
@@ -56,34 +57,39 @@ export class Editor {
     return chosen.length === 2 || (chosen.length > 0 && chosen.length % 2 === 0 && tool === name && waiting.length === chosen.length);
   }
 
-  // Uses the tool at hand on a qubit; `isTurned` has what waits for it be the target, or where nothing waits chooses one more.
+  // Uses the tool at hand on a qubit; `isTurned` has what waits for it be the target, or if nothing waits chooses one more.
   use(qubit, isTurned) {
     const { tool, waiting } = this.#shown;
     if (isTurned && !waiting.length) return this.#shown.choose(qubit, true);
     if (!isPair(tool)) return this.put(tool, [qubit]);
     if (!waiting.length) return this.#shown.takeTool(tool, [qubit]);
     if (waiting.at(-1) === qubit) return this.#shown.takeTool(tool);
-    return this.#pair(waiting, waiting.at(-1), qubit, isTurned);
+    return this.#pair(waiting, waiting.at(-1), this.#placeOf(qubit), isTurned);
   }
 
   // Leads the gate at hand from one qubit to another, and so from each that waits if the first is one of them.
   lead(first, second, isTurned) {
     const { waiting } = this.#shown;
-    return this.#pair(waiting.includes(first) ? waiting : [first], first, second, isTurned);
+    return this.#pair(waiting.includes(first) ? waiting : [first], first, this.#placeOf(second), isTurned);
   }
 
-  async #pair(qubits, from, to, isTurned) {
+  #placeOf(qubit) {
+    return this.#shown.state.placement.places.get(qubit);
+  }
+
+  async #pair(qubits, from, place, isTurned) {
     const { tool, state } = this.#shown;
-    const { pairs, missing } = partnersOf(state.placement.places, qubits, from, to);
+    const { pairs, missing } = partnersOf(state.placement.places, qubits, from, place);
+    if (!pairs.length) return void this.#act.say("none of the chosen has a qubit there", true);
     this.#shown.takeTool(tool);
     const isDone = await this.put(tool, pairs.flatMap((pair) => (isTurned ? pair.reverse() : pair)));
     if (isDone && missing) this.#act.say(`${missing} of the chosen ${missing === 1 ? "has" : "have"} no qubit there`);
   }
 
-  // Uses the tool at hand on a place of the grid, on which a qubit is put.
-  async useAt(place) {
+  // Uses the tool at hand on a place of the grid, on which a qubit is put; if several qubits wait it shows the way to their partners.
+  async useAt(place, isTurned) {
     const { tool, waiting } = this.#shown;
-    if (waiting.length > 1) return this.#act.say("no qubit stands there", true);
+    if (waiting.length > 1) return this.#pair(waiting, waiting.at(-1), place, isTurned);
     const isFirst = isPair(tool) && !waiting.length;
     let qubit = null;
     const isDone = await this.make(({ items, placement }, moment) => {
@@ -131,6 +137,16 @@ export class Editor {
     return this.make(({ items }, moment) => editing.moveTo(items, moment, qubits, target));
   }
 
+  // Moves the tick that ends a moment into a gap of some moment (ticks.js).
+  moveTick(moment, to, gap) {
+    return this.make(({ items }) => moveTick(items, moment, to, gap));
+  }
+
+  // Moves the tick that ends the moment over the item before it (-1), or the next one (1).
+  stepTick(direction) {
+    return this.make(({ items }, moment) => stepTick(items, moment, direction));
+  }
+
   // The actions of keys on what is chosen; answers whether there is one.
   key(letter) {
     const { chosen } = this.#shown;
@@ -138,7 +154,7 @@ export class Editor {
     const keys = {
       Delete: () => this.#remove(),
       Backspace: () => this.#remove(),
-      T: () => this.make(({ items }, moment) => editing.takeTick(items, moment)),
+      T: () => this.make(({ items }, moment) => takeTick(items, moment)),
       D: () => this.#detector(true),
       o: () => chosen.length && this.make(({ items }, moment) => putObservable(items, moment, chosen, 0)),
       "<": () => chosen.length && this.moveTo(chosen, this.#shown.moment - 1),
@@ -167,7 +183,7 @@ export class Editor {
     const { chosen } = this.#shown;
     if (!chosen.length) return this.#act.say("choose qubits whose records the detector compares", true);
     return this.make(({ items, placement }, moment) => {
-      // Where coordinates are shifted from round to round, each round begins at time 0.
+      // If coordinates are shifted from round to round, each round begins at time 0.
       const time = hasShift(items) ? 0 : nameOf(items, moment).tick;
       return putDetector(items, moment, chosen, { isEach, places: placement.places, time });
     });
@@ -189,8 +205,10 @@ export class Editor {
 }
 
 function asked(name, chosen) {
-  if (name === "qubit") return "click where a qubit shall stand, or drag over places; with Shift each second one";
-  if (isPair(name) && chosen.length > 2) return `click what goes with ${chosen.at(-1)}, and the others go alike; with Shift the other way round`;
+  if (name === "qubit") return "click where a qubit shall be, or drag over places; with Shift each second one";
+  if (isPair(name) && chosen.length > 2) {
+    return `click what goes with ${chosen.at(-1)}, or drag from any of them to its partner, and the others go alike; with Shift the other way round`;
+  }
   if (isPair(name)) return chosen.length ? `click the qubit that goes with ${chosen[0]}` : "click a qubit and then another, or drag from one to the other";
   return "click a qubit, or a place for one";
 }

@@ -45,7 +45,7 @@ export class EntryView {
     return document.activeElement === this.#field;
   }
 
-  // Shows an item that was chosen, in a block of `count` rounds, or 0 where it stands in none.
+  // Shows an item that was chosen, in a block of `count` rounds, or 0 if it is in none.
   show(path, item, count) {
     [this.#kind, this.#path, this.#item, this.#count] = ["replace", path, item, count];
     this.#say();
@@ -77,7 +77,7 @@ export class EntryView {
 
   #say() {
     const place = this.#path === null ? "" : this.#path.join("/");
-    const said = { replace: this.#item ? `item ${place}` : "behind the last item", insert: `before item ${place}`, behind: `behind item ${place}` };
+    const said = { replace: this.#item ? `item ${place}` : "after the last item", insert: `before item ${place}`, behind: `after item ${place}` };
     this.#find("#entry-label").textContent = this.#path === null ? "no item chosen" : said[this.#kind];
     this.#form.classList.remove("bad");
     this.#find("#refusal").textContent = "";

@@ -4,10 +4,10 @@ import { findNumbered, itemAt, pathOf, roundsOfStep } from "./circuit.js";
 import { groupsOf, isRecorded } from "./instructions.js";
 import { momentOf, nameOf } from "./moments.js";
 
-// The letter that stands for a wrong record among those of Paulis.
+// The letter of a wrong record among those of Paulis.
 export const WRONG = "M";
 
-// Errors, each {steps, path, name, record} as the program tells them, at their places: {name, path, moment, tick, letters}, with letters by
+// Errors, each {steps, path, name, record} as the program names them, at their places: {name, path, moment, tick, letters}, with letters by
 // qubits. Before a measurement, or at a mark, the step of an error is that of what follows it; else the error follows its item.
 export function placesOfErrors(items, errors) {
   return errors.map((error) => (error.record === null ? placeOfPaulis(items, error) : placeOfRecord(items, error))).filter(Boolean);

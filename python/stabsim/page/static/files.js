@@ -13,7 +13,7 @@ export function download(name, contents, type = "text/plain") {
 }
 
 // Has `open(text, name)` called for a file that is chosen in a field or dropped on the page, and for a circuit that is pasted outside
-// of fields, except where `put(text)` answers that it takes it.
+// of fields, unless `put(text)` answers that it takes it.
 export function takeFiles(field, open, put) {
   field.addEventListener("change", async () => {
     const [file] = field.files;
@@ -54,7 +54,7 @@ export async function circuitOfAddress() {
   return unpacked(letters);
 }
 
-// Puts a circuit into the address and on the clipboard, and says so; throws where it is too long.
+// Puts a circuit into the address and on the clipboard, and says so; throws if it is too long.
 export async function shared(text) {
   const link = LINK + await packed(text);
   if (link.length > MOST_LINK) throw new Error(`the link would have ${link.length} letters, and more than ${MOST_LINK} are cut off on their way: export the circuit instead`);

@@ -3,10 +3,10 @@
 export class Followed {
   // The detector or observable whose region is shown, as D3 or L0.
   bit = null;
-  // The letters of its region by moments, or why none is told.
+  // The letters of its region by moments, or why none is known.
   region = {};
   why = "";
-  // Where the coins are thrown that decide it (coins.js), or null where that is not known, or none does.
+  // Where the coins are thrown that decide it (coins.js), or null if that is not known, or none does.
   coins = null;
   // The error that is followed: {moment, qubit, letter, letters}, with its letters by moments, or null.
   way = null;

@@ -3,10 +3,12 @@
 
 import { isPair } from "./instructions.js";
 
-// How far the pointer may move in a click.
+// How far a pointer may move in a click, and a finger in a tap.
 const SLIP = 4;
+const SLIP_OF_FINGER = 10;
 
 const spotOf = (event) => [event.offsetX, event.offsetY];
+const isFinger = (event) => event.pointerType === "touch";
 
 export class Gestures {
   #canvas;
@@ -24,7 +26,7 @@ export class Gestures {
     canvas.addEventListener("pointerdown", (event) => this.#press(event));
     canvas.addEventListener("pointermove", (event) => this.#move(event));
     canvas.addEventListener("pointerup", (event) => this.#release(event));
-    canvas.addEventListener("pointercancel", (event) => this.#forget(event));
+    canvas.addEventListener("pointercancel", (event) => { this.#stop(); this.#forget(event); });
     canvas.addEventListener("pointerleave", () => this.#drag || this.#hover(null));
     // The menu comes once the button is let go, since a drag by it pans.
     canvas.addEventListener("contextmenu", (event) => event.preventDefault());
@@ -59,15 +61,18 @@ export class Gestures {
     const spot = spotOf(event);
     this.#pointers.set(event.pointerId, spot);
     const qubit = this.#picture.qubitAt(spot);
-    this.#drag = this.#pointers.size > 1 ? null : {
-      kind: this.#kindOf(event, qubit), button: event.button, from: spot, last: spot, qubit, isMoved: false, isMore: event.shiftKey,
-    };
+    // With a second finger nothing is dragged: both zoom and pan.
+    if (this.#pointers.size > 1) return this.#stop();
+    this.#drag = { kind: this.#kindOf(event, qubit), button: event.button, from: spot, last: spot, qubit, isMoved: false, isMore: event.shiftKey };
+    return undefined;
   }
 
   // What a drag would do that begins so.
   #kindOf(event, qubit) {
-    if (event.button !== 0 || event.ctrlKey || event.metaKey || event.pointerType === "touch") return "pan";
+    if (event.button !== 0 || event.ctrlKey || event.metaKey) return "pan";
     const tool = this.#act.tool();
+    // A finger has no key and no second button to pan by, so it leads gates on two and does nothing else.
+    if (isFinger(event)) return qubit !== null && isPair(tool) ? "pair" : "pan";
     if (tool === "qubit") return "places";
     if (qubit !== null && isPair(tool)) return "pair";
     return qubit !== null && tool === "pick" && !event.shiftKey && this.#picture.hasGlyphAt(qubit, spotOf(event)) ? "gate" : "box";
@@ -76,23 +81,34 @@ export class Gestures {
   #move(event) {
     const spot = spotOf(event);
     if (this.#pointers.size === 2 && this.#pointers.has(event.pointerId)) return this.#pinch(event.pointerId, spot);
-    this.#hover(spot);
+    if (!isFinger(event) || this.#drag?.kind === "pair") this.#hover(spot);
     if (!this.#drag) return undefined;
     const { kind, from, last } = this.#drag;
-    this.#drag.isMoved ||= Math.hypot(spot[0] - from[0], spot[1] - from[1]) >= SLIP;
-    [this.#drag.last, this.#drag.isMore] = [spot, event.shiftKey];
+    this.#drag.isMoved ||= Math.hypot(spot[0] - from[0], spot[1] - from[1]) >= (isFinger(event) ? SLIP_OF_FINGER : SLIP);
     if (!this.#drag.isMoved) return undefined;
+    [this.#drag.last, this.#drag.isMore] = [spot, event.shiftKey];
     if (kind === "pan") return this.#picture.pan(spot[0] - last[0], spot[1] - last[1]);
     if (kind === "gate") return this.#act.carry(this.#drag.qubit, { left: event.clientX, top: event.clientY });
     return this.#picture.draw();
   }
 
+  // One of two fingers moves: what is under the middle of both stays there, as far apart as they are.
   #pinch(id, spot) {
     const other = [...this.#pointers].find(([it]) => it !== id)[1];
     const before = this.#pointers.get(id);
     const far = (a) => Math.hypot(a[0] - other[0], a[1] - other[1]) || 1;
+    const middle = (a) => [(a[0] + other[0]) / 2, (a[1] + other[1]) / 2];
     this.#pointers.set(id, spot);
-    this.#picture.zoom(far(spot) / far(before), (spot[0] + other[0]) / 2, (spot[1] + other[1]) / 2);
+    const [[x, y], [left, top]] = [middle(spot), middle(before)];
+    this.#picture.pan(x - left, y - top);
+    this.#picture.zoom(far(spot) / far(before), x, y);
+  }
+
+  // Ends a drag with nothing done.
+  #stop() {
+    if (this.#drag?.kind === "gate" && this.#drag.isMoved) this.#act.drop(this.#drag.qubit, null);
+    this.#drag = null;
+    this.#picture.draw();
   }
 
   #release(event) {
@@ -119,12 +135,14 @@ export class Gestures {
     if (tool === "pick" || (qubit !== null && tool === "qubit")) this.#act.choose(qubit, isMore);
     else if (qubit !== null) this.#act.use(qubit, isMore);
     else if (tool === "qubit") this.#act.place([this.#picture.placeAt(spotOf(event))]);
-    else this.#act.useAt(this.#picture.placeAt(spotOf(event)));
+    else this.#act.useAt(this.#picture.placeAt(spotOf(event)), isMore);
   }
 
+  // A finger that is left of two pans.
   #forget(event) {
     this.#pointers.delete(event.pointerId);
-    this.#drag = null;
+    const [left] = this.#pointers.values();
+    this.#drag = left ? { kind: "pan", button: 0, from: left, last: left, qubit: null, isMoved: true, isMore: false } : null;
   }
 
   #hover(spot) {

@@ -1,12 +1,13 @@
 // Glyphs: the shapes of shapes.json as paths and words, for whatever pen draws them.
 //
 // A drawing is a list of elements: a path {path, fill, stroke, width, dash, alpha, hatch} whose commands are [op, numbers..] with
-// M x y, L x y, A x y r from to (an arc, clockwise), Z; words {words, x, y, size, fill, align, weight, mono, halo}; and a glyph
-// {glyph, x, y, side, role, label, small}. Colours are names of colours.css.
+// M x y, L x y, A x y r from to (an arc, clockwise), Z; boxes {boxes, fill, alpha}, each [x, y, width, height]; words {words, x, y, size,
+// fill, align, weight, mono, halo}; and a glyph {glyph, x, y, side, role, label, small}. Colours are names of colours.css.
 
 import table from "./shapes.json" with { type: "json" };
 
-export const { gates, pairs, hatch } = table;
+export { table };
+export const { gates, hatch } = table;
 export const PITCH = table.glyph_of_pitch;
 
 const WHOLE = 2 * Math.PI;
@@ -20,53 +21,53 @@ export function levelOf(side) {
 }
 
 // The paths and words of a glyph.
-export function elementsOf({ glyph, x, y, side, role, label = "", small = "" }) {
-  const shape = table.shapes[glyph];
+export function elementsOf(glyph) {
+  const { x, y, side } = glyph;
   const level = levelOf(side);
-  const [solid, soft, edge] = table.roles[role];
+  const [solid, soft, edge, on] = table.roles[glyph.role];
   if (level === 0) return [{ path: circle(x, y, 1.4), fill: solid }];
-  const half = (side / 2) * (shape.scale ?? 1);
   const stroke = Math.max(1, Math.min(1.6, side / 14));
-  const parts = level >= 2 || !shape.far ? shape.parts : shape.far;
-  const elements = parts.map((part) => {
-    const paint = part.at(-1);
-    const path = pathOf(part, x, y, half);
-    if (paint === "edge") return { path, stroke: edge, width: stroke };
-    if (paint === "ink") return { path, stroke: edge, width: stroke * 1.25 };
-    return { path, fill: { solid, fill: soft, paper: "sheet" }[paint] };
-  });
-  if (label && level >= 2) elements.push(...wordsOf({ shape, x, y, side, half, level, edge, role, label, small }));
-  return elements;
+  const paints = {
+    solid: { fill: solid }, fill: { fill: soft }, paper: { fill: "sheet" }, on: { fill: on },
+    edge: { stroke: edge, width: stroke, fill: edge }, ink: { stroke: edge, width: stroke * 1.25 },
+  };
+  return partsOf(table.shapes[glyph.glyph], level).map((part) => DRAWN[part[0]](part, glyph, paints[part.at(-1)])).filter(Boolean);
 }
 
-function wordsOf({ shape, x, y, side, half, level, edge, role, label, small }) {
-  const fill = shape.inverse ? (role === "m" ? "on-measure" : "on-pauli") : edge;
-  const said = briefOf(label, side);
-  const hasSmall = small && level === 3;
-  const middle = y + side * 0.02 - (hasSmall ? side * 0.13 : 0) + (shape.drop ?? 0) * half;
-  const words = [{ words: said, x, y: middle, size: sizeOf(side, said, shape), fill, weight: 600 }];
-  if (hasSmall) words.push({ words: small, x, y: y + side * 0.27, size: side * 0.3, fill, weight: 600 });
-  return words;
+// The parts of a shape at a level: those of a larger one if it has none of its own.
+function partsOf({ full, letter = full, far = letter }, level) {
+  return level === 3 ? full : level === 2 ? letter : far;
 }
 
-// Where there is no room for two letters one says the kind; the colour and the inspector say the rest.
+const filled = (path, { stroke, width, fill }) => (stroke ? { path, stroke, width } : { path, fill });
+const placed = ({ x, y, side }, left, top) => [x + (left * side) / 2, y + (top * side) / 2];
+
+// How each kind of part is drawn.
+export const DRAWN = {
+  circle: ([, x, y, radius], glyph, paint) => filled(circle(...placed(glyph, x, y), (radius * glyph.side) / 2), paint),
+  line: ([, x, y, right, bottom], glyph, paint) => filled([["M", ...placed(glyph, x, y)], ["L", ...placed(glyph, right, bottom)]], paint),
+  box: ([, x, y, ...sizes], glyph, paint) => filled(roundedBox(...placed(glyph, x, y), ...sizes.slice(0, 3).map((size) => (size * glyph.side) / 2)), paint),
+  poly(part, glyph, paint) {
+    const path = [];
+    for (let i = 1; i + 1 < part.length; i += 2) path.push([path.length ? "L" : "M", ...placed(glyph, part[i], part[i + 1])]);
+    return filled([...path, ["Z"]], paint);
+  },
+  label([, x, y, size], glyph, { fill }) {
+    const said = briefOf(glyph.label ?? "", glyph.side);
+    const { part, most } = table.letters;
+    return wordsAt(said, x, y, Math.min(most, glyph.side * size * part[Math.min(said.length, part.length) - 1]), glyph, fill);
+  },
+  small: ([, x, y, size], glyph, { fill }) => wordsAt(glyph.small ?? "", x, y, glyph.side * size, glyph, fill),
+};
+
+function wordsAt(said, across, down, size, glyph, fill) {
+  const [x, y] = placed(glyph, across, down);
+  return said ? { words: said, x, y, size, fill, weight: 600 } : null;
+}
+
+// If there is no room for two letters, one says the kind; the colour and the inspector say the rest.
 export function briefOf(label, side) {
   return side < table.brief.below ? (table.brief[label] ?? label) : label;
-}
-
-function sizeOf(side, label, shape) {
-  const part = label.length > 2 ? 0.46 : label.length > 1 ? 0.52 : 0.68;
-  return Math.min(side * part * (shape.text ?? 1), 20);
-}
-
-function pathOf([kind, ...numbers], x, y, half) {
-  const at = (i) => [x + numbers[i] * half, y + numbers[i + 1] * half];
-  if (kind === "circle") return circle(...at(0), numbers[2] * half);
-  if (kind === "line") return [["M", ...at(0)], ["L", ...at(2)]];
-  if (kind === "box") return roundedBox(...at(0), numbers[2] * half, numbers[3] * half, numbers[4] * half);
-  const corners = [];
-  for (let i = 0; i + 1 < numbers.length - 1; i += 2) corners.push([corners.length ? "L" : "M", ...at(i)]);
-  return [...corners, ["Z"]];
 }
 
 export function circle(x, y, radius) {

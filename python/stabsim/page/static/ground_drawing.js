@@ -1,13 +1,13 @@
-// What lies under a picture of qubits: a dot where one could stand, and coordinates at the edges.
+// What lies under a picture of qubits: a dot where one could be, and coordinates at the edges.
 
 // From which scale on there are dots, and from which on all over the picture.
 const DOTS_FROM = 14;
 const ALL_FROM = 20;
-// How near numbers at the edges stand at most, in pixels.
+// How near numbers at the edges are at most, in pixels.
 const LEAST_STEP = 24;
 const EDGE = 20;
 
-const HINT = ["Press q, and click where a qubit shall stand.", "A circuit may be dropped here, pasted or opened."];
+const HINT = ["Press q, and click where a qubit shall be.", "A circuit may be dropped here, pasted or opened."];
 
 export function groundElements({ scene, view }) {
   return [...dots(scene, view), ...(scene.hasCoordinates ? numbers(view) : []), ...(scene.places.size ? [] : hint(view))];
@@ -23,17 +23,12 @@ function dots({ box }, { scale, x, y, width, height }) {
     [left, right] = [Math.max(left, Math.ceil(box.left) - 1), Math.min(right, Math.floor(box.right) + 1)];
     [top, bottom] = [Math.max(top, Math.ceil(box.top) - 1), Math.min(bottom, Math.floor(box.bottom) + 1)];
   }
-  const path = [];
+  const boxes = [];
   for (let across = left; across <= right; across += 1) {
-    for (let down = top; down <= bottom; down += 1) path.push(...square(x + across * scale, y + down * scale));
+    // On whole pixels, so that all dots look alike.
+    for (let down = top; down <= bottom; down += 1) boxes.push([Math.round(x + across * scale) - 1, Math.round(y + down * scale) - 1, 2, 2]);
   }
-  return path.length ? [{ path, fill: "edge", alpha: 0.45 }] : [];
-}
-
-// On whole pixels, so that all dots look alike.
-function square(x, y) {
-  const [left, top] = [Math.round(x) - 1, Math.round(y) - 1];
-  return [["M", left, top], ["L", left + 2, top], ["L", left + 2, top + 2], ["L", left, top + 2], ["Z"]];
+  return boxes.length ? [{ boxes, fill: "edge", alpha: 0.45 }] : [];
 }
 
 function numbers({ scale, x, y, width, height }) {

@@ -6,7 +6,7 @@ export class HistoryView {
   #lines = [];
   #shown = [];
 
-  // `go(position)` goes back or forward to the state behind so many edits.
+  // `go(position)` goes back or forward to the state after this many edits.
   constructor(place, go) {
     this.#place = place;
     this.#go = go;
@@ -24,9 +24,10 @@ export class HistoryView {
       line.classList.toggle("now", number === position);
       line.classList.toggle("undone", number > position);
       line.classList.toggle("marked", number === markedAt);
-      line.firstChild.title = number === position ? "the circuit as it is" : "go to the circuit as it was behind this edit";
+      line.firstChild.title = number === position ? "the circuit as it is" : "go to the circuit as it was after this edit";
     });
-    this.#lines[position].scrollIntoView({ block: "nearest" });
+    // Once the frame is painted, since it has the browser lay out the page.
+    requestAnimationFrame(() => setTimeout(() => this.#lines[position]?.scrollIntoView({ block: "nearest" })));
   }
 
   #add(text, said) {

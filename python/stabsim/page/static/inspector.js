@@ -17,7 +17,7 @@ export class Inspector {
     this.#act = act;
   }
 
-  // `about` has {qubit, kind, at, said, item, path, more}, or is null where no qubit is chosen: then `where` says what is shown.
+  // `about` has {qubit, kind, at, said, item, path, more}, or is null if no qubit is chosen: then `where` says what is shown.
   qubit(about, where) {
     if (!about) return void fill(this.#boxes.qubit, title("No qubit chosen"), line(where), quiet("Click one, or use the arrows."));
     const place = about.at ? ` at (${about.at.join(", ")})` : "";
@@ -38,7 +38,7 @@ export class Inspector {
     fill(this.#boxes.errors, title("An error here would flip"), ...rows);
   }
 
-  // A button that shows the way of an error, where its way is known.
+  // A button that shows the way of an error, if its way is known.
   #follower(letter, flips) {
     const button = document.createElement("button");
     button.className = "follow";
@@ -57,7 +57,7 @@ export class Inspector {
   }
 
   // state: {items, detectors, observables, coordinates}; `kind` says how the bit is drawn (state.js), `region` is what is said of its
-  // region, and `coins` where the coins are thrown that decide it (coins.js), or null where that is not known.
+  // region, and `coins` where the coins are thrown that decide it (coins.js), or null if that is not known.
   detector(bit, state, { kind, region, coins }) {
     const place = this.#boxes.detector;
     if (bit === null) return void fill(place, title("No detector chosen"), quiet("Click one on the timeline, or in the list above."));

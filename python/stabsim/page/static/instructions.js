@@ -1,4 +1,4 @@
-// Instructions, as far as the picture of a moment tells them apart, and the qubits on which they act.
+// Instructions, as far as the picture of a moment says them apart, and the qubits on which they act.
 
 export const PAULIS = ["X", "Y", "Z"];
 
@@ -40,6 +40,21 @@ export function pairsOf(item) {
   const pairs = [];
   for (let i = 0; i + 1 < item.targets.length; i += 2) pairs.push([item.targets[i], item.targets[i + 1]]);
   return pairs;
+}
+
+// What an item does, one target, pair or product after another: {qubits, factors, record}, with the factors of a product, each {label,
+// role}, and the record that controls a Pauli, as it is written.
+export function actionsOf(item) {
+  if (item.name === "MPP") return item.targets.map((product) => productOf(factorsOf(product)));
+  if (isPair(item.name)) return pairsOf(item).map((pair) => ({ qubits: pair.filter(isQubit).map(qubitOf), record: pair.find(isRecord) }));
+  return qubitsOf(item).map((qubit) => ({ qubits: [qubit] }));
+}
+
+function productOf(factors) {
+  return {
+    qubits: factors.map(({ qubit }) => qubit),
+    factors: factors.map(({ letter, isInverted }) => ({ label: `${isInverted ? "!" : ""}${letter}`, role: letter.toLowerCase() })),
+  };
 }
 
 // The groups of targets of which one can't be taken out without the others, each with its words and its qubits.

@@ -50,7 +50,7 @@ export class Keyboard {
     const keys = {
       "[": () => shown.goTo(shown.moment - 1), "]": () => shown.goTo(shown.moment + 1), "+": () => this.#page.press("greater"), "=": () => this.#page.press("greater"),
       "-": () => this.#page.press("smaller"), 0: () => this.#page.press("fit"), "?": () => by("keys").showModal(), Escape: () => this.#letGo(),
-      ",": () => this.#bit(-1), ".": () => this.#bit(1),
+      ",": () => this.#bit(-1), ".": () => this.#bit(1), "{": () => this.#page.editor.stepTick(-1), "}": () => this.#page.editor.stepTick(1),
     };
     if (!Object.hasOwn(keys, key)) return false;
     keys[key]();

@@ -5,7 +5,7 @@ export function keyOf(event) {
   return event.shiftKey ? "" : letterOf(event);
 }
 
-// The same, where Shift may be held and makes another letter of it.
+// The same; Shift may be held and makes another letter of it.
 export function letterOf(event) {
   const isHeld = event.repeat || event.ctrlKey || event.altKey || event.metaKey;
   return isHeld ? "" : event.key;
@@ -29,12 +29,14 @@ export const ALL_KEYS = [
   ["h s x y z", "H, S, a Pauli"], ["X Y C", "√X, √Y, C_XYZ"],
   ["m M, r R, n", "M, MX; R, RX; MR"], ["c v V w", "CX, CZ, CY, SWAP of the chosen two; of others with what is clicked next"],
   ["p", "measure the product of the chosen"], ["Delete", "take out what acts on them here"],
-  ["t T", "a tick put in here, the one that ends this taken out"], ["< >", "move what acts on them a tick back, on; or drag it to a tick"],
+  ["t T", "a tick put in here, the one that ends this taken out"],
+  ["{ }", "that one moved over the item before, over the next; or drag its mark on the timeline"],
+  ["< >", "move what acts on them a tick back, on; or drag it to a tick"],
   ["Ctrl-C X V", "copy what acts on them, cut it, put it in at another tick"], [", .", "the detector before, the next"], ["↑ ↓", "on the timeline: the nearest detector that way; with Shift ← → too"],
   ["d D", "a detector of the chosen records; one for each, with the record before"], ["o", "the chosen records go into observable 0"],
   ["q", "put qubits on the grid"], ["Enter", "what else there is for a qubit"],
   ["+ - 0", "greater, smaller, all; the wheel zooms"], ["Ctrl-drag", "pan; also by the right button, or Ctrl and an arrow"],
   ["Ctrl-Z Ctrl-Y", "undo, redo"], ["Ctrl-O Ctrl-S", "open, save"],
-  ["i a", "in the text: put an item in before, behind"], ["F6", "the next pane"],
+  ["i a", "in the text: put an item in before, after"], ["F6", "the next pane"],
   ["Page ↑ ↓", "on the timeline: the same tick of another round"], ["Esc", "let go: of a tool, a region, what is chosen"],
 ];

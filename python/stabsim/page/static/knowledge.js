@@ -38,7 +38,7 @@ export class Knowledge {
     return { letters: answer.way ?? {}, why: answer.why ?? answer.refused ?? "" };
   }
 
-  // The numbers of the coins that decide a bit; null where the program does not tell them.
+  // The numbers of the coins that decide a bit; null if the program does not say them.
   coins(bit) {
     return this.#kept(this.#coins, bit, { ask: "why", bit }, (answer) => answer.coins ?? null);
   }
@@ -61,7 +61,7 @@ export class Knowledge {
     return found;
   }
 
-  // The faces of checks round a moment: those of the last moment up to it, and of the first behind it, in which something is measured.
+  // The faces of checks round a moment: those of the last moment up to it, and of the first after it, in which something is measured.
   async faces(items, moment, ancillas) {
     const moments = measuredRound(items, moment);
     const slices = await Promise.all(moments.map((it) => this.slice(it)));
@@ -79,7 +79,7 @@ function slicesOf(slice) {
   return Object.fromEntries(Object.entries(slice).map(([bit, letters]) => [bit, new Map(Object.entries(letters).map(([qubit, letter]) => [Number(qubit), letter]))]));
 }
 
-// The moments next to one in which something is measured: the last up to it, and the first behind it.
+// The moments next to one in which something is measured: the last up to it, and the first after it.
 export function measuredRound(items, moment) {
   const isMeasured = (at) => momentAt(items, at).some(({ item }) => isRecorded(item.name));
   const found = [];

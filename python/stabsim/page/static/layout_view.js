@@ -1,4 +1,4 @@
-// The qubits at one moment, on a canvas that is zoomed and panned.
+// The qubits at one moment, on a canvas in a pane, zoomed and panned.
 
 import { CanvasPen } from "./canvas_pen.js";
 import { drawingOf } from "./drawing.js";
@@ -7,10 +7,9 @@ import { PITCH } from "./glyphs.js";
 import { qubitsOf } from "./instructions.js";
 import { Sight } from "./sight.js";
 
-// From how many marks on a picture is moved as it is while it is zoomed or panned, and how long it has to rest, in milliseconds, until
-// it is drawn anew.
+// From this many marks on a picture is moved as it is while it is zoomed or panned. It is drawn anew after this many milliseconds of rest.
 const MANY = 500;
-const REST = 90;
+const REST = 150;
 
 export class LayoutView {
   #canvas;
@@ -20,26 +19,25 @@ export class LayoutView {
   #sight = new Sight();
   #scene = null;
   #frame = 0;
-  #stretching = 0;
   #rest = 0;
-  // How places were seen when the picture was kept, or null where it was not.
-  #kept = null;
+  // How places were seen when the picture was drawn, if it has many marks; else null.
+  #drawn = null;
 
   // `act` has tool(), which is "pick", "qubit" or the name of a gate; choose(qubit, isMore), box(qubits, isMore), hover(qubit),
-  // menu(qubit, place); use(qubit, isTurned), lead(first, second, isTurned) and useAt(place) of the tool, place(places) of new qubits;
+  // menu(qubit, place); use(qubit, isTurned), lead(first, second, isTurned) and useAt(place, isTurned) of the tool, place(places) of new qubits;
   // carry(qubit, place) and drop(qubit, place) of a gate that is dragged; and zoomed(part).
-  constructor(canvas, act) {
-    this.#canvas = canvas;
-    this.#pen = new CanvasPen(canvas);
+  constructor(pane, act) {
+    this.#canvas = pane.querySelector("canvas");
+    this.#pen = new CanvasPen(this.#canvas);
     this.#act = act;
-    this.#gestures = new Gestures(canvas, this, act);
+    this.#gestures = new Gestures(pane, this, act);
     new ResizeObserver(() => {
-      this.#sight.resize([canvas.clientWidth, canvas.clientHeight]);
+      this.#sight.resize([pane.clientWidth, pane.clientHeight]);
       this.#zoomed();
-    }).observe(canvas);
+    }).observe(pane);
   }
 
-  // Draws another scene (drawing.js); where qubits came to stand elsewhere, all of them are fitted in.
+  // Draws another scene (drawing.js). If it is fresh, all its qubits are fitted in.
   show(scene, isFresh) {
     this.#scene = scene;
     this.#sight.take(scene, isFresh);
@@ -60,8 +58,8 @@ export class LayoutView {
     const elements = this.elements();
     this.#pen.begin(...this.size);
     this.#pen.draw(elements);
-    this.#kept = elements.length > MANY ? this.#sight.view : null;
-    if (this.#kept) this.#pen.keep();
+    this.#canvas.style.transform = "";
+    this.#drawn = elements.length > MANY ? this.#sight.view : null;
   }
 
   // What is drawn, as elements (glyphs.js).
@@ -77,7 +75,7 @@ export class LayoutView {
     return this.#sight.size;
   }
 
-  // Where a qubit is seen, from the upper left corner of the canvas; null where it has no place.
+  // Where a qubit is seen, from the upper left corner of the canvas; null if it has no place.
   at(qubit) {
     const place = this.#scene?.places.get(qubit);
     return place && this.isThere ? this.#sight.seen(place) : null;
@@ -136,7 +134,7 @@ export class LayoutView {
     return this.#sight.placeAt(spot);
   }
 
-  // The whole places in a box of two spots on which no qubit stands, or each second of them that way and this.
+  // The whole places in a box of two spots on which no qubit is, or each second of them that way and this.
   placesIn([from, to], step) {
     const [[x, y], [right, bottom]] = [this.placeAt(from), this.placeAt(to)];
     const taken = new Set([...this.#scene.places.values()].map((place) => place.join()));
@@ -156,17 +154,14 @@ export class LayoutView {
     this.#move();
   }
 
-  // Draws after a zoom or a pan. While they go on, a picture of many marks is the last one, moved and stretched, so that none stutters.
+  // Draws after a zoom or a pan. While they go on, the browser moves and stretches a canvas of many marks as it is, since to draw it
+  // takes longer than a frame.
   #move() {
     clearTimeout(this.#rest);
-    if (!this.#kept || !this.#sight.isLike(this.#kept)) return this.draw();
+    if (!this.#drawn || !this.#sight.isLike(this.#drawn)) return void this.draw();
     this.#rest = setTimeout(() => this.draw(), REST);
-    this.#stretching ||= requestAnimationFrame(() => {
-      this.#stretching = 0;
-      // What was drawn meanwhile is newer.
-      if (this.#kept && !this.#frame) this.#pen.showKept(...this.#sight.shiftFrom(this.#kept));
-    });
-    return undefined;
+    const [left, top, part] = this.#sight.shiftFrom(this.#drawn);
+    this.#canvas.style.transform = `translate(${left}px, ${top}px) scale(${part})`;
   }
 
   // What is drawn for the pointer: lines to what a gate on two would act on next, the places of new qubits, the box of a drag.

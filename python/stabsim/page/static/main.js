@@ -41,7 +41,7 @@ const views = {
     box: (qubits, isMore) => shown.chooseAll(qubits, isMore),
     use: (qubit, isTurned) => editor.use(qubit, isTurned),
     lead: (first, second, isTurned) => editor.lead(first, second, isTurned),
-    useAt: (place) => editor.useAt(place),
+    useAt: (place, isTurned) => editor.useAt(place, isTurned),
     place: (places) => editor.place(places),
     carry: (qubit, place) => carrier.carry(qubit, place),
     drop: (qubit, place) => carrier.drop(qubit, place),
@@ -50,7 +50,10 @@ const views = {
     zoomed: (part) => { by("scale").textContent = `${Math.round(part * 100)}%`; },
     tool: () => shown.tool,
   }),
-  timeline: new TimelineView(by("timeline"), { goTo: (moment) => shown.goTo(moment), choose: chooseBit, tip: showTip }),
+  timeline: new TimelineView(by("timeline"), {
+    goTo: (moment) => shown.goTo(moment), choose: chooseBit, tip: showTip, say: showWords,
+    moveTick: (moment, to, gap) => editor.moveTick(moment, to, gap),
+  }),
   inspector: new Inspector({ qubit: by("about-qubit"), errors: by("about-errors"), detector: by("about-detector") }, {
     choose: chooseBit, select: (path) => shown.select(path), follow: (letter) => shown.follow(shown.inspected, letter), goTo,
   }),
@@ -74,7 +77,7 @@ function hear(event) {
   if (event.event === "opened") open(event);
   else if (state && event.event === "edited") {
     if (event.age <= state.age) return;
-    // An event that did not come, as where the tab slept, had edits that this one goes on from.
+    // An event that did not come, as while the tab slept, had edits that this one goes on from.
     if (event.age !== state.age + 1) return void ask({ ask: "all" });
     state.take(event);
   } else if (state && event.event === "sure" && event.age === state.age) state.takeSure(event.sure);
@@ -135,9 +138,10 @@ async function ask(question) {
   }
 }
 
-// Makes edits as one entry, where `round` is {place, number} in a round of that block that is first taken out of it.
-async function send(edits, round = null) {
-  const answer = await ask({ ask: "edit", edits, round });
+// Makes edits as one entry of the history, with a name of its own if one is given. With `round`, {place, number}, they are in a round of
+// that block that is first taken out of it.
+async function send(edits, round = null, name = "") {
+  const answer = await ask({ ask: "edit", edits, round, name });
   if (answer.refused) refuse(edits[0].place, answer);
   else views.text.refuse(null);
   return !answer.refused;
@@ -174,7 +178,7 @@ function select(path, item) {
   else if (item.name === "OBSERVABLE_INCLUDE") shown.chooseBit(`L${/\((\d+)\)/.exec(item.text)[1]}`);
 }
 
-// Shows what stands at a place, {moment, path}.
+// Shows what is at a place, {moment, path}.
 function goTo({ moment, path }) {
   shown.goTo(moment);
   shown.select(path, false);
@@ -191,7 +195,7 @@ function leaveEntry() {
   views.text.focus();
 }
 
-// Chooses a bit, and its item in the text if it is a detector; readers are told of it.
+// Chooses a bit, and its item in the text if it is a detector; it is said to readers.
 function chooseBit(bit) {
   shown.chooseBit(bit);
   const { words, path } = saidOfBit(bit, shown.state);

@@ -1,4 +1,4 @@
-// Moments: what stands between two ticks or cuts, with the rounds of blocks written out.
+// Moments: what is between two ticks or cuts, with the rounds of blocks written out.
 
 import { before, countsOfList, firstReaching } from "./counts.js";
 
@@ -9,7 +9,7 @@ export function momentAt(items, moment) {
   return found;
 }
 
-// Adds those of a list in front of which so many moments end.
+// Adds those of a list in front of which this many moments end.
 function gather(items, moment, start, path, rounds, found) {
   const { bounds } = before(items);
   for (let place = firstReaching(bounds, moment - start); place < items.length; place += 1) {
@@ -37,7 +37,7 @@ function gatherBlock(block, moment, now, path, rounds, found) {
 
 export const momentsOf = (items) => before(items).bounds[items.length] + 1;
 
-// The moment in which the item at a path stands, in the given round of each block around it, else in the first.
+// The moment of the item at a path, in the given round of each block around it, else in the first.
 export function momentOf(items, path, rounds = []) {
   let moment = 0;
   let list = items;
@@ -51,7 +51,7 @@ export function momentOf(items, path, rounds = []) {
   return moment;
 }
 
-// Where something is put in so that it stands at the end of a moment, as {path, rounds}: in front of what ends it, or behind the
+// Where something is put in so that it is at the end of a moment, as {path, rounds}: in front of what ends it, or after the
 // last item.
 export function endOf(items, moment) {
   const found = endIn(items, moment, [], []);
@@ -70,7 +70,7 @@ function endIn(list, moment, path, rounds) {
   return endIn(item.items, left - round * item.once.bounds, [...path, place], [...rounds, round]);
 }
 
-// Where something is put in so that it stands at the beginning of a moment: behind what ends the one before.
+// Where something is put in so that it is at the beginning of a moment: after what ends the one before.
 export function beginOf(items, moment) {
   if (moment === 0) return { path: [0], rounds: [] };
   const { path, rounds } = endOf(items, moment - 1);
@@ -78,7 +78,7 @@ export function beginOf(items, moment) {
   return item?.name === "TICK" ? { path: [...path.slice(0, -1), path.at(-1) + 1], rounds } : { path, rounds };
 }
 
-// What a moment is called: its tick, and its part where cuts make several moments of that tick.
+// What a moment is called: its tick, and its part if cuts make several moments of that tick.
 export function nameOf(items, moment) {
   const tick = tickOf(items, moment);
   const first = firstOfTick(items, tick, moment);
@@ -104,7 +104,7 @@ export function tickOf(items, moment) {
   return ticksUpTo(items, moment);
 }
 
-// How many TICKs are among the first so many bounds of a list.
+// How many TICKs are among the first bounds of a list, up to a number of them.
 function ticksUpTo(list, number) {
   const { bounds, ticks } = before(list);
   const place = firstReaching(bounds, number);
@@ -127,7 +127,7 @@ export function momentsOfDetectors(items) {
   return found;
 }
 
-// Fills in those of a list from a moment and a detector on; answers with the detector behind its last.
+// Fills in those of a list from a moment and a detector on; answers with the detector after its last.
 function fill(list, start, found, first) {
   let moment = start;
   let next = first;

@@ -3,7 +3,7 @@
 import { gates } from "./glyphs.js";
 import { iconOf } from "./svg_pen.js";
 
-// Each [name, key, title, icon], where the icon is a shape if it is not the gate's own; null draws a line.
+// Each [name, key, title, icon], whose icon is a shape if it is not the gate's own; null draws a line.
 const TOOLS = [
   ["pick", "Escape", "choose qubits"], ["qubit", "q", "put qubits on the grid", "data"],
   null,
@@ -63,6 +63,6 @@ function drawn(name, icon) {
   if (name === "MPP") return iconOf("factor", 18, "wire", "P");
   if (name === "DETECTOR") return iconOf("bit1", 15, "one");
   if (icon) return iconOf(icon, 18, icon === "data" ? "qubit" : "wire");
-  const [shape, label, small, role] = gates[name];
+  const { shape, label, small, role } = gates[name];
   return iconOf(shape, 18, role, label, small);
 }

@@ -1,13 +1,13 @@
-// Where qubits stand: by their coordinates, or where they have none by their gates.
+// Where qubits are: by their coordinates, or if they have none by their gates.
 
 import { arranged } from "./arranging.js";
 
-// The most qubits that stand in a row where none has coordinates.
+// The most qubits that are put in a row if none has coordinates.
 const MOST_IN_ROW = 12;
 
 // `coordinates` has a list for each qubit, `used` the qubits on which something acts. Answers {places, drawer, box, near,
 // hasCoordinates}: a place [x, y] for each qubit that has coordinates or is used, those that are neither, the bounds of all places, and
-// the least distance of two. `joined` has pairs of qubits on which gates act, and is asked for where nothing else says the places;
+// the least distance of two. `joined` has pairs of qubits on which gates act, and is asked for if nothing else says the places;
 // those that were found so are `known` from then on, so that an edit moves none.
 export function placesOf(coordinates, used, joined, known = new Map()) {
   const places = new Map();
@@ -22,12 +22,12 @@ export function placesOf(coordinates, used, joined, known = new Map()) {
   const rest = hasCoordinates || (homeless.length <= MOST_IN_ROW && !known.size) ? rowOf(homeless) : arrangedOnce(homeless, joined, known);
   const given = boxOf(places);
   for (const [qubit, [x, y]] of rest) places.set(qubit, hasCoordinates ? [given.left + x, given.bottom + 1 + y] : [x, y]);
-  // A session may have more qubits than its circuit: those behind the last that stands somewhere are nobody's.
+  // A session may have more qubits than its circuit: those after the last that has a place are nobody's.
   const last = Math.max(-1, ...places.keys());
   return { places, drawer: drawer.filter((qubit) => qubit < last), box: boxOf(places), near: nearOf(places), hasCoordinates };
 }
 
-// Those of one place, as of other layers, stand a little beside each other.
+// Those of one place, as of other layers, are a little beside each other.
 function apart([x, y], taken) {
   const key = `${x} ${y}`;
   const number = taken.get(key) ?? 0;
@@ -35,7 +35,7 @@ function apart([x, y], taken) {
   return number ? [x + 0.3 * number, y + 0.3 * number] : [x, y];
 }
 
-// Those that come later stand in a row below the others.
+// Those that come later are in a row below the others.
 function arrangedOnce(qubits, joined, known) {
   if (!known.size) for (const [qubit, place] of arranged(qubits, joined())) known.set(qubit, place);
   const later = qubits.filter((qubit) => !known.has(qubit));
@@ -71,7 +71,7 @@ function nearOf(places) {
   return least === Infinity ? 1 : least;
 }
 
-// What stands nearest to a place in a direction, by its name; null where nothing does.
+// What is nearest to a place in a direction, by its name; null if nothing is.
 export function neighbourOf(places, from, [across, down]) {
   let [best, least] = [null, Infinity];
   for (const [qubit, [x, y]] of places) {

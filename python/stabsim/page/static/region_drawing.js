@@ -3,11 +3,12 @@
 
 import { WRONG } from "./fault_set.js";
 import { circle, outline } from "./glyphs.js";
+import { marksOf } from "./marks.js";
 
 const PATTERN_FROM = 18;
 const roleOf = (letter) => letter.toLowerCase();
 
-// Checks as calm faces: by X, by Z, by Y, or grey where the same qubits are checked by several or by a mix of letters.
+// Checks as calm faces: by X, by Z, by Y, or grey if the same qubits are checked by several or by a mix of letters.
 export function faceElements({ at, side, scene: { faces, box }, view }) {
   const middle = [view.x + ((box.left + box.right) / 2) * view.scale, view.y + ((box.top + box.bottom) / 2) * view.scale];
   const elements = [];
@@ -41,7 +42,7 @@ function lune(a, b, middle, gap) {
   return [["M", ...start], ["A", ...centre, radius, angle, angle + Math.PI], ["Z"]];
 }
 
-// The one letter of a region, or null where it has several.
+// The one letter of a region, or null if it has several.
 function onlyLetter(letters) {
   const all = new Set(letters.values());
   return all.size === 1 ? [...all][0] : null;
@@ -117,8 +118,8 @@ export function coinElements({ at, side, scene: { coins } }) {
   });
 }
 
-// A letter as its shape, or a wrong record, with a rim so that it stands off from what is under it.
+// A letter as its shape, or a wrong record, with a rim that sets it off from what is under it.
 export function plateAt(letter, x, y, size) {
-  const mark = letter === WRONG ? { glyph: "measure", role: "m", label: "!" } : { glyph: letter, role: roleOf(letter), label: letter };
-  return [{ path: circle(x, y, size * 0.62), fill: "sheet" }, { ...mark, x, y, side: size, label: size >= 12 ? mark.label : "" }];
+  const values = letter === WRONG ? { shape: "measure", role: "m", label: "!" } : { shape: letter, role: roleOf(letter), label: letter };
+  return marksOf("letter", values, [[x, y]], size).over;
 }

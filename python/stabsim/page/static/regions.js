@@ -2,7 +2,7 @@
 
 const MOST_LETTERS = 12;
 
-// Says where a region is, as the letters by moments that the server tells, and which letters it has at one moment; `name(moment)` is
+// Says where a region is, as the letters by moments that the server gives, and which letters it has at one moment; `name(moment)` is
 // what a moment is called.
 export function saidOfRegion(bit, region, name, moment) {
   const moments = Object.keys(region).map(Number);
@@ -13,5 +13,5 @@ export function saidOfRegion(bit, region, name, moment) {
   return `region of ${bit}: ${here}; ticks ${name(moments[0])} to ${name(moments.at(-1))}`;
 }
 
-// Letters by qubits, as a map; null where there are none.
+// Letters by qubits, as a map; null if there are none.
 export const mapOf = (letters) => (letters ? new Map(Object.entries(letters).map(([qubit, letter]) => [Number(qubit), letter])) : null);

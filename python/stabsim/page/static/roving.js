@@ -22,7 +22,7 @@ export class Roving {
     return this.#stop;
   }
 
-  // Moves the focus so many buttons on.
+  // Moves the focus by a number of buttons.
   move(count) {
     const buttons = this.#buttons;
     buttons.at((buttons.indexOf(this.#stop) + count) % buttons.length)?.focus();

@@ -1,5 +1,5 @@
-// The rows of a circuit's text: each item has one; behind a block that is unfolded its items have theirs; and items that only name
-// places, or detectors, are folded to one row where three or more stand behind each other. No list of all rows is kept, since an edit
+// The rows of a circuit's text: each item has one; after a block that is unfolded its items have theirs; and items that only name
+// places, or detectors, are folded to one row if three or more follow each other. No list of all rows is kept, since an edit
 // moves most of them; what is unfolded is a set of blocks, and of the first items of such runs.
 
 import { derived } from "./counts.js";
@@ -40,7 +40,7 @@ export function rowsBetween(items, unfolded, first, last) {
   return found;
 }
 
-// Adds those of a list whose first row has the number `start`, and answers the number behind its last.
+// Adds those of a list whose first row has the number `start`, and answers the number after its last.
 function gather(list, path, start, sight, found) {
   let number = start;
   let place = 0;

@@ -136,7 +136,7 @@ export class Shown {
     return count;
   }
 
-  // After an edit another item may stand where the chosen one did; what is being written stays.
+  // After an edit another item may be where the chosen one was; what is being written stays.
   #showEntry(isFresh) {
     const { text, entry } = this.#views;
     if (isFresh) text.letGo();
@@ -163,7 +163,7 @@ export class Shown {
     this.#drawAll();
   }
 
-  // The detector beside the chosen one by its number, or the first one from this moment on; null where there is none.
+  // The detector beside the chosen one by its number, or the first one from this moment on; null if there is none.
   bitBeside(by_) {
     const number = this.bit?.startsWith("D") ? Number(this.bit.slice(1)) + by_ : momentsOfDetectors(this.state.items).findIndex((moment) => moment >= this.moment);
     return this.state.detectors[number] === undefined ? null : `D${number}`;
@@ -180,7 +180,7 @@ export class Shown {
   async learn() {
     const { moment, bit, state } = this;
     const isStale = () => this.moment !== moment || this.bit !== bit || this.state !== state;
-    // Where time is scrubbed the moments on the way are not asked for.
+    // While time is scrubbed the moments on the way are not asked for.
     await new Promise((settle) => { setTimeout(settle, PAUSE); });
     if (isStale()) return;
     const faces = await this.#knowledge.faces(state.items, moment, state.ancillas);
@@ -250,7 +250,7 @@ export class Shown {
     return this.instructions.find(({ item }) => qubitsOf(item).includes(qubit));
   }
 
-  // In which round the moment stands: that of what ends it, in which edits are made.
+  // In which round the moment is: that of what ends it, in which edits are made.
   get round() {
     const { path, rounds } = endOf(this.state.items, this.moment);
     return rounds.length ? { path, rounds } : null;

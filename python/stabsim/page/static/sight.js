@@ -1,11 +1,14 @@
 // Where places of the grid are seen on a picture: all of them fitted in, or zoomed and panned.
 
 const MARGIN = { left: 48, right: 40, top: 44, bottom: 34 };
-// How far apart neighbouring qubits stand at most when all are fitted in, and at any zoom, in pixels.
+// How far apart neighbouring qubits are at most when all are fitted in, and at any zoom, in pixels.
 const MOST_FITTED = 104;
 const MOST = 200;
-// Which part of a picture has to be seen still at least, across and down, so that it is shown for another.
+// Which part of a picture has to be in sight at least, across and down, so that it is moved and not drawn anew.
 const LEAST_SEEN = 0.5;
+// By which part it may be stretched, at least and at most.
+const LEAST_PART = 0.4;
+const MOST_PART = 3;
 
 export class Sight {
   #size = [0, 0];
@@ -24,7 +27,7 @@ export class Sight {
     return this.#size;
   }
 
-  // By how much it is zoomed: 1 where all is fitted in.
+  // By how much it is zoomed: 1 if all is fitted in.
   get part() {
     return this.#scale / this.#fitted;
   }
@@ -90,11 +93,11 @@ export class Sight {
     return [this.#at[0] - part * x, this.#at[1] - part * y, part];
   }
 
-  // Whether a picture of another view would show most of what is seen here.
+  // Whether a picture of another view, moved and stretched, shows most of what is seen here.
   isLike(view) {
     const [left, top, part] = this.shiftFrom(view);
     const [width, height] = this.#size;
-    if (view.width !== width || view.height !== height || part < 0.55 || part > 2.4) return false;
+    if (view.width !== width || view.height !== height || part < LEAST_PART || part > MOST_PART) return false;
     const overlap = (from, length) => Math.min(length, from + part * length) - Math.max(0, from);
     return overlap(left, width) > LEAST_SEEN * width && overlap(top, height) > LEAST_SEEN * height;
   }

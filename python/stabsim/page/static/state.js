@@ -24,17 +24,17 @@ export class State {
       placement: null,
       arranged: new Map(),
     });
-    this.#use(this.items, 1);
+    this.#use(this.items, 1, new Set());
     this.#takeBits(event);
     this.#place();
   }
 
-  // Edits that were made, by this tab or another. Entries that were undone have gone where new ones came.
+  // Edits that were made, by this tab or another. Entries that were undone are gone if new ones came.
   take(event) {
     const known = this.used.size;
     for (const made of event.edits) {
       applyEdit(this.items, made);
-      if (made.kind === "insert" || made.kind === "replace") this.#use(parseCircuit(made.item), made.place.includes("/") ? 2 : 1);
+      if (made.kind === "insert" || made.kind === "replace") this.#use(parseCircuit(made.item), made.place.includes("/") ? 2 : 1, new Set());
     }
     if (event.entries.length) this.entries.splice(event.position - event.entries.length, Infinity, ...event.entries);
     Object.assign(this, { age: event.age, position: event.position, flipped: new Set(event.flipped), sure: null });
@@ -64,7 +64,7 @@ export class State {
     return this.sure?.[Number(bit.slice(1)) + (bit.startsWith("D") ? 0 : this.detectors.length)] === 0;
   }
 
-  // How a bit is drawn: "random" where a coin decides it, "flipped" where it is one of `flips`, or "bit0" or "bit1".
+  // How a bit is drawn: "random" if a coin decides it, "flipped" if it is one of `flips`, or "bit0" or "bit1".
   kindOf(bit, flips) {
     if (this.isRandom(bit)) return "random";
     if (flips.has(bit)) return "flipped";
@@ -96,10 +96,14 @@ export class State {
   }
 
   // Notes on which qubits items act, and which are measured more than once, as ancillas are.
-  #use(items, rounds) {
+  // Items that share their targets (circuit.js) say the same, and are `seen` once.
+  #use(items, rounds, seen) {
     for (const item of items) {
-      if (item.items) this.#use(item.items, item.count * rounds);
-      else this.#useItem(item, rounds);
+      if (item.items) this.#use(item.items, item.count * rounds, seen);
+      else if (!seen.has(item.targets) || rounds > 1) {
+        seen.add(item.targets);
+        this.#useItem(item, rounds);
+      }
     }
   }
 

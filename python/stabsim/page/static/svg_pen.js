@@ -14,7 +14,7 @@ export function svgOf(elements, { width, height, colour, ground = null }) {
     + `${patterns && `<defs>${patterns}</defs>`}${paper}${bodyOf(elements, colour)}</svg>\n`;
 }
 
-// A glyph alone, which follows the theme of the page that it stands in.
+// A glyph alone, which follows the theme of its page.
 export function iconOf(glyph, side, role, label = "", small = "") {
   const middle = side * 0.68;
   const body = bodyOf([{ glyph, x: middle, y: middle, side, role, label, small }], (name) => `var(--${name})`);
@@ -23,7 +23,12 @@ export function iconOf(glyph, side, role, label = "", small = "") {
 
 function bodyOf(elements, colour) {
   return elements.flatMap((element) => (element.glyph ? elementsOf(element) : [element]))
-    .map((element) => (element.path ? pathOf(element, colour) : wordsOf(element, colour))).join("");
+    .map((element) => (element.path ? pathOf(element, colour) : element.boxes ? boxesOf(element, colour) : wordsOf(element, colour))).join("");
+}
+
+function boxesOf({ boxes, fill, alpha }, colour) {
+  const path = boxes.flatMap(([x, y, width, height]) => [["M", x, y], ["L", x + width, y], ["L", x + width, y + height], ["L", x, y + height], ["Z"]]);
+  return pathOf({ path, fill, alpha }, colour);
 }
 
 function pathOf({ path, fill, stroke, width = 1, dash, alpha = 1, hatch: letter }, colour) {
@@ -35,14 +40,21 @@ function pathOf({ path, fill, stroke, width = 1, dash, alpha = 1, hatch: letter 
   return letter ? `${whole}<path d="${commands}" fill="url(#${letter})"/>` : whole;
 }
 
-// SVG has no arc by angles, and none that is whole. As on a canvas a line leads to where an arc begins.
-function commandsOf(path) {
+// A path as SVG writes it. SVG has no arc by angles, and none of half a circle or more: such a one has two parts. As on a canvas a line
+// leads to where an arc begins, if the path is not there already.
+export function commandsOf(path) {
+  let last = "";
   return path.map(([op, ...numbers], i) => {
-    if (op !== "A") return op + numbers.map(number).join(" ");
+    if (op !== "A") {
+      last = numbers.map(number).join(" ");
+      return op + last;
+    }
     const [x, y, radius, from, to] = numbers;
     const at = (angle) => `${number(x + radius * Math.cos(angle))} ${number(y + radius * Math.sin(angle))}`;
-    const half = (from + to) / 2;
-    return `${i ? "L" : "M"}${at(from)}${[half, to].map((angle) => `A${number(radius)} ${number(radius)} 0 0 1 ${at(angle)}`).join("")}`;
+    const lead = at(from) === last ? "" : `${i ? "L" : "M"}${at(from)}`;
+    const ends = to - from < Math.PI - 1e-6 ? [to] : [(from + to) / 2, to];
+    last = at(to);
+    return lead + ends.map((angle) => `A${number(radius)} ${number(radius)} 0 0 1 ${at(angle)}`).join("");
   }).join("");
 }
 

@@ -20,6 +20,8 @@ export class TextView {
   #flagOf = () => null;
   #refusal = null;
   #height = 0;
+  // How far it is scrolled: to ask the browser for it while rows change would have it lay out the page.
+  #top = 0;
   #row = 20;
   #frame = 0;
 
@@ -32,7 +34,10 @@ export class TextView {
     this.#sheet.role = this.#list.role = "presentation";
     this.#sheet.append(this.#list);
     place.append(this.#sheet);
-    place.addEventListener("scroll", () => this.#draw());
+    place.addEventListener("scroll", () => {
+      this.#top = place.scrollTop;
+      this.#draw();
+    });
     place.addEventListener("keydown", (event) => this.#key(event));
     new ResizeObserver(() => {
       this.#height = place.clientHeight;
@@ -58,7 +63,7 @@ export class TextView {
     return this.#selected;
   }
 
-  // The item that is chosen; null where none is, behind the last, or where an edit has taken it away.
+  // The item that is chosen; null if none is, after the last, or if an edit has taken it away.
   get item() {
     return this.#selectedRow()?.item ?? null;
   }
@@ -73,7 +78,7 @@ export class TextView {
 
   letGo() {
     [this.#selected, this.#isHead] = [null, false];
-    this.#place.scrollTop = 0;
+    this.#scrollTo(0);
     this.#draw();
   }
 
@@ -81,13 +86,13 @@ export class TextView {
     this.#place.focus();
   }
 
-  // What an edit at a path was refused with stands at its row; with null it goes.
+  // Shows at the row of a path with what an edit was refused; with null it goes.
   refuse(place, words) {
     this.#refusal = place === null ? null : { place, words };
     this.#draw();
   }
 
-  // Behind the last item something can be put in, too, so there is a row more.
+  // After the last item something can be put in, too, so there is a row more.
   #rowsBetween(first, last) {
     const count = countRows(this.#items, this.#unfolded);
     const rows = rowsBetween(this.#items, this.#unfolded, first, last);
@@ -114,11 +119,16 @@ export class TextView {
 
   #bringIntoSight() {
     const top = numberOfRow(this.#items, this.#unfolded, pathOf(this.#selected)) * this.#row;
-    const { scrollTop } = this.#place;
-    if (top >= scrollTop && top + this.#row <= scrollTop + this.#height) return;
+    if (top >= this.#top && top + this.#row <= this.#top + this.#height) return;
     // The sheet is as high as what was unfolded when it was last drawn.
     this.#sheet.style.height = `${(countRows(this.#items, this.#unfolded) + 1) * this.#row}px`;
-    this.#place.scrollTop = top - this.#height / 2;
+    this.#scrollTo(top - this.#height / 2);
+  }
+
+  // The browser may scroll less far, and says so by an event before the next frame is drawn.
+  #scrollTo(top) {
+    this.#top = Math.max(0, top);
+    this.#place.scrollTop = top;
   }
 
   // Draws in the next frame, however often it is asked for.
@@ -130,7 +140,7 @@ export class TextView {
   }
 
   #drawNow() {
-    const first = Math.max(0, Math.floor(this.#place.scrollTop / this.#row) - 5);
+    const first = Math.max(0, Math.floor(this.#top / this.#row) - 5);
     const { rows, count } = this.#rowsBetween(first, first + Math.ceil(this.#height / this.#row) + 10);
     const selected = this.#selectedRow();
     this.#sheet.style.height = `${count * this.#row}px`;

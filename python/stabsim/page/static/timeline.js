@@ -18,7 +18,7 @@ export class Timeline {
     this.rows = rows;
   }
 
-  // Whether its detectors stand where those of another timeline do.
+  // Whether its detectors are where those of another timeline are.
   isLike(other) {
     return this.rowOf === other.rowOf && this.moments.length === other.moments.length && this.moments.every((moment, number) => moment === other.moments[number]);
   }
@@ -28,7 +28,7 @@ export class Timeline {
     for (let number = this.#firstFrom(from); number < this.moments.length && this.moments[number] < to; number += 1) yield number;
   }
 
-  // How far a detector stands beside the middle of its moment, from -1/2 to 1/2, since several may have one place.
+  // How far a detector is beside the middle of its moment, from -1/2 to 1/2, since several may have one place.
   side(detector) {
     const moment = this.moments[detector];
     if (!this.#peers.has(moment)) this.#peers.set(moment, this.#peersAt(moment));
@@ -45,7 +45,7 @@ export class Timeline {
     return this.#of(moment).operation;
   }
 
-  // Stretches of moments that stand in the same round, as {from, to, label, short, isBlock, isOdd}.
+  // Stretches of moments of the same round, as {from, to, label, short, isBlock, isOdd}.
   bands(first, last) {
     const bands = [];
     for (let moment = first; moment <= last; moment += 1) {
@@ -99,7 +99,7 @@ export class Timeline {
   }
 }
 
-// The round in which a moment stands: that of what acts in it, else that of what ends it.
+// The round of a moment: that of what acts in it, else that of what ends it.
 export function roundOf(instructions) {
   const shown = instructions.findLast(({ item }) => acts(item.name)) ?? instructions.at(-1);
   return shown ? { path: shown.path, rounds: shown.rounds } : { path: [], rounds: [] };

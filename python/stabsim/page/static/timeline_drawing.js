@@ -1,34 +1,40 @@
 // The drawing of a timeline, as elements (glyphs.js).
 //
-// A sheet says what is shown and where: {line, shown, width, height, step, first, last, aim, x(moment), at(bit), rowHeight, ground}, with
-// the moments in sight from `first` to `last`, the one to which something is dragged as `aim`, and the picture of all detectors as they
-// are if nothing is known of them as `ground`.
+// A sheet says what is shown and where: {line, shown, width, height, step, first, last, aim, gap, x(moment), at(bit), rowHeight, ground},
+// with the moments in sight from `first` to `last`, the one to which something is dragged as `aim`, where a tick is dragged to as `gap`,
+// and the picture of all detectors as they are if nothing is known of them as `ground`.
 
 import { WRONG } from "./fault_set.js";
-import { circle, gates, pairs } from "./glyphs.js";
+import { circle, gates } from "./glyphs.js";
 import { isPair, isRecord } from "./instructions.js";
+import { endsByTick } from "./ticks.js";
 
 export const LEFT = 76;
 export const TOP = 82;
 const ROUNDS = 11;
 const TICKS = 30;
+// From where to where the marks of ticks reach, and from which width of a moment on they are drawn.
+export const MARKS = [20.5, 27];
+const MARKS_FROM = 10;
 export const OPERATIONS = 49;
 const ERROR = 68;
 
 export function timelineOf(sheet) {
-  const { shown, width, height, aim } = sheet;
+  const { shown, width, height, aim, gap } = sheet;
   const columnOf = (moment) => ({ path: box(sheet.x(moment) - Math.max(3, sheet.step / 2), 20.5, Math.max(6, sheet.step), height - 25) });
   const head = columnOf(shown.moment);
   return [
     ...bands(sheet),
     { ...head, fill: "chosen" },
     ...ticks(sheet),
+    ...tickMarks(sheet),
     ...errorElements(sheet),
     ...thread(sheet),
     ...coinThread(sheet),
     ...dots(sheet),
     { ...head, stroke: "accent", width: 1.5 },
     ...(aim === null ? [] : [{ ...columnOf(aim), stroke: "accent", width: 2, dash: [4, 3] }]),
+    ...(gap === null ? [] : [{ path: [["M", gap, 20.5], ["L", gap, height - 5]], stroke: "accent", width: 2.5 }]),
     { path: box(0, 0, LEFT - 4, height), fill: "sheet" },
     ...names(),
     ...observables(sheet, width, height),
@@ -40,7 +46,7 @@ function names() {
   return said.map(([words, y]) => ({ words, x: 10, y, size: 11, fill: "quiet", align: "left" }));
 }
 
-// Rounds as bands, each with its block and its number; what stands in no block is between them.
+// Rounds as bands, each with its block and its number; what is in no block is between them.
 function bands({ line, first, last, x, step, height }) {
   const elements = [];
   for (const { from, to, label, short, isOdd, isBlock } of line.bands(first, last)) {
@@ -69,6 +75,16 @@ function ticks({ line, shown, first, last, x, step }) {
     if (glyph) elements.push({ ...glyph, x: x(moment), y: OPERATIONS, side });
   }
   return elements;
+}
+
+// A grip between two moments if a TICK is there: by it the tick is moved.
+function tickMarks({ shown: { items }, first, last, x, step }) {
+  if (step < MARKS_FROM) return [];
+  const path = [];
+  for (let moment = first; moment <= last; moment += 1) {
+    if (endsByTick(items, moment)) path.push(["M", x(moment + 0.5), MARKS[0]], ["L", x(moment + 0.5), MARKS[1]]);
+  }
+  return path.length ? [{ path, stroke: "edge", width: 2 }] : [];
 }
 
 // The way of an error, or a set of them: at each moment the letter, or a grey mark for several, and on how many qubits it is.
@@ -135,7 +151,7 @@ export function groundOf(sheet) {
   const spots = [...line.between(first - 1, last + 1)].map((number) => at(`D${number}`));
   if (size >= 5) return spots.map(([x, y]) => ({ ...dotOf("bit0"), x, y, side: size }));
   const height = Math.min(3, Math.max(1.2, rowHeight * 0.75));
-  return [{ path: spots.flatMap(([x, y]) => box(x - 1.5, y - height / 2, 3, height)), fill: "zero" }];
+  return [{ boxes: spots.map(([x, y]) => [x - 1.5, y - height / 2, 3, height]), fill: "zero" }];
 }
 
 function observables({ shown, at }, width, height) {
@@ -158,8 +174,8 @@ function glyphOf(item, side) {
   if (item.name === "MPP") return { glyph: "factor", role: "wire", label: side >= 12 ? "P" : "" };
   if (isPair(item.name)) {
     const letter = item.name.slice(1);
-    return item.targets.some(isRecord) ? { glyph: "gate", role: letter.toLowerCase(), label: letter } : { glyph: pairs[item.name][1], role: "wire" };
+    return item.targets.some(isRecord) ? { glyph: "gate", role: letter.toLowerCase(), label: letter } : { glyph: gates[item.name].second, role: "wire" };
   }
-  const [glyph, label, , role] = gates[item.name];
-  return { glyph, role, label };
+  const { shape, role, label } = gates[item.name];
+  return { glyph: shape, role, label };
 }

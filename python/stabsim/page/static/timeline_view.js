@@ -1,11 +1,14 @@
 // Time from left to right: rounds as bands, ticks with what happens there, and detectors at the moment that declares them, in a row for
-// each place. The region of the chosen detector is the thread that leads to it. A drag scrubs.
+// each place. The region of the chosen detector is the thread that leads to it. A drag scrubs, and one of a tick's mark moves the tick.
 
 import { CanvasPen } from "./canvas_pen.js";
+import { itemAt } from "./circuit.js";
 import { theme } from "./colours.js";
+import { nameOf } from "./moments.js";
 import { neighbourOf } from "./places.js";
+import { endsByTick, gapAt, gapsOf } from "./ticks.js";
 import { Timeline } from "./timeline.js";
-import { LEFT, OPERATIONS, TOP, groundOf, timelineOf } from "./timeline_drawing.js";
+import { LEFT, MARKS, OPERATIONS, TOP, groundOf, timelineOf } from "./timeline_drawing.js";
 
 const RIGHT = 14;
 const MOST_STEP = 44;
@@ -13,6 +16,16 @@ const LEAST_STEP = 5;
 const MOST_ROW = 16;
 // How near to a dot a click has to be.
 const NEAR = 7;
+// How near to the mark of a tick, in pixels, and in which part of a moment's width.
+const NEAR_MARK = 6;
+const PART_OF_STEP = 0.25;
+// How far down a mark can be taken: as far as the ticks' numbers reach.
+const BELOW_MARKS = 38;
+// How far the pointer may move in a click.
+const SLIP = 3;
+
+// The text of an item, shortened.
+const textAt = (items, path) => itemAt(items, path).text.slice(0, 40);
 
 export class TimelineView {
   #canvas;
@@ -26,17 +39,23 @@ export class TimelineView {
   #frame = 0;
   // The moment to which something is dragged.
   #aim = null;
-  // All detectors as they are if nothing is known of them, drawn once for as long as they stand where they do.
+  // The tick that is dragged by its mark, as {moment, from, place}: the moment that it ends, where the drag began, and where the tick
+  // would go, {moment, gap, x}, or null.
+  #held = null;
+  // All detectors as they are if nothing is known of them, drawn once for as long as they are where they are.
   #ground = null;
 
-  // `act` has goTo(moment), choose(bit) and tip(words, place), which without words takes it away.
+  // `act` has goTo(moment), choose(bit), moveTick(moment, to, gap) (ticks.js), tip(bit, place) and say(words, place); without a bit or
+  // words these two take away what was said.
   constructor(canvas, act) {
     this.#canvas = canvas;
     this.#pen = new CanvasPen(canvas);
     this.#act = act;
     canvas.addEventListener("pointerdown", (event) => this.#press(event));
     canvas.addEventListener("pointermove", (event) => this.#move(event));
-    canvas.addEventListener("pointerleave", () => act.tip(""));
+    canvas.addEventListener("pointerup", () => this.#release());
+    canvas.addEventListener("pointercancel", () => this.#letGo());
+    canvas.addEventListener("pointerleave", () => this.#held || act.tip(""));
     canvas.addEventListener("wheel", (event) => this.#wheel(event), { passive: false });
     new ResizeObserver(() => {
       this.#size = [canvas.clientWidth, canvas.clientHeight];
@@ -74,7 +93,7 @@ export class TimelineView {
     return neighbourOf(places, this.at(bit), direction);
   }
 
-  // The moment under a place of the window; null where that is not on the timeline.
+  // The moment under a place of the window; null if that is not on the timeline.
   momentUnder({ left, top }) {
     const box = this.#canvas.getBoundingClientRect();
     const isOver = this.#shown && left >= box.left + LEFT && left < box.right && top >= box.top && top < box.bottom;
@@ -169,14 +188,66 @@ export class TimelineView {
     const bit = this.#bitAt(event.offsetX, event.offsetY);
     if (bit !== null) return void this.#act.choose(bit);
     if (event.isTrusted) this.#canvas.setPointerCapture(event.pointerId);
-    this.#act.goTo(this.#momentAt(event.offsetX));
+    const moment = this.#tickAt(event.offsetX, event.offsetY);
+    if (moment === null) this.#act.goTo(this.#momentAt(event.offsetX));
+    else this.#held = { moment, from: event.offsetX, place: null };
   }
 
   #move(event) {
     if (!this.#shown) return;
+    if (this.#held) return void this.#drag(event);
+    this.#canvas.classList.toggle("grips", this.#tickAt(event.offsetX, event.offsetY) !== null);
     if (event.buttons & 1 && this.#canvas.hasPointerCapture(event.pointerId)) return void this.#act.goTo(this.#momentAt(event.offsetX));
     const bit = this.#bitAt(event.offsetX, event.offsetY);
     this.#act.tip(bit ?? "", { left: event.clientX, top: event.clientY });
+  }
+
+  // The moment that is ended by the tick whose mark is near a spot, or null.
+  #tickAt(x, y) {
+    if (y < MARKS[0] - 2 || y > BELOW_MARKS || x < LEFT) return null;
+    const near = Math.min(NEAR_MARK, this.#step * PART_OF_STEP);
+    const moment = Math.round((x - LEFT + this.#offset) / this.#step) - 1;
+    const isNear = Math.abs(this.markOf(moment)[0] - x) <= near;
+    return isNear && moment >= 0 && moment < this.#shown.moments && endsByTick(this.#shown.items, moment) ? moment : null;
+  }
+
+  // Where the mark of the tick that ends a moment is seen.
+  markOf(moment) {
+    return [this.#x(moment + 0.5), (MARKS[0] + MARKS[1]) / 2];
+  }
+
+  // Where a gap of a moment is seen, of this many.
+  #gapX(moment, gap, count) {
+    return this.#x(moment) + this.#step * (count > 1 ? gap / (count - 1) - 0.5 : 0.5);
+  }
+
+  #drag(event) {
+    const held = this.#held;
+    if (!held.place && Math.abs(event.offsetX - held.from) < SLIP) return;
+    const { items } = this.#shown;
+    const moment = this.#momentAt(event.offsetX);
+    const part = Math.max(0, Math.min(1, (event.offsetX - this.#x(moment)) / this.#step + 0.5));
+    const gap = gapAt(items, moment, part);
+    const gaps = gapsOf(items, moment);
+    held.place = { moment, gap, x: this.#gapX(moment, gap, gaps.length) };
+    const place = gap < gaps.length - 1 ? `in front of ${textAt(items, gaps[gap].path)}` : `to the end of tick ${nameOf(items, moment).name}`;
+    this.#act.say(`the tick: ${place}`, { left: event.clientX, top: event.clientY });
+    this.draw();
+  }
+
+  #release() {
+    const held = this.#held;
+    this.#letGo();
+    if (!held) return;
+    if (held.place) this.#act.moveTick(held.moment, held.place.moment, held.place.gap);
+    else this.#act.goTo(held.moment);
+  }
+
+  #letGo() {
+    if (!this.#held) return;
+    this.#held = null;
+    this.#act.say("");
+    this.draw();
   }
 
   #wheel(event) {
@@ -187,7 +258,7 @@ export class TimelineView {
   #sheet() {
     const [width, height] = this.#size;
     return {
-      line: this.#line, shown: this.#shown, width, height, step: this.#step, first: this.#momentAt(LEFT), last: this.#momentAt(width), aim: this.#aim,
+      line: this.#line, shown: this.#shown, width, height, step: this.#step, first: this.#momentAt(LEFT), last: this.#momentAt(width), aim: this.#aim, gap: this.#held?.place?.x ?? null,
       x: (moment) => this.#x(moment), at: (bit) => this.at(bit), rowHeight: this.#rowHeight(),
     };
   }
