@@ -3,9 +3,9 @@
 
     python3 examples/drive_edit.py
 
-It asks a repetition code which detectors and observables an X on each qubit flips. Where an observable flips, it puts a
-second X behind the first and looks whether that undoes it. A reply that is refused, or is missing since the program ended,
-ends the driver with what was asked and replied: it is never taken for bits. It needs Python alone, and runs the program that the
+It asks a repetition code which detectors and observables an X on each qubit flips. If an observable flips, it puts a
+second X after the first and looks whether that undoes it. A reply that is refused, or is missing since the program ended,
+ends the driver with what was asked and replied: it is never taken for bits. It needs only Python, and runs the program that the
 environment variable STABSIM names, else `./stabsim`.
 """
 
@@ -52,14 +52,14 @@ class Session:
             raise Refused(f"{line}: {reply}")
 
     def bits(self, what):
-        """The places of the ones in what `show` tells of measurements, free, detectors or observables."""
+        """The places of the ones in what `show` says of measurements, free, detectors or observables."""
         reply = self.ask(f"show {what}")
         if reply.strip("01"):
             raise Refused(f"show {what}: {reply}")
         return [place for place, bit in enumerate(reply) if bit == "1"]
 
     def lines(self, what):
-        """What `show` tells of the circuit or its stabilisers, perhaps no line at all: what comes before the bits that are asked next."""
+        """What `show` says of the circuit or its stabilisers, perhaps no line at all: what comes before the bits that are asked next."""
         line = f"show {what}"
         self.send(line, "show observables")
         shown = [self.read(line)]

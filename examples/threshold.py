@@ -5,7 +5,7 @@
 
 Each code runs for as many rounds as its distance, with noise of one parameter, which is circuit-level. The decoder is minimum-weight perfect
 matching, by networkx: it is slow, and exact for the checks of one letter. Counting goes on from the file of --save. It needs Debian's
-python3-numpy, python3-networkx and python3-matplotlib; matplotlib is asked for only where something is drawn.
+python3-numpy, python3-networkx and python3-matplotlib; matplotlib is asked for only if something is drawn.
 """
 
 import argparse

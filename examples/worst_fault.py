@@ -2,7 +2,7 @@
 
     PYTHONPATH=python python3 examples/worst_fault.py
 
-An error is any of circuit-level noise: Paulis on the qubits of a gate, behind a reset or in front of a measurement, and wrong records. The
+An error is any of circuit-level noise: Paulis on the qubits of a gate, after a reset or in front of a measurement, and wrong records. The
 least number of them is the circuit's distance, which the program finds, with such errors. They are put into an editing session, which
 says what they flip together. There the middle gates of each round are then exchanged, and the same is asked again: the code is the same, and
 half of a measured qubit's errors now spread along the logical operator. It needs Debian's python3-numpy.

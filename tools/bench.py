@@ -8,7 +8,7 @@
     tools/bench.py page [--edits 9]       how long the page takes from a key until it is painted
     tools/bench.py crate                  all of crates/bench, which is proved and built first
 
-Where nothing else is said times are by the clock, the least of five calls. The program is that of `./stabsim`, or of `--program`. Do
+If nothing else is said, times are by the clock, the least of five calls. The program is that of `./stabsim`, or of `--program`. Do
 nothing else on the machine meanwhile.
 """
 
@@ -53,7 +53,7 @@ def row(*cells: str) -> None:
 
 
 def two_digits(number: float) -> str:
-    """A number with the two digits that tell."""
+    """A number with its two leading digits."""
     return f"{number:.2g}" if number < 100 else f"{float(f'{number:.2g}'):,.0f}"
 
 
@@ -118,7 +118,7 @@ def seconds_and_bytes(program: Path, path: Path, form: str, shots: int) -> tuple
 
 
 def rounded(number: float) -> str:
-    """A number with two digits that tell, in thousands."""
+    """A number with its two leading digits, in thousands."""
     return f"{round(number, -max(len(str(int(number))) - 2, 0)):,.0f}"
 
 
@@ -204,7 +204,7 @@ def time_crate(_: argparse.Namespace, folder: Path) -> None:
         subprocess.run([crate / "out" / "bench", *words], cwd=folder, check=True)
 
     def made(name: str, distance: int, form: str = "") -> str:
-        """The file of a code's deepest circuit, or as deep as wide where it is written out so."""
+        """The file of a code's deepest circuit, or as deep as wide if it is written out."""
         file = f"{name}_{distance}{form}.stim"
         rounds = distance if form.startswith("_rounds") else codes.deepest(name, distance)
         (folder / file).write_text(codes.memory(name, distance).text(rounds, form != ""))
@@ -218,7 +218,7 @@ def time_crate(_: argparse.Namespace, folder: Path) -> None:
     bench("measure")
     bench("run", made("surface_code", 3), *blocks, written_out[-1], *products, "dense_1024.stim")
     # X on the qubit 2d + 3, which measures a check of Z, flips its next record and nothing else. Each circuit has a process of its
-    # own, so that the memory that a session keeps is told.
+    # own, so that the memory that a session keeps is reported.
     for distance, *files in zip(distances, blocks, written_out):
         for file in files:
             bench("edit", str(2 * distance + 3), file)

@@ -78,15 +78,15 @@ const [text, count, done] = arguments;
 Promise.all(["main", "circuit", "places", "moments"].map((name) => import(`/static/${name}.js`))).then(async ([{ page }, { parseCircuit }, { placesOf }, { momentAt }]) => {
   const items = parseCircuit(text);
   const named = items.filter(({ name }) => name === "QUBIT_COORDS").map(({ text, targets }) => [Number(targets[0]), /\((.*)\)/.exec(text)[1].split(",").map(Number)]);
-  const behind = 1 + Math.max(...named.map(([qubit]) => qubit));
+  const size = 1 + Math.max(...named.map(([qubit]) => qubit));
   const across = 2 + Math.max(...named.map(([, [x]]) => x));
   const tiles = [0, 1, 2, 3];
-  const coordinates = Array.from({ length: 4 * behind }, () => []);
-  for (const k of tiles) for (const [qubit, [x, y]] of named) coordinates[qubit + k * behind] = [x + across * (k % 2), y + across * (k >> 1)];
+  const coordinates = Array.from({ length: 4 * size }, () => []);
+  for (const k of tiles) for (const [qubit, [x, y]] of named) coordinates[qubit + k * size] = [x + across * (k % 2), y + across * (k >> 1)];
   const measured = items.filter(({ name }) => name === "MR").flatMap(({ targets }) => targets.map(Number));
-  const ancillas = new Set(tiles.flatMap((k) => measured.map((qubit) => qubit + k * behind)));
+  const ancillas = new Set(tiles.flatMap((k) => measured.map((qubit) => qubit + k * size)));
   const instructions = tiles.flatMap((k) => momentAt(items, 3).map((it) => (
-    { ...it, item: { ...it.item, on: undefined, targets: it.item.targets.map((target) => String(Number(target) + k * behind)) } })));
+    { ...it, item: { ...it.item, on: undefined, targets: it.item.targets.map((target) => String(Number(target) + k * size)) } })));
   const placement = placesOf(coordinates, new Set(), () => []);
   const standing = new Map([...placement.places].map(([qubit, place]) => [place.join(), qubit]));
   const faces = [...ancillas].map((qubit) => {
@@ -117,7 +117,7 @@ Promise.all(["main", "circuit", "places", "moments"].map((name) => import(`/stat
 STEPS = [("to send", "pressed", "sent"), ("server", "sent", "heard"), ("views", "heard", "framed"), ("paint", "framed", "painted"), ("all", "pressed", "painted")]
 
 
-def tell(name: str, times: Iterable[float]) -> None:
+def say(name: str, times: Iterable[float]) -> None:
     spent = sorted(times)
     print(f"    {name:8} {statistics.median(spent):6.1f} ms  ({spent[0]:.1f} to {spent[-1]:.1f})")
 
@@ -144,14 +144,14 @@ def measure_size(driver: Any, folder: Path, distance: int, rounds: int, edits: i
         driver.execute_async_script(TYPE, qubit, -1)
         time.sleep(1)
     for name, first, then in STEPS:
-        tell(name, (one[then] - one[first] for one in times))
-    tell("region", [driver.execute_async_script(REGION, f"D{number}") for number in range(distance, distance + edits)])
+        say(name, (one[then] - one[first] for one in times))
+    say("region", [driver.execute_async_script(REGION, f"D{number}") for number in range(distance, distance + edits)])
     print(f"    bytes of the event: {max(one['bytes'] for one in times)}")
     page.close()
 
 
 def measure_frames(folder: Path, count: int) -> None:
-    """Zooms and pans a picture of 2,044 qubits, four surface codes of distance 16, by a step in each of so many frames."""
+    """Zooms and pans a picture of 2,044 qubits, four surface codes of distance 16, by a step in each of this many frames."""
     driver = open_browser()
     try:
         driver.set_window_size(1920, 1080)

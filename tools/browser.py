@@ -8,6 +8,6 @@ from program import TOP
 sys.path.insert(0, str(TOP / "python" / "tests"))
 os.environ["PYTHONPATH"] = str(TOP / "python")
 
-from browsing import Page, open_browser  # noqa: E402: it stands in a place that was named above
+from browsing import Page, open_browser  # noqa: E402: its folder was named above
 
 __all__ = ["Page", "open_browser"]

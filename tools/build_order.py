@@ -39,7 +39,7 @@ def stands_on(program: str, crates: Crates) -> Crates:
 
 
 def chains(crates: Crates, work: dict[str, int]) -> dict[str, int]:
-    """For each crate the work of the longest chain of crates that begins with it, of which each stands on the one before."""
+    """For each crate the work of the longest chain of crates that begins with it, each of which uses the one before."""
     longest: dict[str, int] = {}
     for name in reversed(crates):
         above = [it for it, uses in crates.items() if name in uses]
@@ -53,7 +53,7 @@ def memory_of(jobs: int) -> int:
 
 def next_starts(ready: list[str], running: dict[str, int], processors: int, memory: int) -> dict[str, int]:
     """The crates to start now, each with its jobs: those that are ready share the processors that are left, and the first takes
-    what is over. `ready` has the crates of the longest chains first, `running` those that run, with their jobs. Where nothing
+    what remains. `ready` has the crates of the longest chains first, `running` those that run, with their jobs. If nothing
     runs, one crate is started however little memory there is."""
     starts: dict[str, int] = {}
     for place, name in enumerate(ready):

@@ -1,17 +1,17 @@
 #!/usr/bin/env python3
-"""Proves and builds a program of crates.txt, and tells on standard error how far that is.
+"""Proves and builds a program of crates.txt, and says on standard error how far that is.
 
     tools/build_program.py PROGRAM [flags of rt run]
 
-Where crates below the program were never built here, `rt lib` builds them, several at a time: each once those that it stands on are
+If crates below the program were never built here, `rt lib` builds them, several at a time: each once those that it uses are
 built, first those of the longest chain of crates that wait for each other, and those that are ready share the processors and the
-memory that are left. What that leaves, the program's own code, and a later build over what earlier ones kept, is for `rt run`, which
+memory that are left. `rt run` builds what that leaves, the program's own code, and a later build over what earlier ones kept; it
 takes one crate after another and runs the program with --help.
 
-rt locks the folder of a crate that it builds and those of all crates below it. So one crate at a time is built where it is, and any
+rt locks the folder of a crate that it builds and those of all crates below it. So one crate at a time is built in place, and any
 other meanwhile in a copy of the sources, with the libraries below it; what was made there is then moved to its place.
 
-What rt said is kept in crates/PROGRAM/out/build.log, and shown where the build failed. The status is rt's, and 130 after an
+What rt said is kept in crates/PROGRAM/out/build.log, and shown if the build failed. The status is rt's, and 130 after an
 interrupt, which ends what was started; the next call goes on from there.
 """
 import os
@@ -56,7 +56,7 @@ class Teller:
 
 
 def copy_files(source: Path, target: Path, *left_out: str) -> None:
-    """Copies a folder, by hard links where they can be made, since no file of it is written in its place."""
+    """Copies a folder, by hard links if they can be made, since no file of it is written in its place."""
 
     def link(one: str, other: str) -> None:
         try:
@@ -68,7 +68,7 @@ def copy_files(source: Path, target: Path, *left_out: str) -> None:
 
 
 def copy_sources(name: str, crates: Crates, to: Path) -> None:
-    """Copies a crate and the libraries below it, as they stand built, to an empty folder, and moves there what earlier builds left of
+    """Copies a crate and the libraries below it, as they are built, to an empty folder, and moves there what earlier builds left of
     the crate."""
     below = [*stands_on(name, crates)]
     for it in below:
@@ -141,7 +141,7 @@ class Build:
         return [it for it in self.libraries if it not in built]
 
     def start(self, name: str, words: list[str], jobs: int) -> None:
-        """Starts rt for a crate: where the crate is, or in a copy, if rt is at work there."""
+        """Starts rt for a crate: where the crate is, or in a copy if rt is at work there."""
         top = TOP
         if any(it.top == TOP for it in self.running.values()):
             top = self.out / "copies" / name
@@ -161,7 +161,7 @@ class Build:
             shutil.rmtree(run.top)
 
     def next_ended(self, told: str) -> Run:
-        """Waits until a run has ended, and tells meanwhile how far all are."""
+        """Waits until a run has ended, and says meanwhile how far all are."""
         while True:
             self.teller.tell(told + ", ".join(it.told() for it in self.running.values()))
             for run in self.running.values():
@@ -223,7 +223,7 @@ class Build:
 def main() -> int:
     crates = crates_in((TOP / "crates.txt").read_text(encoding="utf-8"))
     if len(sys.argv) < 2 or sys.argv[1] not in crates:
-        print("build_program: wants the name of a program of crates.txt, and flags for rt run behind it", file=sys.stderr)
+        print("build_program: wants the name of a program of crates.txt, and flags for rt run after it", file=sys.stderr)
         return 2
     signal.signal(signal.SIGTERM, lambda number, _: sys.exit(128 + number))
     build = Build(sys.argv[1], crates)

@@ -1,5 +1,5 @@
 #!/usr/bin/env python3
-"""Compares what the pages name with what is there, clauses, definitions, files and headings, and looks at their words.
+"""Compares what the pages name with what is there, clauses, definitions, files and headings, and looks at their words and those of comments.
 
     tools/check_pages.py
 
@@ -14,13 +14,16 @@
 - The pages of a folder, and the README and the list of changes, have at most as many words together as `MOST_WORDS` says, and a page at
   most 1,500, or what `LONGER` says; code and tables are counted.
 - A page has no phrase of `PLAINER`, which has a plainer form. Code is not looked at.
+- A comment of the crates, the package, the tools and the examples has no phrase of `PLAINER_IN_COMMENTS`; a docstring is a comment.
 
 It ends with 1 if something is missing, too long or to be said more plainly. What a clause or a definition says is not looked at.
 """
 import functools
+import io
 import re
 import subprocess
 import sys
+import tokenize
 from collections.abc import Iterator
 from pathlib import Path
 
@@ -66,6 +69,11 @@ PLAINER = {
     r"\b[Ll]ater that (?:day|night|evening)\b": "what is, without what was",
     r"\bfrom nothing\b": "from scratch",
 }
+# The phrases that no comment has, even over the end of a line; how a comment begins in each kind of file; the folders that are looked at.
+PLAINER_IN_COMMENTS = {phrase: PLAINER[phrase] for phrase in (
+    r"\bbut for\b", r"\bbehind\b", r"\b(?:in the|in its|in their) stead\b", r"\bso many\b", r"\btells\b", r"\breckon")}
+COMMENT_MARKS = {".rt": "//[/!]?", ".antt": "--", ".sh": "#", ".stim": "#", ".script": "#", ".rows": "#", ".js": "//", ".mjs": "//"}
+COMMENTED = ("crates/", "python/", "tools/", "examples/")
 NAMED_PAGE = re.compile(r"\bdocs/[\w/-]+\.md")
 DEFINED = re.compile(r"(?:(?:abbrev|unfoldable|opaque|pub|record|data)\s+)+([^\s:({]+)|  (?:pub )?(\S+) :")
 
@@ -200,6 +208,42 @@ def plainer_phrases(page: Path) -> Iterator[str]:
             yield f"\"{around}\": write {plainer}"
 
 
+def comments_of_python(text: str) -> dict[int, str]:
+    """The lines of comments and docstrings, by their numbers from 1."""
+    found, lines, before = {}, text.split("\n"), tokenize.NEWLINE
+    for token in tokenize.generate_tokens(io.StringIO(text).readline):
+        if token.type == tokenize.COMMENT:
+            found[token.start[0]] = token.string.lstrip("# ")
+        elif token.type == tokenize.STRING and before in (tokenize.NEWLINE, tokenize.INDENT, tokenize.DEDENT):
+            found |= {number: lines[number - 1].strip() for number in range(token.start[0], token.end[0] + 1)}
+        if token.type not in (tokenize.COMMENT, tokenize.NL):
+            before = token.type
+    return found
+
+
+def comments_of(file: Path) -> str:
+    """What the comments of a file say, each on its own line, without their marks; a line without a comment is empty."""
+    text = file.read_text(encoding="utf-8")
+    if file.suffix == ".py":
+        found = comments_of_python(text)
+        return "\n".join(found.get(number, "") for number in range(1, text.count("\n") + 2))
+    comment = re.compile(rf"(?:^|\s){COMMENT_MARKS[file.suffix]}(?:\s|$)(.*)")
+    without_texts = (re.sub(r'"(?:[^"\\]|\\.)*"', '""', line) for line in text.split("\n"))
+    return "\n".join(it[1].strip() if (it := comment.search(line)) else "" for line in without_texts)
+
+
+def plainer_comments() -> Iterator[str]:
+    """Phrases of comments that have a plainer form, each after its file and line."""
+    listed = subprocess.run(["git", "ls-files", "-co", "--exclude-standard", *COMMENTED], cwd=TOP, capture_output=True, text=True, check=True)
+    for name in listed.stdout.splitlines():
+        file = TOP / name
+        if file.suffix in (*COMMENT_MARKS, ".py") and file.is_file():
+            text = re.sub(r"`[^`\n]*`", "`", comments_of(file))
+            for phrase, plainer in PLAINER_IN_COMMENTS.items():
+                for found in re.finditer(phrase.replace(" ", r"[ \n]"), text, re.IGNORECASE):
+                    yield f"{name}:{text.count(chr(10), 0, found.start()) + 1}: \"{' '.join(found[0].split())}\": write {plainer}"
+
+
 def unlinked_pages() -> Iterator[str]:
     """Pages of docs/ that docs/README.md leads to by no link."""
     index = DOCS / "README.md"
@@ -232,6 +276,7 @@ def main() -> int:
     wrong += too_many_words()
     for page in PAGES:
         wrong += [f"{name_of(page)}: {it}" for it in plainer_phrases(page)]
+    wrong += plainer_comments()
     for it in wrong:
         print(it, file=sys.stderr)
     print(f"{len(PAGES)} pages compared with what they name, and their words looked at: {len(wrong)} wrong")

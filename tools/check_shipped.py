@@ -5,8 +5,8 @@
 
 The program for x86-64-v2 has to be the one that `rt ci` left in crates/stabsim/out. `rt ci` builds none for x86-64-v3: that one is built
 here, by the toolchain's own commands over the libraries that `rt ci` left, so that only the code of the crate stabsim is proved again.
-shipped.txt has to name the version, the sources and the toolchain as they are, and the checksums of both programs. If something differs,
-one line says what, and the status is 1.
+shipped.txt has to name the version, the sources and the logic of the proofs as they are, and the checksums of both programs. If something
+differs, one line says what, and the status is 1.
 """
 
 import hashlib
@@ -39,14 +39,15 @@ def said_by(*words: str | Path, folder: Path = TOP) -> str:
 
 
 def facts(top: Path) -> dict[str, str]:
-    """What shipped.txt has to say of the sources and the toolchain."""
+    """What shipped.txt has to say of the sources and of the logic by which they are proved."""
     version = re.search(r'^__version__ = "(.*)"$', (top / "python/stabsim/__init__.py").read_text(), re.MULTILINE)
     sources = said_by(top / "tools/sum_sources.sh")
-    return {"version": version[1] if version else "", "sources": sources, "toolchain": said_by("rt", "version")}
+    logic = said_by("rt", "version").rpartition(" logic ")[2]
+    return {"version": version[1] if version else "", "sources": sources, "logic": logic}
 
 
 def build(top: Path, named: list[str], crates: Crates, cpu: str, folder: Path) -> bytes:
-    """The program built for a processor, over libraries that stand built; `named` is what its line of crates.txt names."""
+    """The program built for a processor, over libraries that are built; `named` is what its line of crates.txt names."""
     rt = shutil.which("rt")
     if rt is None:
         raise Failed("the command rt is not on the PATH")

@@ -3,7 +3,7 @@
 
     tools/check_words.py
 
-So are the lines of scripts that the manual page names. It ends with 1 if one is missing, or if one is named that the program
+The lines of scripts that the manual page names are compared too. It ends with 1 if one is missing, or if one is named that the program
 doesn't have. The completion for bash is asked as bash asks it, which takes the = of --out_format=dets for a word by itself.
 """
 

@@ -22,8 +22,8 @@ THEOREMS = {
     "sample and detect": ["stab_sampling.Outputs.EndsRun", "stab_sampling.Outputs.sample_of", "stab_sampling.Outputs.detect_of"],
     "stabilisers": ["stab_commands.Stabilisers.EndsStabilisers"],
     "deterministic": ["stab_tables.Deterministic.EndsDeterministic"],
-    "faults": ["stab_tables.FaultTables.EndsFaults"],
-    "coins and deterministic --explain": ["stab_tables.CoinTables.EndsCoins", "stab_tables.Reasons.EndsExplain"],
+    "faults, coins and deterministic --explain": [
+        "stab_tables.FaultTables.EndsFaults", "stab_tables.CoinTables.EndsCoins", "stab_tables.Reasons.EndsExplain"],
     "distance": ["stab_tables.Distances.EndsDistance"],
     "edit": ["stab_scripts.ScriptEndings.EndsEdit"],
     "a job and its status": ["stab_commands.Jobs.EndsJob"],
@@ -57,7 +57,7 @@ class Definition:
         self.lines = []
 
     def words(self):
-        """The names in it, those of operators as they are defined: with a place for what stands on each side."""
+        """The names in it, those of operators as they are defined: with a place for what is on each side."""
         words = {word for line in self.lines for word in NAME.findall(line)}
         return words | {f"◌{word}◌" for word in words}
 

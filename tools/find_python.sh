@@ -1,6 +1,6 @@
 #!/bin/sh
-# Prints the Python that has what the package python/ and its examples and tests want: the first on the PATH, or Debian's own.
-# Where none has, it says so on standard error and ends with 1. On Debian:
+# Prints the Python that has what the package python/ and its examples and tests need: the first on the PATH, or Debian's own.
+# If none has, it says so on standard error and ends with 1. On Debian:
 #     apt install python3-numpy python3-networkx python3-matplotlib python3-pytest python3-distributed
 # Tests run side by side with python3-pytest-xdist, and look at types with mypy.
 set -u

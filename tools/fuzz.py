@@ -9,15 +9,15 @@
     tools/fuzz.py --edits
 
 The oracle (`tools/oracle`) is written from the definitions: it reads texts and scripts, changes the amplitudes of up to four qubits
-by the matrices of gates, and writes the result formats. Which bits are sure, and which of them faults flip, it finds by runs with
+by the matrices of gates, and writes the result formats. It finds which bits are deterministic, and which of them faults flip, by runs with
 many lists of coins, and with each fault and without it. Larger circuits are undone again and must measure
 zeros, are edited and compared with a session opened anew and with other strides, and are written in each format; what `check`
-counts is compared with what a run writes, and the fault that it tells with that of a run; and what `faults` says is compared with
+counts is compared with what a run writes, and the fault that it reports with that of a run; and what `faults` says is compared with
 edits that put the faults in. The first difference is cut down to a small text and printed with its seed, and the status is then 1.
-So it is where some way of comparing was never taken, also in a minute more. With `--laws` those of `tools/oracle/laws.py` are
-tried alone, which ask no oracle of states, and with `--faults` the tables of `faults` and `deterministic`. The same seed makes
-the same cases. What the cases of `--codes`, `--states` and `--edits` are, `tools/oracle/code_cases.py` says, and the files beside it;
-each is told that goes wrong.
+The status is also 1 if some way of comparing was never taken, even in a minute more. With `--laws` only those of `tools/oracle/laws.py` are
+tried, which ask no oracle of states, and with `--faults` only the tables of `faults` and `deterministic`. The same seed makes
+the same cases. `tools/oracle/code_cases.py` and the files beside it say what the cases of `--codes`, `--states` and `--edits` are;
+each that goes wrong is reported.
 """
 
 import argparse
@@ -61,7 +61,7 @@ class TooLarge(Exception):
 
 
 class Case:
-    """A command's words, the circuit that it reads, and its script where it has one."""
+    """A command's words, the circuit that it reads, and its script if it has one."""
 
     def __init__(self, kind: str, words: list[str], text: bytes, settings: Any, script: bytes | None = None) -> None:
         self.kind = kind
@@ -82,7 +82,7 @@ class Program:
         self.circuit = pathlib.Path(folder) / "circuit.stim"
 
     def run(self, words: list[str], text: bytes, script: bytes | None = None) -> Ended:
-        """The status, what was written, and what was told of a fault."""
+        """The status, what was written, and what was said of a fault."""
         if script is not None:
             self.circuit.write_bytes(text)
             words, text = [*words, "--in", str(self.circuit)], script
@@ -106,7 +106,7 @@ def coins_of(settings: Settings, shot: int, count: int) -> list[bool]:
 
 
 class SmallSession(scripts.Session):
-    """A session that is not run where that would take long."""
+    """A session that is not run if that would take long."""
 
     def run(self) -> states.Run[states.Amplitudes]:
         if self.qubits > MOST_QUBITS or numbers.summary(self.items)[0] > MOST_STEPS:
@@ -127,7 +127,7 @@ def session_of(items: Items, settings: Settings) -> SmallSession:
 
 
 def expected(case: Case) -> Ended | None:
-    """What the definitions give, or None where a run is too large for the oracle."""
+    """What the definitions give, or None if a run is too large for the oracle."""
     try:
         items = items_of(case.text)
         numbers.check(items)
@@ -234,7 +234,7 @@ def command_case(dice: random.Random, kinds: list[str], text: bytes) -> Case:
 
 
 def table_case(dice: random.Random, kinds: list[str]) -> Case:
-    """A table of a circuit that has marked places and sure parities."""
+    """A table of a circuit that has marked places and deterministic parities."""
     kind = dice.choice([kind for kind in kinds if kind in TABLES])
     settings = settings_of(dice)
     return Case(kind, words_of(kind, settings), fault_making.fault_circuit(dice), settings)
@@ -294,7 +294,7 @@ def right_answer(way: str, case: Case) -> Ended | None:
 
 
 def broken_law(program: Program, way: str, case: Case, counts: Counts) -> Wrong:
-    """What is wrong with the program's answers, or None, as where the law's circuit is refused. Counts those that were compared."""
+    """What is wrong with the program's answers, or None, as if the law's circuit is refused. Counts those that were compared."""
     try:
         wrong = LAWS[way](case.settings, program.run)
     except Refused:

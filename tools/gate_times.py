@@ -5,7 +5,7 @@
     tools/gate_times.py must-fail stab_results
 
 The run is rt's own: its output passes through as it comes, and its status is the status of this call.
-Beside it the processes that it started are looked at twice a second, in /proc of Linux, where the
+Meanwhile the processes that it started are looked at twice a second, in /proc of Linux, where the
 prover's command line names the crate. So the seconds of a crate leave out what a process did after the
 last look at it, a quarter of a second in the middle; the sum of the whole run is exact, and the row
 `rest` is what is left of it: rt itself, links, runs of programs and tests, and what no look saw.
@@ -54,7 +54,7 @@ def below(top, found):
 
 
 def work_of(process):
-    """The crate and the kind of work, where the process is the prover's."""
+    """The crate and the kind of work, if the process is the prover's."""
     try:
         with open(f"/proc/{process}/cmdline", "rb") as file:
             words = os.fsdecode(file.read()).split("\0")
@@ -130,7 +130,7 @@ def main():
     except OSError as error:
         print(f"gate_times: rt did not start: {error.strerror}", file=sys.stderr)
         return 2
-    # A signal is for the run; what it cost so far is told once it has ended. Ctrl-C reaches it by itself.
+    # A signal is for the run; what it cost so far is printed once it has ended. Ctrl-C reaches it by itself.
     signal.signal(signal.SIGINT, lambda *_: None)
     for each in (signal.SIGTERM, signal.SIGHUP):
         signal.signal(each, lambda number, _: run.send_signal(number))

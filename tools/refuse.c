@@ -1,9 +1,9 @@
-/* Lets requests for memory of a program fail: the Nth alone, N from the variable REFUSE, or that and all behind it where
-   REFUSE_ON is set. Where the variable TOLD names a file, it is made once a request was refused.
+/* Lets requests for memory of a program fail: the Nth alone, N from the variable REFUSE, or that and all after it if
+   REFUSE_ON is set. If the variable TOLD names a file, it is made once a request is refused.
 
-   Where the variable WINDOWS is set, the program says by requests of two sizes, which no other request has, where its
-   requests count: from behind one of OPENS bytes up to one of CLOSES bytes, anew each time. The file TOLD then gets a
-   character for each such window: r where a request in it was refused, else g.
+   If the variable WINDOWS is set, the program says by requests of two sizes, which no other request has, where its
+   requests count: from after one of OPENS bytes up to one of CLOSES bytes, anew each time. The file TOLD then gets a
+   character for each such window: r if a request in it was refused, else g.
 
    To make a block smaller, or no larger than it is already, is no request for memory: it is never refused, nor counted.
 

@@ -3,13 +3,13 @@
 
     tools/refuse.py
 
-Calls: crates/tests_refusals makes each call of the libraries that wants memory, and tells how it ended. Under tools/refuse.c the
-first request of each call is refused, then the second and so on, until no call makes so many; once so that this request
-alone fails, and once so that all behind it in the call do. A call that was refused one has to answer 20, to leave all as
+Calls: crates/tests_refusals makes each call of the libraries that takes memory, and says how it ended. Under tools/refuse.c the
+first request of each call is refused, then the second and so on, until no call makes that many; once so that this request
+alone fails, and once so that all after it in the call do. A call that was refused one has to answer 20, to leave all as
 before, and to give what it gives when it is made again.
 
 The program: under tools/refuse.c the first request is refused, then the second and so on, until a run makes fewer requests; once
-so that this request alone fails, and once so that all behind it do. Devices: a full disk, a pipe that is closed, paths that
+so that this request alone fails, and once so that all after it do. Devices: a full disk, a pipe that is closed, paths that
 can't be read or made, and little room for addresses. A run ends with a status of the program's own, never by a signal; what
 it wrote is a prefix of its whole output; and its fault line is one that docs/use/refusals.md has. It prints counts, made by the
 run, and ends with 1 if something is wrong. It needs cc, and the programs: tools/refuse.sh builds them if they are missing.
@@ -41,7 +41,7 @@ BELL_SCRIPT = b"insert 2 X 1\nshow measurements\ndelete 0\nshow measurements\nsh
 
 
 class Run(NamedTuple):
-    """A run of the program, and the status that it ends with where nothing is refused."""
+    """A run of the program, and the status that it ends with if nothing is refused."""
 
     words: list[str]
     status: int = 0
@@ -98,9 +98,9 @@ def expect(holds, what):
 
 
 def look(done, words, whole, line):
-    """A run that was refused memory: it ended as if nothing had been refused, or with 1, a prefix and the line that tells of it.
+    """A run that was refused memory: it ended as if nothing had been refused, or with 1, a prefix and the line that reports it.
 
-    Of a circuit that is refused all the same, a prefix of what `check` explains and the line of its own fault will do too.
+    If a circuit is refused anyway, a prefix of what `check` explains and the line of its own fault will do too.
     """
     expect(done.returncode in (whole.returncode, 1), f"{words}: status {done.returncode}")
     if whole.returncode == 1:
@@ -108,7 +108,7 @@ def look(done, words, whole, line):
         expect(done.stderr in (line, whole.stderr), f"{words}: told {done.stderr!r}")
     elif done.returncode == whole.returncode:
         same = (done.stdout, done.stderr) == (whole.stdout, whole.stderr)
-        expect(same, f"{words}: other bytes, though the status tells of no refusal")
+        expect(same, f"{words}: other bytes, although the status is that of no refusal")
     else:
         expect(whole.stdout.startswith(done.stdout), f"{words}: what was written is no prefix")
         expect(done.stderr == line, f"{words}: told {done.stderr!r}")
@@ -137,7 +137,7 @@ def refuse_each(library: pathlib.Path, folder: pathlib.Path, it: Run, onwards: b
 
 
 def run_calls(library, folder, number, onwards):
-    """What the program of calls tells where this request of each call is refused, and for each call whether one was."""
+    """What the program of calls says if this request of each call is refused, and for each call whether one was."""
     told = folder / "told"
     told.unlink(missing_ok=True)
     names = {"LD_PRELOAD": str(library), "WINDOWS": "1", "REFUSE": str(number), "TOLD": str(told)}

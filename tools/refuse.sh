@@ -1,5 +1,5 @@
 #!/bin/sh
-# Runs tools/refuse.py on the built programs, which are proved and built first where they are missing or
+# Runs tools/refuse.py on the built programs, which are proved and built first if they are missing or
 # older than their sources. It needs cc and python3.
 set -eu
 top=$(CDPATH='' cd -- "$(dirname -- "$0")/.." && pwd)

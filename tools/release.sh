@@ -40,7 +40,7 @@ install_below() {
     install -D -m 644 completions/stabsim.bash "$1/share/bash-completion/completions/stabsim"
     install -D -m 644 completions/_stabsim "$1/share/zsh/$2/_stabsim"
     cp -R examples "$1/share/doc/stabsim/examples"
-    # Examples run the stabsim that stands beside their folder.
+    # Examples run the stabsim that is beside their folder.
     ln -s ../../../bin/stabsim "$1/share/doc/stabsim/stabsim"
     find "$1/share/doc/stabsim" -name __pycache__ -prune -exec rm -r {} +
 }

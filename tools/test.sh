@@ -1,11 +1,11 @@
 #!/bin/sh
 # Runs all tests: the gate, `rt ci`, and then, on the programs that it built, each further step. It ends
-# with the gate's last line, and with status 0 where the gate and each step passed.
+# with the gate's last line, and with status 0 if the gate and each step passed.
 set -u
 top=$(CDPATH='' cd -- "$(dirname -- "$0")/.." && pwd) || exit 2
 cd "$top" || exit 2
 
-# The steps behind the gate, a line each: a command, from the top of the repository. They run side by side, so many as there
+# The steps after the gate, a line each: a command, from the top of the repository. They run side by side, as many as there
 # are processors, and those that take longest begin first. What the gate printed is in the file $told/gate.
 steps='tools/check_shipped.py
 tools/try_release.py
@@ -28,7 +28,7 @@ tools/check_words.py
 tools/check_gates.py
 tools/check_pages.py'
 
-# Runs a step, before which its number stands, and keeps what it said and how it ended.
+# Runs a step, after its number, and keeps what it said and how it ended.
 run_step='
 number=${1%% *}
 status=0
@@ -44,7 +44,7 @@ trap 'rm -rf "$told"' EXIT
 ) | tee "$told/gate"
 status=$(cat "$told/status" 2>/dev/null || echo 2)
 if [ "$status" -ne 0 ]; then
-    echo "test: the gate failed, and the steps behind it were not run" >&2
+    echo "test: the gate failed, and the steps after it were not run" >&2
     tail -n 1 "$told/gate"
     exit "$status"
 fi

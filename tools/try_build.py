@@ -1,9 +1,9 @@
 #!/usr/bin/env python3
-"""Tries tools/build_program.py without the toolchain: which crates it takes when, what it tells, and what it makes of how rt ends.
+"""Tries tools/build_program.py without the toolchain: which crates it takes when, what it says, and what it makes of how rt ends.
 
     tools/try_build.py
 
-It prints the cases that went wrong, and ends with 1 where there is one.
+It prints the cases that went wrong, and ends with 1 if there is one.
 """
 
 import contextlib
@@ -24,7 +24,7 @@ CRATES = "app: top kit # the program\ntop: left right\nleft: low kit\n\nright: l
 IN_ORDER = {"low": [], "left": ["low"], "right": ["low"], "top": ["left", "right"], "app": ["top"]}
 # How many lines each crate has; the longest chain is low, right, top, app.
 LINES = {"low": 3, "left": 2, "right": 5, "top": 1, "app": 1, "other": 1}
-# An rt that notes its process, where it runs, its words, and which crates stand built beside that one; a library is built unless
+# An rt that notes its process, where it runs, its words, and which crates are built beside that one; a library is built unless
 # the variable holds an end of its own.
 RT = """#!/bin/sh
 built=$(cd .. && ls -d */out/rlib/stamp 2>/dev/null | cut -d / -f 1 | tr '\\n' ' ')
@@ -81,7 +81,7 @@ def try_order() -> None:
 
 
 def make_tree(folder: Path, built: list[str]) -> None:
-    """The crates, of which some libraries stand built."""
+    """The crates, of which some libraries are built."""
     (folder / "crates.txt").write_text(CRATES)
     for name, lines in LINES.items():
         (folder / "crates" / name / "src").mkdir(parents=True)
@@ -95,7 +95,7 @@ def make_tree(folder: Path, built: list[str]) -> None:
 
 
 def build(folder: Path, does: str) -> tuple[int, str, list[str]]:
-    """Builds `app` where rt does this for each library: the status, what is told, and the notes of rt."""
+    """Builds `app` if rt does this for each library: the status, what is printed, and the notes of rt."""
     path = f"{folder}:{os.environ['PATH']}"
     variables = {"PATH": path, "NOTES": str(folder / "notes"), "DOES": does}
     told = io.StringIO()
@@ -113,7 +113,7 @@ def calls_of(notes: list[str]) -> list[str]:
 
 
 def try_build(what: str, built: list[str], does: str, calls: list[str], status: int) -> None:
-    """Looks which calls of rt there are, and how the build ends; where it failed, what rt said is told."""
+    """Looks which calls of rt there are, and how the build ends; if it failed, what rt said is printed."""
     with tempfile.TemporaryDirectory() as name:
         folder = Path(name)
         make_tree(folder, built)
@@ -127,7 +127,7 @@ def try_build(what: str, built: list[str], does: str, calls: list[str], status: 
 
 
 def try_side_by_side() -> None:
-    """Builds all. The two crates in the middle wait for each other, one where it is and one in a copy."""
+    """Builds all. The two crates in the middle wait for each other, one in place and one in a copy."""
     both = 'case ${PWD##*/} in left | right) : >"$NOTES.${PWD##*/}"; while [ ! -e "$NOTES.left" ] || [ ! -e "$NOTES.right" ]; do sleep 0.1; done ;; esac'
     with tempfile.TemporaryDirectory() as name:
         folder = Path(name)

@@ -4,7 +4,7 @@
     tools/try_docs.sh [PAGE ...]
 
 A block that begins with ```sh is run by sh, which stops at the first command that fails, and one with ```python by the Python that
-runs this, with the package of python/; it is also the python3 of shell blocks. Where the next block of the page begins with ```output,
+runs this, with the package of python/; it is also the python3 of shell blocks. If the next block of the page begins with ```output,
 that is what is printed. A block that can't be run here begins with ```sh not-run and a reason.
 A program that was built here is copied, so that no page builds it anew.
 """

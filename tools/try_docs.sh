@@ -1,7 +1,7 @@
 #!/bin/sh
 # Runs the shell and Python blocks of the README and of docs/ in clean copies with the built program, and compares what they print with
 # what the pages show. With words it tries these pages alone. It needs git and python3, for docs/use/scaling.md GNU parallel, and for
-# docs/use/python.md a Python with numpy: where one is missing it says so and leaves the page out.
+# docs/use/python.md a Python with numpy: if one is missing, it says so and leaves the page out.
 set -eu
 tools=$(CDPATH='' cd -- "$(dirname -- "$0")" && pwd)
 "$tools/../stabsim" --version >/dev/null

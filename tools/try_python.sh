@@ -1,6 +1,6 @@
 #!/bin/sh
 # Runs the tests of the package python/, and those of tools/ on the program, its files and streams, with the program of the sources as
-# they are. Where no Python has what they want it says so, and skips them.
+# they are. If no Python has what they need, it says so, and skips them.
 set -eu
 tools=$(CDPATH='' cd -- "$(dirname -- "$0")" && pwd)
 if ! python=$("$tools/find_python.sh"); then

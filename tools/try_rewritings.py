@@ -3,10 +3,10 @@
 
     tools/try_rewritings.py
 
-What a gate is, is said by the definitions in Stim's list of gates: of a gate on one qubit which letters it makes of X and Z, with
-their signs; of a controlled one its two letters; of a square root its product. The lines are multiplied out, by the matrices of the
+The definitions in Stim's list of gates say what a gate is: for a gate on one qubit, which letters it makes of X and Z, with
+their signs; for a controlled one, its two letters; for a square root, its product. The lines are multiplied out, by the matrices of the
 oracle, and must be the same up to a phase; and the program must read them. It prints how many gates it tried and which went wrong,
-and ends with 1 where there is one.
+and ends with 1 if there is one.
 """
 
 import itertools

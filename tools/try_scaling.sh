@@ -4,7 +4,7 @@
 # and a Slurm of one node. On the way parts are killed, the program by its number and tasks by scancel; then the same
 # words run what is missing, and what is joined is compared with one run.
 # A way whose packages are missing is skipped, and it says so: parallel; openssh-server; slurmctld, slurmd, slurm-client
-# and munge of Debian, and for these and the server root. Whatever it starts it ends, by its number.
+# and munge of Debian, and for these and the server root. It ends whatever it starts, by its number.
 #   tools/try_scaling.sh [PROGRAM]
 set -eu
 top=$(CDPATH='' cd -- "$(dirname -- "$0")/.." && pwd)

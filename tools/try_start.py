@@ -89,7 +89,7 @@ class Tree:
             sum_ = hashlib.sha256((self.programs / f"stabsim-x86-64-{level}").read_bytes()).hexdigest()
             sums.append(f"stabsim-x86-64-{level} {sum_}")
         sources = subprocess.run([self.top / "tools/sum_sources.sh"], capture_output=True, text=True, check=True).stdout.strip()
-        write(self.programs / "shipped.txt", "\n".join([f"version {version}", f"sources {sources}", "toolchain none", *sums, ""]))
+        write(self.programs / "shipped.txt", "\n".join([f"version {version}", f"sources {sources}", "logic none", *sums, ""]))
 
     def command(self, name: str, text: str) -> None:
         write(self.bin / name, f"#!/bin/sh\n{text}\n")
@@ -212,7 +212,7 @@ def try_comparison(tree: Tree) -> None:
 
     def differences() -> list[str]:
         sources = check_shipped.said_by(tree.top / "tools/sum_sources.sh")
-        return check_shipped.differences(tree.programs, {"version": "0.1.0", "sources": sources, "toolchain": "none"}, built)
+        return check_shipped.differences(tree.programs, {"version": "0.1.0", "sources": sources, "logic": "none"}, built)
 
     expect("differences of what was shipped now", differences(), [])
     source = tree.top / "crates" / "stabsim" / "src" / "main.rt"

@@ -5,11 +5,11 @@
     tools/wrong_bodies.py --page
 
 GATE is a file with what `rt ci` or `rt must-fail` printed. A wrong body is an edit in a crate's folder
-`must-fail`, whose first line names a clause: `clause: value of Tableau::same_group`. It fails where another
-goal than that clause stopped the proof, or none that is told, where a body is not in GATE (of these crates,
-if some are named), and where the table of docs/trust/tested.md is stale. With --page it writes that table.
+`must-fail`, whose first line names a clause: `clause: value of Tableau::same_group`. It fails if a goal other
+than that clause stopped the proof, or none that is reported, if a body is not in GATE (of these crates,
+if some are named), and if the table of docs/trust/tested.md is stale. With --page it writes that table.
 
-A goal is told with its file and name. `returns-clause-LABEL` is what a function ensures by that clause;
+A goal is reported with its file and name. `returns-clause-LABEL` is what a function ensures by that clause;
 `returns` with no clause is its only one. Any other goal, as of a loop, of memory or of a call's `requires`,
 is no clause of a function.
 """
@@ -71,7 +71,7 @@ def labels_in_traits(function: str) -> list[str]:
 
 
 def function_at(lines: list[str], number: int) -> tuple[str, str, int]:
-    """The type, the name and the first line of the function that this line, or its attribute, stands in."""
+    """The type, the name and the first line of the function that this line, or its attribute, is in."""
     while lines[number].lstrip().startswith("#["):
         number += 1
     for start in range(number, -1, -1):
@@ -84,7 +84,7 @@ def function_at(lines: list[str], number: int) -> tuple[str, str, int]:
 
 
 def refused_in(crate: str, told: str) -> tuple[str, str, list[str], str] | None:
-    """The type, the name and the labels of the function whose goal is told, and that goal."""
+    """The type, the name and the labels of the function whose goal is reported, and that goal."""
     in_proofs, in_source = IN_PROOFS.match(told), IN_SOURCE.match(told)
     source = TOP / "crates" / crate / "src"
     if in_source:
@@ -98,20 +98,20 @@ def refused_in(crate: str, told: str) -> tuple[str, str, list[str], str] | None:
     files = ["/".join(modules[:end]) for end in range(len(modules), 0, -1)] + ["lib"]
     file = next(it for it in files if (source / f"{it}.rt").is_file())
     owner = "".join(modules[file.count("/") + 1 :])
-    # A type's calls may stand in files of its module's folder too.
+    # A type's calls may be in files of its module's folder too.
     for path in [source / f"{file}.rt", *sorted((source / file).glob("*.rt"))]:
         lines = path.read_text(encoding="utf-8").split("\n")
         for number, line in enumerate(lines):
             if re.match(rf" *(pub(\([^)]*\))? )?fn {function}\b", line):
                 found = function_at(lines, number)
-                # The proofs of a trait's impl stand under the names of type and trait in one.
+                # The proofs of a trait's impl are under the names of type and trait in one.
                 if owner.startswith(found[0]):
                     return *found[:2], labels(lines, number), in_proofs[2]
     return owner, function, [], in_proofs[2]
 
 
 def refuser(crate: str, told: str) -> Clause | str:
-    """The clause that refused a wrong body, or else what is told."""
+    """The clause that refused a wrong body, or else what is printed."""
     found = refused_in(crate, told)
     if not found:
         return told

@@ -3,8 +3,8 @@
 
     ./stabsim detect --shots 100000 --out_format b8 --in CIRCUIT | examples/scaling/count_ones.py BITS
 
-BITS is how many bits a shot has: `./stabsim check --in CIRCUIT` tells. It prints a line for each: its number and its
-count. Whatever the number of shots, it needs the memory of some of them.
+BITS is how many bits a shot has: `./stabsim check --in CIRCUIT` says. It prints a line for each: its number and its
+count. For any number of shots it needs the memory of some of them.
 """
 
 import sys
@@ -14,7 +14,7 @@ SHOTS_AT_A_TIME = 4096
 
 
 def add_ones(counts: list[int], shots: bytes, width: int) -> None:
-    """Adds the ones of whole shots of so many bytes; bit k is bit k % 8 of byte k // 8, the lowest first."""
+    """Adds the ones of whole shots of this many bytes; bit k is bit k % 8 of byte k // 8, the lowest first."""
     for place in range(width):
         for byte, times in Counter(shots[place::width]).items():
             for bit in range(8):

@@ -1,8 +1,8 @@
 #!/bin/sh
 #SBATCH --cpus-per-task=1
 # Joins the parts of a run that plan.sh laid out, in the order of their shots, to FOLDER/all.FORMAT. Words: the folder.
-# It asks first that each part is there and has the size, or the number of shots, that it must have; it tells each that
-# has not, and then ends with 1 and joins nothing.
+# It checks first that each part is there and has the size, or the number of shots, that it must have; it names each that
+# does not, and then ends with 1 and joins nothing.
 set -eu
 cd -- "$1"
 read -r command <command
@@ -24,7 +24,7 @@ length() {
     case $format in
     01 | b8) wc -c <"$1" ;;
     r8)
-        # A byte stands for so many zeros and, but for 255, a one behind them; a shot has one bit more than it shows.
+        # A byte stands for this many zeros and, except for 255, a one after them; a shot has one bit more than it shows.
         od -v -An -t u1 "$1" | awk -v bits="$bits" '
             { for (i = 1; i <= NF; i++) sum += $i + ($i < 255) }
             END { printf "%.10g\n", sum / (bits + 1) }'
@@ -33,7 +33,7 @@ length() {
     esac
 }
 
-# How long the file of so many shots must be.
+# How long the file of this many shots must be.
 wanted() {
     case $format in
     01) echo $(($1 * (bits + 1))) ;;

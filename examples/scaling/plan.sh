@@ -1,6 +1,6 @@
 #!/bin/sh
 # Lays out a run in parts in a folder, or finds the same run there, and prints the numbers of the parts that are missing.
-# Words: the circuit, the seed, how many shots, how many parts, the format, the folder; and behind these, where it is not
+# Words: the circuit, the seed, how many shots, how many parts, the format, the folder; and after these, if it is not
 # `sample`, the command with an option of its own: detect --append_observables.
 # The folder then has the circuit, its numbers (`numbers`), what each part runs (`command`), and a line for each part
 # (`parts`): its file, its first shot, and how many shots it has. Another run is refused there.
@@ -19,7 +19,7 @@ if [ "$parts" -lt 1 ] || [ "$shots" -gt $((parts * 1000000)) ]; then
     exit 2
 fi
 
-# Keeps what it reads as a file of the folder. Where there is one, it must say the same.
+# Keeps what it reads as a file of the folder. If there is one, it must say the same.
 keep() {
     cat >"$own"
     ln "$own" "$folder/$1" 2>/dev/null || cmp -s "$own" "$folder/$1" || {

@@ -2,8 +2,8 @@
 # Runs a circuit in parts as a Slurm array, a task for each, and joins them: the bytes of one run.
 # Try examples/scaling/slurm.sh examples/surface_code.stim 5 1000000 40 b8 parts
 # Words: those of plan.sh; the folder must be one that all machines of the cluster share. Called again, it submits the
-# parts that are missing, and those alone. The parts are joined once all tasks have ended well, and not where one failed.
-# It prints the number of the job that joins. STABSIM is the program. What a task tells is in the folder.
+# parts that are missing, and those alone. The parts are joined once all tasks have ended well, and not if one failed.
+# It prints the number of the job that joins. STABSIM is the program. What a task says is in the folder.
 set -eu
 here=$(CDPATH='' cd -- "$(dirname -- "$0")" && pwd)
 STABSIM=${STABSIM:-$(CDPATH='' cd -- "$here/../.." && pwd)/stabsim}

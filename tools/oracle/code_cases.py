@@ -1,9 +1,9 @@
 """Circuits of codes and dense random ones beside the oracle's rows, which reach any number of qubits.
 
-Of the circuits of stabsim.codes the rows say that each detector and the observable is 0 whatever the coins, that there are as many
-detectors as there should be, that the first line tells the right numbers, that each bit flip of a data qubit is seen by one or two
+For the circuits of stabsim.codes the rows say that each detector and the observable is 0 for all random bits, that there are as many
+detectors as there should be, that the first line says the right numbers, that each bit flip of a data qubit is seen by one or two
 detectors of the next round, or up to three in a colour code, and that bit flips from side to side are seen by the observable alone.
-Of these circuits, of the examples and of dense ones the program has to give what the rows say: which coins decide, each record,
+For these circuits, for the examples and for dense ones the program has to give what the rows say: which coins decide, each record,
 detector and observable as a sum of coins, which of them are deterministic, and what some faults flip.
 """
 
@@ -87,12 +87,12 @@ def dense(run: Program, dice: Random) -> Wrong:
 
 
 def told_of(text: str) -> list[int]:
-    """The numbers of steps and of records that the first line tells."""
+    """The numbers of steps and of records that the first line says."""
     return [int(it) for it in re.findall(r"(\d+) (?:steps|records)", text.split("\n")[0])]
 
 
 def memory(text: str, detectors: int) -> Wrong:
-    """A memory experiment is quiet, has this many detectors and one observable, and tells its numbers."""
+    """A memory experiment is quiet, has this many detectors and one observable, and says its numbers."""
     ran, items = run_of_text(text), items_of(text.encode())
     found = ran.bits(), len(ran.detectors), told_of(text)
     return difference(text.split("\n")[0], found, ([0] * (detectors + 1), detectors, list(numbers.summary(items)[:2])))
@@ -104,7 +104,7 @@ def memories() -> Iterator[Wrong]:
         checks = distance**2 - 1
         yield memory(codes.surface_code(distance, rounds), checks // 2 + checks * (rounds - 1) + checks // 2)
         yield memory(codes.repetition_code(distance, rounds), (distance - 1) * (rounds + 1))
-        # Of each letter there is a check for each gap, and those of Z speak at the start and at the end too.
+        # Each letter has a check for each gap, and those of Z speak at the start and at the end too.
         yield memory(codes.bacon_shor_code(distance, rounds), (distance - 1) * 2 * rounds)
     for distance, rounds in [(3, 1), (3, 4), (5, 2), (7, 2)]:
         # There are (3 d^2 - 3) / 8 faces, with two checks each.
@@ -113,7 +113,7 @@ def memories() -> Iterator[Wrong]:
 
 def errors(memory: Memory, data: Sequence[int], side: Sequence[int], most: int = 2) -> Wrong:
     """Bit flips between the first two rounds: one of any data qubit is seen by at least one detector of the second round and at
-    most so many, and by nothing else; those of a whole side are seen by the observable alone."""
+    most this many, and by nothing else; those of a whole side are seen by the observable alone."""
     lines = memory.text(3).split("\n")
     place = lines.index("REPEAT 2 {")
     first, each = (sum(line.startswith("DETECTOR") for line in part.lines) for part in (memory.head, memory.body))

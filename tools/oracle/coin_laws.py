@@ -1,6 +1,6 @@
 """Laws of tables of coins: what `coins` and `deterministic --explain` say, against runs with each coin turned.
 
-Of a small circuit the runs are over amplitudes, and the whole text of both commands is compared. Of a large one the program's own runs
+For a small circuit the runs are over amplitudes, and the whole text of both commands is compared. For a large one the program's own runs
 are compared: the bits of a run are those of the run with all coins 0, exclusive or the rows of the coins that are 1.
 """
 
@@ -10,8 +10,9 @@ from random import Random
 from . import formats, numbers
 from .faults import Bits
 from .making import Maker, small_circuit
+from .printing import arguments_text
 from .program_runs import Ended, Program, Wrong
-from .reading import Items, items_of
+from .reading import Block, Item, Items, items_of
 from .states import Amplitudes, Run
 
 # With how many lists of coins each coin is turned.
@@ -23,7 +24,7 @@ Row = tuple[int, list[int]]
 
 
 class Inconsistent(Exception):
-    """A coin that flips a bit for some coins and not for others: then the definitions would be wrong."""
+    """A coin that flips a bit for some random bits and not for others: then the definitions would be wrong."""
 
 
 def given(ran: Run[Amplitudes]) -> list[int]:
@@ -32,7 +33,7 @@ def given(ran: Run[Amplitudes]) -> list[int]:
 
 
 def coin_rows(bits: Bits, dice: Random) -> list[Row]:
-    """Each coin that decides, with 1 for each bit of a run that it flips, whatever the coins."""
+    """Each coin that decides, with 1 for each bit of a run that it flips, for all random bits."""
     lists = [[int(dice.random() < 0.5) for _ in bits.free] for _ in range(LISTS)]
     rows = []
     for coin in (number for number, free in enumerate(bits.free) if free):
@@ -46,11 +47,6 @@ def coin_rows(bits: Bits, dice: Random) -> list[Row]:
     return rows
 
 
-def coin_places(bits: Bits) -> list[tuple[int, str]]:
-    """For each coin number how many steps are in front of the one that takes it, and the path of its item."""
-    return [(number, path) for number, (path, step) in enumerate(bits.placed) if step[0] in ("collapse", "product")]
-
-
 def names(bits: Bits, records: int, flips: Sequence[int]) -> list[str]:
     """What a coin flips, as its line names it."""
     return [f"M{place}" if place < records else bits.name(place - records) for place, flip in enumerate(flips) if flip]
@@ -58,7 +54,7 @@ def names(bits: Bits, records: int, flips: Sequence[int]) -> list[str]:
 
 def coins_text(bits: Bits, rows: Sequence[Row], form: str | None) -> bytes:
     """What the command `coins` writes, by lines or in a format. In `dets` records are named too."""
-    places = coin_places(bits)
+    places = bits.coin_places()
     records = len(bits.run([]).records)
     out = []
     for coin, flips in rows:
@@ -72,18 +68,26 @@ def coins_text(bits: Bits, rows: Sequence[Row], form: str | None) -> bytes:
     return b"".join(out)
 
 
-def explained_text(bits: Bits, rows: Sequence[Row]) -> bytes:
+def coordinates_at(items: Items, path: str) -> list[str]:
+    """The coordinates of the detector at a path, as its line is printed; none for any other item."""
+    found: Items | Item = items
+    for place in path.split("/"):
+        found = (found.body if isinstance(found, Block) else found)[int(place)]
+    return [arguments_text(found).decode()] if found.name == "DETECTOR" and found.arguments else []
+
+
+def explained_text(bits: Bits, rows: Sequence[Row], items: Items) -> bytes:
     """What `deterministic --explain` writes."""
-    places = coin_places(bits)
+    places = bits.coin_places()
     ran = bits.run([])
     out = []
     for bit in range(len(ran.bits())):
         deciding = [coin for coin, flips in rows if flips[len(ran.records) + bit]]
         if not deciding:
             continue
-        number = bit - len(bits.paths)
-        path = bits.paths[bit] if number < 0 else next(path for path, step in bits.placed if step[:2] == ("observable", number))
-        out.append(" ".join([bits.name(bit), path, *(f"c{coin}@{places[coin][1]}" for coin in deciding)]).encode() + b"\n")
+        path = bits.path(bit)
+        coordinates = coordinates_at(items, path)
+        out.append(" ".join([bits.name(bit), path, *coordinates, *(f"c{coin}@{places[coin][1]}" for coin in deciding)]).encode() + b"\n")
     return b"".join(out)
 
 
@@ -105,7 +109,7 @@ def coins_turned(random: Random, run: Program) -> Wrong:
     form = random.choice([None, None, *formats.FORMATS])
     asked: list[tuple[list[str], bytes]] = [
         (["coins", *([] if form is None else ["--out_format", form])], coins_text(bits, rows, form)),
-        (["deterministic", "--explain"], explained_text(bits, rows)),
+        (["deterministic", "--explain"], explained_text(bits, rows, items)),
     ]
     for words, right in asked:
         answer = run(words, text)

@@ -4,7 +4,7 @@ What an error flips is found by runs with its letters put in and without them. A
 and what some of them flip together is found by runs too.
 """
 
-from collections.abc import Iterator, Sequence
+from collections.abc import Iterable, Iterator, Sequence
 from dataclasses import dataclass
 from itertools import combinations, product as all_of
 from random import Random
@@ -14,13 +14,16 @@ from .faults import FAULT_LISTS, Bits, Inconsistent, NotSure
 from .numbers import Step
 from .reading import Block, Items, Operation
 
-# Of how many errors the largest sets are that are tried.
+# How many errors the largest sets that are tried have.
 MOST_ERRORS = 4
 # How many sets are run with all their errors, to see that what they flip adds up.
 SETS_RUN = 3
 
 # A letter that flips the outcome of a measurement of a letter.
 FLIPS = {"X": "Z", "Y": "X", "Z": "X"}
+
+# The letters of X and Z that a letter is the product of.
+PARTS = {"X": "X", "Y": "XZ", "Z": "Z"}
 
 # A letter that is put in: how many steps are in front of it, the letter and the qubit.
 Placed = tuple[int, str, int]
@@ -39,7 +42,7 @@ class Error:
 @dataclass(frozen=True)
 class Asked:
     """Of which errors a distance is asked for, up to how many, and whether bits that are not sure are left out; `graphlike`: only of
-    those that flip at most two detectors."""
+    those that flip at most two detectors, after any other gave way to its parts."""
 
     everywhere: bool = False
     letters: str = "XYZ"
@@ -79,14 +82,14 @@ def products_at(path: str, letters: str, first: tuple[int, int], second: tuple[i
 
 
 def wrong_record(path: str, number: int, step: int, letter: str, qubit: int, resets: bool) -> Error:
-    """The record of a number by itself: a letter flips the outcome, and is taken back behind it unless the qubit is reset."""
+    """The record of a number by itself: a letter flips the outcome, and is taken back after it unless the qubit is reset."""
     flip = FLIPS[letter]
     back = () if resets else ((step + 1, flip, qubit),)
     return Error(step, path, f"M{number}", ((step, flip, qubit), *back))
 
 
 def errors_at(path: str, letters: str, number: int, records: int, step: Step) -> Iterator[Error]:
-    """The errors at a step of this number, with so many records in front."""
+    """The errors at a step of this number, with this many records in front."""
     kind = step[0]
     if kind == "gate":
         yield from letters_at(path, letters, number + 1, step[2])
@@ -135,8 +138,15 @@ def errors_marked(items: Items, letters: str) -> Iterator[Error]:
         number += len(numbers.steps_of(operation))
 
 
+def parts_of(error: Error) -> list[Error]:
+    """The X and the Z of each letter of an error, each an error by itself; a wrong record has none."""
+    if error.name.startswith("M"):
+        return []
+    return [error_of(error.path, [(before, part, qubit)]) for before, letter, qubit in error.letters for part in PARTS[letter]]
+
+
 def flipped(bits: Bits, placed: Sequence[Placed], sure: Sequence[bool]) -> int:
-    """The sure bits that letters flip together, bit i of the number being that of bit i."""
+    """The deterministic bits that letters flip together, bit i of the number being that of bit i."""
     steps: list[Step] = []
     for number in range(len(bits.steps) + 1):
         steps += [("gate", letter, qubit) for before, letter, qubit in placed if before == number]
@@ -155,7 +165,7 @@ def flipped(bits: Bits, placed: Sequence[Placed], sure: Sequence[bool]) -> int:
 class Distance:
     """The errors of a circuit, what each flips, and the smallest number of them that are unseen, if it is at most `MOST_ERRORS`.
 
-    `NotSure` if a bit is not sure, unless such bits are left out.
+    `NotSure` if a bit is not deterministic, unless such bits are left out.
     """
 
     def __init__(self, items: Items, asked: Asked) -> None:
@@ -165,9 +175,16 @@ class Distance:
         if not asked.sure_only and not all(self.sure):
             raise NotSure(self.bits.unsure_line(self.sure.index(False)))
         found = errors_everywhere(self.bits, asked.letters) if asked.everywhere else errors_marked(items, asked.letters)
-        rows = {error: flipped(self.bits, error.letters, self.sure) for error in found}
-        self.rows = {error: row for error, row in rows.items() if not asked.graphlike or self.is_graphlike(row)}
+        self.rows = self.rows_of(found)
+        if asked.graphlike:
+            whole = {error: row for error, row in self.rows.items() if self.is_graphlike(row)}
+            parts = self.rows_of(part for error in self.rows.keys() - whole.keys() for part in parts_of(error))
+            self.rows = whole | {error: row for error, row in parts.items() if self.is_graphlike(row)}
         self.least = self.least_unseen()
+
+    def rows_of(self, errors: Iterable[Error]) -> dict[Error, int]:
+        """What each error flips."""
+        return {error: flipped(self.bits, error.letters, self.sure) for error in errors}
 
     def is_graphlike(self, row: int) -> bool:
         """Whether a row has at most two detectors."""

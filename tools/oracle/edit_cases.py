@@ -23,7 +23,7 @@ EDITS = 20
 QUBITS = 4
 # What ends each random circuit, so that some edits are in front of a block of many rounds, and some in it.
 LONG_BLOCK = ["REPEAT 70 {", "X 3", "M 3", "}"]
-# A code of this distance has instructions of some forty qubits, and names so many qubits in all.
+# A code of this distance has instructions of some forty qubits, and names this many qubits in all.
 DISTANCE = 9
 ROUNDS = 12
 CODE_QUBITS = 188
@@ -95,7 +95,7 @@ def edited_circuits(run: Program, stride: int) -> Iterator[Wrong]:
 
 
 def pauli_edit(dice: Random, session: Session) -> tuple[str, str]:
-    """The path and the text of a Pauli gate on one qubit or two, at a random place of the items, or of a block's where that is one."""
+    """The path and the text of a Pauli gate on one qubit or two, at a random place of the items, or of a block's if that is one."""
     gate = " ".join([dice.choice("XYZ"), *(str(dice.randrange(CODE_QUBITS)) for _ in range(dice.randint(1, 2)))])
     blocks = [(place, item) for place, item in enumerate(session.items) if isinstance(item, Block)]
     if blocks and dice.random() < 2 / 3:

@@ -23,7 +23,7 @@ def twice_measured(random: Random, maker: Maker) -> list[str]:
 
 
 def marked_circuit(random: Random) -> bytes:
-    """The text of a circuit in which some detectors are sure and single qubits are marked, in blocks too."""
+    """The text of a circuit in which some detectors are deterministic and single qubits are marked, in blocks too."""
     maker = Maker(random, random.randint(5, 30))
     lines = []
     for _ in range(random.randint(1, 8)):
@@ -47,7 +47,7 @@ def shown(random: Random, run: Program, text: bytes, edit: bytes) -> Ended:
 
 
 def flipped(rows: Sequence[Sequence[str]], first: int) -> set[int]:
-    """The numbers of the bits that rows flip together, where observables begin at `first`."""
+    """The numbers of the bits that rows flip together, if observables begin at `first`."""
     found: set[int] = set()
     for row in rows:
         found ^= {int(name[1:]) + (first if name[0] == "L" else 0) for name in row[3:]}

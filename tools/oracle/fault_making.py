@@ -1,4 +1,4 @@
-"""Random circuits whose detectors and observables are mostly sure: steps by the grammar, and parities of records in which no coin is left."""
+"""Random circuits whose detectors and observables are mostly deterministic: steps by the grammar, and parities of records in which no coin is left."""
 
 from collections.abc import Sequence
 from random import Random
@@ -8,13 +8,13 @@ from .making import Maker
 from .reading import Refused, items_of
 from .states import Run
 
-# How many parities are tried on a circuit, half of them of records that are sure together, others by chance.
+# How many parities are tried on a circuit, half of them of records that are deterministic together, others by chance.
 TRIED = 16
 MOST_STEPS = 60
 
 
 class MarkingMaker(Maker):
-    """Writes marked places in the stead of most annotations, and more measurements."""
+    """Writes marked places in place of most annotations, and more measurements."""
 
     def line(self) -> str:
         if self.random.random() < 0.7:
@@ -39,7 +39,7 @@ def run_of_text(text: bytes) -> Run[rows.Rows]:
 
 
 def sure_sets(records: Sequence[int]) -> list[set[int]]:
-    """Sets of records, which are sums of coins, whose parity is sure, each by another record."""
+    """Sets of records, which are sums of coins, whose parity is deterministic, each by another record."""
     basis: dict[int, tuple[int, int]] = {}
     found = []
     for place, record in enumerate(records):
@@ -62,7 +62,7 @@ def parity_line(random: Random, lookbacks: Sequence[int] | None = None) -> str:
 
 
 def sure_line(random: Random, records: Sequence[int], before: Sequence[str]) -> str:
-    """A parity behind these lines that is sure, or where they end in a block, one by chance."""
+    """A parity after these lines that is deterministic, or, if they end in a block, one by chance."""
     try:
         count = numbers.summary(items_of("\n".join(before).encode()))[1]
     except Refused:
@@ -75,7 +75,7 @@ def sure_line(random: Random, records: Sequence[int], before: Sequence[str]) -> 
 
 
 def with_sure_parities(random: Random, lines: list[str]) -> list[str]:
-    """The lines with parities put in that are sure, as far as some are met by chance."""
+    """The lines with parities put in that are deterministic, as far as some are met by chance."""
     records = run_of_text("\n".join(lines).encode()).records
     for _ in range(TRIED):
         place = random.randint(0, len(lines))

@@ -12,7 +12,7 @@ from .numbers import Step
 from .reading import Block, Items
 from .states import Amplitudes, Run
 
-# How many free outcomes are tried with all their coins. Of more, each coin is tried alone, and some lists by chance.
+# How many free outcomes are tried with all their coins. If there are more, each coin is tried alone, and some lists by chance.
 MOST_FREE = 5
 SOME_LISTS = 20
 # With how many lists of coins each fault is run.
@@ -26,11 +26,11 @@ Fault = tuple[int, str, str, int]
 
 
 class NotSure(Exception):
-    """A detector or observable that is not the same for all coins: the line that names it."""
+    """A detector or observable that is not the same for all random bits: the line that names it."""
 
 
 class Inconsistent(Exception):
-    """A fault that flips a sure bit for some coins and not for others: then the definitions would be wrong."""
+    """A fault that flips a deterministic bit for some random bits and not for others: then the definitions would be wrong."""
 
 
 def placed_steps(items: Items, above: str = "") -> Iterator[Placed]:
@@ -45,7 +45,7 @@ def placed_steps(items: Items, above: str = "") -> Iterator[Placed]:
 
 
 def sites(step: Step, everywhere: bool) -> list[tuple[int, bool]]:
-    """The places for faults at a step: a qubit, and whether it is behind the step."""
+    """The places for faults at a step: a qubit, and whether it is after the step."""
     kind = step[0]
     if not everywhere:
         return [(step[2], False)] if step[:2] == ("gate", "I") else []
@@ -86,7 +86,7 @@ class Bits:
         return Run(Amplitudes(self.n), self.observables, self.steps if steps is None else steps, coins)
 
     def coin_lists(self) -> list[list[bool]]:
-        """Lists of coins that between them tell every bit that is not sure; all there are, where they are few."""
+        """Lists of coins that between them show every bit that is not deterministic; all there are, if they are few."""
         places = [place for place, free in enumerate(self.free) if free]
         chosen: list[list[int]]
         if len(places) <= MOST_FREE:
@@ -97,12 +97,12 @@ class Bits:
         return [[place in ones for place in range(len(self.free))] for ones in chosen]
 
     def sure(self) -> list[bool]:
-        """Of each bit whether it is the same for all coins that are tried."""
+        """For each bit whether it is the same for all random bits that are tried."""
         rows = [self.run(coins).bits() for coins in self.coin_lists()]
         return [len(set(column)) == 1 for column in zip(*rows)]
 
     def flipped(self, fault: Fault, sure: Sequence[bool]) -> list[bool]:
-        """Of each bit whether it is sure and the fault flips it."""
+        """For each bit whether it is deterministic and the fault flips it."""
         before, _, letter, qubit = fault
         steps = self.steps[:before] + [("gate", letter, qubit)] + self.steps[before:]
         dice = Random(before)
@@ -119,14 +119,26 @@ class Bits:
         """What dets calls a bit."""
         return f"D{bit}" if bit < len(self.paths) else f"L{bit - len(self.paths)}"
 
+    def path(self, bit: int) -> str:
+        """The path of the first item of a bit."""
+        number = bit - len(self.paths)
+        return self.paths[bit] if number < 0 else next(path for path, step in self.placed if step[:2] == ("observable", number))
+
+    def coin_places(self) -> list[tuple[int, str]]:
+        """For each coin number how many steps are in front of the one that takes it, and the path of its item."""
+        return [(number, path) for number, (path, step) in enumerate(self.placed) if step[0] in ("collapse", "product")]
+
+    def first_decider(self, bit: int) -> int:
+        """The number of the first coin that decides a bit that is not sure."""
+        zero = self.run([]).bits()[bit]
+        return next(coin for coin, free in enumerate(self.free) if free and self.run([0] * coin + [1]).bits()[bit] != zero)
+
     def unsure_line(self, bit: int) -> bytes:
-        """The line that names a bit that is not sure, where one is not wanted."""
-        named, path = f"detector {bit}", self.paths[bit] if bit < len(self.paths) else None
-        if path is None:
-            number = bit - len(self.paths)
-            named = f"observable {number}"
-            path = next(path for path, step in self.placed if step[:2] == ("observable", number))
-        return f"stabsim: {named}, item {path}, is not the same for all coins\n".encode()
+        """The line that names a bit that is not sure, if one is not wanted, and the first coin that decides it."""
+        named = f"detector {bit}" if bit < len(self.paths) else f"observable {bit - len(self.paths)}"
+        coin = self.first_decider(bit)
+        where = self.coin_places()[coin][1]
+        return f"stabsim: {named}, item {self.path(bit)}, is not the same for all coins: c{coin}@{where} decides it\n".encode()
 
 
 def deterministic(items: Items, form: str) -> bytes:
@@ -136,7 +148,7 @@ def deterministic(items: Items, form: str) -> bytes:
 
 
 def table(items: Items, layout: str | None, everywhere: bool, sure_only: bool) -> bytes:
-    """What the command `faults` writes; or `NotSure`, with the line that is told."""
+    """What the command `faults` writes; or `NotSure`, with the line that is printed."""
     bits = Bits(items)
     sure = bits.sure()
     if not sure_only and not all(sure):

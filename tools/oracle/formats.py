@@ -23,7 +23,7 @@ def r8(bits: Sequence[int]) -> bytes:
 
 
 def dets(bits: Sequence[int], detectors: int | None) -> bytes:
-    """Measurements where `detectors` is None, else so many detectors and then observables."""
+    """Measurements if `detectors` is None, else this many detectors and then observables."""
     words = ["shot"]
     for place, bit in enumerate(bits):
         if bit and detectors is None:

@@ -1,7 +1,7 @@
 """Laws that need no oracle of states: what must be the same by two ways through the program, at any size.
 
-A law is given random numbers and a way to run the program, which answers with status, output and what was told of a fault. It
-answers with what is wrong, or None; where its circuit is refused, it raises `Refused`, and nothing was compared.
+A law is given random numbers and a way to run the program, which answers with status, output and what was said of a fault. It
+answers with what is wrong, or None; if its circuit is refused, it raises `Refused`, and nothing was compared.
 """
 
 import re
@@ -94,7 +94,7 @@ def checked_as_run(random: Random, run: Program) -> Wrong:
 
 
 def apart(written: bytes, form: str, number: int) -> list[bytes]:
-    """What is written of so many shots of one circuit, shot by shot: in b8 each has as many bytes, in the others a line."""
+    """What is written of this many shots of one circuit, shot by shot: in b8 each has as many bytes, in the others a line."""
     if form == "b8":
         size = len(written) // number
         return [written[size * shot : size * shot + size] for shot in range(number)]
@@ -126,14 +126,14 @@ def shots_by_themselves(random: Random, run: Program) -> Wrong:
 
 
 def long_block(random: Random) -> tuple[int, bytes, bytes]:
-    """Qubits, a block whose rounds may come again, with lines before and behind it, and the same with the block written out."""
+    """Qubits, a block whose rounds may come again, with lines before and after it, and the same with the block written out."""
     maker = Maker(random, random.randint(1, 6))
     before = maker.lines(random.randint(0, 5))
     if random.random() < 0.7:
         maker.names = STILL
     first = maker.records
     body = maker.lines(random.randint(1, 6), 1)
-    # Now and then the block stands in another one, which has nothing else that makes a step.
+    # Now and then the block is in another one, which has nothing else that makes a step.
     outer = random.choice([1, 1, 1, random.randint(2, 20)])
     inner = random.randint(300, 1500) // outer
     rounds = outer * inner
@@ -150,7 +150,7 @@ def long_block(random: Random) -> tuple[int, bytes, bytes]:
 # What uses up a coin on one qubit.
 MEASURED = ["M", "MX", "MRY", "R"]
 
-# A block that changes nothing: where a circuit has one, no rounds are looked for that are written out.
+# A block that changes nothing: if a circuit has one, no written-out rounds are looked for.
 STILL_BLOCK = b"\nREPEAT 2 {\nI 0\n}\n"
 
 
@@ -179,7 +179,7 @@ def sessions_as_written_out(random: Random, run: Program) -> Wrong:
     session = Session(items_of(block), n)
     script = b""
     if random.random() < 0.5:
-        # Behind it all coins, and records but for a reset, have other numbers.
+        # After it all coins, and records except after a reset, have other numbers.
         script = f"insert {random.randint(0, len(session.items))} {random.choice(MEASURED)} {random.randrange(n)}\n".encode()
         play(session, script)
     script += edits(random, session, random.randint(0, 4))
@@ -195,7 +195,7 @@ def sessions_as_written_out(random: Random, run: Program) -> Wrong:
     return None
 
 
-# Lines that are refused wherever they stand, or where no block is open, or that leave one open.
+# Lines that are refused wherever they are, or if no block is open, or that leave one open.
 WRONG_LINES = ["M 5000", "H rec[-1]", "CX 1 1", "FOO 1", "DETECTOR rec[-0]", "}", "REPEAT 3 {", "MPP X1*X1", "REPEAT 0 {"]
 
 
@@ -212,7 +212,7 @@ def text_that_comes_again(random: Random) -> bytes:
     """A text of the same lines over and over, with others here and there, at times one that is refused."""
     maker = Maker(random, random.randint(2, 8))
     lines = maker.lines(random.randint(0, 300))
-    # At the greatest depth no block is made, so that a line by itself may stand anywhere.
+    # At the greatest depth no block is made, so that a line by itself may be anywhere.
     body = maker.lines(random.choice((3, 40, 100, 300, 700)), 3)
     for _ in range(max(2, 3000 // len(body))):
         lines += changed(random, maker, body)
@@ -244,7 +244,7 @@ NUMBER = re.compile(r"rec\[-\d+\]|\d+")
 
 
 def spread(text: bytes, places: Sequence[int]) -> bytes:
-    """A printed circuit, with the qubit q in the place that stands as number q."""
+    """A printed circuit, with the qubit q in the place of number q."""
 
     def moved(line: str) -> str:
         front = FRONT.match(line)
@@ -256,7 +256,7 @@ def spread(text: bytes, places: Sequence[int]) -> bytes:
 
 
 def spread_row(row: str, places: Sequence[int], length: int) -> str:
-    """A stabiliser with the letter of the qubit q in the place that stands as number q, of so many letters."""
+    """A stabiliser with the letter of the qubit q in the place of number q, of this many letters."""
     letters = ["_"] * length
     for letter, place in zip(row[1:], places):
         letters[place] = letter

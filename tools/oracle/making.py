@@ -103,7 +103,7 @@ def small_circuit(random: Random) -> bytes:
 
 
 def random_gates(random: Random, n: int, count: int) -> Gates:
-    """So many gates on n qubits, two at least, each by its name and targets."""
+    """This many gates on n qubits, two at least, each by its name and targets."""
     gates: Gates = []
     for _ in range(count):
         if random.random() < 0.4:

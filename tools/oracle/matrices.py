@@ -15,7 +15,7 @@ NOTHING = 1e-6
 
 
 def times(first: Matrix, second: Matrix) -> Matrix:
-    """The product of two matrices: what is done second stands first."""
+    """The product of two matrices: what is done second comes first."""
     return tuple(tuple(sum(a * b for a, b in zip(row, column)) for column in zip(*second)) for row in first)
 
 
@@ -54,7 +54,7 @@ def about_all(turn: int) -> Matrix:
 
 
 def controlled(control: str, letter: str) -> Matrix:
-    """The second letter where the first qubit is in the state of -1 of the first letter."""
+    """The second letter if the first qubit is in the state of -1 of the first letter."""
     halves = [scaled(0.5, plus(LETTERS["I"], scaled(sign, LETTERS[control]))) for sign in (1, -1)]
     return plus(beside(halves[0], LETTERS["I"]), beside(halves[1], LETTERS[letter]))
 

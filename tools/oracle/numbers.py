@@ -44,7 +44,7 @@ def records_of(step: Step) -> int:
 
 
 def summary(items: Iterable[Item]) -> tuple[int, int, int]:
-    """Steps, records, and how many records must stand before: all counted without unrolling."""
+    """Steps, records, and how many records must be before: all counted without unrolling."""
     steps = records = need = 0
     for item in items:
         if isinstance(item, Block):

@@ -1,4 +1,4 @@
-"""Runs of the program in cases that are tried one after another, and how a case that went wrong is told."""
+"""Runs of the program in cases that are tried one after another, and how a case that went wrong is reported."""
 
 import sys
 from collections.abc import Iterable
@@ -17,12 +17,12 @@ class Program(Protocol):
 
 
 def difference(what: str, found: object, wanted: object) -> Wrong:
-    """What is told of a case that went wrong."""
+    """What is printed about a case that went wrong."""
     return None if found == wanted else f"{what}: found {str(found)[:400]}, and not {str(wanted)[:400]}"
 
 
 def try_each(name: str, cases: Iterable[Wrong]) -> int:
-    """Tells of each case that went wrong, and how many there were, and gives a status."""
+    """Reports each case that went wrong, and how many there were, and gives a status."""
     tried = wrong = 0
     for told in cases:
         tried += 1

@@ -50,7 +50,7 @@ class Refused(Exception):
         self.line = line
 
     def told(self) -> bytes:
-        """What the program tells of it."""
+        """What the program says of it."""
         where = f"line {self.line}: " if self.line else ""
         return f"stabsim: {where}refused {self.number} {REFUSALS[self.number]}\n".encode()
 
@@ -88,7 +88,7 @@ def content_of(line: bytes) -> bytes:
 
 
 def cut(content: bytes) -> tuple[str, bytes, list[bytes], list[bytes], bool]:
-    """The name, the tag, the arguments, the words of the targets and whether `{` ends it; 11 where it has no shape."""
+    """The name, the tag, the arguments, the words of the targets and whether `{` ends it; 11 if it has no shape."""
     if content[0] not in LETTERS:
         raise Refused(11)
     at = 0
@@ -125,7 +125,7 @@ def split_arguments(text: bytes) -> list[bytes]:
 
 
 def check_arguments(name: str, arguments: list[bytes]) -> int | None:
-    """The number of an observable, or None; 2 where the arguments do not suit the name."""
+    """The number of an observable, or None; 2 if the arguments do not suit the name."""
     if name in WITH_COORDINATES:
         if not all(a and all(byte in COORDINATE_BYTES for byte in a) for a in arguments):
             raise Refused(2)
@@ -157,7 +157,7 @@ def record_of(word: bytes) -> int:
 
 
 def product_of(word: bytes) -> list[tuple[str, int, bool]]:
-    """The factors of a product, each a letter, a qubit and whether `!` stands before it."""
+    """The factors of a product, each a letter, a qubit and whether `!` is before it."""
     factors = []
     for part in word.split(b"*"):
         inverted = part.startswith(b"!")
@@ -229,9 +229,9 @@ def meaning_of(content: bytes) -> Item | str | None:
 
 
 def items_of(text: bytes, alone: bool = False) -> Items:
-    """The items that a text stands for; its first fault, with its line, where it stands for none.
+    """The items that a text stands for; its first fault, with its line, if it stands for none.
 
-    Where one item alone is asked for, a further one is refused where it begins, and so is a text without any.
+    If only one item is asked for, a further one is refused where it begins, and so is a text without any.
     """
     if len(text) > MOST_BYTES:
         raise Refused(14)

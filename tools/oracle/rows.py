@@ -27,7 +27,7 @@ class String:
         return ((self.x & other.z).bit_count() + (self.z & other.x).bit_count()) % 2 == 1
 
     def negative(self) -> int:
-        """The sum that is 1 where the sign of its letters is -."""
+        """The sum that is 1 if the sign of its letters is -."""
         turns = (self.turns - (self.x & self.z).bit_count()) % 4
         assert turns in (0, 2)
         return self.sign ^ turns // 2
@@ -102,5 +102,5 @@ def run_of(items: Sequence[Item], steps: Sequence[Step] | None = None) -> Run[Ro
 
 
 def value(sum_: int, coins: int) -> int:
-    """A sum where coin k is bit k of a number."""
+    """A sum if coin k is bit k of a number."""
     return (sum_ & 1) ^ (sum_ >> 1 & coins).bit_count() % 2

@@ -46,7 +46,7 @@ def edit_lines(random: Random, session: Session) -> list[str]:
 
 
 def spoilt(random: Random, line: str) -> str:
-    """A line with a word too many, a word misspelt, or spacing and a comment round it."""
+    """A line with a word too many, a word misspelt, or spacing and a comment around it."""
     return random.choice((line + " 0", line.upper(), line[1:], "  " + line + "\t# why", line.replace(" ", "  ", 1), ""))
 
 
@@ -112,7 +112,7 @@ def script(random: Random, session: Session) -> bytes:
 
 
 def edits(random: Random, session: Session, count: int) -> bytes:
-    """So many edits, and splits in a framed session, and nothing shown: of a session too large to be run by the oracle."""
+    """This many edits, and splits in a framed session, and nothing shown: of a session too large to be run by the oracle."""
     lines: list[str] = []
     played = Script(session)
     for _ in range(count):

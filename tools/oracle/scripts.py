@@ -46,7 +46,7 @@ def first_word(text: bytes) -> tuple[bytes, bytes]:
 
 
 def block_at(items: Items, place: int) -> Block:
-    """The block in a place: 12 and 17 where there is none."""
+    """The block in a place: 12 and 17 if there is none."""
     if place >= len(items):
         raise Refused(12)
     block = items[place]
@@ -155,7 +155,7 @@ class Session:
             self.replies.append(b"ready 1 " + self.numbers())
 
     def reply(self, text: bytes) -> None:
-        """A reply that is no refusal, with its number of lines before it where it is framed."""
+        """A reply that is no refusal, with its number of lines before it if it is framed."""
         lines = text.count(b"\n")
         self.replies.append(b"ok %d\n%b" % (lines, text) if self.framed else text)
 

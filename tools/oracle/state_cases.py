@@ -1,8 +1,8 @@
 """States beside amplitudes on the first and the last of up to 1,024 qubits, and beside strings that are known by heart.
 
 The other qubits stay zero, so the four amplitudes of the two say which of their 32 signed strings stabilise, the reduced rows of the
-whole state, and each outcome, free or fixed. Each gate is tried so on each letter and on either sign, there and back; some states on
-sizes round those at which words and blocks of words end, some of them after edits that a Pauli frame leads on, and some in shots that
+whole state, and each outcome, free or fixed. Each gate is tried like this on each letter and on either sign, there and back; some states on
+sizes around those at which words and blocks of words end, some of them after edits that a Pauli frame leads on, and some in shots that
 are run together; and on some each letter and each string is measured, with either coin. Then there are states of many qubits whose
 rows and outcomes follow from one line.
 """
@@ -58,7 +58,7 @@ SEED = 5
 
 
 def written(lines: list[str], size: int) -> bytes:
-    """Lines with the numbers of the first and the last of so many qubits in the places of F and L."""
+    """Lines with the numbers of the first and the last of this many qubits in the places of F and L."""
     numbered = [[name, *(it.replace("F", "0").replace("L", str(size - 1)) for it in rest)] for name, *rest in map(str.split, lines)]
     return "".join(" ".join(line) + "\n" for line in numbered).encode()
 
@@ -73,12 +73,12 @@ def bits(row: Sequence[int]) -> str:
 
 
 def strings_on(size: int) -> list[str]:
-    """The strings on the two qubits; where they are one, those with a first letter alone."""
+    """The strings on the two qubits; if they are one, those with only a first letter."""
     return [letters for letters in STRINGS if size > 1 or letters[1] == "I"]
 
 
 def rows_of(pair: Run[Amplitudes], size: int) -> list[str]:
-    """The reduced rows of so many qubits, all but the two of which are zero: of these only Z on the last has a later lead."""
+    """The reduced rows of this many qubits, all except two of which are zero: of these only Z on the last has a later lead."""
     rows = [("+-"[sign], letters) for sign, letters in pair.state.reduced_rows() if letters in strings_on(size)]
     spread = [sign + letters[0] + "_" * (size - 2) + letters[1] * (size > 1) for sign, letters in rows]
     zeros = ["+" + "_" * qubit + "Z" + "_" * (size - qubit - 1) for qubit in range(1, size - 1)]
@@ -164,7 +164,7 @@ def shots(run: Program, size: int) -> Iterator[Wrong]:
 
 
 def together(run: Program, size: int) -> Wrong:
-    """All qubits in X together, but for a phase flip on the first and a flip of the second."""
+    """All qubits in X together, except for a phase flip on the first and a flip of the second."""
     lines = f"H 0\nCX {' '.join(f'0 {qubit}' for qubit in range(1, size))}\nZ 0\nX 1\n"
     rows = ["-" + "X" * size]
     rows += ["+-"[qubit == 1] + "_" * qubit + "Z" + "_" * (size - qubit - 2) + "Z" for qubit in range(size - 1)]
@@ -172,7 +172,7 @@ def together(run: Program, size: int) -> Wrong:
 
 
 def products(run: Program, size: int) -> Wrong:
-    """Of zeros X on all qubits is measured with the coin 1, and then Z and Y with 0 and 1. Where the number of qubits is even, the two
+    """On zeros, X on all qubits is measured with the coin 1, and then Z and Y with 0 and 1. If the number of qubits is even, the two
     commute with it, Z stays 0, and Y is the product of both, with a sign for each two qubits; else both are free."""
     strings = ["*".join(f"{letter}{qubit}" for qubit in range(size)) for letter in "XZY"]
     records = "101" if size % 2 else f"10{1 ^ size // 2 % 2}"

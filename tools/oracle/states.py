@@ -20,12 +20,12 @@ FLIPS = {"X": "Z", "Y": "X", "Z": "X"}
 
 
 class State(Protocol):
-    """What a run stands on: qubits that begin as zeros."""
+    """What a run works on: qubits that begin as zeros."""
 
     def gate(self, name: str, qubits: tuple[int, ...]) -> None: ...
 
     def flip(self, letter: str, qubit: int, outcome: int) -> None:
-        """Applies a letter where the outcome is 1."""
+        """Applies a letter if the outcome is 1."""
 
     def measure(self, factors: Factors, coin: int) -> tuple[int, bool]:
         """Measures a product of letters: its outcome, and whether the coin decided."""

@@ -1,4 +1,4 @@
-"""Where the tools are that the tests take, and how long a test may take: a reply that is held back would be waited for without end."""
+"""Where the tools are that the tests use, and how long a test may take: a reply that is held back would be waited for without end."""
 
 import pathlib
 import signal

@@ -1,4 +1,4 @@
-"""Runs of the program for tests, and what it tells of what is wrong."""
+"""Runs of the program for tests, and what it says about what is wrong."""
 
 import os
 import pathlib

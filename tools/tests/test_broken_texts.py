@@ -48,12 +48,12 @@ CUT_BY_HAND = {
 }
 
 SCRIPT = "show measurements\ninsert 1 H 0\nshow measurements\n"
-# The replies where its reads fail after from so many bytes up to so many.
+# The replies if its reads fail after a number of bytes, from the first of these up to the second.
 BROKEN = [(0, 17, ""), (18, 30, "1\n"), (31, 48, "1\nok\n"), (49, 49, "1\nok\n0\n")]
 
 
 def told_by_the_rules(text: str) -> str:
-    """What is told of a circuit that is refused, by the oracle."""
+    """What is said about a circuit that is refused, by the oracle."""
     try:
         numbers.check(items_of(text.encode()))
     except Refused as refused:

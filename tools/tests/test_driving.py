@@ -9,7 +9,7 @@ from running import PROGRAM, TIME_LIMIT
 
 sys.path.insert(0, str(TOP / "examples"))
 
-import drive_edit  # noqa: E402: it stands in a place that was named above
+import drive_edit  # noqa: E402: it is in a place that was named above
 
 DRIVEN = """\
 X 0 flips detectors [2] and observables []

@@ -2,7 +2,7 @@
 
 An older file of --out keeps what it held until there is something to write; a file that is read is never written; a closed stream
 fails by itself and hands its number to no file; coins come from a file; a table of faults that is empty is explained; and a terminal
-is told which command says more of a circuit that is refused.
+gets the name of the command that says more of a circuit that is refused.
 """
 
 import os
@@ -102,7 +102,7 @@ def test_faults_says_that_no_place_is_marked(tmp_path: pathlib.Path, circuit: pa
     assert run(words) == (0, "", NO_MARKS)
     assert run([*words, "--out_format", "dets"]) == (0, "", NO_MARKS)
     assert (run([*words, "--out", out]), out.read_text()) == ((0, "", NO_MARKS), "")
-    # But not where all places are asked for, nor of faults of no byte.
+    # But not if all places are asked for, nor for faults without a byte.
     assert run([*words, "--everywhere"]) == (0, "1 0 X0 D0\n1 0 Z0\n1 1 X0 D0\n1 1 Z0\n2 1 X0\n2 1 Z0\n", "")
     circuit.write_text("R 0\nI 0\nM 0\n")
     assert run(words) == (0, "1 1 X0\n1 1 Z0\n", "")
@@ -189,7 +189,7 @@ def test_a_file_gives_more_coins_than_a_word_may_have(circuit: pathlib.Path, coi
 
 
 def on_terminal(words: list[str | pathlib.Path], given: str) -> str:
-    """What a run tells on a terminal as its error output."""
+    """What a run says on a terminal as its error output."""
     held, end = pty.openpty()
     try:
         subprocess.run([PROGRAM, *words], input=given.encode(), stdout=subprocess.DEVNULL, stderr=end, timeout=TIME_LIMIT, check=False)
