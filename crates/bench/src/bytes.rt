@@ -7,7 +7,7 @@ use std::alloc::{AllocError, Global};
 use std::num::nearest_usize_to_f64;
 use std::time::CpuClock;
 
-/// The best of so many rounds counts, since other programs disturb the rest.
+/// The best of this many rounds counts, since other programs disturb the rest.
 const ROUNDS: u32 = 9;
 
 /// Two lines of bytes, as the plain loop takes them.
@@ -17,7 +17,7 @@ struct BytePair {
     ghost same_length: { length source.items ≡ length target.items },
 }
 
-// Written out, so that to a proof a pair that is let go is one call.
+// Written out, so that a proof sees the drop of a pair as one call.
 impl Drop for BytePair {
     fn drop(self) {
         let BytePair {
@@ -64,7 +64,7 @@ pub fn nanoseconds<R: CpuClock + AllocGlobal>(rt: &R, n: usize) -> Result<f64, F
     Ok(least * 1e9 / nearest_usize_to_f64(passes) / nearest_usize_to_f64(n))
 }
 
-/// The seconds of so many passes over all pairs.
+/// The seconds of this many passes over all pairs.
 fn time_of_round<R: CpuClock>(
     rt: &R,
     pairs: &mut [BytePair],

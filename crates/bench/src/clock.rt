@@ -2,8 +2,8 @@
 use super::failure::Failure;
 use std::time::{CpuClock, Duration};
 
-/// The processor time so far, where the system gives it. That it does not is told by `since`, so that what
-/// is timed may end early at one place less.
+/// The processor time so far, if the system gives it. `since` reports if it does not, so that what
+/// is timed has one place fewer at which it may end early.
 pub fn now<R: CpuClock>(rt: &R) -> Option<Duration> {
     match rt.thread_cpu_time() {
         Ok(time) => Some(time),

@@ -4,17 +4,17 @@ use super::failure::Failure;
 /// A number with the width of its column and its decimals.
 pub type Cell = (f64, usize, usize);
 
-/// Words, and a number behind them with its decimals.
+/// Words, and a number after them with its decimals.
 pub type Part<'a> = (&'a str, f64, usize);
 
-/// Prints a line of numbers, each set right in its column behind a space, and behind them a name.
+/// Prints a line of numbers, each set right in its column after a space, and after them a name.
 pub fn print_row<R: Print>(rt: &R, cells: &[Cell], name: &str) -> Result<(), Failure> {
     print_cells(rt, cells)?;
     println!(rt; "  {name}")?;
     Ok(())
 }
 
-/// Prints numbers, each set right in its column behind a space.
+/// Prints numbers, each set right in its column after a space.
 pub fn print_cells<R: Print>(rt: &R, cells: &[Cell]) -> Result<(), Failure> {
     for cell in cells {
         let (number, width, decimals) = *cell;

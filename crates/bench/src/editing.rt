@@ -6,7 +6,7 @@ use std::alloc::Global;
 use std::num::nearest_usize_to_f64;
 use std::time::CpuClock;
 
-/// The best of so many edits counts, since other programs disturb the rest.
+/// The best of this many edits counts, since other programs disturb the rest.
 const EDITS: u32 = 20;
 
 /// How many rounds of eight items are written out.

@@ -23,7 +23,7 @@ pub enum Failure {
     Circuit(#[from] Fault),
 }
 
-// What `main` ends with is printed so: as a sentence.
+// What `main` ends with is printed in this way: as a sentence.
 impl fmt::Debug for Failure {
     fn fmt<W: fmt::Write>(&self, f: &mut fmt::Formatter<W>) -> fmt::Result {
         fmt::Display::fmt(self, f)

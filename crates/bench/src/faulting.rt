@@ -10,7 +10,7 @@ use std::num::nearest_usize_to_f64;
 use std::rt::Files;
 use std::time::{CpuClock, Duration};
 
-/// The best of so many tables counts, since other programs disturb the rest.
+/// The best of this many tables counts, since other programs disturb the rest.
 const TABLES: u32 = 3;
 
 /// How many faults the session is asked for, at places that lie evenly between the items.
@@ -23,7 +23,7 @@ struct Table {
     seconds: f64,
 }
 
-/// What a line of the output tells of a circuit: its steps, its table of faults, and the seconds in
+/// What a line of the output says of a circuit: its steps, its table of faults, and the seconds in
 /// which a session answers what some faults flip.
 #[derive(Clone, Copy)]
 struct Measured {
@@ -109,7 +109,7 @@ fn timed_table<R: CpuClock + AllocGlobal>(rt: &R, circuit: &Circuit) -> Result<T
     made_since(rt, start, table.len())
 }
 
-/// A table of so many faults, the making of which was begun at a time.
+/// A table of this many faults, which was begun at a time.
 fn made_since<R: CpuClock>(
     rt: &R,
     start: Option<Duration>,

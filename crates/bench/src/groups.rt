@@ -11,7 +11,7 @@ use std::alloc::Global;
 use std::num::nearest_usize_to_f64;
 use std::time::CpuClock;
 
-/// The best of so many rounds counts, since other programs disturb the rest.
+/// The best of this many rounds counts, since other programs disturb the rest.
 const ROUNDS: u32 = 9;
 
 /// How the second of two states differs from the first, which is scrambled.
@@ -178,7 +178,7 @@ fn time_of_comparison<R: CpuClock>(
     Ok(least * 1e9 / nearest_usize_to_f64(calls))
 }
 
-/// The seconds of so many comparisons.
+/// The seconds of this many comparisons.
 fn time_of_round<R: CpuClock>(
     rt: &R,
     first: &mut Tableau,

@@ -22,7 +22,7 @@
 //! - `faulting`: tables of all faults, each beside a session that is asked for some of them.
 //! - `walking`: the times of a cursor over the steps of a circuit.
 //!
-//! It is proved safe, and nothing is claimed of the times.
+//! It is proved safe, and nothing is claimed about the times.
 #![tactic(auto)]
 
 mod bytes;
@@ -66,7 +66,7 @@ fn measure<R: CpuClock + Files + AllocGlobal + Print>(
     Ok(())
 }
 
-/// Measures what a word asks for, with the words behind it.
+/// Measures what a word asks for, with the words after it.
 fn measure_by<R: CpuClock + Files + AllocGlobal + Print>(
     rt: &R,
     word: &str,

@@ -18,10 +18,10 @@ DETECTOR(1, 0) rec[-2] rec[-4]\nDETECTOR(3, 0) rec[-1] rec[-3]\n";
 /// How many rounds are written: eight steps and 120 bytes each.
 const ROUNDS: u32 = 100_000;
 
-/// The best of so many readings counts, since other programs disturb the rest.
+/// The best of this many readings counts, since other programs disturb the rest.
 const READINGS: u32 = 5;
 
-/// A long circuit text: four measurements, and then so many rounds.
+/// A long circuit text: four measurements, and then this many rounds.
 pub fn long_text(alloc: Global, rounds: u32) -> Result<Vec<u8>, AllocError> {
     let mut text = Vec::from_slice(alloc, b"M 0 0 0 0\n")?;
     for _ in 0..rounds {

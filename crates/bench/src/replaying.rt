@@ -10,17 +10,17 @@ use std::num::nearest_usize_to_f64;
 use std::rt::Files;
 use std::time::{CpuClock, Duration};
 
-/// The best of so many edits counts, since other programs disturb the rest.
+/// The best of this many edits counts, since other programs disturb the rest.
 const EDITS: u32 = 5;
 
-/// Copies of the state are kept at most so many steps apart.
+/// Copies of the state are kept at most this many steps apart.
 const STRIDE: usize = 8192;
 
 /// What ends the line of a circuit, with the headings of the table of its edits.
 const HEADINGS: &str = " MiB
      place  line      edit ms  of a run  faster than reading and running     steps    framed";
 
-/// Which of the hundred parts of the outermost list an edit stands at the end of.
+/// Which of the hundred parts of the outermost list an edit is at the end of.
 const PARTS: [usize; 3] = [1, 50, 99];
 
 /// The seconds of an edit, and how many steps it carried out and how many a frame went over.
@@ -92,7 +92,7 @@ fn print_session<R: CpuClock + Files + AllocGlobal + Print>(
     print_edits(rt, &mut session, flip, whole)
 }
 
-/// Prints what it took to open a session, which was begun at a time with so many MiB held.
+/// Prints what it took to open a session, which was begun at a time with this many MiB held.
 fn print_opening<R: CpuClock + Files + AllocGlobal + Print>(
     rt: &R,
     session: &Session<SeedCoins>,
@@ -213,7 +213,7 @@ fn timed_edit<R: CpuClock + AllocGlobal>(
     })
 }
 
-/// How many MiB of memory the program holds, as Linux tells.
+/// How many MiB of memory the program holds, as Linux says.
 fn resident<R: Files + AllocGlobal>(rt: &R) -> Result<f64, Failure> {
     let told = running::text_of_file(rt, "/proc/self/statm")?;
     Ok(nearest_usize_to_f64(second_number(told.as_slice())) / 256.0)

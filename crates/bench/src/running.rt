@@ -12,7 +12,7 @@ use std::num::nearest_usize_to_f64;
 use std::rt::Files;
 use std::time::CpuClock;
 
-/// The best of so many runs counts, since other programs disturb the rest.
+/// The best of this many runs counts, since other programs disturb the rest.
 const RUNS: u32 = 5;
 
 /// The numbers of a circuit without edits, and its processor times in milliseconds.

@@ -41,7 +41,7 @@ fn join_with_stride(tableau: &mut Tableau, stride: usize)
     }
 }
 
-/// The qubit that is a stride after another, where the last of n is followed by the first.
+/// The qubit that is a stride after another, if the last of n is followed by the first.
 pub fn after(qubit: usize, stride: usize, n: usize) -> usize
     requires qubit_in_range { qubit < n }
     requires stride_in_range { stride < n }

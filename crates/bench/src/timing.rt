@@ -10,7 +10,7 @@ use std::alloc::Global;
 use std::num::nearest_usize_to_f64;
 use std::time::CpuClock;
 
-/// The best of so many rounds counts, since other programs disturb the rest.
+/// The best of this many rounds counts, since other programs disturb the rest.
 const ROUNDS: u32 = 9;
 
 /// How many nanoseconds of processor time a call of a work takes on n qubits, by the best of several
@@ -81,7 +81,7 @@ fn time_of_passes<R: CpuClock + AllocGlobal>(
     clock::since(rt, start)
 }
 
-/// Does a work once on each of the first so many qubits.
+/// Does a piece of work once on each of the first qubits, this many of them.
 fn perform_on_first(
     alloc: Global,
     tableau: &mut Tableau,

@@ -10,7 +10,7 @@ use std::alloc::Global;
 use std::num::nearest_usize_to_f64;
 use std::time::CpuClock;
 
-/// The best of so many walks over all steps counts, since other programs disturb the rest.
+/// The best of this many walks over all steps counts, since other programs disturb the rest.
 const WALKS: u32 = 5;
 
 /// How many cursors are made, each at a step of its own.
@@ -77,7 +77,7 @@ fn time_of_at<R: CpuClock + AllocGlobal>(rt: &R, circuit: &Circuit) -> Result<f6
     Ok(clock::since(rt, start)? * 1e9 / f64::from(CURSORS))
 }
 
-/// Makes a cursor at a step, counted round the circuit's steps.
+/// Makes a cursor at a step, counted around the circuit's steps.
 fn begin(alloc: Global, circuit: &Circuit, place: usize) -> Result<(), Refusal>
     requires checked { check_of (circuit_items circuit.now) ≡ None }
 {

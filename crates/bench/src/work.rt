@@ -9,7 +9,7 @@ pub enum Work {
     PairGate(PairGate),
     /// The measurement of Z on a qubit.
     Measure,
-    /// Whether the outcome of Z on a qubit is fixed, and which it is, where it is fixed.
+    /// Whether the outcome of Z on a qubit is fixed, and which it is if it is fixed.
     FixedLetter,
     /// The gate H and then the measurement of Z, which it makes free, on a qubit apart from all others.
     FreeApart,
@@ -27,7 +27,7 @@ pub struct TimedWork {
     pub work: Work,
     /// Whether it starts from the zero state, and not from a scrambled one.
     pub from_zeros: bool,
-    /// How many calls a round has, in passes over the qubits; one pass, where it has fewer than qubits.
+    /// How many calls a round has, in passes over the qubits; one pass if it has fewer calls than qubits.
     pub calls: usize,
     /// On how many qubits it is done, the first ones.
     pub qubits: usize,

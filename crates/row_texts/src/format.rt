@@ -1,4 +1,4 @@
-//! Rows as they stand in a file.
+//! Rows as they are in a file.
 ghost use Rattle.std.specs.Prelude.{◌<◌, vec_len, IfOk, All};
 
 use crate::row::WorkedRow;
@@ -74,7 +74,7 @@ fn with_words(rows: Vec<WorkedRow>) -> Result<Vec<WorkedRow>, Unread>
     }
 }
 
-/// Takes a line into the rows, and says what an indented line behind it belongs to.
+/// Takes a line into the rows, and says what an indented line after it belongs to.
 fn take_line(
     alloc: Global,
     rows: &mut Vec<WorkedRow>,
@@ -112,7 +112,7 @@ fn take_into(alloc: Global, row: &mut WorkedRow, place: Place, line: &str) -> Re
     Ok(next)
 }
 
-/// Takes a field into a row, but for the texts that it may have.
+/// Takes a field into a row, except the texts that it may have.
 fn take_field(
     alloc: Global,
     row: &mut WorkedRow,
@@ -150,7 +150,7 @@ fn on_failing(value: &str) -> Result<bool, Wrong> {
     Err(Wrong("the devices of a row are `failing`, or not told"))
 }
 
-/// Puts a line behind the text that is open.
+/// Puts a line after the text that is open.
 fn push_text(alloc: Global, row: &mut WorkedRow, place: Place, line: &str) -> Result<(), Wrong> {
     match place {
         Place::Circuit => match row.circuits.last_mut() {

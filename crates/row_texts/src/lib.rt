@@ -1,4 +1,4 @@
-//! Rows: worked examples of what stabsim is asked and what it must write, as they stand in a file.
+//! Rows: worked examples of what stabsim is asked and what it must write, as they are in a file.
 //!
 //! - `row`: a row, and whether bytes are what it wants.
 //! - `text`: the texts of a row, with escapes, and bytes in hexadecimal.
@@ -9,8 +9,8 @@
 //!
 //! Source: this project's own.
 //!
-//! Proved: bytes that are taken for what a row wants are those that it tells, where it tells them and not
-//! parts alone; each row that is read has words, so it is run.
+//! Proved: bytes that are accepted as what a row wants are those that it says, if it says them all and not
+//! only parts; each row that is read has words, so it is run.
 #![tactic(auto)]
 
 mod format;

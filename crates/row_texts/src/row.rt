@@ -23,7 +23,7 @@ pub struct WorkedRow {
     pub on_failing_devices: bool,
 }
 
-// Written out, so that to a proof a row that is let go is one call, and not one for each of its parts.
+// Written out, so that a proof sees the drop of a row as one call, and not one for each of its parts.
 impl Drop for WorkedRow {
     fn drop(self) {
         let WorkedRow {
@@ -75,7 +75,7 @@ impl Wanted {
         }
     }
 
-    /// Whether an output has what is wanted. The bytes may differ only where parts are told alone.
+    /// Whether an output has what is wanted. The bytes may differ only if the row gives only parts.
     pub fn is_met(&self, found: &[u8]) -> bool
         ensures same { IsTrue result → vec_len self.now.parts ≡ 0 → found.now ≡ self.now.bytes.items }
     {

@@ -4,7 +4,7 @@ use hex::FromHex;
 use std::alloc::Global;
 use std::fmt::{self, Display, Formatter, Write};
 
-/// Puts a line and its line end behind a text, or where it begins with `\*` and a number its rest so many
+/// Puts a line and its line end after a text, or, if it begins with `\*` and a number, its rest that many
 /// times.
 pub(crate) fn push_line(alloc: Global, text: &mut Vec<u8>, line: &str) -> Result<(), Wrong> {
     if let Some(repeated) = line.strip_prefix("\\*") {
@@ -15,7 +15,7 @@ pub(crate) fn push_line(alloc: Global, text: &mut Vec<u8>, line: &str) -> Result
     Ok(())
 }
 
-/// Puts what stands behind a number so many times behind a text.
+/// Puts what follows a number that many times after a text.
 fn push_repeated(alloc: Global, text: &mut Vec<u8>, repeated: &str) -> Result<(), Wrong> {
     let (digits, part) = repeated.split_once(' ').unwrap_or((repeated, ""));
     let mut bytes = Vec::new(alloc);
@@ -33,7 +33,7 @@ pub(crate) fn number_of(digits: &str) -> Result<usize, Wrong> {
         .map_err(|_| Wrong("this is no number"))
 }
 
-/// Puts a part behind a text: `\` and two hexadecimal digits stand for a byte, and all else for itself.
+/// Puts a part after a text: `\` and two hexadecimal digits stand for a byte, and all else for itself.
 fn push_part(text: &mut Vec<u8>, part: &str) -> Result<(), Wrong> {
     let mut pieces = part.split('\\');
     if let Some(first) = pieces.next() {
@@ -45,7 +45,7 @@ fn push_part(text: &mut Vec<u8>, part: &str) -> Result<(), Wrong> {
     Ok(())
 }
 
-/// Puts the byte that the first two digits stand for behind a text, and then the rest.
+/// Puts the byte that the first two digits stand for after a text, and then the rest.
 fn push_escaped(text: &mut Vec<u8>, piece: &[u8]) -> Result<(), Wrong> {
     let (digits, rest) = piece.split_at(piece.len().min(2));
     text.push(byte_of(digits)?)?;
@@ -53,7 +53,7 @@ fn push_escaped(text: &mut Vec<u8>, piece: &[u8]) -> Result<(), Wrong> {
     Ok(())
 }
 
-/// Puts the bytes that pairs of hexadecimal digits stand for behind others.
+/// Puts the bytes that pairs of hexadecimal digits stand for after others.
 pub(crate) fn push_bytes(bytes: &mut Vec<u8>, digits: &str) -> Result<(), Wrong> {
     for pair in digits.split_whitespace() {
         bytes.push(byte_of(pair.as_bytes())?)?;

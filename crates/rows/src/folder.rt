@@ -40,7 +40,7 @@ impl Display for Sums {
     }
 }
 
-/// Runs the rows of each file of a folder whose name ends in `.rows`, and tells of those that fail.
+/// Runs the rows of each file of a folder whose name ends in `.rows`, and reports those that fail.
 pub(crate) fn run_folder(rt: &HostRuntime, folder: &str) -> io::Result<Sums> {
     let mut sums = Sums {
         files: 0,
@@ -74,7 +74,7 @@ fn run_file(rt: &HostRuntime, entry: &DirEntry, sums: &mut Sums) -> io::Result<(
     }
 }
 
-/// Runs rows, which stand in a file of this name.
+/// Runs rows, which are in a file of this name.
 fn run_rows(rt: &HostRuntime, name: &str, rows: &[WorkedRow], sums: &mut Sums) -> io::Result<()> {
     for row in rows {
         sums.rows = sums.rows.saturating_add(1);

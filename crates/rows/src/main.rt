@@ -1,4 +1,4 @@
-//! The program `rows`: runs the worked examples that stand as text in `data/`, each a row of what
+//! The program `rows`: runs the worked examples that are text in `data/`, each a row of what
 //! stabsim is asked and what it must write. `data/README` says how a row is written.
 //!
 //! What a row is, and how rows are read, is `row_texts`'.
@@ -7,11 +7,11 @@
 //! - `trial`: all the runs of a row, and where one differs from it.
 //! - `folder`: the files of a folder, and the sums of their rows.
 //!
-//! All is told on standard error. The status is 1 where a row failed, a file is not rows, or there
+//! All reports go to standard error. The status is 1 if a row failed, a file is not rows, or there
 //! was no row at all.
 //!
-//! Proved: a run that is taken for what its row wants has its status, and its bytes where the row tells
-//! them and not parts alone.
+//! Proved: a run that is accepted as what its row wants has its status, and its bytes if the row says
+//! them all and not only parts.
 #![tactic(auto)]
 
 mod folder;

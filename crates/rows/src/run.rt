@@ -60,7 +60,7 @@ pub(crate) struct Ended {
     pub(crate) status: u8,
 }
 
-// Written out, so that to a proof a value that is let go is one call, and not one for each of its parts.
+// Written out, so that a proof sees the drop of a value as one call, and not one for each of its parts.
 impl Drop for Ended {
     fn drop(self) {
         let Ended {
@@ -83,9 +83,9 @@ impl Ended {
             && row.status == self.status
     }
 
-    /// Whether this is what the same run must come to over these devices, where it came to `whole` over
-    /// good ones: refusal 15 with nothing written where a read fails, 16 with as much as there is room for
-    /// where the output does, and the same status however little is told.
+    /// Whether this is what the same run must come to over these devices, if it came to `whole` over
+    /// good ones: refusal 15 with nothing written if a read fails, 16 with as much as there is room for
+    /// if the output does, and the same status however little is reported.
     pub(crate) fn follows(&self, whole: &Ended, devices: Devices) -> bool {
         let (out, err) = (whole.out.bytes(), whole.err.bytes());
         let written = begin_of(out, devices.room);
@@ -108,7 +108,7 @@ impl Ended {
     }
 }
 
-/// At most so many bytes from the front.
+/// At most this many bytes from the front.
 fn begin_of(bytes: &[u8], count: usize) -> &[u8] {
     bytes.split_at(count.min(bytes.len())).0
 }

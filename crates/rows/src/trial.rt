@@ -52,9 +52,9 @@ struct Trial<'a, 'b> {
 
 /// Runs a row until a run is not what it wants.
 ///
-/// There are runs for each line of words and each circuit, or on the empty circuit where there is
-/// none: with and without the last line end of the circuit, and of the script, and where the row says
-/// so over devices that fail.
+/// There are runs for each line of words and each circuit, or on the empty circuit if there is
+/// none: with and without the last line end of the circuit, and of the script, and, if the row says
+/// so, over devices that fail.
 pub(crate) fn first_difference(
     alloc: Global,
     row: &WorkedRow,
@@ -131,7 +131,7 @@ impl<'a, 'b> Trial<'a, 'b> {
         Ok(None)
     }
 
-    /// Devices that never fail, but for an output whose room the row tells.
+    /// Devices that never fail, except an output with the room that the row says.
     fn good(self) -> Devices {
         Devices {
             room: self.row.room,
@@ -162,7 +162,7 @@ impl<'a, 'b> Trial<'a, 'b> {
         Ok(None)
     }
 
-    /// The same among those whose devices fail at this place, where a run over good ones ends so.
+    /// The same among those whose devices fail at this place, if a run over good ones ends in this way.
     fn difference_at(
         self,
         place: usize,

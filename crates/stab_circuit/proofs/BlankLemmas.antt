@@ -1,4 +1,4 @@
--- The lines of items but for blank ones: what they are, and that blanks make no fault.
+-- The lines of items except blank ones: what they are, and that blanks make no fault.
 use Rattle.std.proofs.Common.{◌≡◌, refl, ap, sym, ◌∙◌, subst, ℕ, ◌+◌, suc, List, [], ◌∷◌, ◌++◌, Bool, true, false, nat_lt, length, Option, None, Some, Ok, Err, append_assoc, arith, if◌then◌else◌}
 use Rattle.stab_io.specs.declared.refusal.Refusal.{Refusal}
 use Rattle.stab_io.specs.declared.refusal.Refusal.TheVariants.{TooDeep}
@@ -17,7 +17,7 @@ lines_of done = []
 lines_of (next op rest) = Ok (line.Operation op) ∷ lines_of rest
 lines_of (block count tag body rest) = Ok (Open count tag) ∷ (lines_of body ++ Ok Close ∷ lines_of rest)
 
--- these stand for the items, and so they do with a blank line behind them
+-- these stand for the items, and so they do with a blank line after them
 pub lines_join : (xs : Items) → Joins (lines_of xs) xs
 lines_join done = nothing
 lines_join (next op rest) = operation_line (lines_join rest)

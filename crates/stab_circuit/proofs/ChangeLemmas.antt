@@ -25,7 +25,7 @@ with_set : (xs : List OneItem) (b : ℕ) (x : OneItem) (r : Result OneItem Refus
 with_set xs b x (Ok y) = ap Ok (set-set xs b x y)
 with_set xs b x (Err r) = refl
 
--- first one change and then another is a third one, where that is so of each list
+-- first one change and then another is a third one, if that holds for each list
 then_changed : (f g h : ListChange) → ((xs ys : List OneItem) → f xs ≡ Ok ys → g ys ≡ h xs) → (bs : List ℕ) (xs ys : List OneItem) → changed_in f bs xs ≡ Ok ys → changed_in g bs ys ≡ changed_in h bs xs
 then_changed f g h law [] xs ys e = law xs ys e
 then_changed f g h law (b ∷ bs) xs ys e =
@@ -123,7 +123,7 @@ split_parts round (b ∷ bs) place xs count tag body found lt = by_item (slice_g
     by_item (Some (operation op)) f same = absurd (cc)
     by_item (Some (repeat c t inside)) f same = ap (λ r. with_item b xs (rebuilt c t r)) (same (entries inside) f)
 
--- the last part put in the stead of the block, and each one before it put in there, are a split
+-- the last part put in place of the block, with each one before it put in there, are a split
 pub replaced_by_last : (place : Path) (x : OneItem) (xs ys : List OneItem) → edited (Replace place x) xs ≡ Ok ys → changed_in (parts_at place.place (x ∷ [])) place.blocks xs ≡ Ok ys
 replaced_by_last place x xs ys e =
     sym (same_changed (changed (Replace place x)) (parts_at place.place (x ∷ [])) (λ l. one_part place x l) place.blocks xs) ∙ (sym (edit_changed (Replace place x) place.blocks xs) ∙ e)

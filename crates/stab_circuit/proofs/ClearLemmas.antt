@@ -1,4 +1,4 @@
--- Deletions by way of an item that stands for nothing: it is put in the stead of the one to be deleted, and then deleted.
+-- Deletions by way of an item that stands for nothing: it is put in place of the one to be deleted, and then deleted.
 use Rattle.std.proofs.Common.{◌≡◌, refl, ap, sym, ◌∙◌, ℕ, ◌+◌, suc, max, Bool, true, false, List, [], ◌∷◌, ◌++◌, length, take, drop, set, arith, nat_lt, if◌then◌else◌, Option, Some, None, Result, Ok, Err, ◌⊎◌, inl, inr}
 use Rattle.std.proofs.lemmas.List.{length-take-le}
 use Rattle.std.specs.List.{remove}
@@ -17,7 +17,7 @@ use Rattle.stab_items.proofs.SummaryLemmas.{past_named-join}
 use Rattle.stab_circuit.proofs.EditLemmas.{listed-entries, steps-append, if_ok, changed_split, got_split, rebuilds}
 use Rattle.stab_circuit.proofs.UndoLemmas.{around, old_parts, new_parts, old_inner, edited_new, edited_old, deleted, replace-retaken}
 
--- what is known of a list by its parts stays the same where an item is deleted that adds nothing to it
+-- what is known of a list by its parts stays the same if an item is deleted that adds nothing to it
 module _ {A : Type 0} (known : List OneItem → A) (plus : A → A → A) (parts : (xs ys : List OneItem) → known (xs ++ ys) ≡ plus (known xs) (known ys))
     (x : OneItem) (adds_nothing : (a : A) → plus (known (x ∷ [])) a ≡ a)
     (block : (count : ℕ) (tag : List ℕ) (us vs : List OneItem) → known us ≡ known vs → known (repeat count tag (listed us) ∷ []) ≡ known (repeat count tag (listed vs) ∷ [])) where
@@ -116,7 +116,7 @@ alike : (x : OneItem) (bs : List ℕ) (at : Path) (xs : List OneItem) → Alike 
 alike x [] at xs = alike_if (nat_lt at.place (length xs)) (set xs at.place x) (remove xs at.place)
 alike x (b ∷ bs) at xs = alike_inside x bs at b xs (slice_get xs b) (alike x bs at)
 
--- an item that was put in the stead of another is deleted as the other would have been
+-- an item that was put in place of another is deleted as the other would have been
 
 if_true : {A : Type 0} (c : Bool) (a b : A) → c ≡ true → (if c then a else b) ≡ a
 if_true true a b e = refl
@@ -146,7 +146,7 @@ delete-instead_in x (b ∷ bs) at xs ys e =
 pub delete-instead : (x : OneItem) (at : Path) (xs ys : List OneItem) → edited (Replace at x) xs ≡ Ok ys → edited (Delete at) ys ≡ edited (Delete at) xs
 delete-instead x at xs ys e = delete-instead_in x at.blocks at xs ys e
 
--- so the verdict on a deletion is that on putting an item that stands for nothing in the other's stead
+-- so the verdict on a deletion is that on replacing the other by an item that stands for nothing
 
 verdict_alike : (n : ℕ) (x : OneItem) → IsNothing x → (at : Path) (xs : List OneItem) (a b : Result (List OneItem) Refusal)
     → edited (Replace at x) xs ≡ a → edited (Delete at) xs ≡ b → Alike a b → list_verdict n a ≡ list_verdict n b

@@ -93,7 +93,7 @@ pub taken_within : (edit : Edit) (bs : List ℕ) (x : OneItem) (xs : List OneIte
 taken_within edit bs (operation op) xs e h = absurd h
 taken_within edit bs (repeat n tag body) xs e h = ap (λ y. taken_in edit bs (inner (Some y))) e ∙ ap (taken_in edit bs) (entries-listed xs)
 
--- the block is as before where its items are
+-- the block is as before if its items are
 pub unchanged_within : (r : Result (Option OneItem) Edit) (x z : OneItem) (xs ys : List OneItem) → x ≡ with_body xs x → z ≡ with_body ys x → OnErr r (ys ≡ xs) → OnErr r (z ≡ x)
 unchanged_within (Ok u) x z xs ys e f k = k
 unchanged_within (Err c) x z xs ys e f k = f ∙ ap (λ l. with_body l x) k ∙ sym e

@@ -21,7 +21,7 @@ use Rattle.stab_circuit.proofs.ChangeLemmas.{got_set}
 depth-around : (front back : List OneItem) (x : OneItem) → depth (listed (front ++ x ∷ back)) ≡ max (depth (listed front)) (max (depth_of x) (depth (listed back)))
 depth-around front back x = depth-append front (x ∷ back) ∙ ap (λ n. max (depth (listed front)) n) (depth-before x (listed back))
 
--- an item in the stead of one as deep
+-- an item in place of one that is as deep
 in_stead : (front back : List OneItem) (x y : OneItem) → depth_of x ≤ depth_of y → depth (listed (front ++ x ∷ back)) ≤ depth (listed (front ++ y ∷ back))
 in_stead front back x y h = omega (arith, depth-around front back x, depth-around front back y)
 
@@ -122,7 +122,7 @@ insert_allowed at x y xs e d h = no_deeper_allowed (edited (Insert at x) xs) xs 
 pub replace_allowed : (at : Path) (x y : OneItem) (xs : List OneItem) → item_at at xs ≡ Ok y → depth_of x ≡ depth_of y → depth (listed xs) ≤ 16 → edit_refusal (Replace at x) xs ≡ None
 replace_allowed at x y xs e d h = no_deeper_allowed (edited (Replace at x) xs) xs (replace_no_deeper at x y xs e (omega (arith, d))) h
 
--- what an edit puts in stands at its place
+-- what an edit puts in is at its place
 put_in_blocks : (edit : Edit) (place : ℕ) (x : OneItem)
     → ((us vs : List OneItem) → changed edit us ≡ Ok vs → slice_get vs place ≡ Some x)
     → (bs : List ℕ) (xs ys : List OneItem) → edited_in edit bs xs ≡ Ok ys → item_in bs place ys ≡ Ok x

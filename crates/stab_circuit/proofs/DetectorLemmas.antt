@@ -1,4 +1,4 @@
--- Detectors that stand next on a walk are taken together.
+-- Detectors that are next on a walk are taken together.
 use Rattle.std.proofs.Common.{◌≡◌, refl, sym, ◌∙◌, ap, ℕ, ◌+◌, zero, suc, true, List, [], ◌∷◌, ◌++◌, length, take, drop, map, Option, Some, None, arith}
 use Rattle.std.proofs.lemmas.List.{drop-drop, length-map}
 use Rattle.std.specs.List.{list_all}
@@ -33,7 +33,7 @@ detector_steps (x ∷ xs) e =
     ∙ ap (λ l. l ++ unroll (listed xs)) (detector_step x (lookbacks_at x) (found (detector_of x) (all_front x xs e)))
     ∙ ap (λ l. detector (lookbacks_at x) ∷ l) (detector_steps xs (all_behind x xs e))
 
--- the front of a part of a list, and what is behind it
+-- the front of a part of a list, and what is after it
 front_of_part : {X : Type 0} (n m : ℕ) (ys : List X) → ys ≡ take n (take m ys) ++ drop (length (take n (take m ys))) ys
 front_of_part zero m ys = refl
 front_of_part (suc n) zero ys = refl

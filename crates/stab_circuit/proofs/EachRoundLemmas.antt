@@ -1,4 +1,4 @@
--- An edit changes each round: what it takes out, and what it puts in, stands before the same pieces.
+-- An edit changes each round: what it takes out, and what it puts in, come before the same pieces.
 use Rattle.std.proofs.Common.{◌≡◌, ◌<◌, refl, ap, sym, ◌∙◌, subst, ℕ, ◌+◌, ◌-◌, suc, zero, List, [], ◌∷◌, ◌++◌, length, take, drop, arith, append_assoc, append-nil, Some, Ok}
 use Rattle.std.proofs.lemmas.List.{length-append, length-take-le, take_at, drop_at, take-take, drop-set-lt}
 use Rattle.std.specs.Prelude.{slice_get}
@@ -34,7 +34,7 @@ up_to_suc (x ∷ xs) (suc p) =
 up_to_item : (xs : List OneItem) (p : ℕ) → steps (take (p + 1) xs) ≡ steps (take p xs) ++ item_steps (slice_get xs p)
 up_to_item xs p = ap (λ n. steps (take n xs)) (sym (next_place p)) ∙ up_to_suc xs p
 
--- what an edit takes out stands at its place
+-- what an edit takes out is at its place
 
 taken_stands : (edit : Edit) (xs : List OneItem) → steps (take (behind_taken edit) xs) ≡ steps (take (edit_path edit).place xs) ++ item_steps (taken_at edit xs)
 taken_stands (Insert at x) xs = sym (append-nil (steps (take at.place xs)))
@@ -45,7 +45,7 @@ stands_before : (edit : Edit) (bs : List ℕ) (xs : List OneItem) → HaveRounds
 stands_before edit [] xs h = taken_stands edit xs
 stands_before edit (b ∷ bs) xs h = (h.0, stands_before edit bs (inner (slice_get xs b)) h.1)
 
--- what an edit puts in stands there
+-- what an edit puts in is there
 
 steps_put : (edit : Edit) → steps (put_in edit) ≡ item_steps (put_item edit)
 steps_put (Insert at x) = refl
@@ -83,7 +83,7 @@ module _ (edit : Edit) (b : ℕ) (bs : List ℕ) (xs ys : List OneItem) (r : Reb
   pub same_back : drop (b + 1) ys ≡ drop (b + 1) xs
   same_back = ap (drop (b + 1)) r.same ∙ drop-set-lt (b + 1) xs b (repeat r.count r.tag (listed r.within)) (omega arith)
 
--- what an edit puts in stands in each round, before what stood there
+-- what an edit puts in is in each round, before what was there
 
 stands_behind : (edit : Edit) (bs : List ℕ) (xs ys : List OneItem) → edited_in edit bs xs ≡ Ok ys → HaveRounds bs xs → Stands (item_steps (put_item edit)) (behind_put edit) bs (edit_path edit).place ys
 stands_behind edit [] xs ys e h = put_stands edit xs ys e

@@ -176,7 +176,7 @@ edit_same edit (b ∷ bs) xs ys e =
 edit_before : (edit : Edit) (old new : List OneItem) → edited edit old ≡ Ok new → take (first_changed edit old) (steps old) ≡ take (first_changed edit old) (steps new)
 edit_before edit old new e = same_taken (steps_before (edit_path edit) old) (steps old) (steps new) (edit_same edit (edit_path edit).blocks old new e)
 
--- an edit leaves the items behind the outermost one around its place
+-- an edit leaves the items after the outermost one around its place
 left_behind : (edit : Edit) (bs : List ℕ) (xs ys : List OneItem) → edited_in edit bs xs ≡ Ok ys
     → drop (outermost (behind_taken edit) bs) xs ≡ drop (outermost (behind_put edit) bs) ys
 left_behind edit [] xs ys e = changed_behind edit xs ys e

@@ -25,7 +25,7 @@ use Rattle.stab_circuit.proofs.EditLemmas.{if_ok, steps-append}
 use Rattle.stab_circuit.proofs.SpliceLemmas.{edited_spliced, splice_within}
 use Rattle.stab_circuit.proofs.JudgementLemmas.{summed_around, judged_within}
 
--- what is true is true where a call answers Ok
+-- what is true is true if a call answers Ok
 pub on_ok : {A E : Type 0} {P : Type 0} (r : Result A E) → P → OnOk r P
 on_ok (Ok x) h = h
 on_ok (Err e) h = tt

@@ -20,7 +20,7 @@ use Rattle.stab_items.proofs.SummaryLemmas.{check_judged}
 use Rattle.stab_circuit.proofs.EditLemmas.{if_ok, lt_holds, rebuilds}
 use Rattle.stab_circuit.proofs.SpliceLemmas.{edited_spliced}
 
--- blocks are nested at most 16 deep where they are so by the summary
+-- blocks are nested at most 16 deep if they are so by the summary
 pub result_shallow : (q : Result (List OneItem) Refusal) (t : Summary) → Ok t ≡ summed q → t.depth ≤ 16 → IsShallow q
 result_shallow (Ok ys) t e deep = let same : t ≡ summary_of (listed ys) = cc in omega (arith, deep, ap (λ s. s.depth) same)
 result_shallow (Err r) t e deep = absurd (cc)
@@ -85,7 +85,7 @@ no_want v r edit e h =
     let both : Some r ≡ None = sym e ∙ h in
     absurd (cc)
 
--- what refuses an edit whatever the circuit that it leaves refuses it on n qubits
+-- what refuses an edit for any circuit that it leaves refuses it on n qubits
 refused_too : (n : ℕ) (q : Result (List OneItem) Refusal) (r : Refusal) → list_refusal q ≡ Some r → list_verdict n q ≡ Some r
 refused_too n (Err s) r e = e
 refused_too n (Ok ys) r e = by_depth (nat_lt 16 (depth (listed ys))) e

@@ -28,7 +28,7 @@ pub length-lines_of : (fs : List OpenBlock) → length (lines_of fs) ≡ length 
 length-lines_of [] = refl
 length-lines_of (f ∷ fs) = ap suc (length-lines_of fs)
 
--- how reading goes on where a block is opened, if it is
+-- how reading goes on after a block is opened, if it is
 opens_agree : (n c : ℕ) (t : List ℕ) (fs : List OpenBlock) (now : Items) (ms : List Meaning) (b : Bool) (rest : Option Fault)
     → fault_of (read_on (n + 1) (state (open_block n c t now ∷ fs) done) ms) ≡ rest
     → fault_of (elim (if b then Ok (state (open_block n c t now ∷ fs) done) else Err TooDeep) [ Ok s ↦ read_on (n + 1) s ms | Err r ↦ Err (at_line n r) ]) ≡ (if b then rest else Some (at_line n TooDeep))

@@ -1,4 +1,4 @@
--- Finer rounds: a block whose steps are the rounds of one block in it comes to so many more rounds of that one's steps.
+-- Finer rounds: a block whose steps are the rounds of one block in it comes to this many more rounds of that one's steps.
 use Rattle.std.proofs.Common.{◌≡◌, ◌<◌, refl, ap, sym, ◌∙◌, subst, ℕ, ◌+◌, ◌*◌, zero, suc, Bool, true, false, nat_lt, nat_eq, if◌then◌else◌, Option, Some, None, List, [], ◌∷◌, ◌++◌, length, arith, append_assoc, append-nil}
 use Rattle.std.proofs.lemmas.List.{length-append}
 use Rattle.stab_items.specs.Items.{Items, done, next, block}
@@ -60,7 +60,7 @@ nothing : (xs : List Step) → length xs ≡ 0 → xs ≡ []
 nothing [] e = refl
 nothing (x ∷ xs) e = absurd (omega (arith, e))
 
--- and no others, where these are as many
+-- and no others, if these are as many
 no-others : (ss mid : List Step) → HasAmong ss mid → length mid ≡ length ss → mid ≡ ss
 no-others ss mid h e =
     let all : length ss ≡ length h.front + (length mid + length h.rest) = ap length h.cut ∙ length-append h.front (mid ++ h.rest) ∙ ap (λ k. length h.front + k) (length-append mid h.rest) in

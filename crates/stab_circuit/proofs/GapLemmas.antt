@@ -38,7 +38,7 @@ more-behind n [] y ys = refl
 more-behind n (x ∷ []) y ys = refl
 more-behind n (x ∷ z ∷ zs) y ys = ap (λ l. x ∷ l) (more-behind n (z ∷ zs) y ys)
 
--- more on the last of two lists, of which the second is empty only where the first is
+-- more on the last of two lists, of which the second is empty only if the first is
 more-append : (n : ℕ) (xs ys : List ℕ) → (ys ≡ [] → xs ≡ []) → with_more n (xs ++ ys) ≡ xs ++ with_more n ys
 more-append n xs [] h = ap (λ l. with_more n (l ++ [])) (h refl) ∙ sym (append-nil xs ∙ h refl)
 more-append n xs (y ∷ ys) h = more-behind n xs y ys
@@ -47,7 +47,7 @@ empty_front : (xs ys : List ℕ) → xs ++ ys ≡ [] → xs ≡ []
 empty_front [] ys e = refl
 empty_front (x ∷ xs) ys e = absurd (omega (arith, ap length e))
 
--- rounds of gaps are empty only where those of one are
+-- rounds of gaps are empty only if those of one are
 no_rounds : (n lead : ℕ) (gaps : List ℕ) → round_gaps (suc n) lead gaps ≡ [] → with_more lead gaps ≡ []
 no_rounds zero lead gaps e = ap (with_more lead) e
 no_rounds (suc n) lead gaps e = empty_front (with_more lead gaps) (round_gaps (suc n) lead gaps) e
@@ -95,7 +95,7 @@ lengths-rounds (suc (suc n)) round lead behind h =
     ∙ ap (λ l. with_more (length lead) gaps ++ l) (lengths-rounds (suc n) round lead behind h)
     ∙ sym (more-append (length behind) (with_more (length lead) gaps) (round_gaps (suc n) (length lead) gaps) (no_rounds n (length lead) gaps))
 
--- the same, where the last of the copies was taken off
+-- the same, if the last of the copies was taken off
 pub rounds-popped : (n lead x k : ℕ) (xs all front : List ℕ) → 0 < n → all ≡ copies n (xs ++ (x + lead) ∷ []) → length all ≡ k → front ≡ take (k - 1) all
     → front ++ x ∷ [] ≡ round_gaps n lead (xs ++ x ∷ [])
 rounds-popped zero lead x k xs all front h e long f = absurd (omega (arith, h))

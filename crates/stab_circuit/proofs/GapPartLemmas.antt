@@ -1,4 +1,4 @@
--- The gaps behind an item in blocks, list by list and block by block.
+-- The gaps after an item in blocks, list by list and block by block.
 use Rattle.std.proofs.Common.{◌≡◌, ◌≤◌, ◌<◌, refl, ap, sym, ◌∙◌, subst, ℕ, ◌+◌, ◌*◌, suc, zero, min, List, [], ◌∷◌, ◌++◌, length, take, drop, map, All, arith, append-nil, Option, Some, None, Result, Ok, Err, IfOk, IfSome, IfNone}
 use Rattle.std.proofs.lemmas.List.{length-append, drop_min, drop-drop, drop-take, length-map}
 use Rattle.std.specs.Prelude.{slice_get}
@@ -18,7 +18,7 @@ use Rattle.stab_circuit.proofs.PieceLemmas.{lengths-block_end, lengths-block_beh
 abbrev steps : List OneItem → List Step
 steps xs = unroll (listed xs)
 
--- the steps behind the item at a place, counted
+-- the steps after the item at a place, counted
 pub counted_behind : (place k : ℕ) (xs rest : List OneItem) (x : OneItem) (behind : List OneItem) (s : Summary) → k ≡ min place (length xs) → rest ≡ drop k xs → rest ≡ x ∷ behind
     → s ≡ summary_of (listed behind) → s.steps ≡ min (length (steps (drop (place + 1) xs))) 1048577
 counted_behind place k xs rest x behind s at back is e =
@@ -26,7 +26,7 @@ counted_behind place k xs rest x behind s at back is e =
     let next : drop (place + 1) xs ≡ behind = sym (drop-drop 1 place xs) ∙ ap (drop 1) left in
     ap (λ t. t.steps) e ∙ ap (λ l. min (length (steps l)) 1048577) (sym next)
 
--- a list of few steps has few behind a place, which are counted
+-- a list of few steps has few after a place, which are counted
 few_behind : (place s : ℕ) (xs : List OneItem) → s ≡ min (length (steps (drop place xs))) 1048577 → length (steps xs) ≤ 1048576 → s ≡ length (steps (drop place xs) ++ [])
 few_behind place s xs e few =
     let all = ap length (steps_split place xs) in
@@ -58,7 +58,7 @@ gaps_around blocks b bs place s xs gaps all e h counted few is = subst (λ l. Ar
   rounds = (h.some, h.rounds);
 })
 
--- too many, where there are too many in the block
+-- too many, if there are too many in the block
 pub many_around : (blocks : List ℕ) (b : ℕ) (bs : List ℕ) (place : ℕ) (xs : List OneItem) → blocks ≡ b ∷ bs
     → ((x : OneItem) → found_inside (item_in bs place) (slice_get xs b) ≡ Ok x → 1048576 < length (block_pieces (place + 1) bs place (slice_get xs b) []))
     → (x : OneItem) → item_in blocks place xs ≡ Ok x → 1048576 < length (pieces_in (place + 1) blocks place xs [])
@@ -124,7 +124,7 @@ times_many : (n k : ℕ) → 0 < n → 1048576 < k → 1048576 < n * k
 times_many zero k some h = absurd (omega (arith, some))
 times_many (suc n) k some h = grind (arith, h)
 
--- too many, where there are too many in one round
+-- too many, if there are too many in one round
 pub many_inside : (g : Option OneItem) (n : ℕ) (tag : List ℕ) (body : List OneItem) (bs : List ℕ) (place : ℕ) → g ≡ Some (repeat n tag (listed body)) → 0 < n
     → ((x : OneItem) → item_in bs place body ≡ Ok x → 1048576 < length (pieces_in (place + 1) bs place body []))
     → (x : OneItem) → found_inside (item_in bs place) g ≡ Ok x → 1048576 < length (block_pieces (place + 1) bs place g [])
@@ -195,7 +195,7 @@ many_at {g = g} {q = q} bs e f many =
     subst (λ o. (x : OneItem) → found_inside (item_in bs q) o ≡ Ok x → 1048576 < length (block_pieces (q + 1) bs q o [])) e
     (subst (λ n. (x : OneItem) → found_inside (item_in bs n) g ≡ Ok x → 1048576 < length (block_pieces (n + 1) bs n g [])) f many)
 
--- what was told of, and was not
+-- what was said, and what was not
 
 pub told_is : {A : Type 0} (P : A → Type 0) (f : Option A) (x : A) → f ≡ Some x → IfSome f P → P x
 told_is P f x e h = subst (λ o. IfSome o P) e h

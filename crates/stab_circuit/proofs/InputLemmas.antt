@@ -21,7 +21,7 @@ read_past held buf n small size fits past p q = record {
     long : length (held ++ take n buf) ≡ length held + n
     long = omega (arith, length-append held (take n buf), length-take n buf, fits)
 
--- a read within the limit, behind which memory was refused
+-- a read within the limit, after which memory was refused
 pub read_within : {a b c : InputView} (held buf : List ℕ) (n : ℕ) → length held ≤ 16777216 → n ≤ length buf → n ≤ 16777216 - length held
     → Gave a b held → Gave b c (take n buf) → GaveFront a c
 read_within held buf n small fits room p q = record {

@@ -32,7 +32,7 @@ one_alone (block count tag body done) some few = (repeat count tag body, refl)
 one_alone (block count tag body (next op rest)) some few = absurd (omega (arith, few))
 one_alone (block count tag body (block other sign inner rest)) some few = absurd (omega (arith, few))
 
--- the first item, or another where there is none
+-- the first item, or another if there is none
 abbrev first_or : OneItem → Items → OneItem
 first_or other done = other
 first_or other (next op rest) = operation op

@@ -68,7 +68,7 @@ judged_ok edit b n w bs blocks tag xs body s e f pos h v =
     ∙ ok_rebuilt n b w tag (edited_in edit bs body) s pos (sym h)
     )
 
--- what is put in, where its steps are on different qubits
+-- what is put in, if its steps are on different qubits
 rebuilt_apart : (n b : ℕ) (tag : List ℕ) (q : Result (List OneItem) Refusal) → IfOk q AreApart → IfOk (splice_block b (rebuilt n tag q)) PutsApart
 rebuilt_apart n b tag (Ok ys) a = block_apart (repeat n tag (listed ys)) n tag (listed ys) refl a
 rebuilt_apart n b tag (Err r) a = a
@@ -190,7 +190,7 @@ begins_block b p n bs blocks tag xs body e f h inside =
     ap (λ l. unroll (listed l)) (got_split xs b (repeat n tag (listed body)) f) ∙ steps-append (take b xs) (repeat n tag (listed body) ∷ drop (suc b) xs) in
     subst (λ l. BeginsWith l (unroll (listed xs))) (sym (steps_block b p n bs blocks tag xs body e f)) (subst (BeginsWith (front ++ within)) (sym all) whole)
 
--- what leaves a list where a block is edited is the block, with no fewer steps than stand before a place within it
+-- what leaves a list if a block is edited is the block, with no fewer steps than are before a place within it
 
 taken_one : (xs : List OneItem) (b : ℕ) (x : OneItem) → slice_get xs b ≡ Some x → drop b (take (suc b) xs) ≡ x ∷ []
 taken_one [] b x e = absurd (cc)

@@ -47,7 +47,7 @@ block_passes : (n : ℕ) (opened : List ℕ) (c : ℕ) (t : List ℕ) (inside af
     → Pass (n + 1) (n ∷ opened) inside (Ok Close ∷ (after ++ more)) → ((m : ℕ) → Pass m opened after more) → Pass n opened (Ok (Open c t) ∷ (inside ++ Ok Close ∷ after)) more
 block_passes n opened c t inside after more few (m, first) rest = let (at, second) = rest (m + 1) in (at, fault_inside n opened c t inside after more few ∙ first ∙ second)
 
--- the lines of items make none where their blocks and those around them are nested at most 16 deep
+-- the lines of items make none if their blocks and those around them are nested at most 16 deep
 lines_pass : (xs : Items) (n : ℕ) (opened : List ℕ) (more : List Meaning) → length opened + depth xs ≤ 16 → Pass n opened (lines_of xs) more
 lines_pass done n opened more h = (n, refl)
 lines_pass (next op rest) n opened more h =
@@ -74,7 +74,7 @@ of_lines items g h =
       },
     )
 
--- what lines mean that stand for items
+-- what lines that stand for items mean
 pub meant_of : (items : Items) → AreOfLines items → AreMeant (lines_of items)
 meant_of items s = items_meant s.0 items s.1
 
@@ -119,7 +119,7 @@ inner_meant count tag body g =
 rebuilt_meant : (count : ℕ) (tag : List ℕ) (body : Items) (xs : List OneItem) → IsMeant (repeat count tag body) → Each IsMeant xs → IsMeant (repeat count tag (listed xs))
 rebuilt_meant count tag body xs g e = (g.0, each-append IsOfLine (lines_of (listed xs)) (Ok Close ∷ []) (listed_meant xs e) (each_right IsOfLine (lines_of body) (Ok Close ∷ []) g.1))
 
--- a change in a block keeps what lines mean, where it does so among the items of the block
+-- a change in a block keeps what lines mean, if it does so among the items of the block
 pub block_meant : (change : List OneItem → Result (List OneItem) Refusal) (b : ℕ) (xs ys : List OneItem) → with_item b xs (edited_inside change (slice_get xs b)) ≡ Ok ys
     → ((us vs : List OneItem) → change us ≡ Ok vs → Each IsMeant us → Each IsMeant vs) → Each IsMeant xs → Each IsMeant ys
 block_meant change b xs ys e keeps g =

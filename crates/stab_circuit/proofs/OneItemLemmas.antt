@@ -1,4 +1,4 @@
--- One item's text: what is read of it is one item, or none where every line is blank.
+-- One item's text: what is read of it is one item, or none if every line is blank.
 use Rattle.std.proofs.Common.{◌≡◌, ◌≤◌, refl, ap, sym, ◌∙◌, subst, ℕ, ◌+◌, ◌-◌, suc, List, [], ◌∷◌, Bool, true, false, ◌==◌, nat_lt, length, map, None, Some, Result, Ok, Err, if◌then◌else◌, arith}
 use Rattle.std.specs.List.{list_all}
 use Rattle.std.proofs.lemmas.Bool.Decides.{nat_tests}
@@ -52,7 +52,7 @@ blank_lines (c ∷ cs) a =
     both (is_empty c) (list_all is_empty cs) (means_blank c a.0)
     (blank_lines cs (subst (λ m. AreBlank (if ends_item 0 m then map meaning_after cs else one_item (depth_after 0 m) cs)) a.0 a.1))
 
--- where nothing is read each line is blank
+-- if nothing is read each line is blank
 pub read_blank : (cs : List (List ℕ)) → read_on 1 before_reading (one_item 0 cs) ≡ Ok done → list_all is_empty cs ≡ true
 read_blank cs e = blank_lines cs (joins_done (joined_read (one_item 0 cs) done e).1 refl)
 
@@ -76,7 +76,7 @@ abbrev one_if : Bool → ℕ
 one_if true = 1
 one_if false = 0
 
--- there is at most one item, and only where it is whole
+-- there is at most one item, and only if it is whole
 abbrev IsSmall : Progress → Type 0
 IsSmall s = size (outer s.open_blocks s.now) ≤ one_if (is_whole s)
 
@@ -140,7 +140,7 @@ after_case c cs n true d p f rest = ap (λ m. m ∷ map meaning_after cs) (sym (
 after_case c cs n false true p f rest = cc
 after_case c cs n false false p f rest = cc
 
--- what a content means after a whole item is what it means, where there is no fault
+-- what a content means after a whole item is what it means, if there is no fault
 after_same : (cs : List (List ℕ)) (n : ℕ) → fault_from n [] (map meaning_after cs) ≡ None → map meaning_after cs ≡ map meaning_of cs
 after_same [] n e = refl
 after_same (c ∷ cs) n e = after_case c cs n (is_empty c) (is_close c) refl e (after_same cs (n + 1))
@@ -149,7 +149,7 @@ after_same (c ∷ cs) n e = after_case c cs n (is_empty c) (is_close c) refl e (
 abbrev tail : ℕ → Meaning → List (List ℕ) → List Meaning
 tail d m cs = if ends_item d m then map meaning_after cs else one_item (depth_after d m) cs
 
--- one line, where what follows means what it does in a circuit
+-- one line, if what follows means what it does in a circuit
 same_step : (cs : List (List ℕ)) (n : ℕ) (opened : List ℕ) (m : Meaning) → fault_from n opened (m ∷ tail (length opened) m cs) ≡ None
     → ((k : ℕ) (others : List ℕ) → fault_from k others (one_item (length others) cs) ≡ None → one_item (length others) cs ≡ map meaning_of cs)
     → tail (length opened) m cs ≡ map meaning_of cs
@@ -176,7 +176,7 @@ same_step cs n opened (Ok (Open c t)) e rest =
     let g : fault_from (n + 1) (n ∷ opened) (one_item (length opened + 1) cs) ≡ None = sym (chosen (nat_lt (length opened) 16) _ _ few) ∙ f in
     ap (λ k. one_item k cs) more ∙ rest (n + 1) (n ∷ opened) (ap (λ k. fault_from (n + 1) (n ∷ opened) (one_item k cs)) (sym more) ∙ g)
 
--- where one item's text has no fault, its lines mean what they mean in a circuit
+-- if one item's text has no fault, its lines mean what they mean in a circuit
 pub same_meanings : (cs : List (List ℕ)) (n : ℕ) (opened : List ℕ) → fault_from n opened (one_item (length opened) cs) ≡ None → one_item (length opened) cs ≡ map meaning_of cs
 same_meanings [] n opened e = refl
 same_meanings (c ∷ cs) n opened e = ap (λ ms. meaning_of c ∷ ms) (same_step cs n opened (meaning_of c) e (same_meanings cs))

@@ -1,4 +1,4 @@
--- Parts in the stead of an item, and the split that they come to.
+-- Parts in place of an item, and the split that they come to.
 use Rattle.std.proofs.Common.{◌≡◌, ◌≤◌, ◌<◌, refl, ap, sym, ◌∙◌, subst, ℕ, ◌+◌, ◌-◌, suc, zero, Bool, true, false, List, [], ◌∷◌, ◌++◌, length, arith, append_assoc, nat_lt, if◌then◌else◌, All, Option, Some, None, Result, Ok, Err}
 use Rattle.std.specs.Prelude.{slice_get}
 use Rattle.std.proofs.lemmas.List.{length-append}
@@ -18,7 +18,7 @@ use Rattle.stab_circuit.proofs.ChangeLemmas.{replaced_by_last, inserted_before, 
 use Rattle.stab_circuit.proofs.DepthLemmas.{shallow_allowed, insert_allowed, replace_allowed, inserted_there, replaced_there}
 use Rattle.stab_circuit.proofs.UndoLemmas.{insert-undone, replace-undone}
 
--- the parts of an item, where it is a block with such a round
+-- the parts of an item, if it is a block with such a round
 
 pub record AreParts (round : ℕ) (item : OneItem) (parts : List OneItem) : Type 0 where
   pub count : ℕ
@@ -79,7 +79,7 @@ some_parts round item parts e =
     let p = are_parts round item parts e in
     omega (arith, ap length p.are, length-append (rounds_as_block round p.tag p.body) (repeat 1 p.tag p.body ∷ rounds_as_block (p.count - (round + 1)) p.tag p.body))
 
--- parts in the stead of the item at a path are a split
+-- parts in place of the item at a path are a split
 pub parts_are_split : (path : Path) (round : ℕ) (item : OneItem) (parts xs ys : List OneItem) → item_at path xs ≡ Ok item → parts_of_item round (Some item) ≡ Ok parts
     → with_parts_at path parts xs ≡ Ok ys → split path round xs ≡ Ok ys
 parts_are_split path round item parts xs ys found e put =
@@ -126,7 +126,7 @@ pub memory_refused : (path : Path) (round : ℕ) (xs : List OneItem) (item : One
     → parts_of_item round (Some item) ≡ Ok parts → f ≡ whole OutOfMemory → IsCallFault (split_refusal path round xs) f
 memory_refused path round xs item parts f e p h = item_refused path round xs item f e (subst (λ v. IsCallFault v f) (sym (ap refused_by p)) h)
 
--- a part behind others
+-- a part after others
 
 last_deep : (P : OneItem → Type 0) (rest : List OneItem) (x : OneItem) → All P (rest ++ x ∷ []) → P x
 last_deep P [] x a = All-head P x [] a

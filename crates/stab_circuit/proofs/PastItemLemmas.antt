@@ -24,7 +24,7 @@ items_taken w n ss given here =
     ∙ append_assoc ss (behind ++ more) others
     ∙ ap (λ l. ss ++ (l ++ ahead (past_items w n))) (sym given)
 
--- past so many items
+-- past this many items
 pub items_passed : (w : Walk) (n : ℕ) → drop w.within (kind_steps w.kind) ≡ []
     → walk_left w ≡ unroll (listed (take n (drop w.top.place w.top.items.now))) ++ walk_left (past_items w n)
 items_passed w n given =

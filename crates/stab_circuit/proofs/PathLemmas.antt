@@ -5,7 +5,7 @@ use Rattle.std.specs.List.{flat_map, join_with_byte}
 use Rattle.std.specs.Fmt.{decimal}
 use Rattle.stab_circuit.specs.Paths.{Path, numbers, slash, path_text}
 
--- a list is told by its last number and those before it
+-- a list is determined by its last number and those before it
 last_is : (ls bs : List ℕ) (a b : ℕ) → ls ++ a ∷ [] ≡ bs ++ b ∷ [] → (ls ≡ bs) × (a ≡ b)
 last_is [] [] a b e = (refl, cc)
 last_is [] (c ∷ []) a b e = absurd (cc)
@@ -18,7 +18,7 @@ last_is (c ∷ ls) (d ∷ bs) a b e =
     let is = last_is ls bs a b rest in
     ((λ i. first i ∷ is.0 i), is.1)
 
--- a path is told by its numbers
+-- a path is determined by its numbers
 pub path_is : (path : Path) (bs : List ℕ) (p : ℕ) → numbers path ≡ bs ++ p ∷ [] → path ≡ record { blocks = bs; place = p }
 path_is path bs p e =
     let is = last_is path.blocks bs path.place p e in
@@ -49,6 +49,6 @@ next_block bs i p h =
     ap (λ l. places_text l p) (drop_more bs i 0 h)
     ∙ append_assoc (block_text (get_or bs i 0)) (flat_map block_text (drop (i + 1) bs)) (decimal p)
 
--- behind the last block the place is left
+-- after the last block the place is left
 pub no_block : (bs : List ℕ) (p : ℕ) → bs ≡ [] → places_text bs p ≡ decimal p
 no_block bs p e = ap (λ l. places_text l p) e

@@ -37,7 +37,7 @@ rounds-pieces (suc (suc n)) gates body lead round h some behind =
     ∙ append_assoc lead (interleaved gates (round lead)) (interleaved gates rest)
     ∙ ap (λ l. lead ++ l) (sym (interleaved-append gates (round lead) rest))
 
--- in the last of these blocks, which all have rounds, these steps stand between a place and an end
+-- in the last of these blocks, which all have rounds, these steps are between a place and an end
 abbrev pub Stands : List Step → (end : ℕ) → List ℕ → (place : ℕ) → List OneItem → Type 0
 Stands gates end [] place xs = steps (take end xs) ≡ steps (take place xs) ++ gates
 Stands gates end (b ∷ bs) place xs = (0 < rounds_in (slice_get xs b)) × Stands gates end bs place (inner (slice_get xs b))
@@ -53,7 +53,7 @@ around_block xs b (Some (repeat count tag body)) e some =
     ∙ ap (λ n. steps (take b xs) ++ (rounds count (unroll body) ++ steps (drop n xs))) (next_place b)
     ∙ ap (λ l. steps (take b xs) ++ (rounds count (unroll l) ++ steps (drop (b + 1) xs))) (sym (listed-entries body))
 
--- the steps of a list, and some behind them, by the pieces
+-- the steps of a list, and some after them, by the pieces
 pub steps-pieces : (gates : List Step) (end : ℕ) (bs : List ℕ) (place : ℕ) (xs : List OneItem) → Stands gates end bs place xs
     → (behind : List Step) → steps xs ++ behind ≡ steps_in bs place xs ++ interleaved gates (pieces_in end bs place xs behind)
 steps-pieces gates end [] place xs stands behind =
@@ -76,7 +76,7 @@ steps-pieces gates end (b ∷ bs) place xs stands behind =
     ∙ ap (λ l. front ++ l) (rounds-pieces (rounds_in x) gates (steps (inner x)) lead round (steps-pieces gates end bs place (inner x) stands.1) stands.0 (back ++ behind))
     ∙ sym (append_assoc front lead (interleaved gates (round_pieces (rounds_in x) round lead (back ++ behind))))
 
--- the lengths of pieces, where more steps stand behind the last
+-- the lengths of pieces, if more steps are after the last
 pub lengths-pieces : (end : ℕ) (bs : List ℕ) (place : ℕ) (xs : List OneItem) (behind : List Step)
     → map length (pieces_in end bs place xs behind) ≡ with_more (length behind) (map length (pieces_in end bs place xs []))
 lengths-pieces end [] place xs behind =

@@ -50,7 +50,7 @@ completes_opens (g ∷ gs) now n c t ms xs (inner, after, body, e, j, (inner2, a
 completes_close : (f : OpenBlock) (fs : List OpenBlock) (now : Items) (ms : List Meaning) (xs : Items) → Completes fs (closed f now) ms xs → Completes (f ∷ fs) now (Ok Close ∷ ms) xs
 completes_close f fs now ms xs c = ([], ms, done, refl, nothing, subst (λ z. Completes fs (closed f z) ms xs) (sym (join_done now)) c)
 
--- where a block was opened and all was read, it was not too deep
+-- if a block was opened and all was read, it was not too deep
 opened_ok : (n c : ℕ) (t : List ℕ) (fs : List OpenBlock) (now : Items) (ms : List Meaning) (b : Bool) (xs : Items)
     → elim (if b then Ok (state (open_block n c t now ∷ fs) done) else Err TooDeep) as (λ _. Result Items Fault) [ Ok s ↦ read_on (n + 1) s ms | Err r ↦ Err (at_line n r) ] ≡ Ok xs
     → read_on (n + 1) (state (open_block n c t now ∷ fs) done) ms ≡ Ok xs
@@ -69,7 +69,7 @@ sound (Ok Close ∷ ms) n (f ∷ fs) now xs e = completes_close f fs now ms xs (
 sound (Ok (Open c t) ∷ ms) n fs now xs e =
     completes_opens fs now n c t ms xs (sound ms (n + 1) (open_block n c t now ∷ fs) done xs (opened_ok n c t fs now ms (nat_lt (length fs) 16) xs e))
 
--- reading goes on behind the lines of some items
+-- reading goes on after the lines of some items
 pub record Reaches (n : ℕ) (fs : List OpenBlock) (now : Items) (all : List Meaning) (cur : Items) (more : List Meaning) : Type 0 where
   pub at : ℕ
   pub read : read_on n (state fs now) all ≡ read_on at (state fs cur) more
@@ -84,7 +84,7 @@ pub fault_opens : (n : ℕ) (opened : List ℕ) (c : ℕ) (t : List ℕ) (ms : L
 fault_opens n [] c t ms = refl
 fault_opens n (at ∷ outer) c t ms = refl
 
--- where there is no fault, few blocks are open, and it is looked for inside the next
+-- if there is no fault, few blocks are open, and it is looked for inside the next
 pub few_open : (n : ℕ) (opened : List ℕ) (c : ℕ) (t : List ℕ) (ms : List Meaning) → fault_from n opened (Ok (Open c t) ∷ ms) ≡ None → nat_lt (length opened) 16 ≡ true
 few_open n opened c t ms e = choice_none (nat_lt (length opened) 16) _ _ (sym (fault_opens n opened c t ms) ∙ e)
 
@@ -101,7 +101,7 @@ read_opens n fs now c t ms h =
     let few : nat_lt (length fs) 16 ≡ true = ap (λ k. nat_lt k 16) (sym (length-lines_of fs)) ∙ h in
     ap (λ r. elim r as (λ _. Result Items Fault) [ Ok s ↦ read_on (n + 1) s ms | Err r ↦ Err (at_line n r) ]) (chosen (nat_lt (length fs) 16) (Ok (state (open_block n c t now ∷ fs) done)) (Err TooDeep) few)
 
--- that the lines of some items are read, whatever stands around them
+-- that the lines of some items are read, whatever is around them
 abbrev IsRead : List Meaning → Items → Type 0
 IsRead inner body = (n : ℕ) (fs : List OpenBlock) (now : Items) (more : List Meaning) → fault_from n (lines_of fs) (inner ++ more) ≡ None → Reaches n fs now (inner ++ more) (join now body) more
 

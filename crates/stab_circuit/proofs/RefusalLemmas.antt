@@ -11,7 +11,7 @@ use Rattle.stab_items.specs.Circuits.{Meaning, at_line, meaning_after, ends_item
 use Rattle.stab_lines.proofs.LineLaws.{refused_as_line}
 use Rattle.stab_circuit.specs.Readings.{has_line}
 
--- where a line is refused, such a refusal has a line
+-- if a line is refused, such a refusal has a line
 abbrev pub OfLine : Meaning → Type 0
 OfLine (Ok x) = Unit {0}
 OfLine (Err r) = has_line r ≡ true

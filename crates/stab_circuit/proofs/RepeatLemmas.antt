@@ -56,7 +56,7 @@ repeated front ss rest n some many =
       within = ap (looks_too_far (reach ss)) round ∙ looks_too_far_reach (reach ss) ss ∙ below_itself (reach ss);
     }
 
--- a list behind some steps
+-- a list after some steps
 
 later : (from n : ℕ) (all : List Step) (rs : List Repeat) → from ≤ n → AreRepeats n all rs → AreRepeats from all rs
 later from n all [] h a = tt

@@ -127,7 +127,7 @@ pub text_is_lines : (text : List ℕ) (items : Items) → StandsFor text items �
 text_is_lines text items s =
     record { each = text_lines (slice_split (is_byte 10) text) (parts_free (is_byte 10) text); faultless = lines_faultless text s.0; joined = s.1 }
 
--- what lines mean that stand for items
+-- what lines that stand for items mean
 pub items_meant : (lines : List (List ℕ)) (items : Items) → AreLinesOf lines items → AreMeant (lines_of items)
 items_meant lines items s = subst AreMeant (unblank_joined s.joined) (unblank_each IsOfLine (line_meanings lines) (lines_meant lines s.each))
 

@@ -24,7 +24,7 @@ rounds_cut (suc c) (suc k) ss h =
     let h' : k ≤ c = omega arith in
     ap (λ l. ss ++ l) (rounds_cut c k ss h' ∙ ap (λ n. rounds k ss ++ rounds n ss) e) ∙ sym (append_assoc ss (rounds k ss) (rounds (suc c - suc k) ss))
 
--- a number that stops growing is right where it hasn't
+-- a number that stops growing is right if it hasn't
 exact_times : (k n left rest : ℕ) → left ≡ k * min n 1048577 + rest → left ≤ 1048576 → k * min n 1048577 ≡ k * n
 exact_times zero n left rest e h = omega arith
 exact_times (suc k) n left rest e h =

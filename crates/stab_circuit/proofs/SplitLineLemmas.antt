@@ -1,4 +1,4 @@
--- Items that some lines stand for stay such when a round is split off.
+-- Items that some lines stand for stay such items when a round is split off.
 use Rattle.std.proofs.Common.{◌≡◌, ◌≤◌, ◌<◌, refl, ap, sym, ◌∙◌, subst, ℕ, ◌+◌, ◌-◌, ◌^◌, suc, zero, Bool, true, false, List, [], ◌∷◌, ◌++◌, take, drop, arith, nat_lt, if◌then◌else◌, Option, Some, None, Ok, Err}
 use Rattle.std.specs.Prelude.{slice_get}
 use Rattle.stab_io.specs.declared.refusal.Refusal.TheVariants.{PlaceOutOfRange}

@@ -20,7 +20,7 @@ part-steps f xs seen part place most steps is same e =
     ∙ ap (λ p. p ++ drop (length p) ys) front
     ∙ ap (λ rest. map f part ++ rest) (drop-drop (length (map f part)) place (map f xs)))
 
--- and there are none where there are no targets
+-- and there are none if there are no targets
 pub part-none : {X : Type 0} (f : X → Step) (xs seen : List X) (place : ℕ) (steps : List Step) → steps ≡ map f xs → seen ≡ xs → length seen ≤ place → drop place steps ≡ []
 part-none f xs seen place steps is same few =
     drop_all place steps (omega (arith, ap length is, length-map xs f, ap length same, few))

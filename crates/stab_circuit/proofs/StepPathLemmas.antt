@@ -115,7 +115,7 @@ block_steps x n kept tag body is small some few =
 pub operation_steps : (x : OneItem) (op : Operation) → x ≡ operation op → length (unroll (before x done)) ≡ length (steps_of op.kind)
 operation_steps x op is = ap (λ y. length (unroll (before y done))) is ∙ ap length (append-nil (steps_of op.kind))
 
--- the item at a place has the steps that are not behind it
+-- the item at a place has the steps that are not after it
 pub within_item : (xs : List OneItem) (p w : ℕ) (x : OneItem) → p < length xs → x ≡ get_or xs p x → w + length (unroll (listed (drop (p + 1) xs))) < length (unroll (listed (drop p xs))) → w < length (unroll (before x done))
 within_item xs p w x h e k = omega (arith, k, steps_at xs p x h e)
 

@@ -20,7 +20,7 @@ picked a b x y false e h = refl
 pick_second : (a b x y : ℕ) → b ≤ a → (if nat_lt a b then x else y) ≡ y
 pick_second a b x y h = picked a b x y (nat_lt a b) refl h
 
--- behind an item
+-- after an item
 left_past : (x : OneItem) (rest : Items) (w n : ℕ) → n ≡ length (unroll (before x done)) → n ≤ w → item_steps_left (before x rest) w ≡ item_steps_left rest (w - n)
 left_past (operation op) rest w n is enough =
     let k = length (steps_of op.kind) in
@@ -36,7 +36,7 @@ pub left_passed : (xs : List OneItem) (p w n : ℕ) (x : OneItem) → p < length
 left_passed xs p w n x h e is enough =
     sym (ap (λ l. item_steps_left l w) (items_from xs p x h e) ∙ left_past x (listed (drop (p + 1) xs)) w n is enough)
 
--- behind the first items
+-- after the first items
 left_behind : (xs ys : List OneItem) (m : ℕ) → item_steps_left (listed (xs ++ ys)) (length (unroll (listed xs)) + m) ≡ item_steps_left (listed ys) m
 left_behind [] ys m = let none : 0 + m ≡ m = omega arith in ap (item_steps_left (listed ys)) none
 left_behind (x ∷ xs) ys m =

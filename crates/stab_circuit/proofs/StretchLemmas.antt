@@ -45,7 +45,7 @@ sum_further front first place n s t r a b e small =
     let all = from_joined first place own ∙ ap (λ l. drop first l ++ drop (max first place) own) (take-take place (place + n) front (omega arith)) in
     sum_joined (drop first own) (drop first (take place front)) (drop (max first place) own) s t r all a b e small
 
--- a stretch that stands in a front of the list
+-- a stretch that is in a front of the list
 pub sum_in_front : (xs front : List OneItem) (end place n : ℕ) (s : Summary) → front ≡ take end xs → IsSumOf (listed (take n (drop place xs))) s → place + n ≤ length front → IsSumOf (listed (take n (drop place front))) s
 sum_in_front xs front end place n s e sum fits =
     let long : place + n ≤ end = omega (arith, fits, ap length e, length-take end xs) in
@@ -106,7 +106,7 @@ steps_from_place xs place rest step e =
     let back = unroll (listed (drop place xs)) in
     sym (ap (drop step) (steps_split place xs) ∙ ap (λ n. drop n (front ++ back)) (sym e) ∙ drop-append-add front back rest)
 
--- how many items stand before a stretch, and before the next one
+-- how many items are before a stretch, and before the next one
 pub items_next : (ss : List Stretch) (k : ℕ) (s : Stretch) → k < length ss → s ≡ get_or ss k s → items_in (take (k + 1) ss) ≡ items_in (take k ss) + s.items
 items_next [] k s h e = absurd (omega arith)
 items_next (t ∷ ss) zero s h e = omega (arith, ap (λ q. q.items) e)

@@ -73,7 +73,7 @@ item_refused text f h e =
     let cs = contents text in
     within text _ h ∙ passed (list_all is_empty cs) _ _ (not_blank_fault cs f (list_all is_empty cs) refl e) ∙ fault_read (one_item 0 cs) f e
 
--- where a fault is placed
+-- if a fault is placed
 line_placed : (f : Fault) (is_whole : Refusal → Bool) → IsLineFault f → IsPlaced is_whole f
 line_placed f is_whole p = inl (p.0, p.1)
 

@@ -103,7 +103,7 @@ taken old new x w h e top around = (
   omega (arith, w.shallow, depth_at old.top.items.now old.top.place x.now h e, ap (λ v. length v.items) around),
 )
 
--- into a block, which stands ahead of the level outside
+-- into a block, which comes ahead of the level outside
 
 pub entered_left : (others : List Step) (t : Level) (ls new : List Level) (body : Bor (List OneItem)) (more : ℕ) → new ≡ ls ++ t ∷ []
     → level_left (record { items = body; place = 0; rounds = more }) ++ levels_left others new ≡ (unroll (listed body.now) ++ rounds more (unroll (listed body.now))) ++ (level_left t ++ levels_left others ls)

@@ -32,7 +32,7 @@ steps_shown (Measurements m targets) = map (measured m) targets.now
 steps_shown (Detectors ds) = map detector (lookbacks_of ds)
 steps_shown (Single step) = step_shown step ∷ []
 
--- so it is of a step that is given by itself
+-- the same for a step that is given by itself
 abbrev pub IsApartAlone : Steps → Type 0
 IsApartAlone (Gates g qubits) = Unit {0}
 IsApartAlone (Pairs axis pairs) = Unit {0}

@@ -8,7 +8,7 @@ use Rattle.stab_items.specs.Steps.{unroll, steps_cap}
 use Rattle.stab_circuit.specs.Edits.{first_changed, old_end, new_end}
 
 -- the span is of the steps that the edit changed: the first changed one and both ends of the outermost item, up to 1,048,577; no end
--- stands before the first
+-- is before the first
 pub record IsSpanOf (edit : Edit) (old new : List OneItem) (span : Span) : Type 0 where
   pub first : span.first ≡ min (first_changed edit old) steps_cap
   pub within : first_changed edit old ≤ length (unroll (listed old))

@@ -20,7 +20,7 @@ abbrev pub rebuilt : ℕ → List ℕ → Result (List OneItem) Refusal → Resu
 rebuilt count tag (Ok body) = Ok (repeat count tag (listed body))
 rebuilt count tag (Err r) = Err r
 
--- the item that a path leads into, with its items edited: 12 where there is none, 17 where it is no block
+-- the item that a path leads into, with its items edited: 12 if there is none, 17 if it is no block
 abbrev pub edited_inside : (List OneItem → Result (List OneItem) Refusal) → Option OneItem → Result OneItem Refusal
 edited_inside edit None = Err PlaceOutOfRange
 edited_inside edit (Some (operation op)) = Err NotABlock
@@ -32,7 +32,7 @@ edit_path (Insert place x) = place
 edit_path (Replace place x) = place
 edit_path (Delete place) = place
 
--- the innermost list around an edit's place, after the edit: 12 where the place is past the list
+-- the innermost list around an edit's place, after the edit: 12 if the place is past the list
 abbrev pub changed : Edit → List OneItem → Result (List OneItem) Refusal
 changed (Insert place x) xs = if nat_le place.place (length xs) then Ok (insert xs place.place x) else Err PlaceOutOfRange
 changed (Replace place x) xs = if nat_lt place.place (length xs) then Ok (slice_set xs place.place x) else Err PlaceOutOfRange
@@ -57,7 +57,7 @@ abbrev pub list_verdict : ℕ → Result (List OneItem) Refusal → Option Refus
 list_verdict n (Err r) = Some r
 list_verdict n (Ok ys) = if nat_lt 16 (depth (listed ys)) then Some TooDeep else check_within n (listed ys)
 
--- what refuses an edit of a list, whatever the circuit that it leaves
+-- what refuses an edit of a list, for any circuit that it leaves
 abbrev pub edit_refusal : Edit → List OneItem → Option Refusal
 edit_refusal edit xs = list_refusal (edited edit xs)
 
@@ -65,7 +65,7 @@ edit_refusal edit xs = list_refusal (edited edit xs)
 abbrev pub verdict : ℕ → Edit → List OneItem → Option Refusal
 verdict n edit xs = list_verdict n (edited edit xs)
 
--- the items of an item, where it is a block
+-- the items of an item, if it is a block
 abbrev pub inner : Option OneItem → List OneItem
 inner None = []
 inner (Some (operation op)) = []
@@ -107,33 +107,33 @@ steps_in (b ∷ bs) p xs = unroll (listed (take b xs)) ++ steps_in bs p (inner (
 abbrev pub steps_before : Path → List OneItem → List Step
 steps_before path xs = steps_in path.blocks path.place xs
 
--- the first changed step: how many steps stand before the place
+-- the first changed step: how many steps are before the place
 abbrev pub first_changed : Edit → List OneItem → ℕ
 first_changed edit xs = length (steps_before (edit_path edit) xs)
 
--- the place behind what an edit takes out of the innermost list: that of an insertion at 5 is 5, and that of a deletion at 5 is 6
+-- the place after what an edit takes out of the innermost list: that of an insertion at 5 is 5, and that of a deletion at 5 is 6
 abbrev pub behind_taken : Edit → ℕ
 behind_taken (Insert place x) = place.place
 behind_taken (Replace place x) = place.place + 1
 behind_taken (Delete place) = place.place + 1
 
--- the place behind what an edit puts into the innermost list: that of an insertion at 5 is 6, and that of a deletion at 5 is 5
+-- the place after what an edit puts into the innermost list: that of an insertion at 5 is 6, and that of a deletion at 5 is 5
 abbrev pub behind_put : Edit → ℕ
 behind_put (Insert place x) = place.place + 1
 behind_put (Replace place x) = place.place + 1
 behind_put (Delete place) = place.place
 
--- the same place in the outermost list, from which an edit within a block takes the block, and puts it back: behind the item at 5 of
--- the outermost list it is 6; behind the item at 5 of the block at 2 it is 3, behind the block
+-- the same place in the outermost list, from which an edit within a block takes the block, and puts it back: after the item at 5 of
+-- the outermost list it is 6; after the item at 5 of the block at 2 it is 3, after the block
 abbrev pub outermost : ℕ → List ℕ → ℕ
 outermost behind blocks = elim blocks [ [] ↦ behind | b ∷ bs ↦ b + 1 ]
 
--- how many steps of the old list stand before the end of the outermost item that is taken out: where M 0 is deleted from H 0, M 0, X 0,
--- these are 2, with its own; where Z 0 is inserted into the block of REPEAT 3 { H 0 } they are 3, with all rounds
+-- how many steps of the old list are before the end of the outermost item that is taken out: if M 0 is deleted from H 0, M 0, X 0,
+-- these are 2, with its own; if Z 0 is inserted into the block of REPEAT 3 { H 0 } they are 3, with all rounds
 abbrev pub old_end : Edit → List OneItem → ℕ
 old_end edit old = length (unroll (listed (take (outermost (behind_taken edit) (edit_path edit).blocks) old)))
 
--- how many steps of the new list stand before the end of the outermost item that is put in: the deletion above leaves H 0, X 0, and this
+-- how many steps of the new list are before the end of the outermost item that is put in: the deletion above leaves H 0, X 0, and this
 -- is 1; the insertion leaves REPEAT 3 { Z 0, H 0 }, and it is 6
 abbrev pub new_end : Edit → List OneItem → ℕ
 new_end edit new = length (unroll (listed (take (outermost (behind_put edit) (edit_path edit).blocks) new)))

@@ -18,7 +18,7 @@ pub record GaveText (old new : InputView) (text : List ℕ) : Type 0 where
   pub within : length text ≤ most_bytes
   pub gave : GaveAll old new text
 
--- the input gave the front of a text over its limit, and at most one read of what is behind the limit
+-- the input gave the front of a text over its limit, and at most one read of what is after the limit
 pub record GaveTooMuch (old new : InputView) : Type 0 where
   pub front : List ℕ
   pub over : most_bytes < length front

@@ -37,7 +37,7 @@ pub record AreLinesOf (lines : List (List ℕ)) (items : Items) : Type 0 where
 abbrev pub TextsAreLines : Type 0
 TextsAreLines = (text : List ℕ) (items : Items) → StandsFor text items → AreLinesOf (slice_split (is_byte 10) text) items
 
--- what is printed of the items of any such lines stands for these, where it is no longer than a text may be
+-- what is printed of the items of any such lines stands for these, if it is no longer than a text may be
 abbrev pub PrintedItemsAreReadBack : Type 0
 PrintedItemsAreReadBack = (lines : List (List ℕ)) (items : Items) → AreLinesOf lines items → length (printed items) ≤ most_bytes → StandsForOnly (printed items) items
 
@@ -77,7 +77,7 @@ TextsHaveOneFault = (text : List ℕ) (fault other : Fault) → IsFaultOf text f
 abbrev pub CircuitsHaveNoFault : Type 0
 CircuitsHaveNoFault = (text : List ℕ) (items : Items) (fault : Fault) → IsCircuit text items → IsFaultOf text fault → ⊥
 
--- an edit leaves the steps before the first changed one, and those behind the outermost item around the place
+-- an edit leaves the steps before the first changed one, and those after the outermost item around the place
 pub record LeavesTheRest (edit : Edit) (old new : List OneItem) : Type 0 where
   pub before : take (first_changed edit old) (unroll (listed old)) ≡ take (first_changed edit old) (unroll (listed new))
   pub behind : drop (old_end edit old) (unroll (listed old)) ≡ drop (new_end edit new) (unroll (listed new))
@@ -105,11 +105,11 @@ SplitsLeaveTheSteps = (path : Path) (round : ℕ) (old new : List OneItem) → s
 abbrev pub PutsLines : Edit → Type 0
 PutsLines edit = (item : OneItem) → put_item edit ≡ Some item → AreOfLines (before item done)
 
--- items of lines are so after each edit that puts in such an item, and nests no block too deep
+-- items of lines are still items of lines after each edit that puts in such an item and nests no block too deep
 abbrev pub EditedItemsAreOfLines : Type 0
 EditedItemsAreOfLines = (edit : Edit) (old new : List OneItem) → AreOfLines (listed old) → PutsLines edit → edited edit old ≡ Ok new → depth (listed new) ≤ 16 → AreOfLines (listed new)
 
--- items of lines stay such when a round is split off
+-- items of lines stay items of lines when a round is split off
 abbrev pub SplitItemsAreOfLines : Type 0
 SplitItemsAreOfLines = (path : Path) (round : ℕ) (old new : List OneItem) → AreOfLines (listed old) → split path round old ≡ Ok new → AreOfLines (listed new)
 

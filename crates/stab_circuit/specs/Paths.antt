@@ -1,4 +1,4 @@
--- Paths: where an item stands or an edit is made.
+-- Paths: where an item is or an edit is made.
 -- Source: this project's own.
 use Rattle.std.specs.Prelude.{ℕ, List, [], ◌∷◌, ◌++◌, map}
 use Rattle.std.specs.List.{join_with_byte}

@@ -7,12 +7,12 @@ use Rattle.stab_io.specs.declared.refusal.Refusal.TheVariants.{PlaceOutOfRange, 
 use Rattle.stab_items.specs.Items.{OneItem, operation, repeat, entries}
 use Rattle.stab_circuit.specs.Paths.{Path}
 
--- the item, where there is one: else 12
+-- the item, if there is one: else 12
 abbrev pub item_there : Option OneItem → Result OneItem Refusal
 item_there None = Err PlaceOutOfRange
 item_there (Some x) = Ok x
 
--- what is found among the items of a block: 12 where there is no item, 17 where it is no block
+-- what is found among the items of a block: 12 if there is no item, 17 if it is no block
 abbrev pub found_inside : (List OneItem → Result OneItem Refusal) → Option OneItem → Result OneItem Refusal
 found_inside find None = Err PlaceOutOfRange
 found_inside find (Some (operation op)) = Err NotABlock

@@ -17,7 +17,7 @@ pub record IsRepeat (steps : List Step) (r : Repeat) : Type 0 where
   pub again : take (r.rounds * r.length) (drop r.first steps) ≡ rounds r.rounds (round_of r steps)
   pub within : looks_too_far r.reach (round_of r steps) ≡ false
 
--- repeats one behind the other, the first no earlier than at a step
+-- repeats one after the other, the first no earlier than at a step
 abbrev pub AreRepeats : ℕ → List Step → List Repeat → Type 0
 AreRepeats from steps [] = Unit {0}
 AreRepeats from steps (r ∷ rs) = (from ≤ r.first) × IsRepeat steps r × AreRepeats (r.first + r.rounds * r.length) steps rs

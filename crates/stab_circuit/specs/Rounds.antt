@@ -1,4 +1,4 @@
--- Rounds: where an item that stands in blocks stands in the steps: once in each round, with the other steps between.
+-- Rounds: where an item that is in blocks is in the steps: once in each round, with the other steps between.
 -- Source: this project's own.
 use Rattle.std.specs.Prelude.{◌≡◌, ◌<◌, ℕ, ◌+◌, ◌-◌, zero, suc, List, [], ◌∷◌, ◌++◌, map, length, take, drop, slice_get, Option, Some, None}
 use Rattle.stab_items.specs.Items.{OneItem, operation, repeat, listed, before, done}
@@ -12,20 +12,20 @@ abbrev pub interleaved : List Step → List (List Step) → List Step
 interleaved xs [] = []
 interleaved xs (piece ∷ pieces) = xs ++ (piece ++ interleaved xs pieces)
 
--- how many rounds an item has, where it is a block
+-- how many rounds an item has, if it is a block
 abbrev pub rounds_in : Option OneItem → ℕ
 rounds_in None = 0
 rounds_in (Some (operation op)) = 0
 rounds_in (Some (repeat count tag body)) = count
 
--- the pieces of so many rounds, by those of one, which depend on what comes behind it: the steps before the place in the next round, and
--- behind the last round these
+-- the pieces of this many rounds, by those of one, which depend on what comes after it: the steps before the place in the next round, and
+-- after the last round these
 abbrev pub round_pieces : ℕ → (List Step → List (List Step)) → (lead : List Step) → (behind : List Step) → List (List Step)
 round_pieces zero round lead behind = []
 round_pieces (suc zero) round lead behind = round behind
 round_pieces (suc (suc n)) round lead behind = round lead ++ round_pieces (suc n) round lead behind
 
--- the pieces that a list's steps, and these behind them, come to behind an item in the last of these blocks: where it ends in the
+-- the pieces that a list's steps, and these after them, come to after an item in the last of these blocks: where it ends in the
 -- innermost list, and where it begins there
 abbrev pub pieces_in : (end : ℕ) → List ℕ → (place : ℕ) → List OneItem → (behind : List Step) → List (List Step)
 pieces_in end [] place xs behind = (unroll (listed (drop end xs)) ++ behind) ∷ []
@@ -33,8 +33,8 @@ pieces_in end (b ∷ bs) place xs behind =
     round_pieces (rounds_in (slice_get xs b)) (pieces_in end bs place (inner (slice_get xs b))) (steps_in bs place (inner (slice_get xs b)))
     (unroll (listed (drop (b + 1) xs)) ++ behind)
 
--- the pieces behind each occurrence of an item from a path up to an end in the innermost list, the last up to the end of the outermost
--- item: behind X 0 in H 0, REPEAT 3 { Y 0, X 0, Z 0 } these are Z Y, Z Y and Z
+-- the pieces after each occurrence of an item from a path up to an end in the innermost list, the last up to the end of the outermost
+-- item: after X 0 in H 0, REPEAT 3 { Y 0, X 0, Z 0 } these are Z Y, Z Y and Z
 abbrev pub pieces : Path → (end : ℕ) → List OneItem → List (List Step)
 pieces path end xs = pieces_in end path.blocks path.place (take (outermost end path.blocks) xs) []
 
@@ -43,7 +43,7 @@ abbrev pub HaveRounds : List ℕ → List OneItem → Type 0
 HaveRounds [] xs = Unit {0}
 HaveRounds (b ∷ bs) xs = (0 < rounds_in (slice_get xs b)) × HaveRounds bs (inner (slice_get xs b))
 
--- these are the lengths of the pieces behind the item at a path, around which each block has a round
+-- these are the lengths of the pieces after the item at a path, around which each block has a round
 pub record AreGaps (path : Path) (xs : List OneItem) (gaps : List ℕ) : Type 0 where
   pub lengths : gaps ≡ map length (pieces path (path.place + 1) xs)
   pub rounds : HaveRounds path.blocks xs

@@ -7,17 +7,17 @@ use Rattle.stab_items.specs.Items.{Items, OneItem, operation, repeat}
 use Rattle.stab_circuit.specs.Paths.{Path}
 use Rattle.stab_circuit.specs.Edits.{with_item, edited_inside}
 
--- so many rounds as a block, which is left out where there are none
+-- this many rounds as a block, which is left out if there are none
 abbrev pub rounds_as_block : (count : ℕ) → (tag : List ℕ) → (body : Items) → List OneItem
 rounds_as_block zero tag body = []
 rounds_as_block (suc n) tag body = repeat (suc n) tag body ∷ []
 
--- the rounds before a round, that round by itself, and the rounds behind it
+-- the rounds before a round, that round by itself, and the rounds after it
 abbrev pub parts_of_block : (round count : ℕ) → (tag : List ℕ) → (body : Items) → List OneItem
 parts_of_block round count tag body =
     rounds_as_block round tag body ++ (repeat 1 tag body ∷ rounds_as_block (count - (round + 1)) tag body)
 
--- what an item comes to: 12 where there is none or it has no such round, 17 where it is no block
+-- what an item comes to: 12 if there is none or it has no such round, 17 if it is no block
 abbrev pub parts_of_item : (round : ℕ) → Option OneItem → Result (List OneItem) Refusal
 parts_of_item round None = Err PlaceOutOfRange
 parts_of_item round (Some (operation op)) = Err NotABlock
@@ -33,8 +33,8 @@ abbrev pub split_in : (round : ℕ) → List ℕ → ℕ → List OneItem → Re
 split_in round [] place xs = with_parts place xs (parts_of_item round (slice_get xs place))
 split_in round (b ∷ bs) place xs = with_item b xs (edited_inside (split_in round bs place) (slice_get xs b))
 
--- a list in which round R of the block at a path was split off, counted from 0: 12 where the path leads past a list or the block has no
--- such round, 17 where it leads into or to an item that is no block
+-- a list in which round R of the block at a path was split off, counted from 0: 12 if the path leads past a list or the block has no
+-- such round, 17 if it leads into or to an item that is no block
 abbrev pub split : Path → (round : ℕ) → List OneItem → Result (List OneItem) Refusal
 split path round xs = split_in round path.blocks path.place xs
 
@@ -43,6 +43,6 @@ abbrev pub refused_by : Result (List OneItem) Refusal → Option Refusal
 refused_by (Ok xs) = None
 refused_by (Err r) = Some r
 
--- what refuses a split; no block is nested deeper behind it
+-- what refuses a split; no block is nested deeper after it
 abbrev pub split_refusal : Path → (round : ℕ) → List OneItem → Option Refusal
 split_refusal path round xs = refused_by (split path round xs)

@@ -13,12 +13,12 @@ outside place = record { blocks = []; place = place }
 abbrev pub within : ℕ → Path → Path
 within place path = record { blocks = place ∷ path.blocks; place = path.place }
 
--- so many rounds of paths
+-- this many rounds of paths
 abbrev pub path_rounds : ℕ → List Path → List Path
 path_rounds zero paths = []
 path_rounds (suc n) paths = paths ++ path_rounds n paths
 
--- the paths of the items of the steps, where the first item has the given place
+-- the paths of the items of the steps, if the first item has the given place
 abbrev pub paths_from : ℕ → Items → List Path
 paths_from place done = []
 paths_from place (next op rest) = replicate (length (steps_of op.kind)) (outside place) ++ paths_from (place + 1) rest

@@ -30,7 +30,7 @@ pub struct Circuit {
     total: Summary,
 }
 
-// Written out, so that to a proof a value that is let go is one call, and not one for each of its parts.
+// Written out, so that a proof sees the drop of a value as one call, and not one for each of its parts.
 impl Drop for Circuit {
     fn drop(self) {
         let Circuit {
@@ -81,7 +81,7 @@ impl Circuit {
         }
     }
 
-    /// The circuit of these items, with stretches of them, where nothing refuses it as a whole.
+    /// The circuit of these items, with stretches of them, if nothing refuses it as a whole.
     #[tactic(auto, using(stab_items::proofs::SummaryLemmas::check_judged))]
     fn of_items(items: Vec<Item>, stretches: Vec<Stretch>) -> Result<Circuit, Fault>
         requires shallow { depth (listed items.items) ≤ 16 }
@@ -126,21 +126,21 @@ impl Circuit {
         self.total.observables as usize
     }
 
-    /// The number of unrolled steps, or 1,048,577 where there are more.
+    /// The number of unrolled steps, or 1,048,577 if there are more.
     pub fn steps(&self) -> usize
         ensures value { result ≡ min (length (unroll (circuit_items self.now))) steps_cap }
     {
         self.total.steps as usize
     }
 
-    /// The number of records, or 1,048,577 where there are more.
+    /// The number of records, or 1,048,577 if there are more.
     pub fn records(&self) -> usize
         ensures value { result ≡ min (records_of (unroll (circuit_items self.now))) steps_cap }
     {
         self.total.records.min(STEPS_CAP) as usize
     }
 
-    /// The number of detectors, or 1,048,577 where there are more.
+    /// The number of detectors, or 1,048,577 if there are more.
     pub fn detectors(&self) -> usize
         ensures value { result ≡ min (detectors_of (unroll (circuit_items self.now))) steps_cap }
     {
@@ -180,9 +180,9 @@ pub fn circuit_of_text(alloc: Global, text: &[u8]) -> Result<Circuit, Fault>
 
 /// Reads the circuit that the input's text stands for.
 ///
-/// The fault of the text is that of a text that was read whole. Of a text over its limit at most
-/// 4,096 bytes behind the limit are read, and then no more: the fault is `TooLong`, whatever
-/// stands there.
+/// The fault of the text is that of a text that was read whole. For a text over its limit, at most
+/// 4,096 bytes after the limit are read, and then no more: the fault is `TooLong`, whatever
+/// is there.
 pub fn read_circuit<I: Input>(alloc: Global, input: &mut I) -> Result<Circuit, Fault>
     ensures reads { ReadsInput (I.seen input.old) (I.seen input.new) result }
     ensures only { IfErr result (IsPlaced is_of_circuit) }

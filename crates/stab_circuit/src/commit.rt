@@ -7,7 +7,7 @@ use stab_items::Item;
 use std::mem;
 
 /// Makes an edit in the innermost list around its place, and gives the item that it takes out. An
-/// insertion alone wants memory; where that is refused the edit comes back.
+/// insertion alone takes memory; if that is refused the edit comes back.
 fn commit_at(items: &mut Vec<Item>, edit: Edit) -> Result<Option<Item>, Edit>
     requires allowed { IsShallow (changed edit items.old.items) }
     ensures ok { OnOk result (changed edit items.old.items ≡ Ok items.new.items) }

@@ -59,7 +59,7 @@ impl<'a> Cursor<'a> {
         Ok(Cursor { items, walk })
     }
 
-    /// The next step, or `None` where none is left, and then for ever. It takes no memory.
+    /// The next step, or `None` if none is left, and then for ever. It takes no memory.
     pub fn next(&mut self) -> Option<Step<'a>>
         ensures all { self.new.all ≡ self.old.all }
         ensures some { IfSome result (λ s. self.old.left ≡ step_shown s ∷ self.new.left) }
@@ -69,7 +69,7 @@ impl<'a> Cursor<'a> {
         self.walk.next()
     }
 
-    /// The next steps, of one instruction or of detectors, up to so many, or `None` where none is
+    /// The next steps, of one instruction or of detectors, up to this many, or `None` if none is
     /// left, and then for ever. It takes no memory.
     pub fn next_steps(&mut self, most: usize) -> Option<Steps<'a>>
         requires some { 0 < most }

@@ -1,11 +1,11 @@
-//! Detectors that stand one behind the other, as items do.
+//! Detectors one after the other, as items do.
 ghost use Rattle.std.specs.Prelude.{◌≡◌, ◌≤◌, true, length, take};
 ghost use Rattle.std.specs.List.{list_all};
 ghost use Rattle.stab_circuit.specs.Detectors.{detects};
 
 use stab_items::Item;
 
-/// Detectors, one behind the other. Contracts see the numbers k of the `rec[-k]` of each.
+/// Detectors, one after the other. Contracts see the numbers k of the `rec[-k]` of each.
 #[derive(Clone, Copy)]
 pub struct Detectors<'a> {
     items: &'a [Item],
@@ -29,7 +29,7 @@ impl<'a> Detectors<'a> {
     ghost use Rattle.std.specs.Prelude.{◌≡◌, ◌<◌, ◌≤◌, [], length, take, slice_index_or};
     ghost use Rattle.stab_circuit.specs.Cursors.{lookbacks_of};
 
-    /// The detectors that stand before all other items.
+    /// The detectors that are before all other items.
     pub(crate) fn at_front(items: &'a [Item]) -> Detectors<'a>
         ensures front { result.items.now ≡ take (length (lookbacks_of result)) items.now }
     {

@@ -7,7 +7,7 @@ use stab_items::Item;
 pub enum Edit {
     /// An item is put in before the place.
     Insert { place: Path, item: Item },
-    /// An item is put in the stead of the one at the place.
+    /// An item is put in place of the one at the place.
     Replace { place: Path, item: Item },
     /// The item at the place is taken out.
     Delete { place: Path },
@@ -17,11 +17,11 @@ pub enum Edit {
 /// item around its place, in the old steps and in the new ones. Steps are counted up to 1,048,577.
 #[derive(Clone, Copy, Debug, PartialEq, Eq)]
 pub struct Span {
-    /// How many steps stand before the place.
+    /// How many steps are before the place.
     pub first: usize,
-    /// How many steps stood before the end of the outermost item.
+    /// How many steps were before the end of the outermost item.
     pub old_end: usize,
-    /// How many steps stand before its end now.
+    /// How many steps are before its end now.
     pub new_end: usize,
 }
 

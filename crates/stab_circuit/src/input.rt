@@ -9,8 +9,8 @@ pub const MOST_BYTES: usize = 16_777_216;
 
 /// Reads all of the input.
 ///
-/// Refusals: `TooLong` for a text of more than 16,777,216 bytes, of which at most 4,096 bytes behind
-/// the limit are read, and then no more; `ReadFault` where the input failed; `OutOfMemory`.
+/// Refusals: `TooLong` for a text of more than 16,777,216 bytes, of which at most 4,096 bytes after
+/// the limit are read, and then no more; `ReadFault` if the input failed; `OutOfMemory`.
 pub fn read_text<I: Input>(alloc: Global, input: &mut I) -> Result<Vec<u8>, Refusal>
     ensures reads { ReadsText (I.seen input.old) (I.seen input.new) result }
 {

@@ -15,7 +15,7 @@ use stab_items::{Item, Part, STEPS_CAP, Summary};
 use stab_lines::Count;
 
 /// What an edit comes to in a list of items: which items leave it, from the first up to the one
-/// before `behind`, the summary of what is put in their stead, and how many steps stand before the
+/// before `behind`, the summary of what replaces them, and how many steps are before the
 /// place within the first, counted up to 1,048,577.
 #[derive(Clone, Copy)]
 pub(crate) struct Judgement {
@@ -28,8 +28,8 @@ pub(crate) struct Judgement {
 /// What a list comes to by an edit: the summary of the items that the edit leaves, and which steps it
 /// changes.
 ///
-/// Steps are counted up to 1,048,577: how many stand before the place, before the end of what
-/// leaves the list, and before the end of what is put in its stead.
+/// Steps are counted up to 1,048,577: how many are before the place, before the end of what
+/// leaves the list, and before the end of what replaces it.
 #[derive(Clone, Copy)]
 pub(crate) struct EditResult {
     pub(crate) total: Summary,
@@ -65,7 +65,7 @@ pub(crate) fn block_of(found: Option<&Item>) -> Result<Block<'_>, Refusal>
     }
 }
 
-/// What an edit comes to in the innermost list around its place, of so many items.
+/// What an edit comes to in the innermost list around its place, of this many items.
 #[tactic(auto, using(stab_items::proofs::StepApartLemmas::nothing_apart))]
 fn judge_at(len: usize, edit: &Edit) -> Result<Judgement, Refusal>
     ensures value { result ≡ judgement_of 0 (splice_at edit.now len) }
@@ -128,8 +128,8 @@ fn judge(items: &[Item], blocks: &[usize], edit: &Edit) -> Result<Judgement, Ref
     }
 }
 
-/// What a list comes to by an edit that is judged like this, by the summaries of the items before
-/// those that leave it, of these, and of those behind them.
+/// What a list comes to by an edit with this judgement, by the summaries of the items before
+/// those that leave it, of these, and of those after them.
 fn edit_result_of(judgement: Judgement, front: Summary, gone: Summary, back: Summary) -> EditResult
     requires put { IsSummary judgement.put }
     requires few { judgement.within ≤ steps_cap }
@@ -192,8 +192,8 @@ pub(crate) fn judged_edit(
     edit_result_in(items, stretches, path.blocks(), edit)
 }
 
-/// How many steps stand before a place in nested blocks of a list with these stretches, or 1,048,577
-/// where there are more.
+/// How many steps are before a place in nested blocks of a list with these stretches, or 1,048,577
+/// if there are more.
 #[cycle(counting)]
 pub(crate) fn steps_in(items: &[Item], stretches: &[Stretch], blocks: &[usize], place: usize) -> u32
     requires stretches { AreStretches stretches.now items.now }
@@ -208,8 +208,8 @@ pub(crate) fn steps_in(items: &[Item], stretches: &[Stretch], blocks: &[usize], 
     }
 }
 
-/// How many steps stand before a place in a block of a list and the blocks in it, or 1,048,577
-/// where there are more; none where the list has no block there.
+/// How many steps are before a place in a block of a list and the blocks in it, or 1,048,577
+/// if there are more; none if the list has no block there.
 #[cycle(counting)]
 fn steps_inside(items: &[Item], block: usize, others: &[usize], place: usize) -> u32
     ensures value { result ≡ min (length (steps_of_place others.now place (inner (slice_get items.now block)))) steps_cap }

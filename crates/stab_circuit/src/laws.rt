@@ -9,8 +9,8 @@ pub fn texts_have_one_meaning()
 {}
 
 /// What is printed of the items of any lines, however many, none of them faulty, stands for these
-/// items and for no others, where it is no longer than a circuit text may be. The lines need not
-/// have stood in one text; so this holds of circuits that were put together from several.
+/// items and for no others, if it is no longer than a circuit text may be. The lines need not
+/// come from one text; so this holds for circuits that were put together from several.
 pub fn printed_items_are_read_back()
     ensures law { PrintedItemsAreReadBack }
 {}
@@ -57,22 +57,22 @@ pub fn circuits_have_no_fault()
     ensures law { CircuitsHaveNoFault }
 {}
 
-/// An edit leaves the steps before the first changed one, and those behind the outermost item
-/// around its place: behind the block in the outermost list, or behind what is put into that list
+/// An edit leaves the steps before the first changed one, and those after the outermost item
+/// around its place: after the block in the outermost list, or after what is put into that list
 /// or taken out of it.
 pub fn edits_leave_the_rest()
     ensures law { EditsLeaveTheRest }
 {}
 
 /// An edit changes each round of the blocks around its place: from the first changed step to the end
-/// of the outermost block there stand what is taken out, and what is put in, before the same steps
+/// of the outermost block, what is taken out, and what is put in, come before the same steps
 /// in each round.
 pub fn edits_change_each_round()
     ensures law { EditsChangeEachRound }
 {}
 
 /// A round of a block that is split off, so that it is a block by itself with the other rounds in
-/// blocks before and behind it, leaves the steps, the depth of blocks, and the greatest numbers that
+/// blocks before and after it, leaves the steps, the depth of blocks, and the greatest numbers that
 /// are named: so nothing that a run gives changes, and nothing refuses it.
 pub fn splits_leave_the_steps()
     ensures law { SplitsLeaveTheSteps }
@@ -80,12 +80,12 @@ pub fn splits_leave_the_steps()
 
 /// An edit of items of lines that puts in an item of lines, and nests no block too deep, leaves
 /// items of lines. So what is printed of a circuit after any edits is read back as that circuit
-/// (`printed_items_are_read_back`), where it is no longer than a circuit text may be.
+/// (`printed_items_are_read_back`), if it is no longer than a circuit text may be.
 pub fn edited_items_are_of_lines()
     ensures law { EditedItemsAreOfLines }
 {}
 
-/// Items of lines stay such when a round is split off.
+/// Items of lines stay items of lines when a round is split off.
 pub fn split_items_are_of_lines()
     ensures law { SplitItemsAreOfLines }
 {}

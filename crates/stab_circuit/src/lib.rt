@@ -1,44 +1,44 @@
 //! Circuits: reading their text, and what they come to once their blocks are written out.
 //!
-//! What one line means is said by `stab_lines`, and how lines are read as items, and items printed, by
-//! `stab_items`; here items are put together.
+//! `stab_lines` says what one line means, and `stab_items` how lines are read as items, and how items are
+//! printed; here items are put together.
 //!
 //! - `input`: reading an input whole.
 //! - `path`: the places of items.
 //! - `edit`: how a circuit is edited at a path, and which steps that changes.
 //! - `judge`, `commit`: judging an edit by what items keep, and making it.
 //! - `circuit`: circuits, reading one, editing one, splitting a round off a block, the item at a path,
-//!   the item that a step is of, the steps behind each occurrence of an item in blocks, and the blocks
+//!   the item that a step belongs to, the steps after each occurrence of an item in blocks, and the blocks
 //!   of which the steps come again.
 //! - `print`: the one text of a circuit.
 //! - `step`, `instruction`, `steps`: the steps of an instruction, one at a time and together.
-//! - `detectors`: detectors that stand one behind the other.
+//! - `detectors`: detectors one after the other.
 //! - `same`: instructions and items that stand for the same steps.
 //! - `walk`, `cursor`: the unrolled steps of a circuit, from any place on.
 //! - `laws`: what holds between all texts and all items.
 //!
 //! `specs/` says how a text is read, which item each unrolled step is of, what an edit leaves of items,
-//! where it changes their steps, and where the same steps come again, and passes on what `stab_items`
+//! if it changes their steps, and where the same steps come again, and passes on what `stab_items`
 //! says of them: which items a text stands for, what its fault is, and what its unrolled steps are;
-//! `specs/inner` has what private contracts alone speak of.
+//! `specs/inner` has what only private contracts use.
 //!
 //! Sources: Stim's circuit file format (.stim) without noise, in Stim's repository
 //! `doc/file_format_stim_circuit.md`. `docs/use/circuit-text.md` says where this differs; paths and edits are this
 //! project's own.
 //!
 //! Proved: every text is that of one circuit or has one fault, and never both; it is read as exactly
-//! the items that it stands for, or refused with exactly its fault, and behind the limit of a text
-//! nothing is read but what one read brings; qubits and observables are those of its items, and
-//! steps, records, detectors and what refuses a whole circuit those of its unrolled steps; the path that is told
-//! of a step is that of its item; one item's text without a fault stands for one item; what is printed
+//! the items that it stands for, or refused with exactly its fault, and after the limit of a text
+//! only what one read brings is read; qubits and observables are those of its items, and
+//! steps, records, detectors and what refuses a whole circuit those of its unrolled steps; the path that is given
+//! for a step is that of its item; one item's text without a fault stands for one item; what is printed
 //! of the items of any lines stands for these items and no others, within the limit of a text, and
 //! edits and splits of items of lines leave such items; an edit leaves exactly the items that
-//! `specs/Edits.antt` gives, and the steps before the first changed one and behind the outermost item
+//! `specs/Edits.antt` gives, and the steps before the first changed one and after the outermost item
 //! around its place, or is refused by what refuses it first and leaves the circuit as it was; in each
-//! round of the blocks around its place it leaves the steps behind what it takes out and what it puts
-//! in, and how many these are is told; where the steps of an outermost block come again, how often, and
-//! how far back they look is told of each such block; a split of a round leaves exactly the items that
-//! `specs/Splits.antt` gives, and all steps, or is refused so.
+//! round of the blocks around its place it leaves the steps after what it takes out and what it puts
+//! in, and how many these are is reported; where the steps of an outermost block come again, how often, and
+//! how far back they look is reported for each such block; a split of a round leaves exactly the items that
+//! `specs/Splits.antt` gives, and all steps, or is refused as that says.
 #![tactic(auto)]
 
 mod circuit;
@@ -65,7 +65,7 @@ pub use input::read_text;
 pub use instruction::{controlled_gate, measured_step};
 pub use path::{Path, write_path};
 pub use print::write_circuit;
-pub use stab_items::{Item, write_one_item};
+pub use stab_items::{Item, write_item_coordinates, write_one_item};
 pub use stab_lines::{Axis, ControlledPair, Factor, MeasureTarget, Measurement, Qubit};
 pub use step::Step;
 pub use steps::Steps;

@@ -7,7 +7,7 @@ use itoa::Buffer;
 use stab_io::{Output, Refusal, write_all};
 use std::marker::Model;
 
-/// Where an item stands or an edit is made: the places of the blocks around, the outermost first, of
+/// Where an item is or an edit is made: the places of the blocks around, the outermost first, of
 /// which there are at most 16, and a place in the innermost list. Places are counted from 0.
 #[derive(Clone, Copy, Debug, PartialEq, Eq)]
 pub struct Path {
@@ -87,7 +87,7 @@ fn write_number<O: Output>(out: &mut O, number: usize) -> Result<(), Refusal>
     write_all(out, digits.format(number).as_bytes())
 }
 
-/// Writes the place of a block, with a slash behind it.
+/// Writes the place of a block, with a slash after it.
 fn write_block<O: Output>(out: &mut O, place: usize) -> Result<(), Refusal>
     ensures writes { WritesAll (O.seen out.old) (O.seen out.new) (decimal place ++ codes "/") result }
 {
@@ -97,7 +97,7 @@ fn write_block<O: Output>(out: &mut O, place: usize) -> Result<(), Refusal>
 
 /// Writes a path's numbers in decimal, joined by slashes, and takes no memory. It does not flush.
 ///
-/// Refusal `WriteFault` where a write failed; what was written is then a prefix of the text, and
+/// Refusal `WriteFault` if a write failed; what was written is then a prefix of the text, and
 /// nothing more is tried.
 pub fn write_path<O: Output>(out: &mut O, path: &Path) -> Result<(), Refusal>
     ensures writes { WritesAll (O.seen out.old) (O.seen out.new) (path_text path.now) result }

@@ -10,7 +10,7 @@ use stab_items::write_all_items;
 /// spaces for each open block, a line feed after every line, nothing for the empty circuit.
 /// It does not flush.
 ///
-/// Fault `WriteFault` with line 0 where a write failed; what was written is then a prefix of the
+/// Fault `WriteFault` with line 0 if a write failed; what was written is then a prefix of the
 /// text, and nothing more is tried.
 pub fn write_circuit<O: Output>(out: &mut O, circuit: &Circuit) -> Result<(), Fault>
     ensures writes { WritesAllOrFault (O.seen out.old) (O.seen out.new) (printed (circuit_items circuit.now)) result }

@@ -77,7 +77,7 @@ fn is_reset(axis: Axis, qubits: &[Qubit], kind: &Kind) -> bool
     }
 }
 
-/// Whether products are others, factor by factor.
+/// Whether products are the same as others, factor by factor.
 fn are_products(products: &[Product], others: &[Product]) -> bool
     ensures same { OnTrue result (products.now ≡ others.now) }
 {
@@ -137,8 +137,8 @@ fn has_no_steps(kind: &Kind) -> bool
     )
 }
 
-/// Whether two instructions stand for the same steps. Those of different kinds are only told to
-/// where they have none.
+/// Whether two instructions stand for the same steps. Those of different kinds are said to only
+/// if they have no steps.
 pub(crate) fn same_steps(kind: &Kind, other: &Kind) -> bool
     ensures same { OnTrue result (steps_of kind.now ≡ steps_of other.now) }
 {
@@ -159,8 +159,8 @@ pub(crate) fn same_steps(kind: &Kind, other: &Kind) -> bool
     }
 }
 
-/// So many steps and those of an item, where it and another are instructions with the same steps.
-/// `None` too where a `usize` can't say how many.
+/// This many steps and those of an item, if it and another are instructions with the same steps.
+/// `None` too if a `usize` can't say how many.
 fn with_same(steps: usize, item: &Item, other: &Item) -> Option<usize>
     ensures same { IfSome result (λ n. unroll (before item.now done) ≡ unroll (before other.now done)) }
     ensures count { IfSome result (λ n. n ≡ steps + length (unroll (before item.now done))) }

@@ -8,7 +8,7 @@ pub enum Step<'a> {
     One(Gate, usize),
     /// A gate on two different qubits; of a controlled gate the first is the control.
     Two(PairGate, usize, usize),
-    /// A letter on a qubit, applied where the record `rec[-k]` is 1: the letter, k, the qubit.
+    /// A letter on a qubit, applied if the record `rec[-k]` is 1: the letter, k, the qubit.
     Controlled(Letter, u32, usize),
     /// A measurement of a letter on a qubit.
     Collapse {
@@ -18,7 +18,7 @@ pub enum Step<'a> {
         recorded: bool,
         /// Whether its record is the other bit.
         inverted: bool,
-        /// Whether the qubit is flipped where the outcome is 1.
+        /// Whether the qubit is flipped if the outcome is 1.
         reset: bool,
     },
     /// A measurement of a product of letters on different qubits, whose outcome goes into the

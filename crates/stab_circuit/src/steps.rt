@@ -8,7 +8,7 @@ use crate::step::Step;
 use stab_letters::Gate;
 use stab_lines::{Axis, ControlledPair, Kind, MeasureTarget, Measurement, Qubit};
 
-/// Steps of one instruction, or of detectors, one behind the other, at least one.
+/// Steps of one instruction, or of detectors, one after the other, at least one.
 #[derive(Clone, Copy)]
 pub enum Steps<'a> {
     /// A gate on each of these qubits.
@@ -41,7 +41,7 @@ impl<'a> Steps<'a> {
     }
 }
 
-/// The elements of a list from a place on, up to so many, or `None` where there are none.
+/// The elements of a list from a place on, up to this many, or `None` if there are none.
 pub fn part<T>(list: &[T], place: usize, most: usize) -> Option<&[T]>
     requires some { 0 < most }
     ensures value { IfSome result (λ p. p.now ≡ take most (drop place list.now)) }
@@ -56,7 +56,7 @@ pub fn part<T>(list: &[T], place: usize, most: usize) -> Option<&[T]>
     Some(part)
 }
 
-/// The steps of an instruction from a place among them on, up to so many, or `None` where it has no
+/// The steps of an instruction from a place among them on, up to this many, or `None` if it has no
 /// more.
 pub fn steps_from(kind: &Kind, place: usize, most: usize) -> Option<Steps<'_>>
     requires some { 0 < most }

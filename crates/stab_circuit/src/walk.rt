@@ -38,7 +38,7 @@ pub struct Walk<'a> {
     // The instruction that is under way, and how many of its steps were given.
     kind: Option<&'a Kind>,
     within: usize,
-    // The innermost block, beside those around it: so the common step leaves these alone.
+    // The innermost block, apart from those around it, so that the common step leaves these alone.
     top: Level<'a>,
     // The outermost list first.
     around: Vec<Level<'a>>,
@@ -115,7 +115,7 @@ impl<'a> Walk<'a> {
         Some(item)
     }
 
-    /// Goes into a block, to the first of one round and so many more.
+    /// Goes into a block, to the first of one round and this many more.
     fn enter(&mut self, body: &'a [Item], more: u64)
         requires walks { IsWalk self.old }
         requires room { depth (listed body.now) + 1 + length self.old.around.items ≤ 16 }
@@ -185,7 +185,7 @@ impl<'a> Walk<'a> {
         true
     }
 
-    /// The next step, or `None` where none is left, and then for ever.
+    /// The next step, or `None` if none is left, and then for ever.
     pub fn next(&mut self) -> Option<Step<'a>>
         requires walks { IsWalk self.old }
         ensures walks { IsWalk self.new }
@@ -205,7 +205,7 @@ impl<'a> Walk<'a> {
         }
     }
 
-    /// The next steps of the instruction under way, up to so many, unless it has no more.
+    /// The next steps of the instruction under way, up to this many, unless it has no more.
     fn steps(&mut self, most: usize) -> Option<Steps<'a>>
         requires walks { IsWalk self.old }
         requires some { 0 < most }
@@ -220,7 +220,7 @@ impl<'a> Walk<'a> {
         Some(steps)
     }
 
-    /// The detectors that stand next in the innermost block, up to so many, unless none does.
+    /// The detectors that are next in the innermost block, up to this many, unless none does.
     fn detectors(&mut self, most: usize) -> Option<Detectors<'a>>
         requires walks { IsWalk self.old }
         requires some { 0 < most }
@@ -240,7 +240,7 @@ impl<'a> Walk<'a> {
         Some(detectors)
     }
 
-    /// The next steps, of one instruction or of detectors, up to so many, or `None` where none is
+    /// The next steps, of one instruction or of detectors, up to this many, or `None` if none is
     /// left, and then for ever.
     pub fn next_steps(&mut self, most: usize) -> Option<Steps<'a>>
         requires walks { IsWalk self.old }
@@ -265,7 +265,7 @@ impl<'a> Walk<'a> {
     }
 }
 
-/// The next step of an instruction of which so many were given.
+/// The next step of an instruction of which this many were given.
 fn current(kind: Option<&Kind>, within: usize) -> Option<Step<'_>>
     ensures value { shown_step result ≡ slice_get (kind_steps kind.entry) within }
     ensures apart { IfSome result (λ s. IsApart (step_shown s)) }

@@ -1,4 +1,4 @@
--- Usages: how words that are no job are told.
+-- Usages: how words that are no job are reported.
 -- Source: this project's own.
 use Rattle.std.specs.Prelude.{◌≡◌, ℕ, ◌⊎◌, string_bytes}
 use Rattle.stab_io.specs.Devices.{OutputView}
@@ -9,7 +9,7 @@ use Rattle.stab_tables.specs.FaultLines.{TellsFault, TookOrFailed}
 use Rattle.stab_words.specs.declared.words.Usage.{Usage}
 use Rattle.stab_words.specs.declared.words.Usage.TheVariants.{Help, Fault as Wrong, Memory}
 
--- Words that are no job are told, with this status: help on the output, which is flushed, with 0, or as a failed write with 1 if the
+-- Words that are no job are reported, with this status: help on the output, which is flushed, with 0, or as a failed write with 1 if the
 -- output failed; the text of bad arguments on the error output with 2; and refused memory as its fault with 1.
 abbrev pub TellsUsage : Usage → OutputView → OutputView → OutputView → OutputView → ℕ → Type 0
 TellsUsage (Help text) o o' e e' status =

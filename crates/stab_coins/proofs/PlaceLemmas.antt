@@ -1,4 +1,4 @@
--- Places of coins: those that flags tell, one after another, and the steps that take them.
+-- Places of coins: those that flags show, one after another, and the steps that take them.
 use Rattle.std.proofs.Common.{◌≡◌, ℕ, zero, suc, ◌+◌, ◌-◌, ◌<◌, ◌≤◌, ◌==◌, refl, sym, ◌∙◌, ap, subst, Bool, true, false, ◌&&◌, nat_lt, List, [], ◌∷◌, ◌++◌, append-nil, length, take, drop, map, get_or, arith}
 use Rattle.std.specs.Prelude.{if◌then◌else◌}
 use Rattle.std.proofs.lemmas.Bool.Decides.{nat_tests}
@@ -19,7 +19,7 @@ use Rattle.stab_coins.specs.Places.{steps_before_coin, step_of_coin}
 
 -- the places of 1 bits
 
-places-next : (place : ℕ) (bits : List Bool) (k : ℕ)
+pub places-next : (place : ℕ) (bits : List Bool) (k : ℕ)
     → one_places_from place (take (suc k) bits) ≡ one_places_from place (take k bits) ++ (if get_or bits k false then (place + k) ∷ [] else [])
 places-next place [] zero = refl
 places-next place [] (suc k) = refl
@@ -198,7 +198,7 @@ flags-of-run n coins items =
     (sym (run-items n coins items (unroll items) (observables_of items) refl refl) ∙ run-state n coins (unroll items) (start (observables_of items)))
     ∙ flags-counted n coins (unroll items) origin
 
--- the steps behind the next
+-- the steps after the next
 
 drop-suc : (k : ℕ) (xs : List Step) (x : Step) (rest : List Step) → drop k xs ≡ x ∷ rest → drop (suc k) xs ≡ rest
 drop-suc zero [] x rest e = absurd (cc)

@@ -75,7 +75,7 @@ module _ (n : ℕ) (items : Items) (fits : All (StepFits n) (unroll items)) wher
       absent (k + 1) flags i (subst (λ m. All (λ (r : CoinRow). r.coin ≡ m → ⊥) (map (row_by n items zero_coins) (one_places_from (k + 1) flags))) (omega arith)
       (All-tail (λ (r : CoinRow). r.coin ≡ k + suc i → ⊥) (row_by n items zero_coins k) (map (row_by n items zero_coins) (one_places_from (k + 1) flags)) all))
 
-  -- the rows of the coins from a number on, where some coins below are those of a run and all others 0
+  -- the rows of the coins from a number on, if some coins below are those of a run and all others are 0
   module _ (coins : ℕ → Bool) where
     abbrev rows_from : ℕ → List Bool → List CoinRow
     rows_from k flags = map (row_by n items zero_coins) (one_places_from k flags)

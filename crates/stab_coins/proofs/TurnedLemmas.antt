@@ -1,4 +1,4 @@
--- Turned coins: notes that are right of a run are so of one with other coins, and each run is any other one, inverted.
+-- Turned coins: notes that are right for a run are right for one with other coins, and each run is any other one, inverted.
 use Rattle.std.proofs.Common.{◌≡◌, ℕ, suc, ◌+◌, refl, sym, ◌∙◌, ap, subst, Bool, false, List, [], ◌∷◌, length, take, replicate}
 use Rattle.std.specs.Prelude.{All, Option, Some, None}
 use Rattle.std.proofs.lemmas.List.Elements.{All-nil, All-take}
@@ -53,7 +53,7 @@ module _ (n : ℕ) (strings : ℕ → Option (List Letter)) where
   right-at (detector ks) a b f turned coin right = tt
   right-at (observable j ks) a b f turned coin right = tt
 
-  -- the strings that stabilise behind each of the first steps differ by letters alone
+  -- the strings that stabilise after each of the first steps differ by letters alone
   abbrev AreTurnedOver : (coins others : ℕ → Bool) → List Step → Point → Point → Type 0
   AreTurnedOver coins others xs a b =
       (m : ℕ) → (g : List Letter) × IsTurned n g (member (point_after n coins (take m xs) a).trace) (member (point_after n others (take m xs) b).trace)
@@ -103,7 +103,7 @@ module _ (n : ℕ) (items : Items) (fits : All (StepFits n) (unroll items)) wher
   is-run : (coins : ℕ → Bool) → run n coins xs (start (observables_of items)) ≡ run_of n coins items
   is-run coins = run-items n coins items xs (observables_of items) refl refl
 
-  -- what changed coins flip, whatever the coins are
+  -- what changed coins flip, for all random bits
   abbrev pub flips_by : (ℕ → Bool) → ShotBits
   flips_by changes = record {
     records = (flips_over_all changes).records;

@@ -28,6 +28,6 @@ inverted bits flips = record {
 abbrev pub turned : ℕ → (ℕ → Bool) → ℕ → Bool
 turned t coins s = (s == t) ⊕ coins s
 
--- 1 where the run with this coin turned differs from the run with these coins
+-- 1 if the run with this coin turned differs from the run with these coins
 abbrev pub flips_of : (n : ℕ) → Items → (coins : ℕ → Bool) → ℕ → ShotBits
 flips_of n items coins t = inverted (bits_of (run_of n (turned t coins) items)) (bits_of (run_of n coins items))

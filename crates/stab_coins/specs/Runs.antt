@@ -29,7 +29,7 @@ pub record AreCoinRuns (n : ℕ) (items : Items) (r : CoinRuns) : Type 0 where
   pub steps : r.steps.items ≡ map (step_of_coin (unroll items)) (free_coins n items)
   pub reference : IfSome r.reference (λ f. IsReference n items f)
 
--- lane l of so many words has these bits
+-- lane l of this many words has these bits
 pub record AreBits {W : Type 0} (at : W → ℕ → Bool) (l : ℕ) (bits : ShotBits) (lists : Shots W) : Type 0 where
   pub records : lane_bits at l lists.records.items ≡ bits.records
   pub detectors : lane_bits at l lists.detectors.items ≡ bits.detectors

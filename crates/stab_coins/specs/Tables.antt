@@ -20,7 +20,7 @@ abbrev pub with_rows : (coins : ℕ → Bool) → List CoinRow → ShotBits → 
 with_rows coins [] bits = bits
 with_rows coins (r ∷ rows) bits = with_rows coins rows (if coins r.coin then inverted bits r.flips else bits)
 
--- A row for each coin that decides an outcome, in order: whatever the coins are, runs with it turned and without differ in its row's bits;
+-- A row for each coin that decides an outcome, in order: for all random bits, runs with it turned and without differ in its row's bits;
 -- those of any other coin are the same; and the bits of a run are those with coins 0, inverted by the rows of the coins that are 1.
 pub record IsCoinTable (n : ℕ) (items : Items) (rows : List CoinRow) : Type 0 where
   pub listed : (coins : ℕ → Bool) → rows ≡ map (row_by n items coins) (one_places (run_of n coins items).free)

@@ -29,10 +29,10 @@ pub struct CoinRuns {
     reference: Option<Reference>,
 }
 
-/// How many bytes the bits of lanes take at most, one for each eight lanes, but for the room that a growing list keeps free.
+/// How many bytes the bits of lanes take at most, one for each eight lanes, besides the room that a growing list keeps free.
 const MOST_BYTES: usize = 12 * 1024 * 1024;
 
-/// In how many lanes so many coins of a run go at once, 64, 256 or 1,024.
+/// In how many lanes this many coins of a run go at once, 64, 256 or 1,024.
 fn lanes_of(zero: &Shot, coins: usize) -> usize
     ensures some { 0 < result }
     ensures few { result ≤ 1024 }
@@ -47,7 +47,7 @@ fn lanes_of(zero: &Shot, coins: usize) -> usize
     }
 }
 
-/// The reference of a circuit that nothing refuses, if it has one, and if there is more than one batch to be led by it.
+/// The reference of a circuit that nothing refuses, if it has one, and if there is more than one batch for it to lead.
 fn reference_of(
     alloc: Global,
     circuit: &Circuit,
@@ -142,7 +142,7 @@ impl CoinRuns {
         lanes_of(&self.zero, self.numbers.len())
     }
 
-    /// Puts in place of what lists had, for each lane, which bits of a run are flipped by a coin: lane l has those of the coin at place
+    /// Replaces what lists had by, for each lane, which bits of a run are flipped by a coin: lane l has those of the coin at place
     /// `first` + l of the numbers, as far as there are such.
     ///
     /// Fault `OutOfMemory` alone, with line 0; nothing is said of the lists then.

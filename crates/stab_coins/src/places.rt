@@ -38,14 +38,14 @@ fn is_free(free: &[bool], coin: usize) -> bool
     free.get(coin).copied().unwrap_or(false)
 }
 
-/// Whether the coin of a number decides, which is the next where a step takes so many.
+/// Whether the coin of a number decides, which is the next coin if a step takes this many.
 fn decides(coins: usize, free: &[bool], coin: usize) -> bool
     ensures value { result ≡ ((coins == 1) && slice_index_or free.now coin false) }
 {
     coins == 1 && is_free(free, coin)
 }
 
-/// Puts a number behind others, if it is to be.
+/// Puts a number after others, if it is to be put.
 fn push_if<T: Copy + Drop>(numbers: &mut Vec<T>, here: bool, number: T) -> Result<(), AllocError>
     ensures value { OnOk result (numbers.new.items ≡ numbers.old.items ++ (if here then number ∷ [] else [])) }
 {

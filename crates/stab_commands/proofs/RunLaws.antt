@@ -1,4 +1,4 @@
--- Laws of runs: what the parts of a command hand on makes its end.
+-- Laws of runs: what the parts of a command pass on makes its end.
 use Rattle.std.proofs.Common.{◌≡◌, refl, subst, sym, List, ℕ, Result, Ok, Err, inl, inr}
 use Rattle.std.specs.Result.{IsErrAnd}
 use Rattle.stab_io.specs.Devices.{InputView, OutputView}

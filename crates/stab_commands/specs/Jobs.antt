@@ -27,15 +27,15 @@ abbrev pub refusing_none : {T : Type 0} → Result T Fault → Result Bool Fault
 refusing_none (Ok x) = Ok false
 refusing_none (Err f) = Err f
 
--- no line of a script was refused, and the call ended so
+-- no line of a script was refused, and the call ended in this way
 abbrev pub RefusesNone : (Result (Unit {0}) Fault → Type 0) → Result Bool Fault → Type 0
 RefusesNone ends r = (answer : Result (Unit {0}) Fault) × ends answer × (r ≡ refusing_none answer)
 
--- no bit was named as one that is not sure, no line of a script was refused, and the call ended so
+-- no bit was named as one that is not deterministic, no line of a script was refused, and the call ended in this way
 abbrev pub NamesNone : (Result (Unit {0}) Fault → Type 0) → Result Bool Fault → Option Unsure → Type 0
 NamesNone ends r unsure = (unsure ≡ None) × RefusesNone ends r
 
--- how the call of a command ends, with coins from the source: whether a line of the script was refused, and which bit was named as one that is not sure
+-- how the call of a command ends, with coins from the source: whether a line of the script was refused, and which bit, if any, was named as not deterministic
 abbrev pub EndsCommand : Command → Source → InputView → InputView → InputView → InputView → OutputView → OutputView → Result Bool Fault → Option Unsure → Type 0
 EndsCommand (Sample format shots) source i i' s s' o o' r unsure = NamesNone (EndsRun (sample_of format shots.first shots.number source) i i' o o') r unsure
 EndsCommand (Detect format shots append) source i i' s s' o o' r unsure = NamesNone (EndsRun (detect_of format append shots.first shots.number source) i i' o o') r unsure
@@ -59,12 +59,12 @@ status_of (Ok false) = 0
 status_of (Ok true) = 3
 status_of (Err f) = 1
 
--- a run's fault is told, with the bit that it names, if any; and without a fault the error output is untouched
+-- a run's fault is reported, with the bit that it names, if any; and without a fault the error output is untouched
 abbrev pub Tells : {T : Type 0} → Result T Fault → Option Unsure → OutputView → OutputView → Type 0
 Tells (Ok x) unsure old new = new ≡ old
 Tells (Err f) unsure old new = TookOrFailed old new (told_text f unsure)
 
--- How a run of a job ends: as the call of its command ends, with that call's status, and its fault told.
+-- How a run of a job ends: as the call of its command ends, with that call's status, and its fault reported.
 pub record EndsJob (job : Job) (i i' s s' : InputView) (o o' e e' : OutputView) (status : ℕ) : Type 0 where
   pub answer : Result Bool Fault
   pub unsure : Option Unsure

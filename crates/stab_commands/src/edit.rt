@@ -14,10 +14,10 @@ use stab_scripts::{NoWatcher, Watcher, edit_circuit};
 use std::alloc::Global;
 
 /// Reads a circuit, and edits it by a script, as `run_edit` does, with each read of the script made
-/// by a watcher, which is shown the output as it then stands.
+/// by a watcher, which is shown the output as it then is.
 ///
-/// Where the script's input keeps a log, each read of it found exactly the replies written to what
-/// was handed over before, in whole lines, behind what the output held at first.
+/// If the script's input keeps a log, each read of it found exactly the replies written to what
+/// was handed over before, in whole lines, after what the output held at first.
 ///
 /// A framed script is one that a program drives: it is greeted by a line of numbers before it is
 /// read, each reply that is no refusal says first how many lines it has, and it may ask for more.
@@ -75,12 +75,12 @@ pub fn run_edit_watched<I: Input, S: Input, O: Output, W: Watcher<S, O>>(
 /// Reads a circuit, and edits it by a script: the reply to each line is written before the next
 /// line is read.
 ///
-/// The circuit is read whole first; its faults, and `QubitOutOfRange` where it names a qubit past
+/// The circuit is read whole first; its faults, and `QubitOutOfRange` if it names a qubit past
 /// those asked for, leave the script unread and the output untouched. It has as many qubits as are
 /// asked for, at most 1,024, or as it names. The stride is from 1 to 65,536. Coins are those of shot
-/// 0. True where a line was refused. Faults: those of the circuit; `ReadFault` where an input
+/// 0. True if a line was refused. Faults: those of the circuit; `ReadFault` if an input
 /// failed and `TooLong` for a script of more than 67,108,864 bytes, both after exactly the replies
-/// to what was read whole; `WriteFault` where the output failed, and `OutOfMemory`, both after a
+/// to what was read whole; `WriteFault` if the output failed, and `OutOfMemory`, both after a
 /// prefix of all replies.
 pub fn run_edit<I: Input, S: Input, O: Output>(
     alloc: Global,

@@ -1,4 +1,4 @@
-//! Laws of what commands write, each handed on by the crate that has it.
+//! Laws of what commands write, each passed on by the crate that has it.
 pub use stab_sampling::laws::joined_parts_are_the_whole;
 pub use stab_scripts::laws::{
     circuits_can_be_edited, first_replies_come_first, scripts_have_an_answer,

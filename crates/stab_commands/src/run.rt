@@ -48,14 +48,14 @@ fn run_circuit<I: Input, O: Output>(
     send_circuit(alloc, &circuit, out, format, shown, shots, source)
 }
 
-/// Reads a circuit, runs so many shots of it, at most 1,000,000, and writes the records of each in
+/// Reads a circuit, runs this many shots of it, at most 1,000,000, and writes the records of each in
 /// a format.
 ///
 /// The circuit's text is read whole before anything is written, and the output is flushed once at
 /// the end. Shot s has the coins of its own stream under the seed, or the whole list of coins anew.
 /// Faults: those of the text, with their lines; 8 and 9 for the whole circuit and 14 for a text of
-/// more than 16,777,216 bytes; 15 where the input failed, with nothing written; 16 where the output
-/// failed, and 20 where memory was refused, both after a prefix of what is to be written.
+/// more than 16,777,216 bytes; 15 if the input failed, with nothing written; 16 if the output
+/// failed, and 20 if memory was refused, both after a prefix of what is to be written.
 pub fn run_sample<I: Input, O: Output>(
     alloc: Global,
     input: &mut I,
@@ -87,8 +87,8 @@ pub fn run_sample_shots<I: Input, O: Output>(
     run_circuit(alloc, input, out, format, Shown::Records, shots, source)
 }
 
-/// Reads a circuit, runs so many shots of it, at most 1,000,000, and writes the detectors of each
-/// in a format and, where `append` says so, the observables behind them.
+/// Reads a circuit, runs this many shots of it, at most 1,000,000, and writes the detectors of each
+/// in a format and, if `append` says so, the observables after them.
 ///
 /// The bits are raw parities of records: no reference sample is subtracted. Reading, coins and
 /// faults are those of `run_sample`.

@@ -140,7 +140,7 @@ pub fn run_job_watched<I: Input, S: Input, O: Output, E: Output, W: Watcher<S, O
 
 /// Runs a job over these devices, reports its fault on `err`, and answers the status of the program:
 /// 0 without a fault, 1 with one, and 3 if the script was read to its end and a line of it was
-/// refused, whether or not `err` fails. A fault that names a detector or observable has a line more.
+/// refused, whether or not `err` fails. A fault that names a detector or observable has one more line.
 ///
 /// The paths of the job are the caller's to open. Only `edit` reads the script.
 pub fn run_job<I: Input, S: Input, O: Output, E: Output>(

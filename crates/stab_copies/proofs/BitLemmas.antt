@@ -4,7 +4,7 @@ use Rattle.std.proofs.Math.Seq.{take-suc}
 use Rattle.stab_run.specs.Records.{ones}
 use Rattle.stab_steps.proofs.RecordLemmas.{ones-append}
 
--- where none of the first is 1, and the next is none either
+-- if none of the first is 1, and the next is none either
 pub none-further : (k : ℕ) (bits : List Bool) → k < length bits → get_or bits k false ≡ false → ones (take k bits) ≡ 0 → ones (take (k + 1) bits) ≡ 0
 none-further k bits lt off none =
     ap (λ i. ones (take i bits)) {y = suc k} (omega arith)

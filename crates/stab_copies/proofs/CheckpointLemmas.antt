@@ -6,7 +6,7 @@ use Rattle.std.proofs.lemmas.List.{reverse-append}
 use Rattle.stab_copies.specs.declared.checkpoint.Checkpoint.{Checkpoint}
 use Rattle.stab_copies.specs.LaidCopies.{laid, all_laid}
 
--- a copy laid where there are fewer than two
+-- a copy laid if there are fewer than two
 pub laid-few : (K : ℕ) (c : Checkpoint) (xs : List Checkpoint) → length xs < 2 → xs ++ c ∷ [] ≡ laid K c xs
 laid-few K c [] l = refl
 laid-few K c (a ∷ []) l = refl
@@ -28,7 +28,7 @@ far-at K (suc k) c d (a ∷ b ∷ []) l n = absurd (omega arith)
 far-at K zero c d (a ∷ b ∷ e ∷ xs) l n = absurd (omega arith)
 far-at K (suc k) c d (a ∷ b ∷ e ∷ xs) l n = ap (λ t. a ∷ t) (far-at K k c d (b ∷ e ∷ xs) (omega arith) n)
 
--- a copy laid in the stead of the last, at most K steps from the one before that
+-- a copy laid in place of the last, at most K steps from the one before that
 pub laid-near : (K len : ℕ) (c a : Checkpoint) (xs : List Checkpoint) → len ≡ length xs → 2 ≤ len → a ≡ get_or xs (len - 2) a → c.step - a.step ≤ K
     → take (len - 1) xs ++ c ∷ [] ≡ laid K c xs
 laid-near K len c a xs l two e n =
@@ -38,7 +38,7 @@ laid-near K len c a xs l two e n =
     one_less : suc (len - 2) ≡ len - 1
     one_less = omega arith
 
--- a copy laid behind the last, more than K steps from the one before that
+-- a copy laid after the last, more than K steps from the one before that
 pub laid-far : (K len : ℕ) (c a : Checkpoint) (xs : List Checkpoint) → len ≡ length xs → 2 ≤ len → a ≡ get_or xs (len - 2) a → K < c.step - a.step
     → xs ++ c ∷ [] ≡ laid K c xs
 laid-far K len c a xs l two e n = far-at K (len - 2) c a xs (omega arith) (subst (λ (t : Checkpoint). K < c.step - t.step) e n)

@@ -1,4 +1,4 @@
--- Same states: a string by which two states differ tells whether they are the same, and so do the stabilisers of one of them.
+-- Same states: a string by which two states differ shows whether they are the same, and so do the stabilisers of one of them.
 use Rattle.std.proofs.Common.{◌≡◌, ◌↔◌, ℕ, zero, suc, ◌<◌, ◌≤◌, Bool, true, false, not, refl, sym, ◌∙◌, ap, subst, List, Option, Some, None, inl, inr, length, arith}
 use Rattle.std.specs.Prelude.{if◌then◌else◌}
 use Rattle.std.proofs.lemmas.Bool.Decides.{leb_tells}
@@ -31,14 +31,14 @@ module _ (v : Signed → Bool) (p s : Signed) (is : p ≡ s) (found : Option Boo
   pub none-told : found ≡ None → false ≡ v s
   none-told e = sym (ap v (sym is) ∙ not-true (v p) (λ m. let f = (tells false).1 m in cc))
 
--- a string by which two states differ, where one of its signs is a member
+-- a string by which two states differ, if one of its signs is a member
 
 module _ (n : ℕ) (f : List Letter) (u v : Signed → Bool) (group : IsStabiliserGroup n v) (size : length f ≡ n) (turned : IsTurned n f u v) where
   neither : (negative : Bool) → v (record { negative = negative; letters = f }) ≡ true → (r : Signed) → length r.letters ≡ n
       → strings_anticommute f r.letters ≡ true → v r ≡ false
   neither negative is r lr e = not-true (v r) (λ m. not_both _ (group.commuting (record { negative = negative; letters = f }) r size lr is m) e)
 
-  -- the one is the other where it commutes, and both are none where it anticommutes
+  -- the one is the other if it commutes, and both are none if it anticommutes
   same-turned : (negative : Bool) → v (record { negative = negative; letters = f }) ≡ true → SameGroup n v u
   same-turned negative is p l = by_side (strings_anticommute f p.letters) refl
     where
@@ -51,7 +51,7 @@ module _ (n : ℕ) (f : List Letter) (u v : Signed → Bool) (group : IsStabilis
           ∙ ap (λ b. u (with_sign b (with_sign true p))) e
           ∙ ap (λ s. u (record { negative = s; letters = p.letters })) (twice p.negative)
 
-  -- where they are the same it commutes with each member
+  -- if they are the same it commutes with each member
   commutes-same : SameGroup n v u → (s : Signed) → length s.letters ≡ n → v s ≡ true → not (strings_anticommute f s.letters) ≡ true
   commutes-same same s l m = by_side (strings_anticommute f s.letters) refl
     where
@@ -80,7 +80,7 @@ not-free v p free q e m = by_signs p.negative q.negative refl refl
     by_signs true false ea eb =
         flipped (v (minus p)) (and-right _ _ free) (ap (λ s. v (record { negative = not s; letters = p.letters })) ea ∙ same false eb)
 
--- where no sign of a string by which two states differ is a member, they are not the same
+-- if no sign of a string by which two states differ is a member, they are not the same
 apart-free : (t : TableauState) (p : Signed) (u : Signed → Bool) → IsStabiliserGroup t.qubits (stabilises t) → length p.letters ≡ t.qubits
     → IsTurned t.qubits p.letters u (stabilises t) → ((q : Signed) → length q.letters ≡ t.qubits → CommutesWithAll t q → IsGenerated t q)
     → is_free_by (stabilises t) p ≡ true → SameGroup t.qubits (stabilises t) u → ⊥
@@ -102,7 +102,7 @@ module _ (t c : TableauState) (p : Signed) (group : IsStabiliserGroup t.qubits (
       → SameGroup t.qubits (stabilises t) (stabilises c) → ⊥
   signs-apart generated free = apart-free t p (stabilises c) group size here generated free
 
--- what is told by a string of one state alone
+-- what follows from a string of one state alone
 pub apart-told : (n : ℕ) (u v : Signed → Bool) → SameGroup n u v → (p : Signed) × (length p.letters ≡ n) × (u p ≡ true) × (v p ≡ false) → ⊥
 apart-told n u v same told = not_both (v told.0) told.3 (sym (same told.0 told.1) ∙ told.2)
 

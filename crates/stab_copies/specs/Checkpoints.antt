@@ -15,7 +15,7 @@ pub record IsRunFromStart (n : ℕ) (coins : ℕ → Bool) (xs : List Step) (s :
   pub group : SameGroup n s.stabilised (member (point_after n coins xs origin).trace)
   pub output : s.output ≡ outputs n coins xs origin
 
--- a copy of the state before one of these steps, or behind the last
+-- a copy of the state before one of these steps, or after the last
 pub record IsCheckpoint (n : ℕ) (coins : ℕ → Bool) (xs : List Step) (c : Checkpoint) : Type 0 where
   pub within : c.step ≤ length xs
   pub qubits : c.tableau.qubits ≡ n

@@ -12,7 +12,7 @@ pub struct Checkpoint {
     pub tableau: CompactTableau,
 }
 
-/// Where a replay met a copy of the old run: from there on the old run moves to behind the new one.
+/// Where a replay met a copy of the old run: from there on the old run moves to the place after the new one.
 #[derive(Clone, Copy)]
 pub struct Meeting {
     pub old_step: usize,
@@ -21,7 +21,7 @@ pub struct Meeting {
     pub new_lengths: Lengths,
 }
 
-/// A step or a length that moves with another, behind which it stands.
+/// A step or a length that moves with another, after which it is.
 pub fn shifted(old: usize, new: usize, value: usize) -> usize
     ensures value { result ≡ moved old new value }
 {
@@ -69,7 +69,7 @@ pub fn count_before(copies: &[Checkpoint], step: usize) -> usize
     count
 }
 
-/// Puts a copy behind others, in the stead of the last where that is no longer needed. It takes no
+/// Puts a copy after others, in place of the last if that is no longer needed. It takes no
 /// memory.
 fn lay(copies: &mut Vec<Checkpoint>, copy: Checkpoint, stride: usize)
     requires room { length copies.old.items < vec_capacity copies.old }
@@ -83,7 +83,7 @@ fn lay(copies: &mut Vec<Checkpoint>, copy: Checkpoint, stride: usize)
     copies.push_reserved(copy);
 }
 
-/// Puts copies behind others, the last of them first. It takes no memory.
+/// Puts copies after others, the last of them first. It takes no memory.
 pub fn lay_all(copies: &mut Vec<Checkpoint>, others: &mut Vec<Checkpoint>, stride: usize)
     requires room { length copies.old.items + length others.old.items ≤ vec_capacity copies.old }
     ensures value { copies.new.items ≡ all_laid stride (reverse others.old.items) copies.old.items }

@@ -17,12 +17,12 @@ use stab_tableau::{CompactTableau, Tableau};
 use std::alloc::Global;
 
 /// Whether a run that came to this state, and gave this, meets a copy of another one's state: from there on the other run goes on
-/// as this one would. That one gave so much in all, and its steps look back no further than the reach. What is cheap to compare
+/// as this one would. That one gave this much in all, and its steps look back no further than the reach. What is cheap to compare
 /// comes first.
 ///
-/// Where rows have other letters the copy is expanded into the spare tableau if there is one, and is then the spare itself; and
-/// the stabiliser of the state with the number that is given is asked first whether it tells the states apart. If they are
-/// apart, the number is then that of the one that tells.
+/// If rows have other letters the copy is expanded into the spare tableau if there is one, and is then the spare itself; and
+/// the stabiliser of the state with the number that is given is asked first whether it distinguishes the states. If they are
+/// apart, the number is then that of the one that does.
 ///
 /// Refusal `OutOfMemory` alone.
 pub fn meets(
@@ -49,7 +49,7 @@ pub fn meets(
     has_group_of(tableau, alloc, &copy.tableau, spare, telling)
 }
 
-/// Whether a run that came to this state, and gave this, stands where it stood at a copy of its own, as far back as its steps look. What
+/// Whether a run that came to this state, and gave this, is as it was at a copy of its own, as far back as its steps look. What
 /// is cheap to compare comes first. It takes no memory.
 pub fn comes_again(tableau: &Tableau, outputs: &Outputs, copy: &Checkpoint, reach: u32) -> bool
     ensures value { IsTrue result ↔ ComesAgain reach tableau.now (output_of outputs.now) copy.now }
@@ -63,7 +63,7 @@ pub fn comes_again(tableau: &Tableau, outputs: &Outputs, copy: &Checkpoint, reac
         && copy.tableau.is_of(tableau)
 }
 
-/// Whether no coin decided, by the flags behind so many.
+/// Whether no coin decided, by the flags after this many.
 fn are_fixed(flags: &[bool], count: usize) -> bool
     ensures value { IsTrue result ↔ (ones (drop count flags.now) ≡ 0) }
 {
@@ -71,8 +71,8 @@ fn are_fixed(flags: &[bool], count: usize) -> bool
     !has_one(behind)
 }
 
-/// Whether the same strings stabilise a state and a copy, which is expanded into the spare tableau where its rows have other
-/// letters. The stabiliser with the number that is given is asked first, and the number becomes that of one that tells.
+/// Whether the same strings stabilise a state and a copy, which is expanded into the spare tableau if its rows have other
+/// letters. The stabiliser with the number that is given is asked first, and the number becomes that of one that distinguishes them.
 ///
 /// Refusal `OutOfMemory` alone.
 fn has_group_of(
@@ -99,8 +99,8 @@ fn has_group_of(
     Ok(same)
 }
 
-/// Whether the same strings stabilise a state and a copy, where their rows have the same letters: the states differ by a string,
-/// which changes nothing where one of its signs stabilises them.
+/// Whether the same strings stabilise a state and a copy, if their rows have the same letters: the states differ by a string,
+/// which changes nothing if one of its signs stabilises them.
 ///
 /// Refusal `OutOfMemory` alone.
 fn same_by_signs(
@@ -125,8 +125,8 @@ fn same_by_signs(
     }
 }
 
-/// Whether the same strings stabilise two states: each stabiliser of the one is asked whether it stabilises the other, from that
-/// with the number on that is given, and then those before it. The number becomes that of the first that does not.
+/// Whether the same strings stabilise two states: each stabiliser of the one is asked whether it stabilises the other, from the one
+/// with the given number on, and then those before it. The number becomes that of the first that does not.
 ///
 /// Refusal `OutOfMemory` alone.
 fn same_by_stabilisers(
@@ -207,14 +207,14 @@ fn is_shared(
     }
 }
 
-/// Whether the next coin may have this number where a copy is, in a run with these flags: it has it there, or no coin decides behind.
+/// Whether the next coin may have this number at a copy, in a run with these flags: it has it there, or no coin decides later.
 pub fn may_have_coin(copy: &Checkpoint, free: &[bool], coin: usize) -> bool
     ensures value { IsTrue result ↔ ((coin ≡ copy.now.lengths.free) ⊎ (ones (drop copy.now.lengths.free free.now) ≡ 0)) }
 {
     coin == copy.lengths.free || are_fixed(free, copy.lengths.free)
 }
 
-/// The first bits of a list, so many.
+/// The first bits of a list, this many.
 fn first(bits: &[bool], count: usize) -> &[bool]
     ensures value { result.now ≡ take count bits.now }
 {
@@ -222,7 +222,7 @@ fn first(bits: &[bool], count: usize) -> &[bool]
     first
 }
 
-/// The last bits of a list, so many.
+/// The last bits of a list, this many.
 fn last(bits: &[bool], count: usize) -> &[bool]
     ensures value { result.now ≡ drop (length bits.now - count) bits.now }
 {
@@ -230,7 +230,7 @@ fn last(bits: &[bool], count: usize) -> &[bool]
     last
 }
 
-/// Whether the last bits of two lists are the same, so many, or all where a list has fewer.
+/// Whether the last bits of two lists are the same, this many, or all if a list has fewer.
 fn end_alike(bits: &[bool], others: &[bool], count: usize) -> bool
     ensures value { IsTrue result ↔ (drop (length bits.now - count) bits.now ≡ drop (length others.now - count) others.now) }
 {

@@ -1,4 +1,4 @@
--- Ascending lists: merged ones ascend, and a number stands in one once or not at all.
+-- Ascending lists: merged ones ascend, and a number is in one once or not at all.
 use Rattle.std.proofs.Common.{◌≡◌, ℕ, suc, ◌+◌, ◌≤◌, ◌<◌, ◌⊎◌, inl, inr, refl, sym, ◌∙◌, ap, subst, arith, Bool, true, false, ◌||◌, List, [], ◌∷◌, ◌++◌, append-nil, append_assoc, drop-cons, length, drop, get_or, ne_eqb}
 use Rattle.std.specs.Prelude.{◌==◌}
 use Rattle.std.specs.List.{list_any}
@@ -69,7 +69,7 @@ odd-below m (k ∷ ks) i a lt =
     let here : (k == i) ≡ false = ne_eqb k i (λ e. let h = a.0 in omega arith) in
     ap (λ b. b ⊕ odd i ks) here ∙ odd-below (k + 1) ks i a.1 (let h = a.0 in omega arith)
 
--- a number is in an ascending list where it is named an odd number of times
+-- a number is in an ascending list if it is named an odd number of times
 named-odd : (m : ℕ) (ks : List ℕ) (i : ℕ) → AscendsFrom m ks → list_any (λ k. k == i) ks ≡ odd i ks
 named-odd m [] i a = refl
 named-odd m (k ∷ ks) i a = by_bit (k == i) refl (named-odd (k + 1) ks i a.1)

@@ -84,7 +84,7 @@ unnamed t o none errors inside undetected = flips_none errors (each-all (λ r. r
     flips_none [] a = refl
     flips_none (x ∷ xs) a = ap (λ b. b ⊕ flips t.rows xs o) (none x a.0) ∙ flips_none xs a.1
 
--- where all observables follow the detectors, nothing is a logical error
+-- if all observables follow the detectors, nothing is a logical error
 pub none-followed : (t : ErrorTable) (end reached : ℕ) → ((r i : ℕ) → r < length t.rows → end ≤ i → odd i (row t.rows r) ≡ false) → end ≤ reached
     → ((o : ℕ) → t.detectors ≤ o → o < reached → FollowsDetectors t o) → HasNone t
 none-followed t end reached beyond le follow errors logical =

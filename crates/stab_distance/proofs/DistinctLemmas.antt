@@ -100,7 +100,7 @@ module _ (detectors : ℕ) (rows chosen : List (List ℕ)) (all : (r : ℕ) → 
               omega arith;
         }
 
--- the same where the table of the chosen rows is that of calls
+-- the same if the table of the chosen rows is that of calls
 
 module _ (t part : ErrorTable) (detectors : ℕ) (chosen : List (List ℕ)) (is : part ≡ record { detectors = detectors; rows = chosen }) (same : detectors ≡ t.detectors)
     (all : (r : ℕ) → r < length t.rows → HasRow chosen (row t.rows r)) where

@@ -1,4 +1,4 @@
--- Ends: an error tried, and where none is left to try.
+-- Ends: an error is tried, or none is left to try.
 use Rattle.std.proofs.Common.{◌≡◌, ℕ, ◌+◌, ◌≤◌, ◌<◌, refl, sym, ◌∙◌, ap, subst, arith, Bool, true, false, ◌||◌, List, [], ◌∷◌, ◌++◌, length, get_or}
 use Rattle.std.specs.Prelude.{bit_xor}
 use Rattle.std.proofs.lemmas.Bool.{eq-eqb, false≢true}
@@ -20,7 +20,7 @@ use Rattle.stab_distance.proofs.ListLemmas.{each-has, each-push, all-each, has-a
 parity-move : (a b c : Bool) → a ⊕ b ≡ c → b ≡ c ⊕ a
 parity-move a b c e = sym (parity-twice a b) ∙ ap (λ t. a ⊕ t) e ∙ parity-comm a c
 
--- an error g tried, where `next` is flipped then
+-- an error g tried, if `next` is flipped then
 
 module _ (t : ErrorTable) (first : ℕ) (flipped next : List ℕ) (g : ℕ) (rest : List ℕ)
     (merged : (d : ℕ) → odd d next ≡ odd d flipped ⊕ odd d (row t.rows g)) where
@@ -63,7 +63,7 @@ module _ (t : ErrorTable) (first : ℕ) (flipped next : List ℕ) (g : ℕ) (res
 pub no_end-before : (t : ErrorTable) (first : ℕ) (flipped : List ℕ) (left g : ℕ) → g ≤ first → NoEndsBy t first flipped left g
 no_end-before t first flipped left g le rest ends count there = let later : first < g = each-has (λ r. first < r) g rest ends.later there in omega arith
 
--- where no detector is flipped
+-- if no detector is flipped
 
 pub no_ends-nothing : (t : ErrorTable) (first : ℕ) (flipped : List ℕ) (left : ℕ) → HasNoneWithin t left → flipped ≡ [] → NoEnds t first flipped left
 no_ends-nothing t first flipped left none nothing rest ends count =
@@ -96,7 +96,7 @@ ends-observed t first flipped a some le = record {
   observed = (get_or flipped 0 0, le, odd-head flipped a some);
 }
 
--- where one is
+-- if one is
 
 pub no_ends-over : (t : ErrorTable) (first : ℕ) (flipped : List ℕ) (left : ℕ) → IsAscending flipped → 0 < length flipped → get_or flipped 0 0 < t.detectors → left ≡ 0
     → NoEnds t first flipped left
@@ -113,7 +113,7 @@ no_ends-all t first flipped left d at lt flipping complete tried rest ends count
     let place = has-at named.0 at (complete named.0 inside named.1.1) in
     tried place.0 place.1.0 rest ends count (subst (λ r. has r rest ≡ true) (sym place.1.1) named.1.0)
 
--- where one error is left, its key is that of what is flipped
+-- if one error is left, its key is that of what is flipped
 
 module _ (t : ErrorTable) (numbers : List ℕ) (first : ℕ) (flipped : List ℕ) (few : length numbers ≤ t.detectors) where
   pub key-last : (h : ℕ) → Ends t first flipped (h ∷ []) → key_of numbers (row t.rows h) ≡ key_of numbers flipped
@@ -170,7 +170,7 @@ pub ends-detected : (t : ErrorTable) (first : ℕ) (flipped : List ℕ) → IsAs
     → Ends t first flipped [] → ⊥
 ends-detected t first flipped a some lt e = no_ends-over t first flipped 0 a some lt refl [] e refl
 
--- the same where what is flipped is that of a call
+-- the same if what is flipped is that of a call
 
 module _ (t : ErrorTable) (first : ℕ) (flipped next : List ℕ) (left g : ℕ)
     (merged : (d : ℕ) → odd d next ≡ odd d flipped ⊕ odd d (row t.rows g)) where

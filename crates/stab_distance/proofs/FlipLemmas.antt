@@ -1,4 +1,4 @@
--- What errors flip together, where one is put behind others, left out or toggled; their totals and keys.
+-- What errors flip together when one is put after others, left out or toggled; their totals and keys.
 use Rattle.std.proofs.Common.{◌≡◌, ℕ, zero, suc, ◌≤◌, ◌<◌, ◌⊎◌, inl, inr, refl, sym, ◌∙◌, ap, arith, true, false, List, [], ◌∷◌, ◌++◌, length, get_or}
 use Rattle.std.specs.Prelude.{bit_xor}
 use Rattle.std.proofs.lemmas.Bool.{cases_lt, false≢true}

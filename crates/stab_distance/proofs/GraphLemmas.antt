@@ -27,7 +27,7 @@ total-both : (f g : ℕ → Bool) (xs : List ℕ) → total false ◌⊕◌ (λ 
 total-both f g [] = refl
 total-both f g (x ∷ xs) = ap (λ b. (f x ⊕ g x) ⊕ b) (total-both f g xs) ∙ parity-mid (f x) (g x) (total false ◌⊕◌ f xs) (total false ◌⊕◌ g xs)
 
--- a bit that is true stands within its list
+-- a bit that is true is within its list
 pub true-inside : (bs : List Bool) (k : ℕ) → get_or bs k false ≡ true → k < length bs
 true-inside [] k e = absurd (false≢true e)
 true-inside (b ∷ bs) zero e = omega arith

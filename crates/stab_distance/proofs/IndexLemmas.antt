@@ -1,4 +1,4 @@
--- Index: what is listed at a place, where a list is added or written.
+-- Index: what is listed at a place, when a list is added or written.
 use Rattle.std.proofs.Common.{◌≡◌, ℕ, zero, suc, ◌+◌, ◌≤◌, ◌<◌, ◌⊎◌, inl, inr, refl, sym, ◌∙◌, ap, subst, arith, true, List, [], ◌∷◌, ◌++◌, length, get_or, set}
 use Rattle.std.specs.Prelude.{◌≢◌}
 use Rattle.std.specs.Global.{Vec}
@@ -37,7 +37,7 @@ listed-past [] d le = refl
 listed-past (w ∷ index) zero le = absurd (omega arith)
 listed-past (w ∷ index) (suc d) le = listed-past index d (omega arith)
 
--- a row that is there is what is looked up, whatever the other answer
+-- a row that is there is what is looked up, for any other answer
 pub row-in : (rows : List (List ℕ)) (r : ℕ) (d : List ℕ) → r < length rows → get_or rows r d ≡ row rows r
 row-in [] r d lt = absurd (omega arith)
 row-in (x ∷ rows) zero d lt = refl

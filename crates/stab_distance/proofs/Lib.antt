@@ -12,6 +12,7 @@ pub mod ShortestLemmas
 pub mod EqualLemmas
 pub mod EdgeLemmas
 pub mod GraphLemmas
+pub mod AnswerLemmas
 pub mod BoundLemmas
 pub mod PartLemmas
 pub mod LogicalLemmas

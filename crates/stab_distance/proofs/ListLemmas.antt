@@ -127,7 +127,7 @@ module _ (g x : ℕ) (xs : List ℕ) where
       ap (λ b. if b then g ∷ x ∷ xs else if x == g then xs else x ∷ toggle g xs) (le-ltb g x (omega arith))
       ∙ ap (λ b. if b then xs else x ∷ toggle g xs) (ne_eqb x g (λ same. omega arith))
 
--- where it stands in its place, and where it is there
+-- whether it is in its place, and where it is there
 pub by-place : {P : Type 0} (g x : ℕ) → (g < x → P) → (x ≡ g → P) → (x < g → P) → P
 by-place g x less same more =
     by-bit (nat_lt g x)

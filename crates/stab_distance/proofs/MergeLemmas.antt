@@ -1,4 +1,4 @@
--- Rows of numbers: which are named an odd number of times, where lists are joined, cut and merged.
+-- Rows of numbers: which are named an odd number of times, when lists are joined, cut and merged.
 use Rattle.std.proofs.Common.{◌≡◌, ℕ, zero, suc, ◌+◌, ◌<◌, refl, sym, ◌∙◌, ap, arith, Bool, false, List, [], ◌∷◌, ◌++◌, length, drop, get_or}
 use Rattle.std.specs.Prelude.{◌==◌}
 use Rattle.stab_letters.specs.Letters.{◌⊕◌}

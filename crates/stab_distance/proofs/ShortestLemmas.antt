@@ -33,7 +33,7 @@ gathered-push xs set x g = record {
       ∙ parity-comm (odd i (row rows x)) (flips rows xs i) ∙ sym (flips-push rows xs x i);
 }
 
-gathered-cons : (xs set : List ℕ) (x : ℕ) → IsGathered xs set → IsGathered (x ∷ xs) (toggle x set)
+pub gathered-cons : (xs set : List ℕ) (x : ℕ) → IsGathered xs set → IsGathered (x ∷ xs) (toggle x set)
 gathered-cons xs set x g = record {
   ascending = ascends-toggle 0 x set (omega arith) g.ascending;
   fewer = let h = g.fewer in let more = length-toggle x set in omega arith;
@@ -42,7 +42,7 @@ gathered-cons xs set x g = record {
 }
 
 -- each list has a set
-abbrev gathering : (xs : List ℕ) → (set : List ℕ) × IsGathered xs set
+abbrev pub gathering : (xs : List ℕ) → (set : List ℕ) × IsGathered xs set
 gathering [] = ([], gathered-none)
 gathering (x ∷ xs) = let later = gathering xs in (toggle x later.0, gathered-cons xs later.0 x later.1)
 
@@ -68,7 +68,7 @@ gathered-next f found set k lt g =
     (gathered-push (map f (take k found)) set (f (get_or found k 0)) g)
 
 -- a logical error's set is one
-gathered-logical : (t : ErrorTable) (xs set : List ℕ) → IsGathered xs set → IsLogicalError t xs → IsLogicalError t set
+pub gathered-logical : (t : ErrorTable) (xs set : List ℕ) → IsGathered xs set → IsLogicalError t xs → IsLogicalError t set
 gathered-logical t xs set g e = record {
   inside = all-each (λ r. r < length t.rows) set (g.inside (length t.rows) (each-all (λ r. r < length t.rows) xs e.inside));
   undetected = λ d lt. g.flips t.rows d ∙ e.undetected d lt;
@@ -107,7 +107,7 @@ module _ (t : ErrorTable) (observing left : ℕ) (others : FlipNoObservable t ob
           (le, each-map (λ y. f + 1 ≤ y) (λ r. observing ≤ r) (λ y h. omega arith) rest (each-above (f + 1) rest a.1)))
           ∙ e.observed.2)
 
-  -- none is within one more error where none begins with one that flips an observable
+  -- none is within one more error if none begins with one that flips an observable
   pub none-more : HasNoneWithin t (left + 1)
   none-more errors logical = by_length (cases_lt (left + 1) (length errors))
     where

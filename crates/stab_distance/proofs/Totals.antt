@@ -98,7 +98,7 @@ odd-same x xs = ap (λ b. b ⊕ odd x xs) (eq-eqb x x refl)
 odd-other : (x i : ℕ) (xs : List ℕ) → x ≢ i → odd i (x ∷ xs) ≡ odd i xs
 odd-other x i xs other = ap (λ b. b ⊕ odd i xs) (ne_eqb x i other)
 
--- where each number stands there an even number of times, or for nothing, the total is nothing
+-- if each number is there an even number of times, or for nothing, the total is nothing
 
 module _ (A : Type 0) (unit : A) (op : A → A → A) (group : IsGroup unit op) (v : ℕ → A) where
   abbrev pub IsEven : List ℕ → Type 0
@@ -144,7 +144,7 @@ module _ (A : Type 0) (unit : A) (op : A → A → A) (group : IsGroup unit op) 
   pub total-none : (xs : List ℕ) → IsEven xs → total unit op v xs ≡ unit
   total-none xs even = none-within (length xs) xs (omega arith) even
 
-  -- lists whose numbers are named alike, but for those that stand for nothing, have one total
+  -- lists whose numbers are named alike, except those that stand for nothing, have the same total
   pub total-same : (xs ys : List ℕ) → ((i : ℕ) → (odd i xs ≡ odd i ys) ⊎ (v i ≡ unit)) → total unit op v xs ≡ total unit op v ys
   total-same xs ys alike =
       sym (group.twice (total unit op v ys) (total unit op v xs))

@@ -1,6 +1,6 @@
 -- Logical errors: sets of errors that flip an observable and no detector, and the shortest of them.
 -- Source: the distance of a circuit is the least number of errors in a logical error.
-use Rattle.std.specs.Prelude.{◌≡◌, ℕ, ◌<◌, ◌≤◌, true, false, List, length, All}
+use Rattle.std.specs.Prelude.{◌≡◌, ℕ, ◌<◌, ◌≤◌, ◌^◌, true, false, List, length, All}
 use Rattle.stab_distance.specs.declared.answer.Answer.{Answer}
 use Rattle.stab_distance.specs.declared.answer.Answer.TheVariants.{Least, NoneWithin, NoneAtAll}
 use Rattle.stab_distance.specs.Ascending.{IsAscending}
@@ -32,3 +32,7 @@ abbrev pub IsAnswer : ErrorTable → (most : ℕ) → Answer → Type 0
 IsAnswer t most (Least errors) = IsLeast t most errors.items
 IsAnswer t most NoneWithin = HasNoneWithin t most
 IsAnswer t most NoneAtAll = HasNone t
+
+-- each table has an answer, if no more errors are asked for than a list in memory can hold
+abbrev pub TablesHaveAnswers : Type 0
+TablesHaveAnswers = (t : ErrorTable) (most : ℕ) → most < 2 ^ 63 → (a : Answer) × IsAnswer t most a

@@ -9,7 +9,7 @@ use crate::row::end_of_rows;
 use crate::sources::{are_covered, sources_of};
 use std::alloc::{AllocError, Global};
 
-/// Whether labels show that each logical error has at least so many rows.
+/// Whether labels show that each logical error has at least this many rows.
 pub fn has_bound(alloc: Global, graph: &Graph, bound: usize) -> Result<bool, AllocError>
     ensures yes { IfOk result (λ b. b ≡ true → HasBound graph.now.table bound) }
 {
@@ -21,7 +21,7 @@ pub fn has_bound(alloc: Global, graph: &Graph, bound: usize) -> Result<bool, All
     Ok(true)
 }
 
-/// Whether they show that of those that flip an observable.
+/// Whether they show that for those that flip an observable.
 fn has_bound_for(alloc: Global, graph: &Graph, o: usize, bound: usize) -> Result<bool, AllocError>
     ensures yes { IfOk result (λ b. b ≡ true → HasAtLeast graph.now.table o bound) }
 {
@@ -33,7 +33,7 @@ fn has_bound_for(alloc: Global, graph: &Graph, o: usize, bound: usize) -> Result
     are_far(alloc, graph, bits.as_slice(), sources.as_slice(), bound)
 }
 
-/// Whether labels from each source show that an odd cycle through it has at least so many edges.
+/// Whether labels from each source show that an odd cycle through it has at least this many edges.
 fn are_far(
     alloc: Global,
     graph: &Graph,

@@ -5,7 +5,7 @@ use crate::labels::Labels;
 use std::alloc::{AllocError, Global};
 
 /// Two colours of the nodes, so that the edges between nodes of two colours are those that flip the observable,
-/// if there are such colours. The members are the nodes that have not the colour of the boundary.
+/// if there are such colours. The members are the nodes that do not have the colour of the boundary.
 impl Members for Graph {
     fn members(&self, alloc: Global, observable: usize) -> Result<Vec<bool>, AllocError> {
         let bits = bits_of(alloc, self.rows(), observable)?;

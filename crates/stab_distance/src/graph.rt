@@ -79,7 +79,7 @@ impl Graph {
         rows_at(self.index.as_slice(), node)
     }
 
-    /// Where edge r leads from a place, if bit r is whether it flips the observable.
+    /// Where edge r leads from a place; bit r is whether it flips the observable.
     pub(crate) fn across(&self, r: usize, place: Place, bits: &[bool]) -> Place {
         if r >= self.edges.len() || r >= bits.len() {
             return place;

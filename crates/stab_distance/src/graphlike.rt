@@ -16,11 +16,11 @@ use crate::table::Table;
 use stab_io::Refusal;
 use std::alloc::{AllocError, Global};
 
-/// The least logical error of a table made of errors alone that flip at most two detectors, if it has at most
+/// The least logical error of a table made only of errors that flip at most two detectors, if it has at most
 /// `most` errors.
 ///
 /// `progress` hears of the number of errors. The time grows with the rows, and with the number of detectors
-/// beside an observable; the memory grows with the rows, and with the greatest number in them.
+/// besides an observable; the memory grows with the rows, and with the greatest number in them.
 ///
 /// The only refusal is `OutOfMemory`.
 pub fn least_graphlike_error<P: Progress>(

@@ -117,7 +117,7 @@ pub(crate) fn labels_from(
     Ok(labels)
 }
 
-/// Whether labels from a source show that an odd cycle through it has at least so many edges.
+/// Whether labels from a source show that an odd cycle through it has at least this many edges.
 pub fn are_labels(
     labels: &Labels,
     edges: &[Edge],

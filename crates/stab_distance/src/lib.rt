@@ -5,9 +5,10 @@
 //! - `searching`: the search itself. `merging`: what errors flip together.
 //! - `errors`: the errors ready for a search. `index`, `keys`: which errors to try. `reach`, `classes`: when to give up a branch.
 //! - `certificate`, `elimination`: a proof that no logical error exists.
-//! - `graphlike`: the call for errors alone that flip at most two detectors. `parts`: these errors of a table.
+//! - `graphlike`: the call for only those errors that flip at most two detectors. `parts`: these errors of a table.
 //! - `edges`, `graph`: these errors as edges. `cycles`, `sources`, `labels`: shortest paths. `bounds`, `colours`: what
 //!   labels prove. `logical`: the check of what was found.
+//! - `laws`: each table has an answer.
 //!
 //! Source: C. Gidney, Stim: a fast stabilizer circuit simulator (2021), for detectors, observables and tables of
 //! errors.
@@ -32,6 +33,7 @@ mod graphlike;
 mod index;
 mod keys;
 mod labels;
+pub mod laws;
 mod least;
 mod logical;
 mod merging;
@@ -43,6 +45,7 @@ mod sources;
 mod table;
 
 pub use answer::{Answer, Progress, Unwatched};
+pub use edges::is_graphlike;
 pub use graphlike::least_graphlike_error;
 pub use least::least_logical_error;
 pub use merging::merge_into;

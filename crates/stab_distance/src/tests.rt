@@ -20,7 +20,7 @@ fn repetition_code(alloc: Global, detectors: u32) -> Result<Table, Refusal>
     Ok(table)
 }
 
-/// The errors of a least logical error; none where there is none of so many, or none at all.
+/// The errors of a least logical error; none if there is none of this many, or none at all.
 fn least(alloc: Global, table: &Table, most: usize) -> Result<Option<Vec<usize>>, Refusal> {
     match least_logical_error(alloc, table, most, &mut Unwatched)? {
         Answer::Least(errors) => Ok(Some(errors)),
@@ -176,7 +176,7 @@ fn is_logical(bits: u32) -> bool {
     bits % (1 << DETECTORS) == 0 && bits != 0
 }
 
-/// How many rows the least logical error has, by trying all sets of rows; 0 where there is none.
+/// How many rows the least logical error has, by trying all sets of rows; 0 if there is none.
 fn least_by_trying(rows: &[u32]) -> u32 {
     let mut fewest = 0;
     for chosen in 1..1 << ROWS {
@@ -227,8 +227,8 @@ fn tables_at_random_answer_as_all_sets_of_their_rows(rt: HostRuntime) -> Result<
     Ok(())
 }
 
-/// The errors of a least logical error made of errors alone that flip at most two detectors; none where there is
-/// none of so many, or none at all.
+/// The errors of a least logical error made only of errors that flip at most two detectors; none if there is
+/// none of this many, or none at all.
 fn least_graphlike(
     alloc: Global,
     table: &Table,

@@ -1,4 +1,4 @@
--- Adding errors: errors put behind others, one after another, and where their rows are in a list of faults.
+-- Adding errors: errors put after others, one after another, and where their rows are in a list of faults.
 use Rattle.std.proofs.Common.{◌≡◌, ℕ, ◌+◌, refl, sym, ap, ◌∙◌, subst, List, [], ◌∷◌, ◌++◌, append_assoc, append-nil, map, take, drop, get_or, length, ◌<◌}
 use Rattle.std.specs.Prelude.{All, Option, Some, None, IfSome}
 use Rattle.std.proofs.lemmas.List.{map-append, drop-drop, take_more}
@@ -40,7 +40,7 @@ adds-weaker Is Has given a b weaker adds = record { errors = adds.errors; stand 
 pub adds-same : (Is : List FaultPlace → Type 0) (first second : List Error) (a b : List ErrorValue) → first ≡ second → Adds Is first a b → Adds Is second a b
 adds-same Is first second a b e adds = subst (λ given. Adds Is given a b) e adds
 
--- a list of faults has these from a row on, and others behind them
+-- a list of faults has these from a row on, and others after them
 
 pub has-first : (row : ℕ) (mine others faults : List FaultPlace) → HasFrom row (mine ++ others) faults → HasFrom row mine faults
 has-first row mine others faults has = (others ++ has.0, has.1 ∙ append_assoc mine others has.0)
@@ -52,7 +52,7 @@ has-next row mine others faults has =
 pub stands-first : (p : Place) (others faults : List FaultPlace) → HasFrom p.row (letter_at p letter.X ∷ letter_at p letter.Z ∷ others) faults → Stands p faults
 stands-first p others faults has = (others ++ has.0, has.1)
 
--- where places stand
+-- where places are
 
 pub stands-at : (p : Place) (row t : ℕ) (s : Site) (others faults : List FaultPlace) → p.row ≡ row → ((l : Letter) → letter_at p l ≡ fault_on t s l)
     → HasFrom row (faults_on t s ++ others) faults → Stands p faults
@@ -100,14 +100,14 @@ record-stands number flip None front behind first second faults stand = subst (�
 record-stands number flip (Some f) front behind first second faults stand =
     (subst (λ p. Stands p faults) (sym first) stand.0, subst (λ p. Stands p faults) (sym second) stand.1)
 
--- letters at a place, whose faults stand from a row on
+-- letters at a place, whose faults are from a row on
 pub letters-at : (ls : List Letter) (p : Place) (row t : ℕ) (s : Site) (now new : List ErrorValue) → p.row ≡ row → ((l : Letter) → letter_at p l ≡ fault_on t s l)
     → Adds (Stands p) (each_letter ls (letter_at p)) now new → Adds (HasFrom row (faults_on t s)) (each_letter ls (fault_on t s)) now new
 letters-at ls p row t s now new row_is is adds =
     adds-same (HasFrom row (faults_on t s)) (each_letter ls (letter_at p)) (each_letter ls (fault_on t s)) now new (letters-there ls p t s is)
     (adds-weaker (Stands p) (HasFrom row (faults_on t s)) (each_letter ls (letter_at p)) now new (λ faults has. stands-at p row t s [] faults row_is is has) adds)
 
--- two places, of which the second stands behind the first
+-- two places, of which the second is after the first
 pub both-stand : (p r : Place) (row t u : ℕ) (s z : Site) → p.row ≡ row → r.row ≡ row + 2 → ((l : Letter) → letter_at p l ≡ fault_on t s l) → ((l : Letter) → letter_at r l ≡ fault_on u z l)
     → (faults : List FaultPlace) → HasFrom row (faults_on t s ++ faults_on u z) faults → Stands p faults × Stands r faults
 both-stand p r row t u s z p_row r_row p_is r_is faults has = (

@@ -1,14 +1,13 @@
 -- Flips: what an error flips of a run, by the rows of a table of faults.
-use Rattle.std.proofs.Common.{◌≡◌, ℕ, zero, suc, ◌+◌, ◌<◌, ◌≤◌, ◌⊎◌, inl, inr, refl, sym, ap, ◌∙◌, subst, Bool, true, false, List, [], ◌∷◌, ◌++◌, map, length, drop, arith}
-use Rattle.std.specs.Prelude.{All, Contains, ◌==◌, ◌&&◌, Some, None, slice_index_or, if◌then◌else◌}
-use Rattle.std.specs.List.{flat_map}
+use Rattle.std.proofs.Common.{◌≡◌, ℕ, zero, suc, ◌+◌, ◌<◌, ◌≤◌, ◌⊎◌, inl, inr, refl, sym, ap, ◌∙◌, subst, Bool, true, false, List, [], ◌∷◌, map, length, drop, arith}
+use Rattle.std.specs.Prelude.{All, ◌==◌, ◌&&◌, Some, None, slice_index_or, if◌then◌else◌}
 use Rattle.std.proofs.lemmas.Bool.{cases_lt, ne_eqb}
 use Rattle.std.proofs.lemmas.List.{get_or-map, get_or_past, length-map, drop-drop}
-use Rattle.std.proofs.lemmas.List.Elements.{All-nil, All-cons, All-head, All-tail, All-append, All-contains}
+use Rattle.std.proofs.lemmas.List.Elements.{All-nil, All-cons, All-head, All-tail}
 use Rattle.stab_letters.specs.declared.letter.Letter.{Letter}
 use Rattle.stab_letters.specs.declared.letter.Letter.TheVariants as letter
 use Rattle.stab_letters.specs.Letters.{◌⊕◌, letters_anticommute}
-use Rattle.stab_letters.proofs.ParityLemmas.{parity-false, parity-assoc}
+use Rattle.stab_letters.proofs.ParityLemmas.{parity-false}
 use Rattle.stab_tableau.specs.Gates.{letter_at as letter_of_string}
 use Rattle.stab_tableau.proofs.OneLetterLemmas.{one_letter-anticommute}
 use Rattle.stab_circuit.specs.Items.{Items}
@@ -25,15 +24,16 @@ use Rattle.stab_regions.proofs.AscentLemmas.{ascending-is, ascends-below, where-
 use Rattle.stab_regions.proofs.FaultSumLemmas.{fault-fits, odd-where, row-names}
 use Rattle.stab_distance.specs.Ascending.{AscendsFrom}
 use Rattle.stab_distance.specs.Tables.{odd as names}
-use Rattle.stab_errors.specs.Errors.{Error, faults_in}
+use Rattle.stab_errors.specs.Errors.{faults_in}
 use Rattle.stab_errors.specs.Placed.{letter_at, fault_shown, error_shown}
-use Rattle.stab_errors.specs.ErrorTables.{flip_together, flipped_by, flip_each, ErrorsAdd}
+use Rattle.stab_errors.specs.ErrorTables.{IsErrorTable, flip_together, flipped_by}
 use Rattle.stab_errors.specs.inner.Adding.{Stands, ErrorStands}
 use Rattle.stab_errors.specs.inner.ErrorRows.{letter_names, error_names, IsRowOf, AreRowsOf}
 use Rattle.stab_errors.specs.declared.placed.Place.{Place}
 use Rattle.stab_errors.specs.declared.placed.PlacedLetter.{PlacedLetter}
 use Rattle.stab_errors.specs.declared.placed.Error.{Error as ErrorValue}
 use Rattle.stab_errors.specs.declared.placed.Error.TheVariants as error
+use Rattle.stab_errors.proofs.FitLemmas.{Fits, errors-add}
 
 -- lists, and rows that two crates say in the same words
 
@@ -45,14 +45,14 @@ ascends-same : (m : ℕ) (ks : List ℕ) → AscendsFrom m ks → Ascends m ks
 ascends-same m [] a = a
 ascends-same m (k ∷ ks) a = (a.0, ascends-same (k + 1) ks a.1)
 
--- the first behind so many
+-- the first after this many
 pub dropped-first : {A : Type 0} (k : ℕ) (xs : List A) (x d : A) (rest : List A) → drop k xs ≡ x ∷ rest → (k < length xs) × (slice_index_or xs k d ≡ x)
 dropped-first zero [] x d rest e = absurd (cc)
 dropped-first zero (y ∷ ys) x d rest e = (omega arith, let same : y ≡ x = cc in same)
 dropped-first (suc k) [] x d rest e = absurd (cc)
 dropped-first (suc k) (y ∷ ys) x d rest e = let there = dropped-first k ys x d rest e in (omega (arith, there.0), there.1)
 
--- a list of numbers names none behind the last
+-- a list of numbers names none after the last
 
 past-step : (b : Bool) (i m : ℕ) (rest : List ℕ) → (i ≡ m → ⊥) → odd m rest ≡ false → odd m (if b then i ∷ rest else rest) ≡ false
 past-step true i m rest other none = (λ t. ne_eqb i m other t ⊕ none t)
@@ -87,7 +87,7 @@ module _ (n : ℕ) (everywhere : Bool) (items : Items) (sure : List Bool) (rows 
   as-many : length rows ≡ length faults
   as-many = ap length (table.are_flipped (λ t. false)) ∙ length-map faults (flipped n items sure (λ t. false))
 
-  -- a place where X and Z stand has its numbers
+  -- a place where X and Z are has its numbers
 
   x-place : (p : Place) → Stands p faults → (p.row < length faults) × (fault_at everywhere (unroll items) p.row ≡ letter_at p letter.X)
   x-place p stands = dropped-first p.row faults (letter_at p letter.X) (fault_on 0 (in_front 0) letter.X) (letter_at p letter.Z ∷ stands.0) stands.1
@@ -114,7 +114,7 @@ module _ (n : ℕ) (everywhere : Bool) (items : Items) (sure : List Bool) (rows 
         let z = z-place p stands in
         ap (λ f. flips n items coins f i) (sym z.1) ∙ row-names n everywhere items sure rows fits table i lt same coins (p.row + 1) (omega (arith, z.0, as-many))
 
-    -- a letter flips the bit where it anticommutes with the region's letter there
+    -- a letter flips the bit if it anticommutes with the region's letter there
     letter-meets : (p : Place) (l : Letter) → Stands p faults
         → flips n items coins (letter_at p l) i
         ≡ letters_anticommute l (letter_of_string (parity_region n (detectors_of (unroll items)) i (drop p.before (unroll items))).string.letters p.qubit)
@@ -166,11 +166,11 @@ module _ (n : ℕ) (everywhere : Bool) (items : Items) (sure : List Bool) (rows 
     together (error.Record number f None) stands = one-flips f stands
     together (error.Record number f (Some g)) stands = two-flip f g stands.0 stands.1
 
-    -- an error flips the bit where its rows name it
+    -- an error flips the bit if its rows name it
     pub error-flips : (e : ErrorValue) → ErrorStands faults e → flip_together n items coins (faults_in (error_shown e)) i ≡ error_names i rows e
     error-flips e stands = adds n items i (faults_in (error_shown e)) fits lt (error-fits e stands) same coins ∙ together e stands
 
-  -- bits that are not sure, and numbers that are none of bits, are in no row
+  -- bits that are not deterministic, and numbers that are of no bit, are in no row
 
   row-without : (i : ℕ) → (i < bits_in items → slice_index_or sure i false ≡ false) → (k : ℕ) → odd i (row rows k) ≡ false
   row-without i without k = by_place (cases_lt k (length rows))
@@ -224,7 +224,7 @@ module _ (n : ℕ) (everywhere : Bool) (items : Items) (sure : List Bool) (rows 
         ∙ where-same (λ m. odd m r) (λ m. slice_index_or sure m false && flip_together n items coins (faults_in (error_shown e)) m) 0 (bits_in items)
         (λ m ge inside. tells m (omega (arith, inside)) (slice_index_or sure m false) refl)
 
-  pub rows-are : (coins : ℕ → Bool) (errors : List ErrorValue) (made : List (List ℕ)) → All (ErrorStands faults) errors → AreRowsOf rows errors made
+  rows-are : (coins : ℕ → Bool) (errors : List ErrorValue) (made : List (List ℕ)) → All (ErrorStands faults) errors → AreRowsOf rows errors made
       → made ≡ map (flipped_by n items sure coins) (map error_shown errors)
   rows-are coins [] [] stand are = refl
   rows-are coins [] (r ∷ rs) stand are = absurd are
@@ -232,37 +232,18 @@ module _ (n : ℕ) (everywhere : Bool) (items : Items) (sure : List Bool) (rows 
   rows-are coins (e ∷ es) (r ∷ rs) stand are =
       (λ t. row-is coins e (All-head (ErrorStands faults) e es stand) r are.0 t ∷ rows-are coins es rs (All-tail (ErrorStands faults) e es stand) are.1 t)
 
-  -- errors add
+  -- errors fit, and with their rows they are a table
 
-  abbrev Fits : Error → Type 0
-  Fits e = All (FaultFits n (unroll items)) (faults_in e)
-
-  errors-fit : (errors : List ErrorValue) → All (ErrorStands faults) errors → All Fits (map error_shown errors)
-  errors-fit [] stand = All-nil Fits
+  errors-fit : (errors : List ErrorValue) → All (ErrorStands faults) errors → All (Fits n items) (map error_shown errors)
+  errors-fit [] stand = All-nil (Fits n items)
   errors-fit (e ∷ es) stand =
-      All-cons Fits (error_shown e) (map error_shown es) (error-fits e (All-head (ErrorStands faults) e es stand)) (errors-fit es (All-tail (ErrorStands faults) e es stand))
+      All-cons (Fits n items) (error_shown e) (map error_shown es) (error-fits e (All-head (ErrorStands faults) e es stand)) (errors-fit es (All-tail (ErrorStands faults) e es stand))
 
-  all-fit : (errors : List Error) → All Fits errors → All (FaultFits n (unroll items)) (flat_map faults_in errors)
-  all-fit [] fit = All-nil (FaultFits n (unroll items))
-  all-fit (e ∷ es) fit =
-      All-append (FaultFits n (unroll items)) (faults_in e) (flat_map faults_in es) (All-head Fits e es fit) (all-fit es (All-tail Fits e es fit))
-
-  together-append : (g : FaultPlace → Bool) (xs ys : List FaultPlace) → flips_together g (xs ++ ys) ≡ flips_together g xs ⊕ flips_together g ys
-  together-append g [] ys = refl
-  together-append g (x ∷ xs) ys = ap (λ b. g x ⊕ b) (together-append g xs ys) ∙ sym (parity-assoc (g x) (flips_together g xs) (flips_together g ys))
-
-  module _ (i : ℕ) (lt : i < bits_in items) (same : IsSure n items i) (coins : ℕ → Bool) where
-    each-alone : (errors : List Error) → All Fits errors → flips_together (λ f. flips n items coins f i) (flat_map faults_in errors) ≡ flip_each n items coins errors i
-    each-alone [] fit = refl
-    each-alone (e ∷ es) fit =
-        together-append (λ f. flips n items coins f i) (faults_in e) (flat_map faults_in es)
-        ∙ (λ t. sym (adds n items i (faults_in e) fits lt (All-head Fits e es fit) same coins) t ⊕ each-alone es (All-tail Fits e es fit) t)
-
-    fit-add : (errors : List Error) → All Fits errors → flip_together n items coins (flat_map faults_in errors) i ≡ flip_each n items coins errors i
-    fit-add errors fit = adds n items i (flat_map faults_in errors) fits lt (all-fit errors fit) same coins ∙ each-alone errors fit
-
-  some-fit : (all errors : List Error) → All Fits all → All (λ e. Contains all e) errors → All Fits errors
-  some-fit all errors fit are = λ k d less. All-contains Fits all (slice_index_or errors k d) fit (are k d less)
-
-  pub errors-add : (errors : List ErrorValue) → All (ErrorStands faults) errors → ErrorsAdd n items (map error_shown errors)
-  errors-add errors stand some i are lt same coins = fit-add i lt same coins some (some-fit (map error_shown errors) some (errors-fit errors stand) are)
+  pub table-is : (detectors : ℕ) → detectors ≡ detectors_of (unroll items) → (errors : List ErrorValue) (made : List (List ℕ)) → All (ErrorStands faults) errors → AreRowsOf rows errors made
+      → IsErrorTable n items (record { sure = sure; errors = map error_shown errors; table = record { detectors = detectors; rows = made } })
+  table-is detectors is errors made stand are = record {
+    are_sure = table.are_sure;
+    detectors = is;
+    are_flipped = λ coins. rows-are coins errors made stand are;
+    add = errors-add n items fits adds (map error_shown errors) (errors-fit errors stand);
+  }

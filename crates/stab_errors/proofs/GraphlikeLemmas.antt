@@ -7,11 +7,10 @@ use Rattle.std.proofs.lemmas.List.Elements.{All-nil, All-cons, All-head, All-tai
 use Rattle.stab_letters.specs.Letters.{◌⊕◌}
 use Rattle.stab_letters.proofs.ParityLemmas.{parity-false}
 use Rattle.stab_circuit.specs.Items.{Items}
-use Rattle.stab_jobs.specs.declared.error_letters.ErrorLetters.{ErrorLetters}
 use Rattle.stab_regions.specs.Faults.{bits_in, IsSure}
 use Rattle.stab_distance.specs.declared.answer.Answer.{Answer}
 use Rattle.stab_distance.specs.declared.answer.Answer.TheVariants.{Least, NoneWithin, NoneAtAll}
-use Rattle.stab_distance.specs.Tables.{odd as names, row, flips}
+use Rattle.stab_distance.specs.Tables.{odd as names, row}
 use Rattle.stab_distance.specs.Graphlike.{IsGraphlike, IsGraphlikeError, IsLeastGraphlike, IsGraphlikeAnswer}
 use Rattle.stab_distance.proofs.PartLemmas.{graphlike-up_to}
 use Rattle.stab_errors.specs.Errors.{Error}
@@ -19,7 +18,7 @@ use Rattle.stab_errors.specs.ErrorTables.{ErrorTableState, IsErrorTable}
 use Rattle.stab_errors.specs.Unseen.{AreUnseen, error_at, errors_at_numbers, bit_with, bit_without, FlipsTwo, AreGraphlikeUnseenOf, AreLeastGraphlike, IsGraphlikeDistance}
 use Rattle.stab_errors.proofs.UnseenLemmas.{difference, other-bits, as-many, together, sure-number, numbers-at, logical-unseen, logical-of}
 
-module _ (n : ℕ) (everywhere : Bool) (letters : ErrorLetters) (items : Items) (t : ErrorTableState) (table : IsErrorTable n everywhere letters items t) where
+module _ (n : ℕ) (items : Items) (t : ErrorTableState) (table : IsErrorTable n items t) where
   abbrev rows : List (List ℕ)
   rows = t.table.rows
 
@@ -32,14 +31,14 @@ module _ (n : ℕ) (everywhere : Bool) (letters : ErrorLetters) (items : Items) 
   one : (k : ℕ) → Inside k → All Inside (k ∷ [])
   one k less = All-cons Inside k [] less (All-nil Inside)
 
-  -- a sure detector that an error flips by runs is named by its row
+  -- a deterministic detector that an error flips by runs is named by its row
   run-names : (coins : ℕ → Bool) (k d : ℕ) → Inside k → d < bits_in items → IsSure n items d
       → bit_with n items coins (error_at t.errors k ∷ []) d ⊕ bit_without n items coins d ≡ names d (row rows k)
   run-names coins k d less inside is_sure =
-      together n everywhere letters items t table coins (k ∷ []) d (one k less) inside ((table.are_sure.exact d inside).1 is_sure)
+      together n items t table coins (k ∷ []) d (one k less) inside ((table.are_sure.exact d inside).1 is_sure)
       ∙ parity-false (names d (row rows k))
 
-  row-two : (k : ℕ) → Inside k → Graphlike k → FlipsTwo n items (error_at t.errors k)
+  pub row-two : (k : ℕ) → Inside k → Graphlike k → FlipsTwo n items (error_at t.errors k)
   row-two k less graphlike = (
     graphlike.0,
     graphlike.1,
@@ -49,7 +48,7 @@ module _ (n : ℕ) (everywhere : Bool) (letters : ErrorLetters) (items : Items) 
         ∙ difference (bit_with n items coins (error_at t.errors k ∷ []) d) (bit_without n items coins d) other),
   )
 
-  two-row : (k : ℕ) → Inside k → FlipsTwo n items (error_at t.errors k) → Graphlike k
+  pub two-row : (k : ℕ) → Inside k → FlipsTwo n items (error_at t.errors k) → Graphlike k
   two-row k less two = (two.0, two.1, by_run)
     where
       coins : ℕ → Bool
@@ -57,7 +56,7 @@ module _ (n : ℕ) (everywhere : Bool) (letters : ErrorLetters) (items : Items) 
 
       by_run : (d : ℕ) → d < t.table.detectors → names d (row rows k) ≡ true → (d ≡ two.0) ⊎ (d ≡ two.1)
       by_run d before named =
-          let is = sure-number n everywhere letters items t table (k ∷ []) d (one k less) (parity-false (names d (row rows k)) ∙ named) in
+          let is = sure-number n items t table (k ∷ []) d (one k less) (parity-false (names d (row rows k)) ∙ named) in
           let is_sure = (table.are_sure.exact d is.0).0 is.1 in
           two.2 coins d (omega (arith, before, table.detectors)) is_sure
           (other-bits (bit_with n items coins (error_at t.errors k ∷ []) d) (bit_without n items coins d) (run-names coins k d less is.0 is_sure ∙ named))
@@ -78,16 +77,16 @@ module _ (n : ℕ) (everywhere : Bool) (letters : ErrorLetters) (items : Items) 
 
   graphlike-unseen : (ks : List ℕ) → IsGraphlikeError t.table ks → AreGraphlikeUnseenOf n items t.errors (errors_at_numbers t.errors ks)
   graphlike-unseen ks e = record {
-    unseen = logical-unseen n everywhere letters items t table ks e.logical;
+    unseen = logical-unseen n items t table ks e.logical;
     graphlike = rows-two ks e.logical.inside e.graphlike;
   }
 
   unseen-graphlike : (errors : List Error) → AreGraphlikeUnseenOf n items t.errors errors → (ks : List ℕ) × IsGraphlikeError t.table ks × (length ks ≡ length errors)
   unseen-graphlike errors e =
-      let numbers = numbers-at n everywhere letters items t table errors e.unseen.of in (
+      let numbers = numbers-at n items t table errors e.unseen.of in (
         numbers.0,
         record {
-          logical = logical-of n everywhere letters items t table numbers.0 numbers.1 (subst (AreUnseen n items) (sym numbers.2) e.unseen.unseen);
+          logical = logical-of n items t table numbers.0 numbers.1 (subst (AreUnseen n items) (sym numbers.2) e.unseen.unseen);
           graphlike = two-rows numbers.0 numbers.1 (subst (All (FlipsTwo n items)) (sym numbers.2) e.graphlike);
         },
         numbers.3,
@@ -97,7 +96,7 @@ module _ (n : ℕ) (everywhere : Bool) (letters : ErrorLetters) (items : Items) 
 
   least-graphlike : (most : ℕ) (ks : List ℕ) → IsLeastGraphlike t.table most ks → All (λ k. k < length t.errors) ks × AreLeastGraphlike n items t.errors (errors_at_numbers t.errors ks)
   least-graphlike most ks least = (
-    All-weaker Inside (λ k. k < length t.errors) (λ k less. omega (arith, less, as-many n everywhere letters items t table)) ks least.logical.logical.inside,
+    All-weaker Inside (λ k. k < length t.errors) (λ k less. omega (arith, less, as-many n items t table)) ks least.logical.logical.inside,
     record {
       unseen = graphlike-unseen ks least.logical;
       least = λ others are.

@@ -3,8 +3,11 @@ mod MarkLemmas
 mod MarkedLemmas
 mod EverywhereLemmas
 mod RowLemmas
+mod FitLemmas
+mod PlaceFitLemmas
 mod FlipLemmas
 mod UnseenLemmas
 mod AnswerLemmas
 mod GraphlikeLemmas
+mod PartLemmas
 mod StepLemmas

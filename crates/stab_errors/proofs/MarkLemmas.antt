@@ -70,7 +70,7 @@ marks-join t xs ys =
     ∙ marks-append t (instructions xs) (instructions ys)
     ∙ ap (λ k. marks_from t (instructions xs) ++ marks_from (t + k) (instructions ys)) (long-unrolled xs)
 
--- one round more, behind the others
+-- one round more, after the others
 pub rounds-behind : (n : ℕ) (ops : List Operation) → instruction_rounds (n + 1) ops ≡ instruction_rounds n ops ++ ops
 rounds-behind zero ops = append-nil ops
 rounds-behind (suc n) ops =

@@ -8,7 +8,6 @@ use Rattle.std.proofs.lemmas.List.Elements.{All-nil, All-cons, All-head, All-tai
 use Rattle.stab_letters.specs.Letters.{◌⊕◌}
 use Rattle.stab_circuit.specs.Items.{Items}
 use Rattle.stab_circuit.specs.Steps.{unroll, detectors_of}
-use Rattle.stab_jobs.specs.declared.error_letters.ErrorLetters.{ErrorLetters}
 use Rattle.stab_letters.specs.declared.letter.Letter.TheVariants.{I}
 use Rattle.stab_regions.specs.Rows.{odd}
 use Rattle.stab_regions.specs.Faults.{bits_in, IsSure, fault_on, in_front}
@@ -49,7 +48,7 @@ difference false true ne = refl
 false-or-true : (b : Bool) → b ≡ true → b ≡ false → ⊥
 false-or-true b is other = cc
 
-module _ (n : ℕ) (everywhere : Bool) (letters : ErrorLetters) (items : Items) (t : ErrorTableState) (table : IsErrorTable n everywhere letters items t) where
+module _ (n : ℕ) (items : Items) (t : ErrorTableState) (table : IsErrorTable n items t) where
   abbrev pub rows : List (List ℕ)
   rows = t.table.rows
 
@@ -105,14 +104,14 @@ module _ (n : ℕ) (everywhere : Bool) (letters : ErrorLetters) (items : Items) 
       (All-weaker Inside (λ k. Contains t.errors (error_at t.errors k))
       (λ k inside. Contains-get_or t.errors k (letter (fault_on 0 (in_front 0) I)) (omega (arith, inside, as-many))) ks less)
 
-  -- a sure bit is flipped by runs where the rows name it
+  -- a deterministic bit is flipped by runs if the rows name it
   pub together : (coins : ℕ → Bool) (ks : List ℕ) (i : ℕ) → All Inside ks → i < bits_in items → slice_index_or t.sure i false ≡ true
       → flip_together n items coins (flat_map faults_in (errors_at_numbers t.errors ks)) i ≡ flips rows ks i
   together coins ks i less inside is_sure =
       table.add (errors_at_numbers t.errors ks) i (numbers-of ks less) inside ((table.are_sure.exact i inside).0 is_sure) coins
       ∙ sym (each coins ks i less inside is_sure)
 
-  -- an observed number is that of a sure observable
+  -- an observed number is that of a deterministic observable
 
   pub sure-number : (ks : List ℕ) (i : ℕ) → All Inside ks → flips rows ks i ≡ true → (i < bits_in items) × (slice_index_or t.sure i false ≡ true)
   sure-number ks i less named = by_place (cases_lt i (bits_in items))

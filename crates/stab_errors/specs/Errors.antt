@@ -20,7 +20,7 @@ use Rattle.stab_jobs.specs.declared.error_letters.ErrorLetters.{ErrorLetters}
 use Rattle.stab_jobs.specs.declared.error_letters.ErrorLetters.TheVariants.{All, XAndZ}
 
 -- an error: a letter at a place; letters at two places, both at once; or the record of this number by itself: a letter in front of its
--- measurement flips the outcome, and where the qubit isn't reset the same letter behind it takes the flip of the qubit back
+-- measurement flips the outcome, and if the qubit isn't reset the same letter after it takes the flip of the qubit back
 pub data Error : Type 0 where
   letter : FaultPlace → Error
   letters : (first second : FaultPlace) → Error
@@ -32,7 +32,7 @@ faults_in (letter f) = f ∷ []
 faults_in (letters f g) = f ∷ g ∷ []
 faults_in (wrong_record number f back) = f ∷ back
 
--- the first of them, where the error is told to be
+-- the first of them, if the error is said to be
 abbrev pub first_fault : Error → FaultPlace
 first_fault (letter f) = f
 first_fault (letters f g) = f
@@ -43,7 +43,7 @@ abbrev pub letters_asked : ErrorLetters → List Letter
 letters_asked All = X ∷ Y ∷ Z ∷ []
 letters_asked XAndZ = X ∷ Z ∷ []
 
--- the products of errors on two qubits: all sixteen but that of I and I; or those that have X alone or Z alone
+-- the products of errors on two qubits: all sixteen except that of I and I; or those that have only X or only Z
 abbrev pub pairs_asked : ErrorLetters → List (Letter × Letter)
 pairs_asked All =
     (I, X) ∷ (I, Y) ∷ (I, Z) ∷ (X, I) ∷ (X, X) ∷ (X, Y) ∷ (X, Z)
@@ -54,7 +54,7 @@ pairs_asked XAndZ = (I, X) ∷ (I, Z) ∷ (X, I) ∷ (X, X) ∷ (Z, I) ∷ (Z, Z
 abbrev pub each_letter : List Letter → (Letter → FaultPlace) → List Error
 each_letter ls at = map (λ l. letter (at l)) ls
 
--- a product at two places, where I is no fault
+-- a product at two places, in which I is no fault
 abbrev pub product_at : (first second : Letter → FaultPlace) → (l m : Letter) → Error
 product_at first second I m = letter (second m)
 product_at first second l I = letter (first l)
@@ -72,7 +72,7 @@ wrong_product t m [] = []
 wrong_product t m (f ∷ fs) =
     wrong_record m (fault_on t (in_front f.qubit) (flip_of (letter_of f.letter))) (fault_on t (behind f.qubit) (flip_of (letter_of f.letter)) ∷ []) ∷ []
 
--- the errors at step number t, with m records before it: behind a gate and a reset; in front of what is measured, and its record
+-- the errors at step number t, with m records before it: after a gate and a reset; in front of what is measured, and its record
 abbrev pub errors_at : ErrorLetters → (t m : ℕ) → Step → List Error
 errors_at ls t m (one g q) = each_letter (letters_asked ls) (fault_on t (behind q))
 errors_at ls t m (two g a b) = each_product ls (fault_on t (behind a)) (fault_on t (behind b))
@@ -102,7 +102,7 @@ pub record Marks : Type 0 where
   pub qubits : List ℕ
   pub step : ℕ
 
--- so many rounds of instructions
+-- this many rounds of instructions
 abbrev pub instruction_rounds : ℕ → List Operation → List Operation
 instruction_rounds zero ops = []
 instruction_rounds (suc n) ops = ops ++ instruction_rounds n ops
@@ -152,7 +152,7 @@ abbrev pub each_target : List Letter → ℕ → (qubits : List ℕ) → List Er
 each_target ls t [] = []
 each_target ls t (q ∷ qs) = each_letter ls (fault_on t (in_front q)) ++ each_target ls (t + 1) qs
 
--- products on each two targets, one pair behind the other; a last target without another has letters by itself
+-- products on each two targets, one pair after the other; a last target without another has letters by itself
 abbrev pub each_two_targets : ErrorLetters → ℕ → (qubits : List ℕ) → List Error
 each_two_targets ls t [] = []
 each_two_targets ls t (q ∷ []) = each_letter (letters_asked ls) (fault_on t (in_front q))

@@ -1,5 +1,7 @@
 pub mod Errors
 pub mod Placed
-pub mod ErrorTables
 pub mod Unseen
+pub mod Parts
+pub mod ErrorTables
+pub mod Laws
 pub mod inner

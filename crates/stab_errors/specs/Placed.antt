@@ -18,7 +18,7 @@ letter_at p l = record { letter = l; qubit = p.qubit; before = p.before; step = 
 abbrev pub fault_shown : PlacedLetter → FaultPlace
 fault_shown f = letter_at f.place f.letter
 
--- the same, where there is one
+-- the same, if there is one
 abbrev pub faults_shown : Option PlacedLetter → List FaultPlace
 faults_shown None = []
 faults_shown (Some f) = fault_shown f ∷ []

@@ -18,7 +18,7 @@ bit_with n items coins errors i = bit n (observables_of items) coins (with_gates
 abbrev pub bit_without : (n : ℕ) → Items → (ℕ → Bool) → ℕ → Bool
 bit_without n items coins i = bit n (observables_of items) coins (unroll items) i
 
--- errors that go wrong together are unseen: whatever the coins, each sure detector is as it is without them, and a sure observable is not
+-- errors that go wrong together are unseen: for all random bits, each deterministic detector is as without them, and a deterministic observable is not
 pub record AreUnseen (n : ℕ) (items : Items) (errors : List Error) : Type 0 where
   pub detectors : (coins : ℕ → Bool) (d : ℕ) → d < detectors_of (unroll items) → IsSure n items d → bit_with n items coins errors d ≡ bit_without n items coins d
   pub number : ℕ
@@ -36,7 +36,7 @@ pub record AreLeastUnseen (n : ℕ) (items : Items) (all errors : List Error) : 
   pub unseen : AreUnseenOf n items all errors
   pub least : (others : List Error) → AreUnseenOf n items all others → length errors ≤ length others
 
--- no list of at most so many of these errors is unseen
+-- no list of at most this many of these errors is unseen
 abbrev pub NoneUnseenWithin : (n : ℕ) → Items → (all : List Error) → (most : ℕ) → Type 0
 NoneUnseenWithin n items all most = (others : List Error) → AreUnseenOf n items all others → most < length others
 
@@ -60,7 +60,7 @@ IsDistance n items all None NoneWithin = NoneUnseen n items all
 
 -- graph-like errors
 
--- an error flips at most two detectors: whatever the coins, each sure detector that it changes alone is one of two
+-- an error flips at most two detectors: for all random bits, each deterministic detector that it changes alone is one of two
 abbrev pub FlipsTwo : (n : ℕ) → Items → Error → Type 0
 FlipsTwo n items e =
     (a b : ℕ) × ((coins : ℕ → Bool) (d : ℕ) → d < detectors_of (unroll items) → IsSure n items d → bit_with n items coins (e ∷ []) d ≢ bit_without n items coins d → (d ≡ a) ⊎ (d ≡ b))
@@ -75,7 +75,7 @@ pub record AreLeastGraphlike (n : ℕ) (items : Items) (all errors : List Error)
   pub unseen : AreGraphlikeUnseenOf n items all errors
   pub least : (others : List Error) → AreGraphlikeUnseenOf n items all others → length errors ≤ length others
 
--- no list is one, or none of at most so many of these errors
+-- no list is one, or none of at most this many of these errors
 abbrev pub NoneGraphlike : (n : ℕ) → Items → (all : List Error) → Type 0
 NoneGraphlike n items all = (others : List Error) → AreGraphlikeUnseenOf n items all others → ⊥
 

@@ -2,3 +2,4 @@ pub mod Adding
 pub mod Marked
 pub mod Everywhere
 pub mod ErrorRows
+pub mod RowParts

@@ -1,4 +1,4 @@
-//! Errors at one or two places, put behind others.
+//! Errors at one or two places, put after others.
 ghost use Rattle.std.specs.Prelude.{[], ◌∷◌, OnOk, map};
 ghost use Rattle.stab_errors.specs.Errors.{each_letter, each_product};
 ghost use Rattle.stab_errors.specs.Placed.{error_shown, letter_at};

@@ -8,14 +8,17 @@ ghost use Rattle.stab_circuit.specs.Views.{circuit_items};
 ghost use Rattle.stab_run.specs.ProgramStates.{StepFits};
 ghost use Rattle.stab_regions.specs.Faults.{IsFaultTable, faults_of};
 ghost use Rattle.stab_errors.specs.Errors.{errors_of};
+ghost use Rattle.stab_errors.specs.Parts.{AreSearched};
 ghost use Rattle.stab_errors.specs.ErrorTables.{IsErrorTable, StepsInside};
 ghost use Rattle.stab_errors.specs.declared.placed.Error.{Error as ErrorValue};
 ghost use Rattle.stab_errors.specs.Placed.{error_shown};
 ghost use Rattle.stab_errors.specs.inner.Adding.{ErrorStands};
 ghost use Rattle.stab_errors.specs.inner.ErrorRows.{AreRowsOf, RowsAscend};
+ghost use Rattle.stab_errors.specs.inner.RowParts.{AreSearchedByRows};
 
 use crate::everywhere::errors_everywhere;
 use crate::marked::errors_marked;
+use crate::parts::split_errors;
 use crate::placed::Error;
 use crate::rows::error_row;
 use stab_circuit::Circuit;
@@ -27,7 +30,7 @@ use stab_regions::{FaultTable, faults};
 use std::alloc::Global;
 use std::marker::Model;
 
-/// The errors of a circuit, and which of its sure detectors and observables each of them flips.
+/// The errors of a circuit, and which of its deterministic detectors and observables each of them flips.
 #[derive(Drop)]
 pub struct ErrorTable {
     sure: Vec<bool>,
@@ -49,14 +52,14 @@ impl ErrorTable {
     ghost use Rattle.std.specs.Prelude.{◌≡◌, ◌<◌, length, slice_index_or};
     ghost use Rattle.stab_errors.specs.Placed.{error_shown};
 
-    /// For each detector and then each observable, whether its bit is the same whatever the coins.
+    /// For each detector and then each observable, whether its bit is the same for all random bits.
     pub fn sure(&self) -> &[bool]
         ensures value { result.now ≡ self.now.sure }
     {
         self.sure.as_slice()
     }
 
-    /// How many errors there are.
+    /// The number of errors.
     pub fn len(&self) -> usize
         ensures value { result ≡ length self.now.errors }
     {
@@ -71,7 +74,7 @@ impl ErrorTable {
         self.errors[number]
     }
 
-    /// What each error flips, by the numbers of detectors, and behind them of observables.
+    /// What each error flips, by the numbers of detectors and then of observables.
     pub fn table(&self) -> &Table
         ensures value { result.now ≡ self.now.table }
     {
@@ -79,7 +82,7 @@ impl ErrorTable {
     }
 }
 
-/// The errors of a circuit everywhere, or where it marks them, of which so many faults are in the table.
+/// The errors of a circuit: everywhere, or those that it marks. The table has this number of faults.
 fn errors_asked(
     alloc: Global,
     circuit: &Circuit,
@@ -98,6 +101,25 @@ fn errors_asked(
     } else {
         errors_marked(alloc, circuit, letters, faults)
     }
+}
+
+/// The errors that are searched: these themselves, or split if graph-like errors are asked for.
+fn searched_errors(
+    alloc: Global,
+    faults: &FaultTable,
+    whole: Vec<Error>,
+    detectors: usize,
+    graphlike: bool,
+) -> Result<Vec<Error>, Refusal>
+    requires ascend { RowsAscend faults.now.rows }
+    ensures searched { IfOk result (λ v. AreSearchedByRows graphlike faults.now.rows detectors whole.items v.items) }
+    ensures err { IfErr result (λ r. r ≡ OutOfMemory) }
+{
+    if !graphlike {
+        return Ok(whole);
+    }
+    let split = split_errors(alloc, faults, whole.as_slice(), detectors)?;
+    Ok(split)
 }
 
 /// Adds the row of an error.
@@ -161,17 +183,20 @@ fn table_of(
     n: usize,
     everywhere: bool,
     letters: ErrorLetters,
+    graphlike: bool,
     faults: &FaultTable,
 ) -> Result<ErrorTable, Refusal>
     requires checked { check_within n (circuit_items circuit.now) ≡ None }
     requires table { IsFaultTable n everywhere (circuit_items circuit.now) faults.now.sure faults.now.rows }
-    ensures table { IfOk result (IsErrorTable n everywhere letters (circuit_items circuit.now)) }
+    ensures errors { IfOk result (λ t. AreSearched graphlike n (circuit_items circuit.now) (errors_of everywhere letters (circuit_items circuit.now)) t.errors) }
+    ensures table { IfOk result (IsErrorTable n (circuit_items circuit.now)) }
     ensures steps { IfOk result (λ t. StepsInside (circuit_items circuit.now) t.errors) }
     ensures err { IfErr result (λ r. r ≡ OutOfMemory) }
 {
-    let errors = errors_asked(alloc, circuit, everywhere, letters, faults.len())?;
+    let whole = errors_asked(alloc, circuit, everywhere, letters, faults.len())?;
     let sure = copied(alloc, faults.sure())?;
     let detectors = sure.len() - circuit.observables();
+    let errors = searched_errors(alloc, faults, whole, detectors, graphlike)?;
     let table = rows_of(alloc, faults, errors.as_slice(), detectors)?;
     steps_fit(circuit, n);
     sure_parities();
@@ -185,7 +210,8 @@ fn table_of(
 }
 
 /// The table of the errors of a circuit on n qubits, at most 1,024: those that it marks by the gate `I`, or
-/// those of noise everywhere.
+/// those of noise everywhere. If graph-like errors are asked for, the X and the Z of its letters take the place of an error that flips
+/// more than two detectors.
 ///
 /// Refused as `Circuit::check` refuses, else `OutOfMemory`, always with line 0.
 pub fn errors(
@@ -194,13 +220,15 @@ pub fn errors(
     n: usize,
     everywhere: bool,
     letters: ErrorLetters,
+    graphlike: bool,
 ) -> Result<ErrorTable, Fault>
     requires in_range { n ≤ most_qubits }
-    ensures table { IfOk result (IsErrorTable n everywhere letters (circuit_items circuit.now)) }
+    ensures errors { IfOk result (λ t. AreSearched graphlike n (circuit_items circuit.now) (errors_of everywhere letters (circuit_items circuit.now)) t.errors) }
+    ensures table { IfOk result (IsErrorTable n (circuit_items circuit.now)) }
     ensures steps { IfOk result (λ t. StepsInside (circuit_items circuit.now) t.errors) }
     ensures refused { Refuses result (check_within n (circuit_items circuit.now)) }
 {
     circuit.check(n)?;
     let faults = faults(alloc, circuit, n, everywhere)?;
-    table_of(alloc, circuit, n, everywhere, letters, &faults).map_err(Fault::whole)
+    table_of(alloc, circuit, n, everywhere, letters, graphlike, &faults).map_err(Fault::whole)
 }

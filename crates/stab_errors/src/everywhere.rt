@@ -21,7 +21,7 @@ use stab_letters::Letter;
 use stab_steps::flip;
 use std::alloc::{AllocError, Global};
 
-/// The letter that takes a flip of a qubit back behind its measurement, unless the qubit is reset.
+/// The letter that takes a flip of a qubit back after its measurement, unless the qubit is reset.
 fn taken_back(flip: Letter, behind: Place, resets: bool) -> Option<PlacedLetter>
     ensures value { faults_shown result ≡ back_of resets (letter_at behind flip) }
     ensures place { IfSome result (λ f. f.place ≡ behind) }
@@ -33,7 +33,7 @@ fn taken_back(flip: Letter, behind: Place, resets: bool) -> Option<PlacedLetter>
     }
 }
 
-/// Adds the letters behind a measurement, if it resets.
+/// Adds the letters after a measurement, if it resets.
 fn add_reset(
     errors: &mut Vec<Error>,
     letters: &[Letter],
@@ -146,7 +146,7 @@ fn add_product(
     Ok(())
 }
 
-/// Adds the products behind a gate on two qubits, of which the first has this row.
+/// Adds the products after a gate on two qubits, of which the first has this row.
 fn add_behind_two(
     errors: &mut Vec<Error>,
     letters: ErrorLetters,
@@ -165,7 +165,7 @@ fn add_behind_two(
     Ok(())
 }
 
-/// Adds the errors at a step of this number, with so many records before it, whose first fault has this row.
+/// Adds the errors at a step of this number, with this many records before it, whose first fault has this row.
 fn add_step(
     errors: &mut Vec<Error>,
     letters: ErrorLetters,
@@ -241,7 +241,7 @@ fn records_made(step: Step) -> usize
     }
 }
 
-/// The errors of a circuit everywhere, of which so many faults are in the table.
+/// The errors of a circuit everywhere, of which this many faults are in the table.
 pub(crate) fn errors_everywhere(
     alloc: Global,
     circuit: &Circuit,

@@ -5,27 +5,31 @@
 //!
 //! - `letters`: of which letters errors are made.
 //! - `placed`: letters at places, and errors of them.
-//! - `adding`: errors at one or two places, put behind others.
-//! - `tags`, `marks`, `marked`: where a circuit marks errors, and the errors that it marks.
+//! - `adding`: errors at one or two places, added to others.
+//! - `tags`, `marks`, `marked`: the errors that a circuit marks.
 //! - `everywhere`: the errors at each step.
 //! - `rows`: what an error flips, by the table of faults.
+//! - `parts`: the parts of errors that flip more than two detectors.
 //! - `error_table`: the errors of a circuit, and their table.
 //! - `search`: the least number of errors that are unseen; of all, or of those alone that flip at most two detectors.
+//! - `laws`: each circuit has a table of errors and a distance.
 //!
 //! Source: this project's own.
 //!
-//! Proved: the errors are those of `specs/Errors.antt`, in order; and each one's row names exactly the
-//! bits that are the same whatever the coins and that the run with all of its faults put in has otherwise,
-//! whatever the coins (`specs/ErrorTables.antt`). Least sets are unseen by runs, and no smaller ones are
-//! (`specs/Unseen.antt`).
+//! Proved: the errors are those of `specs/Errors.antt`, in order, split as `specs/Parts.antt` says if graph-like
+//! ones are asked for. Each one's row names exactly the bits that are the same whatever the coins and that the
+//! run with all of its faults put in has otherwise, whatever the coins (`specs/ErrorTables.antt`). Least sets are
+//! unseen by runs, and no smaller ones are (`specs/Unseen.antt`).
 #![tactic(auto)]
 
 mod adding;
 mod error_table;
 mod everywhere;
+pub mod laws;
 mod letters;
 mod marked;
 mod marks;
+mod parts;
 mod placed;
 mod rows;
 mod search;

@@ -85,7 +85,7 @@ fn add_marked(
     }
 }
 
-/// The errors that a circuit marks, of which so many faults are in the table.
+/// The errors that a circuit marks, of which this many faults are in the table.
 pub(crate) fn errors_marked(
     alloc: Global,
     circuit: &Circuit,

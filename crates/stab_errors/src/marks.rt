@@ -29,7 +29,7 @@ fn is_idle(gate: Gate) -> bool
     }
 }
 
-/// Puts an instruction on these targets behind others, if it has any.
+/// Puts an instruction on these targets after others, if it has any.
 fn mark_targets<'a>(
     marks: &mut Vec<Marks<'a>>,
     qubits: &'a [Qubit],
@@ -45,7 +45,7 @@ fn mark_targets<'a>(
     Ok(())
 }
 
-/// Puts an instruction behind others, if it marks places.
+/// Puts an instruction after others, if it marks places.
 fn mark_kind<'a>(
     marks: &mut Vec<Marks<'a>>,
     kind: &'a Kind,
@@ -62,7 +62,7 @@ fn mark_kind<'a>(
     }
 }
 
-/// Puts the marks of an item behind others, and gives the number of the step behind it.
+/// Puts the marks of an item after others, and gives the number of the step after it.
 #[cycle(marking)]
 fn mark_item<'a>(
     marks: &mut Vec<Marks<'a>>,
@@ -83,7 +83,7 @@ fn mark_item<'a>(
     }
 }
 
-/// Puts the marks of so many rounds of items behind others, and gives the number of the step behind them.
+/// Puts the marks of this many rounds of items after others, and gives the number of the step after them.
 #[cycle(marking)]
 fn mark_rounds<'a>(
     marks: &mut Vec<Marks<'a>>,
@@ -107,7 +107,7 @@ fn mark_rounds<'a>(
     Ok(place)
 }
 
-/// Puts the marks of items behind others, and gives the number of the step behind them.
+/// Puts the marks of items after others, and gives the number of the step after them.
 #[cycle(marking)]
 pub(crate) fn mark_items<'a>(
     marks: &mut Vec<Marks<'a>>,

@@ -7,7 +7,7 @@ ghost use Rattle.stab_errors.specs.Errors.{product_at};
 
 use stab_letters::Letter;
 
-/// A place for errors: a qubit in front of a step or behind it.
+/// A place for errors: a qubit in front of a step or after it.
 #[derive(Clone, Copy)]
 pub(crate) struct Place {
     pub qubit: usize,
@@ -34,7 +34,7 @@ pub enum Error {
     /// Letters at two places.
     Letters(PlacedLetter, PlacedLetter),
     /// The record of this number by itself: a letter in front of the measurement flips its outcome, and
-    /// unless the qubit is reset, the same letter behind it flips the qubit back.
+    /// unless the qubit is reset, the same letter after it flips the qubit back.
     Record {
         number: usize,
         flip: PlacedLetter,
@@ -105,7 +105,7 @@ impl Place {
         }
     }
 
-    /// A qubit behind a step, with its row.
+    /// A qubit after a step, with its row.
     pub fn behind(qubit: usize, step: usize, row: usize) -> Place
         requires few { step ≤ most_steps }
         ensures value { (l : Letter) → letter_at result l ≡ fault_on step (site_behind qubit) l }
@@ -130,7 +130,7 @@ impl Place {
     }
 }
 
-/// The error of a product at two places, where I is none.
+/// The error of a product at two places, in which I is none.
 pub(crate) fn product_at(first: Place, second: Place, pair: (Letter, Letter)) -> Error
     ensures value { error_shown result ≡ product_at (letter_at first) (letter_at second) pair.0 pair.1 }
     ensures stands { (faults : List FaultPlace) → Stands first faults → Stands second faults → ErrorStands faults result }

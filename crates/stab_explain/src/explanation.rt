@@ -14,13 +14,13 @@ use std::alloc::{AllocError, Global};
 
 /// Writes what is wrong with a circuit's text that was refused with this fault, and does not flush.
 ///
-/// The line at fault stands first, with its number, and under it carets under the word at fault. Then
+/// The line at fault is first, with its number, and under it carets under the word at fault. Then
 /// come two sentences: what is wrong with it, and what to do, if need be with the lines that do the same;
-/// and for a name that no instruction has the nearest one, if one is near. For lookbacks past the first
-/// record and for too many steps the item is told by its path, and for too many steps how many the whole
-/// circuit has. Of faults of devices and memory nothing is written.
+/// and, for a name that no instruction has, the nearest one if one is near. For lookbacks past the first
+/// record and for too many steps the item is given by its path, and for too many steps also how many the whole
+/// circuit has. For faults of devices and memory nothing is written.
 ///
-/// Refusals: `WriteFault` where a write failed, and nothing more is tried; `OutOfMemory`, and then
+/// Refusals: `WriteFault` if a write failed, and nothing more is tried; `OutOfMemory`, and then
 /// nothing was written.
 pub fn write_explanation<O: Output>(
     alloc: Global,
@@ -90,7 +90,7 @@ fn push_sentence(words: &mut Vec<u8>, sentence: &str) -> Result<(), AllocError> 
     Ok(())
 }
 
-/// Puts what is wrong with the whole text behind other words.
+/// Puts what is wrong with the whole text after other words.
 fn push_on_whole(
     alloc: Global,
     words: &mut Vec<u8>,
@@ -140,7 +140,7 @@ fn push_on_steps(alloc: Global, words: &mut Vec<u8>, text: &[u8]) -> Result<(), 
     push_sentence(words, sentences::STEPS.cure)
 }
 
-/// Puts how many steps the whole circuit has behind other words.
+/// Puts how many steps the whole circuit has after other words.
 fn push_steps(words: &mut Vec<u8>, steps: u64) -> Result<(), AllocError> {
     words.extend_from_slice(b"The whole circuit has ")?;
     if steps == u64::MAX {
@@ -157,16 +157,16 @@ fn push_number(words: &mut Vec<u8>, number: u64) -> Result<(), AllocError> {
 
 fn push_records(words: &mut Vec<u8>, records: u64) -> Result<(), AllocError> {
     match records {
-        0 => words.extend_from_slice(b"no record stands"),
-        1 => words.extend_from_slice(b"1 record stands"),
+        0 => words.extend_from_slice(b"no record is"),
+        1 => words.extend_from_slice(b"1 record is"),
         _ => {
             push_number(words, records)?;
-            words.extend_from_slice(b" records stand")
+            words.extend_from_slice(b" records are")
         }
     }
 }
 
-/// Puts a path behind other words, as scripts of edits have it.
+/// Puts a path after other words, as scripts of edits have it.
 fn push_path(words: &mut Vec<u8>, path: &[u64]) -> Result<(), AllocError> {
     let mut between: &[u8] = b"";
     for place in path {
@@ -177,7 +177,7 @@ fn push_path(words: &mut Vec<u8>, path: &[u64]) -> Result<(), AllocError> {
     Ok(())
 }
 
-/// Puts the round behind other words, where the item stands in a block.
+/// Puts the round after other words, if the item is in a block.
 fn push_round(words: &mut Vec<u8>, item: &RefusedItem) -> Result<(), AllocError> {
     if item.path.len() > 1 {
         words.extend_from_slice(b", in the first round of its block")?;

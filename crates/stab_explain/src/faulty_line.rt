@@ -1,4 +1,4 @@
-//! The word at fault in a line, but for its targets.
+//! The word at fault in a line, except its targets.
 use crate::finding::Finding;
 use crate::form::{Form, form_of, refusal_of};
 use crate::instruction_parts::{InstructionParts, parts_of};
@@ -126,7 +126,7 @@ impl<'a> FaultyLine<'a> {
     }
 }
 
-/// What is wrong with an argument that is no coordinate, in a piece of what stands inside the brackets.
+/// What is wrong with an argument that is no coordinate, in a piece of what is inside the brackets.
 fn finding_on_argument(inside: LinePart, piece: LinePart, argument: LinePart) -> Finding {
     let follows_last_comma = piece.start > inside.start && piece.end == inside.end;
     if argument.is_empty() && follows_last_comma {

@@ -34,7 +34,7 @@ impl<'a> FaultyLine<'a> {
         self.form == Form::Pairs || self.form == Form::ControlledPairs
     }
 
-    /// What refuses the instruction with this target, which stands behind another if it is a second.
+    /// What refuses the instruction with this target, which comes after another one if it is the second.
     fn refusal_of_target(&self, target: TargetWord) -> Result<Option<Refusal>, AllocError> {
         let before: &[u8] = match self.form {
             Form::Observable => b"(0) ",
@@ -69,7 +69,7 @@ impl<'a> FaultyLine<'a> {
         Ok(refusal_of(self.alloc, &[b"MPP ", word])?.is_none())
     }
 
-    /// The first factor that is refused like this; where none is, the product has a qubit twice.
+    /// The first factor that is refused in this way; if none is, the product has a qubit twice.
     fn find_factor(&self, product: LinePart, refusal: Refusal) -> Result<Finding, AllocError> {
         let sentences = match refusal {
             Refusal::QubitOutOfRange => sentences::QUBIT_RANGE,

@@ -37,7 +37,7 @@ impl Finding {
         }
     }
 
-    /// A finding on the first bytes of its part that are no ASCII, or itself where it has none.
+    /// A finding on the first bytes of its part that are no ASCII, or itself if it has none.
     pub(crate) fn or_beyond_ascii(self, line: &[u8]) -> Finding {
         match self.part.beyond_ascii(line) {
             Some(bytes) => Finding::new(bytes, sentences::NO_ASCII),

@@ -51,7 +51,7 @@ pub(crate) fn refusal_of(alloc: Global, texts: &[&[u8]]) -> Result<Option<Refusa
 
 /// What the instruction of this name takes.
 ///
-/// Alone, OBSERVABLE_INCLUDE is refused for want of its number, and REPEAT for want of its count.
+/// Alone, OBSERVABLE_INCLUDE is refused for lack of its number, and REPEAT for lack of its count.
 pub(crate) fn form_of(alloc: Global, name: &[u8]) -> Result<Option<Form>, AllocError> {
     match meaning(alloc, name) {
         Ok(Line::Operation(operation)) => Ok(Some(form_of_kind(&operation.kind))),

@@ -11,10 +11,10 @@ const BYTE_ORDER_MARK: &[u8] = b"\xEF\xBB\xBF";
 #[derive(Clone, Copy)]
 pub(crate) struct InstructionParts {
     pub(crate) name: LinePart,
-    /// With their brackets; empty where there are none.
+    /// With their brackets; empty if there are none.
     pub(crate) arguments: LinePart,
     pub(crate) targets: LinePart,
-    /// Whether a brace stands last.
+    /// Whether a brace is last.
     pub(crate) opens: bool,
 }
 
@@ -57,7 +57,7 @@ pub(crate) fn parts_of(line: &[u8], content: LinePart) -> Result<InstructionPart
     })
 }
 
-/// What stands in the place of a name.
+/// What is in the place of a name.
 fn no_name(line: &[u8], content: LinePart) -> Finding {
     let bytes = content.bytes(line);
     if bytes.starts_with(BYTE_ORDER_MARK) {
@@ -70,7 +70,7 @@ fn no_name(line: &[u8], content: LinePart) -> Finding {
     }
 }
 
-/// What brackets directly in front hold, with them, or nothing where there are none.
+/// What brackets directly in front hold, with them, or nothing if there are none.
 fn bracketed(
     line: &[u8],
     part: LinePart,
@@ -88,7 +88,7 @@ fn bracketed(
     }
 }
 
-/// The first brace in a part, where it can't stand.
+/// The first brace in a part, if it can't be there.
 fn without_brace(line: &[u8], part: LinePart) -> Result<(), Finding> {
     match part.bytes(line).iter().position(|b| is_brace(*b)) {
         Some(place) => Err(Finding::new(part.behind(place).front(1), sentences::BRACE_WITHIN)),
@@ -96,7 +96,7 @@ fn without_brace(line: &[u8], part: LinePart) -> Result<(), Finding> {
     }
 }
 
-/// The first byte of targets that no spacing parts from what stands before.
+/// The first byte of targets that no spacing separates from what is before.
 fn is_apart(line: &[u8], targets: LinePart) -> Result<(), Finding> {
     match targets.bytes(line).first() {
         Some(first) if !is_spacing(*first) => {

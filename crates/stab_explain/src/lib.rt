@@ -1,6 +1,6 @@
 //! What is wrong with a circuit's text that was refused, in words.
 //!
-//! A fault tells a refusal and a line. Here the word at fault is found in that line, and for a fault of
+//! A fault names a refusal and a line. Here the word at fault is found in that line, and for a fault of
 //! the whole text the item: the line is shown with carets under the word, and sentences say what is
 //! wrong with it and what to do.
 //!
@@ -14,7 +14,7 @@
 //! - `nearest`: the name that is nearest to a word.
 //! - `names`: what is wrong with a name.
 //! - `faulty_line`, `faulty_targets`: the word at fault in a line.
-//! - `counts`, `refused_item`: the item that looks back too far, or behind which the steps are too many.
+//! - `counts`, `refused_item`: the item that looks back too far, or after which the steps are too many.
 //! - `lookback`: the word of a line that looks back too far.
 //! - `shown`: a line with carets under a part of it.
 //! - `explanation`: all of it, and `write_explanation`, which the other crates call.
@@ -22,8 +22,8 @@
 //! Sources: Stim's circuit file format and its list of gates, for what a line may have and for the names that are
 //! left out. The words are this project's own.
 //!
-//! Proved: what is written is some bytes behind what was written before, all of them where the call
-//! is done, and a first part of them where the output failed; where memory is refused, nothing is
+//! Proved: what is written is some bytes after what was written before, all of them if the call
+//! is done, and a first part of them if the output failed; if memory is refused, nothing is
 //! written. The words themselves are tested.
 #![tactic(auto)]
 

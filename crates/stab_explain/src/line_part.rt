@@ -2,7 +2,7 @@
 use stab_lines::{content, is_spacing, without_spacing_in_front};
 use std::alloc::{AllocError, Global};
 
-/// A part of a line: the places of its first byte and of the one behind its last.
+/// A part of a line: the places of its first byte and of the one after its last.
 #[derive(Clone, Copy)]
 pub(crate) struct LinePart {
     pub(crate) start: usize,
@@ -10,7 +10,7 @@ pub(crate) struct LinePart {
 }
 
 impl LinePart {
-    /// The part from a place on that is so many bytes long.
+    /// The part from a place on that is this many bytes long.
     pub(crate) fn of_length(start: usize, length: usize) -> LinePart {
         LinePart {
             start,
@@ -33,7 +33,7 @@ impl LinePart {
         self.start >= self.end
     }
 
-    /// Its first bytes, so many.
+    /// Its first bytes, this many.
     pub(crate) fn front(self, count: usize) -> LinePart {
         LinePart {
             start: self.start,
@@ -41,7 +41,7 @@ impl LinePart {
         }
     }
 
-    /// What stands behind its first bytes, so many.
+    /// What is after its first bytes, this many.
     pub(crate) fn behind(self, count: usize) -> LinePart {
         LinePart {
             start: self.start.saturating_add(count).min(self.end),
@@ -87,7 +87,7 @@ impl LinePart {
     }
 }
 
-/// What stands between parts.
+/// What is between parts.
 #[derive(Clone, Copy)]
 pub(crate) enum Separator {
     Spacing,
@@ -103,7 +103,7 @@ impl Separator {
     }
 }
 
-/// What stands before, between and behind the separators, empty parts too.
+/// What is before, between and after the separators, empty parts too.
 pub(crate) fn pieces(
     alloc: Global,
     line: &[u8],

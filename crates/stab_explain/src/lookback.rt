@@ -7,7 +7,7 @@ use stab_io::Refusal;
 use stab_lines::{Line, meaning};
 use std::alloc::{AllocError, Global};
 
-/// The first word of a line that looks back over more than so many records.
+/// The first word of a line that looks back over more than this many records.
 pub(crate) fn find_lookback(
     alloc: Global,
     line: &[u8],
@@ -25,7 +25,7 @@ pub(crate) fn find_lookback(
     Ok(content)
 }
 
-/// How far back a word looks, or 0 where it is no record.
+/// How far back a word looks, or 0 if it is no record.
 fn lookback_of(alloc: Global, word: &[u8]) -> Result<u64, AllocError> {
     let content = joined(alloc, &[b"DETECTOR ", word])?;
     match meaning(alloc, content.as_slice()) {

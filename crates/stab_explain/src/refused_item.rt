@@ -1,7 +1,7 @@
-//! The item that looks back too far, or behind which the steps are too many.
+//! The item that looks back too far, or after which the steps are too many.
 //!
-//! Items are counted as they stand, and a block's rounds at its end: in the first round of a block
-//! fewest records stand before an item of it, so a lookback that is refused is so in the first round.
+//! Items are counted as they are, and a block's rounds at its end: in the first round of a block
+//! the fewest records are before an item of it, so a lookback that is refused is so in the first round.
 use crate::counts::Counts;
 use stab_io::Refusal;
 use stab_lines::{Count, Kind, Line, content, meaning};
@@ -15,11 +15,11 @@ const MOST_STEPS: u64 = 1_048_576;
 pub(crate) struct RefusedItem {
     /// Its line, or that of its opening.
     pub(crate) line: u64,
-    /// Its path: the places of the blocks round it, the outermost first, and its own place.
+    /// Its path: the places of the blocks around it, the outermost first, and its own place.
     pub(crate) path: Vec<u64>,
-    /// How many records stand before it.
+    /// How many records are before it.
     pub(crate) records: u64,
-    /// How many steps the whole text has, or 2^64 - 1 where there are more.
+    /// How many steps the whole text has, or 2^64 - 1 if there are more.
     pub(crate) steps_of_text: u64,
 }
 
@@ -154,7 +154,7 @@ impl ItemSearch {
     }
 }
 
-/// A number behind all rounds of a block, of that before it and that behind its first round.
+/// A number after all rounds of a block, of that before it and that after its first round.
 fn after_rounds(before: u64, behind_first: u64, rounds: u64) -> u64 {
     let of_round = behind_first.saturating_sub(before);
     before.saturating_add(of_round.saturating_mul(rounds))

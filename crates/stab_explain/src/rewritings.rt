@@ -6,7 +6,7 @@ use crate::sentences::Sentences;
 
 const WRONG: &str = "This instruction of Stim's is not read: others do the same.";
 
-/// Instructions that are not read, and the lines that do the same. A Pauli gate behind another gate exchanges signs.
+/// Instructions that are not read, and the lines that do the same. A Pauli gate after another gate exchanges signs.
 pub(crate) const REWRITINGS: &[Named] = &[
     Named {
         name: "H_XY",

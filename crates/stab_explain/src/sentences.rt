@@ -60,7 +60,7 @@ pub(crate) const TRAILING_COMMA: Sentences = Sentences {
 // Targets.
 
 pub(crate) const BRACKETS_APART: Sentences = Sentences {
-    wrong: "Brackets stand directly behind the name, with no spacing before them.",
+    wrong: "Brackets come directly after the name, with no spacing before them.",
     cure: "Take out the spacing before them.",
 };
 
@@ -76,7 +76,7 @@ pub(crate) const NOT_INVERTED: Sentences = Sentences {
 
 pub(crate) const NO_RECORD_HERE: Sentences = Sentences {
     wrong: "This instruction takes qubits, and no records.",
-    cure: "Give it a qubit's number; a record stands first in a pair of CX, CY or CZ.",
+    cure: "Give it a qubit's number; a record comes first in a pair of CX, CY or CZ.",
 };
 
 pub(crate) const NO_SWEEP: Sentences = Sentences {
@@ -85,7 +85,7 @@ pub(crate) const NO_SWEEP: Sentences = Sentences {
 };
 
 pub(crate) const RECORD_SECOND: Sentences = Sentences {
-    wrong: "A record stands first in its pair, and a qubit second.",
+    wrong: "A record comes first in its pair, and a qubit second.",
     cure: "Write the record before the qubit, as in CX rec[-1] 0.",
 };
 
@@ -121,7 +121,7 @@ pub(crate) const NO_FACTOR: Sentences = Sentences {
 
 pub(crate) const QUBIT_TWICE: Sentences = Sentences {
     wrong: "This product has one qubit twice.",
-    cure: "Multiply its factors out, so that each qubit stands once.",
+    cure: "Multiply its factors out, so that each qubit is named once.",
 };
 
 pub(crate) const QUBIT_RANGE: Sentences = Sentences {
@@ -160,7 +160,7 @@ pub(crate) const NO_BLOCK_OPEN: Sentences = Sentences {
 
 pub(crate) const NOT_CLOSED: Sentences = Sentences {
     wrong: "This block is not closed.",
-    cure: "Write a line } behind its last instruction.",
+    cure: "Write a line } after its last instruction.",
 };
 
 pub(crate) const OPENS_NOTHING: Sentences = Sentences {
@@ -170,7 +170,7 @@ pub(crate) const OPENS_NOTHING: Sentences = Sentences {
 
 pub(crate) const NO_COUNT: Sentences = Sentences {
     wrong: "This block has no count of rounds.",
-    cure: "Write the count behind REPEAT, as in REPEAT 10 {.",
+    cure: "Write the count after REPEAT, as in REPEAT 10 {.",
 };
 
 pub(crate) const SECOND_COUNT: Sentences = Sentences {
@@ -190,7 +190,7 @@ pub(crate) const COUNT_RANGE: Sentences = Sentences {
 
 pub(crate) const NO_BRACE: Sentences = Sentences {
     wrong: "The block's { is missing.",
-    cure: "Write { behind the count, on the same line.",
+    cure: "Write { after the count, on the same line.",
 };
 
 pub(crate) const TOO_DEEP: Sentences = Sentences {
@@ -211,32 +211,32 @@ pub(crate) const NO_NAME: Sentences = Sentences {
 };
 
 pub(crate) const CLOSE_NOT_ALONE: Sentences = Sentences {
-    wrong: "A } stands alone on its line.",
+    wrong: "A } is alone on its line.",
     cure: "Write what follows it on the next line.",
 };
 
 pub(crate) const OPEN_NOT_BEHIND_COUNT: Sentences = Sentences {
-    wrong: "A { stands last on the line of its REPEAT.",
+    wrong: "A { is last on the line of its REPEAT.",
     cure: "Write REPEAT, the count and { on one line.",
 };
 
 pub(crate) const TAG_NOT_CLOSED: Sentences = Sentences {
     wrong: "This tag is not closed on its line, or a # in it begins a comment.",
-    cure: "Write a ] behind it, or take it out.",
+    cure: "Write a ] after it, or take it out.",
 };
 
 pub(crate) const ARGUMENTS_NOT_CLOSED: Sentences = Sentences {
     wrong: "These brackets are not closed on their line.",
-    cure: "Write a ) behind the arguments.",
+    cure: "Write a ) after the arguments.",
 };
 
 pub(crate) const NOT_APART: Sentences = Sentences {
     wrong: "Spacing is missing before this.",
-    cure: "Write a space behind the name, or behind the closing bracket.",
+    cure: "Write a space after the name, or after the closing bracket.",
 };
 
 pub(crate) const BRACE_WITHIN: Sentences = Sentences {
-    wrong: "A brace can't stand within a line: { is the last byte of a REPEAT, and } stands alone.",
+    wrong: "A brace can't be within a line: { is the last byte of a REPEAT, and } is alone.",
     cure: "Write each instruction, and each }, on a line of its own.",
 };
 

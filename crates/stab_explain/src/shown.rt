@@ -7,15 +7,15 @@ use std::alloc::AllocError;
 /// The most bytes of a line that is shown whole.
 const MOST_WHOLE: usize = 120;
 
-/// So many bytes of a longer line are shown, of which some stand before the part.
+/// This many bytes of a longer line are shown, of which some are before the part.
 const WINDOW: usize = 100;
 
 const BEFORE: usize = 40;
 
-/// What stands where a line is cut.
+/// What is shown where a line is cut.
 const CUT: &[u8] = b"..";
 
-/// Puts a line with its number behind a text, and under it carets under a part of it.
+/// Puts a line with its number after a text, and under it carets under a part of it.
 ///
 /// A byte that is no printed character of ASCII is shown as `?`, and spacing as a space, so that columns
 /// are bytes.
@@ -49,7 +49,7 @@ pub(crate) fn push_line(
     Ok(())
 }
 
-/// What is shown of a line: all of it, or so many bytes with the part's beginning.
+/// What is shown of a line: all of it, or this many bytes with the part's beginning.
 fn window_round(line: &[u8], part: LinePart) -> LinePart {
     if line.len() <= MOST_WHOLE {
         return LinePart::of_length(0, line.len());

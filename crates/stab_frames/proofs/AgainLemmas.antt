@@ -113,7 +113,7 @@ true-turned n coins strings (x ∷ xs) a b coin turned is = (
   true-turned n coins strings xs (next_point n coins x a) (next_point n coins x b) (ap (λ t. t + coins_of x) coin) (λ m. turned (suc m)) is.1,
 )
 
--- the first of steps that look back so far look back so far
+-- the first of steps that look back this far look back this far
 
 pub looks-front : (m k : ℕ) (xs : List Step) → looks_too_far m xs ≡ false → looks_too_far m (take k xs) ≡ false
 looks-front m zero xs near = refl
@@ -126,7 +126,7 @@ looks-front m (suc k) (x ∷ xs) near =
     both-false : (a b : Bool) → a ≡ false → b ≡ false → (a || b) ≡ false
     both-false a b e f = grind arith
 
--- points that agree as far back as steps look differ by no letter behind the first of these
+-- points that agree as far back as steps look differ by no letter after the first of these
 pub back-turned : (n m : ℕ) (coins : ℕ → Bool) (xs : List Step) (a b : Point) → looks_too_far m xs ≡ false → AgreeBack n m a b → AreTurnedOver n coins xs a b
 back-turned n m coins xs a b near agree k = (
   replicate n I,
@@ -135,11 +135,11 @@ back-turned n m coins xs a b near agree k = (
       ∙ turned-blank n (member (point_after n coins (take k xs) a).trace) p size),
 )
 
--- two points that agree but for the coin's number agree with any
+-- two points that agree except for the coin's number agree with any
 pub agree-coin : (n m c k : ℕ) (a b : Point) → AgreeBack n m (with_coin c a) b → AgreeBack n m (with_coin k a) (with_coin k b)
 agree-coin n m c k a b agree = record { group = agree.group; coin = refl; records = agree.records }
 
--- a run that went over steps from a point goes over them from one where it was seen, with the coins that it had
+-- a run that passed steps from a point passes them from one where it was seen, with the coins that it had
 pub gone-over-seen : (n m k da : ℕ) (coins : ℕ → Bool) (strings : ℕ → Option (List Letter)) (free bits : List Bool) (xs : List Step) (a seen : Point)
     → looks_too_far m xs ≡ false → da + k ≡ a.coin → AgreeBack n m (with_coin seen.coin a) seen
     → AreTrue n (coins_from da coins) strings xs (with_coin k a)
@@ -167,7 +167,7 @@ changed-between strings coins others = λ i t. twice (others t) (coins t) i
     twice : (b c : Bool) → (b ⊕ c) ⊕ c ≡ b
     twice b c = grind arith
 
--- the steps, from two points that differ by a frame from one another, where the one was seen
+-- the steps, from two points that differ by a frame from one another, if the one was seen
 
 module _ (n m k da db : ℕ) (coins : ℕ → Bool) (strings : ℕ → Option (List Letter)) (f : Frame) (a b : Point)
     (at : da + k ≡ a.coin) (there : db + k ≡ b.coin) (differs : DiffersBack n m f a b) where

@@ -94,7 +94,7 @@ matches-between o flips others here there = record {
   observables = there.observables ∙ sym here.observables;
 }
 
--- a bit that is given where a record is made, or counts where a reset is
+-- a bit that is given if a record is made, or counts if a reset is
 
 pub flipped-when : (recorded flip bit : Bool) → flipped (when recorded bit) (when recorded flip) ≡ when recorded (flip ⊕ bit)
 flipped-when true flip bit = refl
@@ -144,7 +144,7 @@ flipped-back [] flips e = refl
 flipped-back (b ∷ bits) [] e = absurd (omega arith)
 flipped-back (b ∷ bits) (f ∷ flips) e = λ i. parity-twice f b i ∷ flipped-back bits flips (omega arith) i
 
--- bits are others, flipped where they differ
+-- bits are others, flipped if they differ
 pub flipped-apart : (bits others : List Bool) → length others ≡ length bits → flipped bits (flipped bits others) ≡ others
 flipped-apart [] [] e = refl
 flipped-apart [] (o ∷ others) e = absurd (omega arith)

@@ -1,4 +1,4 @@
--- Flipped lists: bits put behind others one after another, flipped as far as there are flips.
+-- Flipped lists: bits put after others one after another, flipped as far as there are flips.
 use Rattle.std.proofs.Common.{◌≡◌, ℕ, zero, suc, ◌+◌, ◌-◌, ◌<◌, min, refl, sym, ◌∙◌, ap, subst, Bool, false, not, List, [], ◌∷◌, ◌++◌, append_assoc, length, take, drop, get_or, arith}
 use Rattle.std.proofs.Math.Bool.{beq}
 use Rattle.stab_letters.specs.Letters.{◌⊕◌}

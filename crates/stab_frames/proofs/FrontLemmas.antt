@@ -37,7 +37,7 @@ group-after n coins (x ∷ xs) a fits group =
 pub group-origin : (n : ℕ) (coins : ℕ → Bool) (xs : List Step) → All (StepFits n) xs → IsStabiliserGroup n (member (point_after n coins xs origin).trace)
 group-origin n coins xs fits = group-after n coins xs origin fits (group-zeros n)
 
--- two fronts that differ by a frame, and the same steps behind them
+-- two fronts that differ by a frame, and the same steps after them
 
 module _ (n : ℕ) (coins : ℕ → Bool) (notes : Notes) (us vs xs : List Step) (f : Frame) (flips : RunOutput)
     (fits : All (StepFits n) us) (later : All (StepFits n) xs)
@@ -107,7 +107,7 @@ pub paulis-match : (n : ℕ) (coins : ℕ → Bool) (l : Letter) (qs : List ℕ)
 paulis-match n coins l qs xs =
     subst (λ o. Matches o (unflipped (outputs n coins xs origin))) (sym (behind-gates n coins l qs xs)) (unflipped-matches (outputs n coins xs origin))
 
--- where fronts differ by a frame, Pauli gates behind each multiply their letters onto it
+-- if fronts differ by a frame, Pauli gates after each multiply their letters onto it
 
 module _ (n : ℕ) (coins others : ℕ → Bool) (us vs : List Step) (f : Frame) (flips : RunOutput) (l m : Letter) (qs rs : List ℕ)
     (left : All (λ q. q < n) qs) (right : All (λ q. q < n) rs) (fronts : AreFronts n coins others us vs f flips) where
@@ -133,7 +133,7 @@ module _ (n : ℕ) (coins others : ℕ → Bool) (us vs : List Step) (f : Frame)
   pub gates-match : Matches (outputs n coins (us ++ olds) origin) flips
   gates-match = subst (λ o. Matches o flips) (sym (behind-gates n coins l qs us)) fronts.matches
 
--- what a whole run shows, where its output is flipped
+-- what a whole run shows, if its output is flipped
 
 records-shown : (n : ℕ) (coins : ℕ → Bool) (xs : List Step) (k : ℕ) → (run n coins xs (start k)).records ≡ (outputs n coins xs origin).records
 records-shown n coins xs k = ap (λ (s : State). s.records) (run-state n coins xs (start k)) ∙ sym (records-are-records n coins xs)

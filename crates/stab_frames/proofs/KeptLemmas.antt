@@ -1,4 +1,4 @@
--- Kept strings: cut, and with others put behind them one after another.
+-- Kept strings: cut, and with others put after them one after another.
 use Rattle.std.proofs.Common.{◌≡◌, ℕ, sym, List, map, take}
 use Rattle.std.proofs.lemmas.List.{take-map}
 use Rattle.stab_letters.specs.declared.letter.Letter.{Letter}

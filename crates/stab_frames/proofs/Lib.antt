@@ -30,12 +30,6 @@ pub mod StepsWalkedLemmas
 pub mod GoesOverLemmas
 pub mod TouchLemmas
 pub mod StillWalkLemmas
-pub mod FlippedLemmas
-pub mod DetectorListLemmas
-pub mod TargetListLemmas
-pub mod PassedLemmas
-pub mod OutlineLemmas
-pub mod KeyLemmas
 pub mod AgainLemmas
 pub mod OtherCoinLemmas
 pub mod OtherRunLemmas

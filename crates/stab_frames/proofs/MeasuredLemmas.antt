@@ -30,7 +30,7 @@ pub turned-free : (n : ℕ) (f : List Letter) (u v : Signed → Bool) → IsTurn
     → is_free_by v q ≡ is_free_by u q
 turned-free n f u v h q l = free-sides u v q (strings_anticommute f q.letters) (h q l) (h (minus q) l)
 
--- on the other coin each outcome is flipped, fixed or free, where the letters anticommute with what is measured
+-- on the other coin each outcome is flipped, fixed or free, if the letters anticommute with what is measured
 
 opposite : (m k coin : Bool) → (m ≡ true → k ≡ false) → (if k then false else (if m then true else not coin)) ≡ not (if m then false else (if k then true else coin))
 opposite true true coin apart = let f : true ≡ false = apart refl in cc
@@ -38,7 +38,7 @@ opposite true false coin apart = refl
 opposite false true coin apart = refl
 opposite false false coin apart = refl
 
--- a projection, on outcomes that differ where the letters anticommute with what is measured
+-- a projection, on outcomes that differ if the letters anticommute with what is measured
 
 parities : (x a o : Bool) → (x ⊕ a) ⊕ (x ⊕ o) ≡ o ⊕ a
 parities x a o = grind arith
@@ -73,7 +73,7 @@ module _ (n : ℕ) (f : List Letter) (u v : Signed → Bool) (h : IsTurned n f u
   pub turned-projected : IsTurned n f (projected_by u q o) (projected_by v q (strings_anticommute f q.letters ⊕ o))
   turned-projected p lp = projected-sides p lp (anticommute q p) refl
 
--- with a string that exchanges the outcomes multiplied on, the outcomes differ where without it they don't
+-- with a string that exchanges the outcomes multiplied on, the outcomes differ if without it they don't
 pub turned-exchanged : (n : ℕ) (f s : List Letter) (u v : Signed → Bool) → IsTurned n f u v → IsStabiliserGroup n u → (q : Signed) → length q.letters ≡ n
     → Exchanges n u q s → (o : Bool) → IsTurned n (string_product f s) (projected_by u q o) (projected_by v q (strings_anticommute f q.letters ⊕ not o))
 turned-exchanged n f s u v h group q lq e o =
@@ -83,7 +83,7 @@ turned-exchanged n f s u v h group q lq e o =
     (turned-projected n s u u (turned-stabiliser n s u group e.size e.negative e.stabilises) q lq o))
     (turned-projected n f u v h q lq (not o)))
 
--- where a string exchanges the outcomes, the outcome is free
+-- if a string exchanges the outcomes, the outcome is free
 pub exchanged-free : (n : ℕ) (u : Signed → Bool) → IsStabiliserGroup n u → (q : Signed) → length q.letters ≡ n → (s : List Letter) → Exchanges n u q s
     → is_free_by u q ≡ true
 exchanged-free n u group q lq s e = λ i. not (out q lq e.apart i) && not (out (minus q) lq e.apart i)
@@ -147,7 +147,7 @@ module _ (n : ℕ) (f : List Letter) (u v : Signed → Bool) (h : IsTurned n f u
       → outcome_by v q (change ⊕ coin) ≡ flipped_by note change q f ⊕ outcome_by u q coin
   outcome-flipped note change enough coin = outcome-enough note change (strings_anticommute f q.letters) refl enough coin
 
-  -- the letters behind a measurement of which a string is noted, by whether the coins differ and the letters anticommute with what is measured
+  -- the letters after a measurement of which a string is noted, by whether the coins differ and the letters anticommute with what is measured
   exchanged-turned : (s : List Letter) (change b : Bool) → strings_anticommute f q.letters ≡ b → (change ⊕ b ≡ true → Exchanges n u q s) → (o : Bool)
       → IsTurned n (times_where (change ⊕ b) s f) (projected_by u q o) (projected_by v q (change ⊕ o))
   exchanged-turned s false false e enough o =

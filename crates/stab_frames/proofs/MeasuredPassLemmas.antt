@@ -68,7 +68,7 @@ letters-same : (note : Option (List Letter)) (change : Bool) (m : Signed) (f : L
 letters-same None change m f = refl
 letters-same (Some s) change m f = refl
 
--- the flags and kept strings tell of the next outcome
+-- what the flags and kept strings say of the next outcome
 
 pub note-some : (strings : List (List Letter)) (free : List Bool) (coin number : ℕ) → get_or free coin false ≡ true → number ≡ ones (take coin free)
     → number < length strings → note_at strings free coin ≡ Some (get_or strings number [])
@@ -100,7 +100,7 @@ placed-next free flag old new placed e coin number =
     one_more : (k : ℕ) → suc k ≡ k + 1
     one_more k = omega arith
 
--- a walk behind the next coin
+-- a walk after the next coin
 abbrev pub behind_coin : Bool → WalkState → WalkState
 behind_coin flag w = record w { flips = joined w.flips one_coin; coin = w.coin + 1; number = w.number + ones (flag ∷ []) }
 

@@ -1,4 +1,4 @@
--- Notes of coin numbers, by kept strings and flags: in parts, and with more behind them.
+-- Notes of coin numbers, by kept strings and flags: in parts, and with more after them.
 use Rattle.std.proofs.Common.{◌≡◌, ℕ, zero, suc, ◌+◌, ◌-◌, ◌<◌, ◌≤◌, min, refl, sym, ◌∙◌, ap, subst, Bool, true, false, List, [], ◌∷◌, ◌++◌, length, take, get_or, arith, ◌⊎◌, inl, inr}
 use Rattle.std.specs.Prelude.{Option, None, IfSome, slice_get, if◌then◌else◌}
 use Rattle.std.proofs.lemmas.Bool.{cases_lt}
@@ -69,7 +69,7 @@ kept-get most strings more count i e lt = by_place (cases_lt i (length strings))
         slice_get_past (take most (strings ++ more)) i (omega (arith, length-take most (strings ++ more)))
         ∙ sym (slice_get_past strings i past)
 
--- strings that are numbered by flags have the same notes with more behind both
+-- strings that are numbered by flags have the same notes with more after both
 pub note-before : (most : ℕ) (strings more : List (List Letter)) (free flags : List Bool) (t : ℕ) → length strings ≡ min (ones free) most → t < length free
     → note_at (take most (strings ++ more)) (free ++ flags) t ≡ note_at strings free t
 note-before most strings more free flags t e lt =
@@ -87,12 +87,12 @@ front-here : (free : List Bool) (flag : Bool) → take (length free) (free ++ fl
 front-here [] flag = refl
 front-here (b ∷ free) flag = ap (λ bits. b ∷ bits) (front-here free flag)
 
--- the next outcome has no note where it was fixed
+-- the next outcome has no note if it was fixed
 pub note-fixed : (strings : List (List Letter)) (free : List Bool) → note_at strings (free ++ false ∷ []) (length free) ≡ None
 note-fixed strings free =
     ap (λ b. if b then slice_get strings (ones (take (length free) (free ++ false ∷ []))) else None) (flag-here free false)
 
--- and where it was free the string that was put behind the others, or none where no more are kept
+-- and if it was free the string that was put after the others, or none if no more are kept
 pub note-free : (P : List Letter → Type 0) (most : ℕ) (strings : List (List Letter)) (s : List Letter) (free : List Bool)
     → length strings ≡ min (ones free) most → P s → IfSome (note_at (take most (strings ++ s ∷ [])) (free ++ true ∷ []) (length free)) P
 note-free P most strings s free e is =
@@ -108,7 +108,7 @@ note-free P most strings s free e is =
         subst (λ o. IfSome o P)
         (sym (slice_get_past (take most (strings ++ s ∷ [])) (ones free) (omega (arith, length-take most (strings ++ s ∷ []), e, full)))) tt
 
--- outcomes behind as many free ones as strings are kept have no notes
+-- outcomes after as many free ones as strings are kept have no notes
 
 if-none : (b : Bool) (o : Option (List Letter)) → o ≡ None → (if b then o else None) ≡ None
 if-none true o e = e

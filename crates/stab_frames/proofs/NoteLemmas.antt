@@ -1,4 +1,4 @@
--- Notes: which are enough for a frame, and what a trace, flags and a tableau tell of a measurement.
+-- Notes: which are enough for a frame, and what a trace, flags and a tableau say of a measurement.
 use Rattle.std.proofs.Common.{◌≡◌, ℕ, zero, suc, ◌+◌, ◌<◌, ◌≤◌, refl, sym, ◌∙◌, ap, subst, Bool, true, false, List, [], ◌∷◌, ◌++◌, length, replicate, get_or, arith}
 use Rattle.std.specs.Prelude.{Option, Some, None, is_some}
 use Rattle.std.proofs.lemmas.List.{take_all}
@@ -66,7 +66,7 @@ member-exchanges n u q s size is apart = record {
   apart = strings_anticommute-comm s.letters q.letters ∙ apart;
 }
 
--- of each measurement in a sound trace there is a note
+-- each measurement in a sound trace has a note
 pub measurement-note : MeasurementsHaveNotes
 measurement-note n t fits sound q lq = by_flag (is_free t q) refl
   where

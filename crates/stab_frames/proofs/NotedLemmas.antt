@@ -23,7 +23,7 @@ use Rattle.stab_frames.proofs.RunNoteLemmas.{unmeasured}
 use Rattle.stab_frames.proofs.TrueLemmas.{true-append, true-same, true-none, exchanges-same}
 use Rattle.stab_frames.proofs.NoteAtLemmas.{note-before, note-fixed, note-free, note-past, numbered-fixed, numbered-free, numbered-full}
 
--- the strings of earlier steps stay true with more behind them and behind the flags
+-- the strings of earlier steps stay true with more after them and after the flags
 module _ (n : ℕ) (coins : ℕ → Bool) (xs : List Step) (kept : StringsState) (free flags : List Bool) (more : List (List Letter)) (numbered : IsNumbered kept free)
     (count : length free ≡ (point_after n coins xs origin).coin) where
   front-true : AreTrue n coins (note_at kept.strings free) xs origin → AreTrue n coins (note_at (take kept.most (kept.strings ++ more)) (free ++ flags)) xs origin

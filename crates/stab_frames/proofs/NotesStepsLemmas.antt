@@ -47,7 +47,7 @@ noted-of n member (Some m) free letters kept behind told more same = (
   λ e. same (told.0 ∙ e),
 )
 
--- the string that a step wrote was put behind the others, where a coin decided
+-- the string that a step wrote was put after the others, if a coin decided
 pub notes-exchanged : (n : ℕ) (coins : ℕ → Bool) (x : Step) (reach : ℕ) (free : Bool) (letters : List Letter) (kept behind : StringsState) (a b : ProgramState)
     → IsExchanged n a.stabilised (measured_by n x) free letters → (free ≡ true → behind.strings ≡ kept_with kept.most kept.strings (letters ∷ []))
     → (free ≡ false → behind.strings ≡ kept.strings) → behind.most ≡ kept.most → LooksWithin reach x → IsRun n coins (x ∷ []) a b
@@ -75,7 +75,7 @@ notes-steps n m c d xs ys rest near far kept mid behind a b new e same_size same
     subst (λ zs. NotesSteps n c zs far kept behind a new) (sym e)
     (notes-append n c ys rest near far kept mid behind a b new le (notes-same n m c d ys near kept mid a b same_size same_coins first) then)
 
--- where none of them is left, what was noted of all
+-- if none of them is left, what was noted of all
 pub notes-all : {n : ℕ} {coins : ℕ → Bool} {all xs : List Step} {reach : ℕ} {first kept : StringsState} {old now : ProgramState} → xs ≡ []
     → ((far : ℕ) (new : ProgramState) (behind : StringsState) → reach ≤ far → NotesSteps n coins xs far kept behind now new → NotesSteps n coins all far first behind old new)
     → NotesSteps n coins all reach first kept old now

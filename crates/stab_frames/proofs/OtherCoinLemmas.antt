@@ -85,7 +85,7 @@ passed-free strings free olds others inverted apart change old new e placed kept
       coin = coin;
     }
 
--- the string of it is multiplied on where the coins differ otherwise than the frame has it
+-- the string of it is multiplied on if the coins differ otherwise than the frame has it
 pub passed-times : (strings : List (List Letter)) (free : List Bool) (olds others : ℕ → Bool) (inverted apart change : Bool) (string : List Letter) (old mid new : WalkState)
     → get_or free old.coin false ≡ true → IsPlaced free old → ones (take (old.coin + 1) free) ≤ length strings
     → change ≡ (olds old.coin ⊕ inverted) ⊕ others old.coin → change ⊕ apart ≡ true → string ≡ get_or strings old.number []
@@ -206,7 +206,7 @@ to-measured n m strings free olds others coins how t u l q old new is el eq same
     (subst (λ r. GoesToOther m strings free olds coins (collapse (letter_of how.axis) r true u.inverted how.resets ∷ []) old new) eq
     (subst (λ k. GoesToOther m strings free olds coins (collapse k q true u.inverted how.resets ∷ []) old new) el goes))))
 
--- over steps that measure nothing, whatever the notes
+-- over steps that measure nothing, for any notes
 
 letters-alike : (n : ℕ) (notes others : Notes) (x : Step) (coin : ℕ) (f : Frame) → coins_of x ≡ 0
     → letters_after n notes x coin f ≡ letters_after n others x coin f
@@ -263,7 +263,7 @@ to-freely n strings free olds others xs old new e placed freely =
       size = goes.size;
     }
 
--- how many free outcomes were gone over is told by their numbers
+-- how many free outcomes were passed follows from their numbers
 pub to-number : (n : ℕ) (strings : List (List Letter)) (free : List Bool) (olds others : ℕ → Bool) (xs : List Step) (old new : WalkState) → IsPlaced free old
     → GoesToOther n strings free olds others xs old new → new.number ≡ old.number + ones (take (all_coins_of xs) (drop old.coin free))
 to-number n strings free olds others xs old new placed goes =

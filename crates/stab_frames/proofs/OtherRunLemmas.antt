@@ -1,4 +1,4 @@
--- Other runs: a frame that went over steps to other coins did so from each run that gave the records there.
+-- Other runs: a frame that passed steps to other coins did so from each run that gave the records there.
 use Rattle.std.proofs.Common.{◌≡◌, ℕ, ◌+◌, ◌-◌, ◌<◌, ◌≤◌, refl, sym, ◌∙◌, ap, subst, Bool, true, false, List, [], ◌∷◌, ◌++◌, append_assoc, length, length-append, take, drop, get_or, arith}
 use Rattle.std.proofs.lemmas.List.{take-append-drop, take_all}
 use Rattle.std.proofs.Math.Seq.{take-add, take-length}
@@ -59,7 +59,7 @@ kept-right n coins strings free (x ∷ xs) a kept is rest flags =
     subst (λ k. ones (take k free) ≤ length strings) (sym (more a.coin (coins_of x) (all_coins_of xs))) kept in
     (here.0, kept-right n coins strings free xs next later is.1 rest here.1)
 
--- a record tells the coin of a free outcome
+-- a record gives the coin of a free outcome
 
 coin-told : (old inverted coin other : Bool) → old ≡ inverted ⊕ coin → other ⊕ coin ≡ (old ⊕ inverted) ⊕ other
 coin-told old inverted coin other e = ap (λ b. b) (by_bits inverted coin other) ∙ ap (λ b. (b ⊕ inverted) ⊕ other) (sym e)
@@ -97,7 +97,7 @@ all-records-few n coins (x ∷ xs) a =
     let next = next_point n coins x a in
     omega (arith, records-few n coins x a, all-records-few n coins xs next, length-append (given n coins x a).records (outputs n coins xs next).records)
 
--- so the records and the new coins tell which coins differ
+-- so the records and the new coins say which coins differ
 
 further : (c start k : ℕ) → start ≤ c → (c + k) - start ≡ (c - start) + k
 further c start k le = omega (arith, le)
@@ -192,7 +192,7 @@ coins-within k most xs ys rest e le =
     let front = ap all_coins_of (take-next k xs ys rest e) ∙ coins-append (take k xs) ys in
     omega (arith, parts, front)
 
--- where all are behind
+-- once all are past
 pub take-enough : (k most : ℕ) (xs : List Step) → length xs ≤ k → k ≤ most → take k xs ≡ take most xs
 take-enough k most xs all le = take_all k xs all ∙ sym (take_all most xs (omega (arith, all, le)))
 

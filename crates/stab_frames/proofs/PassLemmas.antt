@@ -20,7 +20,7 @@ use Rattle.stab_frames.specs.inner.Passes.{PassesWith, IsTold, AreTold}
 use Rattle.stab_frames.proofs.StillLemmas.{looked_up-base, parity-base}
 use Rattle.stab_frames.proofs.OverLemmas.{frame-append, flips-append}
 
--- where a frame began is of no account to a step
+-- where a frame began is irrelevant to a step
 
 letters-base : (n : ℕ) (notes : Notes) (x : Step) (coin base : ℕ) (w : WalkState)
     → letters_after n notes x coin (frame_at base w) ≡ letters_after n notes x coin (frame_at 0 w)
@@ -92,7 +92,7 @@ over-append n notes xs ys a b c first then = record {
     more : (a b c : ℕ) → (a + b) + c ≡ a + (b + c)
     more a b c = omega arith
 
--- what has to be told, over steps one after another
+-- what has to be known, over steps one after another
 
 pub told-append : (n : ℕ) (strings : List (List Letter)) (free : List Bool) (xs ys : List Step) (coin : ℕ) (f : Frame) → AreTold n strings free xs coin f
     → AreTold n strings free ys (coin + all_coins_of xs) (frame_over n (same_coins (note_at strings free)) xs coin f) → AreTold n strings free (xs ++ ys) coin f
@@ -115,7 +115,7 @@ told-append n strings free (x ∷ xs) ys coin f front rest = (
 none : (k : ℕ) → k + 0 ≡ k
 none k = omega arith
 
--- what is told, strings that are true and the run's flags are enough
+-- what is said, strings that are true and the run's flags are enough
 
 pub note-enough : (n : ℕ) (trace : List Event) (m : Signed) (note : Option (List Letter)) (flag : Bool) → (note ≡ None → flag ≡ false)
     → flag ≡ is_free trace m → IfSome note (λ s. Exchanges n (member trace) m s) → IsNoteOf n (member trace) m note

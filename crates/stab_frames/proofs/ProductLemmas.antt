@@ -13,7 +13,7 @@ use Rattle.stab_pauli.proofs.StringLemmas.{length-string_product, get_or-string_
 use Rattle.stab_frames.specs.Walks.{WalkState}
 use Rattle.stab_frames.specs.inner.Products.{AreMultiplied}
 
--- letters multiplied by those of a string, but for those that are left in the rest of a mask
+-- letters multiplied by those of a string, except for those that are left in the rest of a mask
 pub record IsWalked (first rest : ℕ) (string old now : List Letter) : Type 0 where
   pub size : length now ≡ length old
   pub inside : (k : ℕ) → k < 64 → chooses rest k ≡ true → first + k < length old

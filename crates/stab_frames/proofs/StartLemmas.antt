@@ -1,4 +1,4 @@
--- Where frames begin: at Pauli gates that stand in one circuit alone; and frames one after another.
+-- Where frames begin: at Pauli gates that are in one circuit alone; and frames one after another.
 use Rattle.std.proofs.Common.{◌≡◌, ℕ, ◌<◌, refl, sym, ◌∙◌, ap, subst, Bool, true, false, List, [], ◌∷◌, append-nil, add-zero, length, map, replicate}
 use Rattle.std.specs.Prelude.{All}
 use Rattle.std.proofs.lemmas.List.{length-replicate}
@@ -95,7 +95,7 @@ framed-exchanged n coins l m qs rs left right a =
     (framed-back n (frame_of (letters_on n l qs) (length a.records)) a (point_after n coins (map (one (gate_of l)) qs) a) (framed-paulis n coins l qs left a))
     (framed-paulis n coins m rs right a))
 
--- and behind points that differ by a frame
+-- and after points that differ by a frame
 pub framed-gates : (n : ℕ) (coins others : ℕ → Bool) (l m : Letter) (qs rs : List ℕ) → All (λ q. q < n) qs → All (λ q. q < n) rs → (f : Frame) (a b : Point)
     → PointsDifferBy n f a b → PointsDifferBy n (record f { letters = string_product f.letters (string_product (letters_on n l qs) (letters_on n m rs)) })
     (point_after n coins (map (one (gate_of l)) qs) a) (point_after n others (map (one (gate_of m)) rs) b)

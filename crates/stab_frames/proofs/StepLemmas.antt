@@ -29,7 +29,7 @@ use Rattle.stab_frames.proofs.MeasuredLemmas.{turned-free, outcome-flipped, meas
 use Rattle.stab_frames.proofs.FlipLemmas.{looked_up-flipped, parity-flipped, flipped-append, flipped-joined, joined-matches, flipped-when, and-parity, same-when}
 use Rattle.stab_steps.proofs.ProductLemmas.{length-string_of}
 
--- the strings at a point are a group, and so they are behind a step
+-- the strings at a point are a group, and so they are after a step
 
 group-applied : (n : ℕ) (bit : Bool) (l : Letter) (q : ℕ) (t : List Event) → IsStabiliserGroup n (member t) → IsStabiliserGroup n (member (applied_where bit l q t))
 group-applied n true l q t g = group-back n (member t) (back (gate_of l) q) g (IsSymmetry-image n (inverse (gate_of l)) q)
@@ -94,7 +94,7 @@ module _ (n : ℕ) (coins : ℕ → Bool) (notes : Notes) (f : Frame) (a b : Poi
     letters-size : length (letters_measured notes a.coin m f.letters) ≡ n
     letters-size = length-measured n f.letters (member a.trace) (member b.trace) framed.group group m size framed.size (notes.strings a.coin) (notes.changes a.coin) enough
 
-    -- and a letter that is applied where a reset has outcome 1
+    -- and a letter that is applied if a reset has outcome 1
     trace-reset : (l : Letter) (q : ℕ) → q < n → (resets : Bool)
         → IsTurned n (times_where (resets && flips_outcome notes a.coin m f.letters) (single n q l).letters (letters_measured notes a.coin m f.letters))
         (member (applied_where (resets && outcome_at coins m a.trace a.coin) l q (projected m (outcome_at coins m a.trace a.coin) ∷ a.trace)))

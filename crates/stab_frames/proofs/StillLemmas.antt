@@ -1,4 +1,4 @@
--- Still: records of which the newest are not flipped, and records behind others.
+-- Still: records of which the newest are not flipped, and records after others.
 use Rattle.std.proofs.Common.{◌≡◌, ℕ, ◌+◌, ◌-◌, ◌<◌, ◌≤◌, refl, sym, ◌∙◌, Bool, false, List, [], ◌∷◌, ◌++◌, length, replicate, arith, ◌⊎◌, inl, inr}
 use Rattle.std.proofs.lemmas.Bool.{cases_lt}
 use Rattle.std.proofs.lemmas.List.{length-replicate}
@@ -9,7 +9,7 @@ use Rattle.stab_frames.specs.Walks.{WalkState, frame_at, IsGone}
 use Rattle.stab_frames.specs.inner.Weights.{string_weight}
 use Rattle.stab_frames.proofs.WeightLemmas.{weight-none}
 
--- records behind others that are 0
+-- records after others that are 0
 
 pub looked_up-base : (base : ℕ) (bits : List Bool) (k : ℕ) → looked_up (replicate base false ++ bits) k ≡ looked_up bits k
 looked_up-base base bits k = by_place (cases_lt (length bits) k)
@@ -26,7 +26,7 @@ pub parity-base : (base : ℕ) (bits : List Bool) (ks : List ℕ) → parity (re
 parity-base base bits [] = refl
 parity-base base bits (k ∷ ks) = λ i. looked_up-base base bits k i ⊕ parity-base base bits ks i
 
--- where none of the newest is flipped
+-- if none of the newest is flipped
 
 abbrev pub IsStill : ℕ → List Bool → Type 0
 IsStill m bits = (k : ℕ) → k ≤ m → looked_up bits k ≡ false
@@ -45,7 +45,7 @@ still-longer m k j bits le is i lk =
 pub still-base : (base m : ℕ) (bits : List Bool) → IsStill m bits → IsStill m (replicate base false ++ bits)
 still-base base m bits is k le = looked_up-base base bits k ∙ is k le
 
--- a frame of weight 0 that is still so far back is gone
+-- a frame of weight 0 that is still this far back is gone
 pub gone-frame : (base m still : ℕ) (w : WalkState) → string_weight w.letters ≡ 0 → m ≤ still → IsStill still w.flips.records
     → IsGone (length w.letters) m (frame_at base w)
 gone-frame base m still w none le is = record {

@@ -1,4 +1,4 @@
--- Still walks: a frame behind measurements with which it commutes.
+-- Still walks: a frame after measurements with which it commutes.
 use Rattle.std.proofs.Common.{◌≡◌, ℕ, suc, ◌+◌, ◌-◌, ◌<◌, ◌≤◌, refl, sym, ◌∙◌, ap, subst, Bool, true, false, ◌&&◌, List, [], ◌∷◌, ◌++◌, append-nil, length, take, drop, replicate, map, All, arith}
 use Rattle.std.specs.List.{list_any}
 use Rattle.std.proofs.lemmas.List.{take_all, replicate-append-replicate, length-take}
@@ -29,7 +29,7 @@ use Rattle.stab_frames.proofs.MeasuredPassLemmas.{passed-still, passes-collapse,
 use Rattle.stab_frames.proofs.GoesOverLemmas.{goes-none, goes-step, goes-append, fits-mapped, all-mapped}
 use Rattle.stab_frames.proofs.WalkLemmas.{ones-few}
 
--- a walk behind so many coins and as many records, none of which it flips
+-- a walk after this many coins and as many records, none of which it flips
 abbrev pub still_behind : ℕ → ℕ → WalkState → WalkState
 still_behind k number w = record w { flips = joined w.flips (none_flipped k); coin = w.coin + k; number = number }
 

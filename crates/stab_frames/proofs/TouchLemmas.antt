@@ -31,9 +31,9 @@ pair-fits n axis (pair.Record k q) fits = tt
 pub pairs-fit : (n : ℕ) (axis : Axis) (pairs : List ControlledPair) → All (StepFits n) (map (controlled_step axis) pairs) → All (PairFits n) pairs
 pairs-fit n axis pairs fits = λ i d lt. pair-fits n axis (get_or pairs i d) (fits-mapped n n (controlled_step axis) pairs i d fits lt refl)
 
--- a pair where the frame has no letter, and such pairs
+-- a pair on which the frame has no letter, and such pairs
 
-pub no-letter : (l : Letter) → acts l ≡ false → I ≡ l
+no-letter : (l : Letter) → acts l ≡ false → I ≡ l
 no-letter I e = refl
 no-letter X e = cc
 no-letter Y e = cc
@@ -51,7 +51,7 @@ second-blank gate.Cy = refl
 second-blank gate.Cz = refl
 second-blank gate.Swap = refl
 
-pub set-same : (letters : List Letter) (q : ℕ) → I ≡ get_or letters q I → set letters q I ≡ letters
+set-same : (letters : List Letter) (q : ℕ) → I ≡ get_or letters q I → set letters q I ≡ letters
 set-same letters q e = ap (set letters q) e ∙ set-get_or letters q I
 
 image-blank : (g : PairGate) (letters : List Letter) (a b : ℕ) → I ≡ get_or letters a I → I ≡ get_or letters b I
@@ -77,7 +77,7 @@ pairs-untouched n axis (p ∷ pairs) w e size = λ strings free placed.
     (pair-untouched n axis p w (or-left (touches_pair w.letters p) (list_any (touches_pair w.letters) pairs) e) size strings free placed)
     (pairs-untouched n axis pairs w (or-right (touches_pair w.letters p) (list_any (touches_pair w.letters) pairs) e) size strings free placed)
 
--- steps of targets, so many more of them
+-- steps of targets, and those of the next ones
 
 pub goes-part : {X : Type 0} (n m : ℕ) (strings : List (List Letter)) (free : List Bool) (f : X → Step) (xs part : List X) (i k : ℕ) (old now new : WalkState)
     → GoesOver n strings free (map f (take i xs)) old now → m ≡ n → part ≡ take k (drop i xs) → GoesOver m strings free (map f part) now new

@@ -61,7 +61,7 @@ true-same n coins strings others (x ∷ xs) a same is = (
         let e : (a.coin + coins_of x) + t ≡ a.coin + (coins_of x + t) = omega arith in
         ap strings e ∙ same (coins_of x + t) (omega arith) ∙ ap others (sym e)
 
--- where there are no notes, nothing is asked of them
+-- if there are no notes, nothing is asked of them
 pub true-none : (n : ℕ) (coins : ℕ → Bool) (strings : ℕ → Option (List Letter)) (xs : List Step) (a : Point) → ((t : ℕ) → a.coin ≤ t → strings t ≡ None)
     → AreTrue n coins strings xs a
 true-none n coins strings [] a none = tt

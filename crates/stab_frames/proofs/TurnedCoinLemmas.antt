@@ -13,7 +13,7 @@ use Rattle.stab_frames.specs.StepNotes.{AreTurned}
 use Rattle.stab_frames.specs.NoteLaws.{FramesHaveCoins}
 use Rattle.stab_frames.proofs.RunNoteLemmas.{said_at, said-here, said-beyond, unmeasured}
 
--- where no string is noted the frame behind a step does not depend on the coins
+-- if no string is noted the frame after a step does not depend on the coins
 same-after : (n : ℕ) (s t : ℕ → Bool) (x : Step) (coin : ℕ) (f : Frame) → frame_after n (no_strings s) x coin f ≡ frame_after n (no_strings t) x coin f
 same-after n s t (one g q) coin f = refl
 same-after n s t (two g p q) coin f = refl

@@ -86,7 +86,7 @@ turned-both n l q lt f size u v h =
     turned-symmetry n (back (gate_of l) q) (IsSymmetry-image n (inverse (gate_of l)) q) f f size
     (ap (λ (p : Signed). p.letters) (back-letter n q l (plus f) size lt)) u v h
 
--- a letter that is applied where a bit is 1, which is flipped on one side
+-- a letter that is applied if a bit is 1, which is flipped on one side
 
 pub length-times : (n : ℕ) (bit : Bool) (more f : List Letter) → length more ≡ n → length f ≡ n → length (times_where bit more f) ≡ n
 length-times n true more f lm lf = length-string_product n f more lf lm

@@ -1,4 +1,4 @@
--- Laws of steps that come again with other coins: where one point of a run is as another one but for a frame, steps give at the one
+-- Laws of steps that come again with other coins: if one point of a run is as another one except for a frame, steps give at the one
 -- what they give at the other, flipped.
 -- Source: this project's own.
 use Rattle.std.specs.Prelude.{◌≡◌, ℕ, ◌+◌, Bool, false, List, All, Option, take}
@@ -24,7 +24,7 @@ pub record DiffersBack (n m : ℕ) (f : Frame) (a b : Point) : Type 0 where
   pub agree : AgreeBack n m (with_coin seen.coin a) seen
   pub framed : PointsDifferBy n f seen b
 
--- the strings that stabilise behind each of the first steps, from one point and from another, differ by letters alone
+-- the strings that stabilise after each of the first steps, from one point and from another, differ by letters alone
 abbrev pub AreTurnedOver : ℕ → (ℕ → Bool) → List Step → Point → Point → Type 0
 AreTurnedOver n coins xs a b =
     (m : ℕ) → (g : List Letter) × IsTurned n g (member (point_after n coins (take m xs) a).trace) (member (point_after n coins (take m xs) b).trace)

@@ -1,23 +1,23 @@
--- Flips: bits, and what a run gives, inverted where other bits are 1.
+-- Flips: bits, and what a run gives, inverted if other bits are 1.
 -- Source: this project's own.
 use Rattle.std.specs.Prelude.{◌≡◌, Bool, false, List, [], ◌∷◌, length, map, replicate}
 use Rattle.stab_letters.specs.Letters.{◌⊕◌}
 use Rattle.stab_steps.specs.declared.records.Addition.{Addition}
 use Rattle.stab_steps.specs.Points.{RunOutput}
 
--- bits, inverted where the flips are 1
+-- bits, inverted if the flips are 1
 abbrev pub flipped : List Bool → List Bool → List Bool
 flipped [] flips = []
 flipped (bit ∷ bits) [] = bit ∷ bits
 flipped (bit ∷ bits) (flip ∷ flips) = (flip ⊕ bit) ∷ flipped bits flips
 
--- additions to observables, whose bits are inverted where those of the flips are 1
+-- additions to observables, whose bits are inverted if those of the flips are 1
 abbrev pub flipped_additions : List Addition → List Addition → List Addition
 flipped_additions [] flips = []
 flipped_additions (a ∷ more) [] = a ∷ more
 flipped_additions (a ∷ more) (f ∷ flips) = record { observable = a.observable; bit = f.bit ⊕ a.bit } ∷ flipped_additions more flips
 
--- an output, inverted where another is 1
+-- an output, inverted if another is 1
 abbrev pub flipped_output : RunOutput → RunOutput → RunOutput
 flipped_output o flips = record {
   records = flipped o.records flips.records;

@@ -14,7 +14,7 @@ use Rattle.stab_frames.specs.Flips.{flipped}
 abbrev pub plus : List Letter → Signed
 plus letters = record { negative = false; letters = letters }
 
--- a Pauli string, whose sign is of no account, and a bit for each record so far, 1 where it is flipped
+-- a Pauli string, whose sign is irrelevant, and a bit for each record so far, 1 if it is flipped
 pub record Frame : Type 0 where
   pub letters : List Letter
   pub flips : List Bool
@@ -27,7 +27,7 @@ pub record PointsDifferBy (n : ℕ) (f : Frame) (a b : Point) : Type 0 where
   pub count : length f.flips ≡ length a.records
   pub records : b.records ≡ flipped a.records f.flips
 
--- a string, and no flip among so many records
+-- a string, and this many records, none of them flipped
 abbrev pub frame_of : List Letter → ℕ → Frame
 frame_of letters count = record { letters = letters; flips = replicate count false }
 
@@ -39,7 +39,7 @@ identity_frame n count = frame_of (replicate n I) count
 abbrev pub frame_product : Frame → Frame → Frame
 frame_product f g = record { letters = string_product f.letters g.letters; flips = flipped f.flips g.flips }
 
--- letters times others, where the bit is 1
+-- letters times others, if the bit is 1
 abbrev pub times_where : Bool → List Letter → List Letter → List Letter
 times_where true more letters = string_product letters more
 times_where false more letters = letters

@@ -1,4 +1,4 @@
--- Fronts: the first steps of two circuits, behind which both go on with the same steps.
+-- Fronts: the first steps of two circuits, after which both go on with the same steps.
 -- Source: this project's own.
 use Rattle.std.specs.Prelude.{◌≡◌, ℕ, Bool, false, List, ◌++◌, length, map, replicate, Option}
 use Rattle.stab_letters.specs.declared.letter.Letter.{Letter}
@@ -26,15 +26,15 @@ pub record IsFlippedRun (n : ℕ) (coins others : ℕ → Bool) (old new : List 
   pub observables : (k : ℕ) → (run n others new (start k)).observables
       ≡ flipped (run n coins old (start k)).observables (with_additions flips.additions (replicate k false))
 
--- steps with a letter applied to each of some qubits behind them
+-- steps with a letter applied to each of some qubits after them
 abbrev pub with_letters : List Step → Letter → List ℕ → List Step
 with_letters front l qs = front ++ map (one (gate_of l)) qs
 
--- the frame behind such letters, to that behind others in their place, or none
+-- the frame after such letters, to that after others in their place, or none
 abbrev pub edit_frame : ℕ → (ℕ → Bool) → List Step → Letter → List ℕ → Letter → List ℕ → Frame
 edit_frame n coins front l qs m rs = frame_of (string_product (letters_on n l qs) (letters_on n m rs)) (length (point_after n coins front origin).records)
 
--- what these flip in all that the front, and steps behind, give
+-- what these flip in all that the front, and steps after, give
 abbrev pub edit_flips : ℕ → (ℕ → Bool) → (ℕ → Option (List Letter)) → List Step → Letter → List ℕ → Letter → List ℕ → List Step → RunOutput
 edit_flips n coins strings front l qs m rs back =
     joined (unflipped (outputs n coins front origin))

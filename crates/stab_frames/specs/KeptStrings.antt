@@ -11,13 +11,13 @@ use Rattle.stab_steps.specs.Points.{Point, origin, next_point, point_after}
 use Rattle.stab_steps.specs.ProgramStates.{ProgramState, IsAt}
 use Rattle.stab_frames.specs.Limits.{most_strings}
 
--- strings of so many letters each, and how many may be kept
+-- strings of this many letters each, and how many may be kept
 pub record StringsState : Type 0 where
   pub qubits : ℕ
   pub most : ℕ
   pub strings : List (List Letter)
 
--- the note of a coin number, by the kept strings and the run's flags: where the outcome was free, the string of its place among the free ones, if it was kept
+-- the note of a coin number, by the kept strings and the run's flags: if the outcome was free, the string of its place among the free ones, if it was kept
 abbrev pub note_at : List (List Letter) → List Bool → ℕ → Option (List Letter)
 note_at strings free t = if slice_index_or free t false then slice_get strings (ones (take t free)) else None
 
@@ -34,11 +34,11 @@ abbrev pub AreTrue : ℕ → (ℕ → Bool) → (ℕ → Option (List Letter)) �
 AreTrue n coins strings [] a = Unit {0}
 AreTrue n coins strings (x ∷ xs) a = IsTrueAt n strings x a × AreTrue n coins strings xs (next_point n coins x a)
 
--- strings with others behind them, cut to as many as may be kept
+-- strings with others after them, cut to as many as may be kept
 abbrev pub kept_with : (most : ℕ) → List (List Letter) → List (List Letter) → List (List Letter)
 kept_with most strings more = take most (strings ++ more)
 
--- the first ones, up to so many: where there are as many, others may follow up to the limit
+-- the first ones, up to this many: if there are as many, others may follow up to the limit
 abbrev pub front_kept : ℕ → StringsState → StringsState
 front_kept count kept = record {
   qubits = kept.qubits;
@@ -46,7 +46,7 @@ front_kept count kept = record {
   strings = take count kept.strings;
 }
 
--- a program that went over steps kept its strings numbered, and true of the steps that led to where it was, and of these
+-- a program that passed steps kept its strings numbered, and true of the steps that led to where it was, and of these
 abbrev pub KeepsTrue : ℕ → (ℕ → Bool) → List Step → StringsState → StringsState → ProgramState → ProgramState → Type 0
 KeepsTrue n coins ys kept kept_behind old new =
     (xs : List Step) → IsAt n old (point_after n coins xs origin) → IsNumbered kept old.output.free → AreTrue n coins (note_at kept.strings old.output.free) xs origin →

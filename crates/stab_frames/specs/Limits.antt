@@ -6,7 +6,7 @@ use Rattle.std.specs.Prelude.{ℕ, ◌+◌, ◌/◌}
 abbrev pub most_bytes : ℕ
 most_bytes = 16777216
 
--- the bytes that a kept string of n letters is counted as: two bits a letter, and what each allocation takes beside
+-- the bytes that a kept string of n letters is counted as: two bits a letter, and what each allocation takes besides
 abbrev pub bytes_of : ℕ → ℕ
 bytes_of n = n / 4 + 128
 

@@ -18,13 +18,13 @@ RightNotesAreEnough =
     (n : ℕ) (coins : ℕ → Bool) (notes : Notes) (xs : List Step) (f : Frame) (a : Point) →
     AreRight n coins notes.strings xs a → AreEnough n coins notes xs f a
 
--- where the coins are turned with the frame it needs no strings
+-- if the coins are turned with the frame it needs no strings
 abbrev pub TurnedCoinsNeedNoStrings : Type 0
 TurnedCoinsNeedNoStrings =
     (n : ℕ) (coins changes : ℕ → Bool) (xs : List Step) (f : Frame) (a : Point) →
     AreTurned n changes xs a.coin f → AreEnough n coins (no_strings changes) xs f a
 
--- each frame has such coins for the steps behind it, whatever the run
+-- each frame has such coins for the steps after it, whatever the run
 abbrev pub FramesHaveCoins : Type 0
 FramesHaveCoins = (n : ℕ) (xs : List Step) (coin : ℕ) (f : Frame) → (changes : ℕ → Bool) × AreTurned n changes xs coin f
 
@@ -34,18 +34,18 @@ NotesAreEnoughBefore =
     (n : ℕ) (coins : ℕ → Bool) (notes : Notes) (i : ℕ) (xs : List Step) (f : Frame) (a : Point) →
     AreEnough n coins notes xs f a → AreEnough n coins notes (take i xs) f a
 
--- of each measurement in a sound trace there is a note
+-- each measurement in a sound trace has a note
 abbrev pub MeasurementsHaveNotes : Type 0
 MeasurementsHaveNotes =
     (n : ℕ) (trace : List Event) → Fits n trace → IsSound trace → (measured : Signed) → length measured.letters ≡ n →
     (note : Option (List Letter)) × IsNoteOf n (member trace) measured note
 
--- so there are right notes of each run
+-- so each run has right notes
 abbrev pub RunsHaveNotes : Type 0
 RunsHaveNotes =
     (n : ℕ) (coins : ℕ → Bool) (xs : List Step) → All (StepFits n) xs → (strings : ℕ → Option (List Letter)) × AreRight n coins strings xs origin
 
--- right notes have strings just where the flags that the steps give say that the coin decided
+-- right notes have strings exactly if the flags that the steps give say that the coin decided
 abbrev pub FlagsTellNotes : Type 0
 FlagsTellNotes =
     (n : ℕ) (coins : ℕ → Bool) (strings : ℕ → Option (List Letter)) (xs : List Step) (a : Point) →

@@ -8,13 +8,13 @@ use Rattle.stab_pauli.specs.Paulis.{Signed, strings_anticommute}
 use Rattle.stab_tableau.specs.Rules.{is_free_by}
 use Rattle.stab_tableau.specs.Exchanges.{Exchanges}
 
--- by coin number: a string that exchanges the outcomes, where the outcome was free, and none where it was fixed; and whether the
+-- by coin number: a string that exchanges the outcomes, if the outcome was free, and none if it was fixed; and whether the
 -- coin of the other run differs
 pub record Notes : Type 0 where
   pub strings : ℕ → Option (List Letter)
   pub changes : ℕ → Bool
 
--- notes for another run whose coins differ where the bits are 1
+-- notes for another run whose coins differ if the bits are 1
 abbrev pub notes_of : (ℕ → Option (List Letter)) → (ℕ → Bool) → Notes
 notes_of strings changes = record { strings = strings; changes = changes }
 
@@ -22,20 +22,20 @@ notes_of strings changes = record { strings = strings; changes = changes }
 abbrev pub same_coins : (ℕ → Option (List Letter)) → Notes
 same_coins strings = notes_of strings (λ t. false)
 
--- and where no string is noted
+-- and if no string is noted
 abbrev pub no_strings : (ℕ → Bool) → Notes
 no_strings changes = notes_of (λ t. None) changes
 
--- coins that differ from others where the bits are 1
+-- coins that differ from others if the bits are 1
 abbrev pub changed : (ℕ → Bool) → (ℕ → Bool) → ℕ → Bool
 changed coins changes t = changes t ⊕ coins t
 
--- a note is right of a measurement: none where the outcome is fixed, and a string only if it exchanges the outcomes
+-- a note is right of a measurement: none if the outcome is fixed, and a string only if it exchanges the outcomes
 abbrev pub IsNoteOf : ℕ → (Signed → Bool) → Signed → Option (List Letter) → Type 0
 IsNoteOf n member measured None = is_free_by member measured ≡ false
 IsNoteOf n member measured (Some letters) = Exchanges n member measured letters
 
--- it is enough for a frame: right, unless the coins differ just where the frame anticommutes with what is measured, for then
+-- it is enough for a frame: right, unless the coins differ exactly if the frame anticommutes with what is measured, for then
 -- each outcome, fixed or free, is flipped as the frame has it
 abbrev pub IsEnough : ℕ → (Signed → Bool) → Signed → List Letter → Bool → Option (List Letter) → Type 0
 IsEnough n member measured f change note = change ⊕ strings_anticommute f measured.letters ≡ true → IsNoteOf n member measured note

@@ -1,4 +1,4 @@
--- Other coins: a run comes to steps that it, or another one, went over before, and has other coins there.
+-- Other coins: a run comes to steps that it, or another one, passed before, and has other coins there.
 -- Source: this project's own, after the Pauli frames of C. Gidney, Stim: a fast stabilizer circuit simulator (2021), whose coins
 -- have no numbers.
 use Rattle.std.specs.Prelude.{◌≡◌, ℕ, ◌+◌, Bool, List, Option, length, take, drop}
@@ -19,7 +19,7 @@ coins_from d coins t = coins (d + t)
 abbrev pub notes_between : (ℕ → Option (List Letter)) → (ℕ → Bool) → (ℕ → Bool) → Notes
 notes_between strings coins others = notes_of strings (λ t. others t ⊕ coins t)
 
--- from a point, with these coins, a run goes over steps: its flags there are these from its coin on, strings that exchange its free
+-- from a point, with these coins, a run passes steps: its flags there are these from its coin on, strings that exchange its free
 -- outcomes are noted, and it gives these records, one for each measurement
 pub record HasGoneOver (n : ℕ) (coins : ℕ → Bool) (strings : ℕ → Option (List Letter)) (free bits : List Bool) (xs : List Step) (k : ℕ) (a : Point) : Type 0 where
   pub coin : a.coin ≡ k
@@ -28,7 +28,7 @@ pub record HasGoneOver (n : ℕ) (coins : ℕ → Bool) (strings : ℕ → Optio
   pub records : (outputs n coins xs a).records ≡ bits
   pub recorded : length bits ≡ all_coins_of xs
 
--- a frame went over steps from one run to another with these coins, by notes that are enough, whatever coins the one run had
+-- a frame passed steps from one run to another with these coins, by notes that are enough, whatever coins the one run had
 abbrev pub WalksToOthers : ℕ → (ℕ → Option (List Letter)) → (free records : List Bool) → (others : ℕ → Bool) → List Step → WalkState → WalkState → Type 0
 WalksToOthers n strings free records others xs old new =
     (coins : ℕ → Bool) (a : Point) → HasGoneOver n coins strings free records xs old.coin a →

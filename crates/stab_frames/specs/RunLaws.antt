@@ -19,7 +19,7 @@ use Rattle.stab_frames.specs.Starts.{letters_on}
 use Rattle.stab_frames.specs.Fronts.{AreFronts, IsFlippedRun, with_letters, edit_frame, edit_flips}
 use Rattle.stab_frames.specs.TurnedTableaus.{turned_tableau}
 
--- behind fronts that differ by a frame the same steps make the one run the other, flipped, and lead to points that differ by a frame
+-- after fronts that differ by a frame the same steps make the one run the other, flipped, and lead to points that differ by a frame
 abbrev pub FrontsFlip : Type 0
 FrontsFlip =
     (n : ℕ) (coins : ℕ → Bool) (notes : Notes) (old new back : List Step) (f : Frame) (flips : RunOutput) →
@@ -38,7 +38,7 @@ FrontsGoOn =
     AreFronts n coins (changed coins notes.changes) (old ++ back) (new ++ back)
     (frame_over n notes back (point_after n coins old origin).coin f) (joined flips (flips_over n notes back (point_after n coins old origin).coin f))
 
--- and so they are with Pauli gates behind each, whose letters are multiplied onto the frame
+-- and so they are with Pauli gates after each, whose letters are multiplied onto the frame
 abbrev pub FrontsTakePaulis : Type 0
 FrontsTakePaulis =
     (n : ℕ) (coins others : ℕ → Bool) (old new : List Step) (f : Frame) (flips : RunOutput) (l m : Letter) (qs rs : List ℕ) →
@@ -46,7 +46,7 @@ FrontsTakePaulis =
     AreFronts n coins others (with_letters old l qs) (with_letters new m rs)
     (record f { letters = string_product f.letters (string_product (letters_on n l qs) (letters_on n m rs)) }) flips
 
--- a tableau of the group in one of two runs behind fronts that differ by a frame, turned, has the group in the other; and both have
+-- a tableau of the group in one of two runs after fronts that differ by a frame, turned, has the group in the other; and both have
 -- given as much there
 abbrev pub CopiesTurn : Type 0
 CopiesTurn =
@@ -58,7 +58,7 @@ CopiesTurn =
     (member (point_after n (changed coins notes.changes) (new ++ back) origin).trace)
     × (lengths_of (outputs n (changed coins notes.changes) (new ++ back) origin) ≡ lengths_of (outputs n coins (old ++ back) origin))
 
--- Pauli gates in the place of others, behind the same steps, make such fronts
+-- Pauli gates in the place of others, after the same steps, make such fronts
 abbrev pub PauliFronts : Type 0
 PauliFronts =
     (n : ℕ) (coins : ℕ → Bool) (front : List Step) (l m : Letter) (qs rs : List ℕ) → All (λ q. q < n) qs → All (λ q. q < n) rs →

@@ -16,7 +16,7 @@ use Rattle.stab_frames.specs.Notes.{Notes, notes_of, changed}
 use Rattle.stab_frames.specs.FrameSteps.{frame_after, frame_over, flips_given, flips_over}
 use Rattle.stab_frames.specs.StepNotes.{IsEnoughAt, AreEnough}
 
--- from points that differ by a frame a step leads to points that differ by the frame behind it, and gives what its flips make of the other
+-- from points that differ by a frame a step leads to points that differ by the frame after it, and gives what its flips make of the other
 abbrev pub StepsKeepFrames : Type 0
 StepsKeepFrames =
     (n : ℕ) (coins : ℕ → Bool) (notes : Notes) (x : Step) (f : Frame) (a b : Point) →
@@ -32,7 +32,7 @@ RunsKeepFrames =
     (outputs n (changed coins notes.changes) xs b ≡ flipped_output (outputs n coins xs a) (flips_over n notes xs a.coin f))
     × PointsDifferBy n (frame_over n notes xs a.coin f) (point_after n coins xs a) (point_after n (changed coins notes.changes) xs b)
 
--- where steps lead from the start the strings that stabilise are a group
+-- if steps lead from the start the strings that stabilise are a group
 abbrev pub PointsHaveGroups : Type 0
 PointsHaveGroups =
     (n : ℕ) (coins : ℕ → Bool) (xs : List Step) → All (StepFits n) xs → IsStabiliserGroup n (member (point_after n coins xs origin).trace)
@@ -48,7 +48,7 @@ FramesCompose =
 abbrev pub AreStrings : ℕ → (ℕ → Option (List Letter)) → Type 0
 AreStrings n strings = (t : ℕ) (s : List Letter) → strings t ≡ Some s → length s ≡ n
 
--- what the product of two frames flips is what each flips, added; so it is where some coins change in the one and some in the other
+-- what the product of two frames flips is what each flips, added; so it is if some coins change in the one and some in the other
 abbrev pub FramesAdd : Type 0
 FramesAdd =
     (n : ℕ) (strings : ℕ → Option (List Letter)) (x y : ℕ → Bool) (xs : List Step) (coin : ℕ) (f g : Frame) →
@@ -58,7 +58,7 @@ FramesAdd =
     × (frame_over n (notes_of strings (λ t. x t ⊕ y t)) xs coin (frame_product f g)
     ≡ frame_product (frame_over n (notes_of strings x) xs coin f) (frame_over n (notes_of strings y) xs coin g))
 
--- where a frame turns nothing and its last m flips are 0, both points agree as far back as rec[-m]
+-- if a frame turns nothing and its last m flips are 0, both points agree as far back as rec[-m]
 abbrev pub FramesEnd : Type 0
 FramesEnd =
     (n m : ℕ) (f : Frame) (early : List Bool) (a b : Point) → PointsDifferBy n f a b → IsTurned n f.letters (member a.trace) (member a.trace) →

@@ -30,7 +30,7 @@ AreEnough n coins notes [] f a = Unit {0}
 AreEnough n coins notes (x ∷ xs) f a =
     IsEnoughAt n notes x f.letters a × AreEnough n coins notes xs (frame_after n notes x a.coin f) (next_point n coins x a)
 
--- the coin of a step's measurement is changed just where the frame anticommutes with what is measured
+-- the coin of a step's measurement is changed exactly if the frame anticommutes with what is measured
 abbrev pub IsTurnedAt : ℕ → (ℕ → Bool) → Step → ℕ → Frame → Type 0
 IsTurnedAt n changes x coin f = IfSome (measured_by n x) (λ m. changes coin ≡ strings_anticommute f.letters m.letters)
 

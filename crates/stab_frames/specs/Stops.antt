@@ -1,11 +1,11 @@
--- Stops: what is so where a walk ends.
+-- Stops: what holds where a walk ends.
 -- Source: this project's own.
 use Rattle.std.specs.Prelude.{◌≡◌, ℕ}
 use Rattle.stab_frames.specs.declared.steps.Stop.{Stop}
 use Rattle.stab_frames.specs.declared.steps.Stop.TheVariants.{Behind, Gone, NoString}
 use Rattle.stab_frames.specs.Walks.{WalkState, frame_at, IsGone}
 
--- a walk over so many of so many steps went over all of them, or its frame is gone wherever it began; of one that can't go on no more
+-- a walk over a number of steps passed all of them, or its frame is gone wherever it began; of one that can't go on no more
 -- is said
 abbrev pub IsStop : ℕ → ℕ → (steps most : ℕ) → WalkState → Stop → Type 0
 IsStop n m steps most w Behind = steps ≡ most

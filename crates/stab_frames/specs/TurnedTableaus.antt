@@ -8,7 +8,7 @@ use Rattle.stab_pauli.specs.Paulis.{with_sign}
 use Rattle.stab_tableau.specs.Tableaus.{TableauState}
 use Rattle.stab_tableau.specs.inner.InverseRows.{InverseRows}
 
--- the preimage of X on a qubit with its sign turned where the letter there anticommutes with X, and that of Z likewise
+-- the preimage of X on a qubit with its sign turned if the letter there anticommutes with X, and that of Z likewise
 abbrev pub turned_rows : List Letter → List InverseRows → List InverseRows
 turned_rows [] rows = rows
 turned_rows (l ∷ f) [] = []

@@ -17,21 +17,21 @@ pub record WalkState : Type 0 where
   pub coin : ℕ
   pub number : ℕ
 
--- the frame, where it began behind so many records, none of which it flips
+-- the frame, if it began after this many records, none of which it flips
 abbrev pub frame_at : ℕ → WalkState → Frame
 frame_at base w = record { letters = w.letters; flips = replicate base false ++ w.flips.records }
 
--- how many outcomes were free is told by the flags
+-- how many outcomes were free follows from the flags
 abbrev pub IsPlaced : List Bool → WalkState → Type 0
 IsPlaced free w = w.number ≡ ones (take w.coin free)
 
--- with these notes a frame went over the steps, wherever it began
+-- with these notes a frame passed the steps, wherever it began
 pub record WalksWith (n : ℕ) (notes : Notes) (xs : List Step) (old new : WalkState) : Type 0 where
   pub frame : (base : ℕ) → frame_at base new ≡ frame_over n notes xs old.coin (frame_at base old)
   pub flips : (base : ℕ) → new.flips ≡ joined old.flips (flips_over n notes xs old.coin (frame_at base old))
   pub coin : new.coin ≡ old.coin + all_coins_of xs
 
--- so it did with these strings noted, where the coins are the same
+-- so it did with these strings noted, if the coins are the same
 abbrev pub WalksOver : ℕ → (ℕ → Option (List Letter)) → List Step → WalkState → WalkState → Type 0
 WalksOver n strings xs old new = WalksWith n (same_coins strings) xs old new
 

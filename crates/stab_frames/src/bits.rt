@@ -16,7 +16,7 @@ pub fn count_ones(bits: &[bool]) -> usize
     count
 }
 
-/// Appends bits, inverted where the flips are 1. Where there are no more flips they are as they are.
+/// Appends bits, inverted if the flips are 1. If there are no more flips they are as they are.
 pub fn append_flipped(to: &mut Vec<bool>, bits: &[bool], flips: &[bool]) -> Result<(), AllocError>
     ensures value { OnOk result (to.new.items ≡ to.old.items ++ flipped bits.now flips.now) }
 {
@@ -29,7 +29,7 @@ pub fn append_flipped(to: &mut Vec<bool>, bits: &[bool], flips: &[bool]) -> Resu
     Ok(())
 }
 
-/// Appends additions, whose bits are inverted where those of the flips are 1.
+/// Appends additions, whose bits are inverted if those of the flips are 1.
 pub fn append_flipped_additions(
     to: &mut Vec<Addition>,
     additions: &[Addition],

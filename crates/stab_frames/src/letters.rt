@@ -51,7 +51,7 @@ pub fn image(gate: Gate, letter: Letter) -> Letter
     }
 }
 
-/// The letter, or I where the bit is 0.
+/// The letter, or I if the bit is 0.
 fn letter_if(bit: bool, letter: Letter) -> Letter
     ensures value { result ≡ letter_where bit letter }
 {
@@ -59,7 +59,7 @@ fn letter_if(bit: bool, letter: Letter) -> Letter
 }
 
 /// What a gate on two qubits makes of the letter on the first: a controlled letter puts Z there,
-/// where the letter on the second anticommutes with it.
+/// if the letter on the second anticommutes with it.
 pub fn first_image(gate: PairGate, first: Letter, second: Letter) -> Letter
     ensures value { result ≡ letter_at (pair_letters gate first second).letters 0 }
 {
@@ -71,7 +71,7 @@ pub fn first_image(gate: PairGate, first: Letter, second: Letter) -> Letter
     }
 }
 
-/// What it makes of the letter on the second: a controlled letter is put there, where the letter on
+/// What it makes of the letter on the second: a controlled letter is put there, if the letter on
 /// the first has an X part.
 pub fn second_image(gate: PairGate, first: Letter, second: Letter) -> Letter
     ensures value { result ≡ letter_at (pair_letters gate first second).letters 1 }

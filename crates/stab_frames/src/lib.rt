@@ -1,15 +1,15 @@
 //! Pauli frames: how a run differs from another whose circuit differs by Pauli gates, or whose coins differ.
 //!
 //! A frame is a Pauli string, which turns the sign of each stabiliser that it anticommutes with, and a bit
-//! for each record, 1 where it is flipped. It follows the steps of a circuit at the cost of some bits,
-//! where a run costs a tableau. A note of each free measurement, a stabiliser that exchanges its outcomes,
-//! tells which string is multiplied on where two runs project on different outcomes.
+//! for each record, 1 if it is flipped. It follows the steps of a circuit at the cost of some bits,
+//! while a run costs a tableau. A note of each free measurement, a stabiliser that exchanges its outcomes,
+//! says which string is multiplied on if two runs project on different outcomes.
 //!
-//! The laws stand in this order; each function of these modules does nothing, and its contract is a law:
+//! The laws are in this order; each function of these modules does nothing, and its contract is a law:
 //!
 //! - `step_laws`: steps keep two points apart by a frame; frames multiply, what they flip adds, and when
 //!   a frame is none.
-//! - `note_laws`: which notes are enough for a frame, that each run has right ones, and what tells them.
+//! - `note_laws`: which notes are enough for a frame, that each run has right ones, and where they come from.
 //! - `run_laws`: whole runs, after an edit by Pauli gates or with other coins, are old ones, flipped; and
 //!   a tableau of the one is one of the other, once signs of its rows are turned.
 //!
@@ -18,45 +18,35 @@
 //! - `strings`: strings that exchange the free outcomes of a run, within a bound of memory.
 //! - `noting`: a run that keeps them on its way, and how far back its steps look.
 //! - `letters`: what gates make of the letters of a frame.
-//! - `keys`: a few qubits, among which are those at which a frame has letters.
-//! - `bits`: lists of bits, counted, and put behind others as a frame flips them.
+//! - `bits`: lists of bits, counted, and put after others as a frame flips them.
 //! - `turned_states`: kept states that the letters of a frame turn.
 //! - `walk`: a frame on its way, with what it has flipped.
 //! - `pass`, `pass_steps`: one step on its way, and those of one instruction.
-//! - `flipped`: how far back the records are that it flipped.
-//! - `pass_targets`: the targets or detectors of a list that tells which of them name some numbers.
-//! - `pass_lists`: those of a list that tells where its qubits are named.
-//! - `steps`: steps, until all are behind, the frame is gone, or a string is missing.
-//! - `outlines`: the same with steps that stand in an outline.
+//! - `steps`: steps, until all are past, the frame is gone, or a string is missing.
 //! - `other_coins`: steps, from a run to one that has other coins there.
 //!
 //! In `specs/`, `Frames`, `Notes` and `FrameSteps` say what a frame is and what a step makes of it, `Flips`
 //! and `StepNotes` what it flips and which notes it needs; `KeptStrings`, `Lookbacks`, `Walks`, `OtherCoins` and
-//! `Stops` say what the calls keep and where they end; the laws stand in files named after these modules.
+//! `Stops` say what the calls keep and where they end; the laws are in files named after these modules.
 //!
 //! Sources: C. Gidney, Stim: a fast stabilizer circuit simulator (2021), for Pauli frames; S. Aaronson and
 //! D. Gottesman, Improved simulation of stabilizer circuits (2004), for measurements. It differs in that
-//! coins are numbered: both runs are given, and a frame tells each bit of the one from the other's, where
+//! coins are numbered: both runs are given, and a frame gives each bit of the one from the other's, while
 //! Stim's frames are right up to outcomes that are drawn again.
 //!
 //! Proved: the laws, over the group rules that runs themselves are stated by (`stab_steps`, `specs/Runs.antt`).
-//! A run that notes strings is the run, and its strings are true of it; a frame that went over steps has the
+//! A run that notes strings is the run, and its strings are true of it; a frame that passed steps has the
 //! letters and flips that the laws say, and its notes are enough for them. `specs/inner/` has what only
 //! private contracts cite.
 #![tactic(auto)]
 
 mod bits;
-mod flipped;
-mod keys;
 mod letters;
 pub mod note_laws;
 mod noting;
 mod other_coins;
-mod outlines;
 mod pass;
-mod pass_lists;
 mod pass_steps;
-mod pass_targets;
 pub mod run_laws;
 pub mod step_laws;
 mod steps;
@@ -67,7 +57,6 @@ mod walk;
 pub use bits::{append_flipped, append_flipped_additions, between, count_ones};
 pub use noting::{RunNotes, run_noting};
 pub use other_coins::walk_with_coins;
-pub use outlines::walk_outline;
 pub use steps::{Stop, Walked, walk_steps};
 pub use strings::KeptStrings;
 pub use turned_states::turn_state;

@@ -2,27 +2,27 @@
 
 ghost use Rattle.stab_frames.specs.NoteLaws.{FlagsTellNotes, FramesHaveCoins, RightNotesAreEnough, RunsHaveNotes, TurnedCoinsNeedNoStrings};
 
-/// Notes that are right of each measurement of a run are enough for every frame.
+/// Notes that are right for each measurement of a run are enough for every frame.
 pub fn right_notes_are_enough()
     ensures law { RightNotesAreEnough }
 {}
 
-/// Where the coins of the other run are turned with the frame, it needs no strings.
+/// If the coins of the other run are turned with the frame, it needs no strings.
 pub fn turned_coins_need_no_strings()
     ensures law { TurnedCoinsNeedNoStrings }
 {}
 
-/// Each frame has such coins, whatever the run that it starts from.
+/// Each frame has such coins, for any run that it starts from.
 pub fn frames_have_coins()
     ensures law { FramesHaveCoins }
 {}
 
-/// There are right notes of each run, so what the laws of steps and runs ask of notes can be met.
+/// Each run has right notes, so what the laws of steps and runs ask of notes can be met.
 pub fn runs_have_notes()
     ensures law { RunsHaveNotes }
 {}
 
-/// Right notes have a string just where the flags of the run say that the coin decided.
+/// Right notes have a string exactly if the flags of the run say that the coin decided.
 pub fn flags_tell_notes()
     ensures law { FlagsTellNotes }
 {}

@@ -15,18 +15,18 @@ use stab_steps::{Coins, Outputs, apply_step, apply_step_with_exchange, apply_ste
 use stab_tableau::Tableau;
 use std::alloc::Global;
 
-/// What a run notes on its way, for frames to go over its steps.
+/// What a run notes on its way, for frames to pass its steps.
 #[derive(Drop)]
 pub struct RunNotes {
     /// Strings that exchange its free outcomes, the first of them in their order.
     pub strings: KeptStrings,
-    /// No step so far looks back further than so many records.
+    /// No step so far looks back further than this many records.
     pub reach: u32,
     /// A string on the run's qubits, for the tableau to write into.
     pub string: Pauli,
 }
 
-/// Carries out the steps that a cursor has left, up to so many, as `run_steps` does, and notes the
+/// Carries out the steps that a cursor has left, up to this many, as `run_steps` does, and notes the
 /// strings of free outcomes and how far the steps look back.
 ///
 /// Refusal `OutOfMemory` alone.
@@ -142,7 +142,7 @@ impl RunNotes {
         Ok(())
     }
 
-    /// Carries out the measurements of targets, and notes them: all at once where no further string is kept.
+    /// Carries out the measurements of targets, and notes them: all at once if no further string is kept.
     fn run_targets<C: Coins>(
         &mut self,
         alloc: Global,
@@ -184,7 +184,7 @@ impl RunNotes {
         Ok(())
     }
 
-    /// Carries out a step, and notes it. Where no further string is kept, none is looked for.
+    /// Carries out a step, and notes it. If no further string is kept, none is looked for.
     fn run_step<C: Coins>(
         &mut self,
         alloc: Global,

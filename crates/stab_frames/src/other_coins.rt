@@ -32,12 +32,12 @@ struct Known<'a> {
     // One for each coin from the one with number `start` on.
     records: &'a [bool],
     start: usize,
-    // The other run's coins have numbers so much greater.
+    // The other run's coins have numbers this much greater.
     ahead: usize,
 }
 
-/// Leads a frame over the steps that a cursor has left, up to so many, from a run that went over them to one with other coins,
-/// whose next coin has a number so much greater. The one run had these flags, gave these records there, one for each measurement,
+/// Leads a frame over the steps that a cursor has left, up to this many, from a run that passed them to one with other coins,
+/// whose next coin has a number this much greater. The one run had these flags, gave these records there, one for each measurement,
 /// and strings of all its free outcomes so far are kept. It asks for the coin of each free outcome at most once, and for no other.
 pub fn walk_with_coins<C: Coins>(
     walk: &mut FrameWalk,
@@ -237,7 +237,7 @@ fn pass_product<C: Coins>(
 }
 
 /// Leads a frame over the measurement of the next coin, of something with which it anticommutes or
-/// not, and tells whether the outcome is flipped.
+/// not, and says whether the outcome is flipped.
 fn pass_outcome<C: Coins>(
     walk: &mut FrameWalk,
     known: Known,

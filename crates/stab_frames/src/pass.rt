@@ -24,8 +24,8 @@ use stab_steps::{Addition, flip, looked_up, parity};
 use stab_tableau::{Gate, PairGate};
 use std::alloc::AllocError;
 
-/// Leads a frame over a step of a run with these kept strings and flags, and tells whether it did:
-/// not where the string of a free outcome is missing, and then the frame is as before.
+/// Leads a frame over a step of a run with these kept strings and flags, and says whether it did:
+/// not if the string of a free outcome is missing, and then the frame is as before.
 pub fn pass(
     walk: &mut FrameWalk,
     strings: &KeptStrings,
@@ -104,7 +104,7 @@ pub fn pass_controlled(walk: &mut FrameWalk, letter: Letter, k: u32, qubit: usiz
     multiply_if(walk, flipped, letter, qubit);
 }
 
-/// Multiplies a letter on at a qubit, where the bit is 1.
+/// Multiplies a letter on at a qubit, if the bit is 1.
 pub fn multiply_if(walk: &mut FrameWalk, bit: bool, letter: Letter, qubit: usize)
     requires in_range { qubit < length walk.old.letters }
     ensures value { walk.new ≡ record walk.old { letters = times_where bit (single (length walk.old.letters) qubit letter).letters walk.old.letters } }
@@ -123,7 +123,7 @@ pub fn bit_at(bits: &[bool], place: usize) -> bool
 }
 
 /// Leads a frame over the measurement of the next coin, of something with which it anticommutes or
-/// not, and tells whether the outcome is flipped, or `None` where the string is missing.
+/// not, and says whether the outcome is flipped, or `None` if the string is missing.
 fn pass_outcome(
     walk: &mut FrameWalk,
     strings: &KeptStrings,
@@ -156,7 +156,7 @@ fn pass_outcome(
     Some(false)
 }
 
-/// Flips the next record, or not, where there is one.
+/// Flips the next record, or not, if there is one.
 pub fn flip_record_when(
     walk: &mut FrameWalk,
     recorded: bool,

@@ -19,13 +19,13 @@ use stab_pauli::Letter;
 use stab_tableau::Gate;
 use std::alloc::AllocError;
 
-// A frame touches few of the steps on its way: so many are looked at at once.
+// A frame touches few of the steps on its way: this many steps are looked at at once.
 const PART: usize = 32;
 
-// Fewer measurements than this are sooner gone over one by one.
+// Fewer measurements than this are sooner passed one by one.
 const FEW: usize = 4;
 
-/// Leads a frame over steps of a run with these kept strings and flags, and tells over how many it
+/// Leads a frame over steps of a run with these kept strings and flags, and says over how many it
 /// did: not over one whose string is missing, at which it stops.
 pub fn pass_steps(
     walk: &mut FrameWalk,
@@ -77,7 +77,7 @@ pub fn pass_gates(walk: &mut FrameWalk, gate: Gate, qubits: &[Qubit])
 }
 
 /// Leads a frame over a pair of a controlled gate.
-pub fn pass_controlled_pair(walk: &mut FrameWalk, axis: Axis, pair: ControlledPair)
+fn pass_controlled_pair(walk: &mut FrameWalk, axis: Axis, pair: ControlledPair)
     requires fits { StepFits (length walk.old.letters) (controlled_step axis pair) }
     ensures length { length walk.new.letters ≡ length walk.old.letters }
     ensures goes { GoesFreely (length walk.old.letters) (controlled_step axis pair ∷ []) walk.old walk.new }
@@ -93,7 +93,7 @@ pub fn pass_controlled_pair(walk: &mut FrameWalk, axis: Axis, pair: ControlledPa
     }
 }
 
-/// Whether the frame has another letter than I at a qubit of the pair, or a record controls it.
+/// Whether the frame has a letter other than I at a qubit of the pair, or a record controls it.
 fn touches(letters: &[Letter], pair: ControlledPair) -> bool
     requires fits { PairFits (length letters.now) pair }
     ensures value { result ≡ touches_pair letters.now pair }
@@ -108,7 +108,7 @@ fn touches(letters: &[Letter], pair: ControlledPair) -> bool
     }
 }
 
-// Looks at all pairs, also behind one that is touched: so it has no branch on the letters.
+// Looks at all pairs, also after one that is touched: so it has no branch on the letters.
 fn touches_some(letters: &[Letter], pairs: &[ControlledPair]) -> bool
     requires fits { All (PairFits (length letters.now)) pairs.now }
     ensures value { result ≡ list_any (touches_pair letters.now) pairs.now }
@@ -131,7 +131,7 @@ fn pass_each_pair(walk: &mut FrameWalk, axis: Axis, pairs: &[ControlledPair])
     }
 }
 
-/// Leads a frame over pairs of a controlled gate, past all of them where it touches none.
+/// Leads a frame over pairs of a controlled gate, past all of them if it touches none.
 fn pass_few_pairs(walk: &mut FrameWalk, axis: Axis, pairs: &[ControlledPair])
     requires fits { All (StepFits (length walk.old.letters)) (map (controlled_step axis) pairs.now) }
     ensures length { length walk.new.letters ≡ length walk.old.letters }
@@ -157,7 +157,7 @@ pub fn pass_pairs(walk: &mut FrameWalk, axis: Axis, pairs: &[ControlledPair])
     }
 }
 
-/// Looks at all targets, also behind one at which the frame anticommutes with the letter.
+/// Looks at all targets, also after one at which the frame anticommutes with the letter.
 fn anticommutes_some(letters: &[Letter], letter: Letter, targets: &[MeasureTarget]) -> bool
     requires fits { All (λ t. t.qubit < length letters.now) targets.now }
     ensures value { result ≡ list_any (touches_target letters.now letter) targets.now }
@@ -169,8 +169,8 @@ fn anticommutes_some(letters: &[Letter], letter: Letter, targets: &[MeasureTarge
     found
 }
 
-/// Leads a frame over measurements of targets, one after another, and tells over how many it did.
-pub fn pass_each_measurement(
+/// Leads a frame over measurements of targets, one after another, and says over how many it did.
+fn pass_each_measurement(
     walk: &mut FrameWalk,
     strings: &KeptStrings,
     free: &[bool],
@@ -197,7 +197,7 @@ pub fn pass_each_measurement(
     Ok(count)
 }
 
-/// Leads a frame over measurements of targets, past all of them where it commutes with each.
+/// Leads a frame over measurements of targets, past all of them if it commutes with each.
 fn pass_few_measurements(
     walk: &mut FrameWalk,
     strings: &KeptStrings,
@@ -221,8 +221,8 @@ fn pass_few_measurements(
     Ok(targets.len())
 }
 
-/// Leads a frame over a measurement of each of some targets, and tells over how many it did.
-pub fn pass_measurements(
+/// Leads a frame over a measurement of each of some targets, and says over how many it did.
+fn pass_measurements(
     walk: &mut FrameWalk,
     strings: &KeptStrings,
     free: &[bool],

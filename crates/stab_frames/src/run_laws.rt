@@ -2,18 +2,18 @@
 
 ghost use Rattle.stab_frames.specs.RunLaws.{CoinsFlip, CopiesTurn, FrontsFlip, FrontsGoOn, FrontsTakePaulis, PauliEditsFlip};
 
-/// Behind fronts that differ by a frame the same steps make the one run the other, flipped: its
+/// After fronts that differ by a frame the same steps make the one run the other, flipped: its
 /// records, flags, detectors and observables.
 pub fn fronts_flip()
     ensures law { FrontsFlip }
 {}
 
-/// With these steps they are fronts again, which differ by the frame that went over the steps.
+/// With these steps they are fronts again, which differ by the frame that passed the steps.
 pub fn fronts_go_on()
     ensures law { FrontsGoOn }
 {}
 
-/// With Pauli gates behind the one and the other they are fronts again, which differ by the frame times
+/// With Pauli gates after the one and the other they are fronts again, which differ by the frame times
 /// the letters of these gates.
 pub fn fronts_take_paulis()
     ensures law { FrontsTakePaulis }
@@ -25,8 +25,8 @@ pub fn copies_turn()
     ensures law { CopiesTurn }
 {}
 
-/// So an edit that puts Pauli gates in the place of others, puts some in or takes some out, makes of
-/// the run the old one, flipped.
+/// So an edit that puts Pauli gates in the place of others, puts some in or takes some out, gives
+/// the old run, flipped.
 pub fn pauli_edits_flip()
     ensures law { PauliEditsFlip }
 {}

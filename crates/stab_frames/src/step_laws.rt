@@ -3,7 +3,7 @@
 ghost use Rattle.stab_frames.specs.StepLaws.{FramesAdd, FramesCompose, FramesEnd, PointsHaveGroups, RunsKeepFrames, StepsKeepFrames};
 ghost use Rattle.stab_frames.specs.AgainLaws.{StepsComeTurned};
 
-/// From two points that differ by a frame a step leads to two that differ by the frame behind it, and
+/// From two points that differ by a frame a step leads to two that differ by the frame after it, and
 /// what it gives at the one is what it gives at the other, flipped.
 pub fn steps_keep_frames()
     ensures law { StepsKeepFrames }
@@ -36,7 +36,7 @@ pub fn frames_end()
     ensures law { FramesEnd }
 {}
 
-/// Where a run comes to a point that is as an earlier one but for a frame, as far back as its steps look, steps give there what
+/// If a run comes to a point that is as an earlier one except for a frame, as far back as its steps look, steps give there what
 /// they gave, flipped, whatever the coins, and lead to such a point again.
 pub fn steps_come_turned()
     ensures law { StepsComeTurned }

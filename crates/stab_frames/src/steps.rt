@@ -18,24 +18,24 @@ use std::alloc::AllocError;
 /// Why a walk ended.
 #[derive(Clone, Copy, Debug, PartialEq, Eq)]
 pub enum Stop {
-    /// It went over as many steps as were asked for, or there are no more.
+    /// It passed as many steps as were asked for, or there are no more.
     Behind,
-    /// The frame is gone: what is behind is as it was.
+    /// The frame is gone: what comes after is as it was.
     Gone,
     /// It can't go on: the string of a free outcome wasn't kept, and the frame anticommutes with what is measured. No clause says that
     /// it stops for that reason alone.
     NoString,
 }
 
-/// How a walk ended, and how many steps it went over.
+/// How a walk ended, and how many steps it passed.
 #[derive(Clone, Copy, Debug, PartialEq, Eq)]
 pub struct Walked {
     pub stop: Stop,
     pub steps: usize,
 }
 
-/// Leads a frame over the steps that a cursor has left, up to so many, of a run with these kept
-/// strings and flags, none of whose steps looks back further than `reach` records. It ends where the frame is gone,
+/// Leads a frame over the steps that a cursor has left, up to this many, of a run with these kept
+/// strings and flags, none of whose steps looks back further than `reach` records. It ends if the frame is gone,
 /// if it may, and else goes on without one.
 pub fn walk_steps(
     walk: &mut FrameWalk,

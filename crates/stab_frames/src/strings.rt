@@ -14,7 +14,7 @@ pub struct KeptStrings {
     qubits: usize,
     // How many may be kept.
     most: usize,
-    // Their signs are of no account.
+    // Their signs are irrelevant.
     strings: Vec<Rc<Pauli>>,
 }
 
@@ -61,7 +61,7 @@ impl KeptStrings {
         self.strings.len() == self.most
     }
 
-    /// Puts the letters of a string behind the others, unless as many are kept as may be.
+    /// Puts the letters of a string after the others, unless as many are kept as may be.
     ///
     /// Refusal `OutOfMemory` alone.
     pub fn push(&mut self, alloc: Global, string: &Pauli) -> Result<(), Refusal>
@@ -79,7 +79,7 @@ impl KeptStrings {
         Ok(())
     }
 
-    /// Leaves the first ones, up to so many.
+    /// Leaves the first ones, up to this many.
     #[tactic(auto, using(crate::proofs::KeptLemmas::letters_front))]
     pub fn truncate(&mut self, count: usize)
         ensures value { self.new ≡ record self.old { strings = take count self.old.strings } }
@@ -87,7 +87,7 @@ impl KeptStrings {
         self.strings.truncate(count);
     }
 
-    /// A copy of the first ones, up to so many.
+    /// A copy of the first ones, up to this many.
     ///
     /// Refusal `OutOfMemory` alone.
     pub fn front(&self, alloc: Global, count: usize) -> Result<KeptStrings, Refusal>
@@ -111,7 +111,7 @@ impl KeptStrings {
         self.most = self.strings.len();
     }
 
-    /// Puts others behind these, from the one with this number on, as far as there may be as many.
+    /// Puts others after these, from the one with this number on, as far as there may be as many.
     ///
     /// Refusal `OutOfMemory` alone.
     pub fn append_rest(&mut self, other: &KeptStrings, from: usize) -> Result<(), Refusal>
@@ -128,7 +128,7 @@ impl KeptStrings {
         self.append(rest)
     }
 
-    /// Puts others behind these, from the one with a number up to another's, as far as there may be as
+    /// Puts others after these, from the one with a number up to another's, as far as there may be as
     /// many.
     ///
     /// Refusal `OutOfMemory` alone.
@@ -152,7 +152,7 @@ impl KeptStrings {
         self.append(between)
     }
 
-    /// Puts strings that another list keeps too behind these, as far as there may be as many.
+    /// Puts strings that another list keeps too after these, as far as there may be as many.
     fn append(&mut self, strings: &[Rc<Pauli>]) -> Result<(), Refusal>
         requires same_length { All (λ p. length p.value.letters ≡ self.old.qubits) strings.now }
         ensures qubits { self.new.qubits ≡ self.old.qubits }
@@ -160,7 +160,7 @@ impl KeptStrings {
         ensures strings { OnOk result (self.new.strings ≡ kept_with self.old.most self.old.strings (map (λ p. p.value.letters) strings.now)) }
         ensures err { IfErr result (λ r. r ≡ OutOfMemory) }
     {
-        // What a struct keeps is known where a field of it is looked at.
+        // What a struct keeps is known once a field of it is looked at.
         let _ = &self.strings;
         for string in strings {
             self.share(string)?;
@@ -168,7 +168,7 @@ impl KeptStrings {
         Ok(())
     }
 
-    /// Puts a string that another list keeps too behind the others, unless as many are kept as may be.
+    /// Puts a string that another list keeps too after the others, unless as many are kept as may be.
     fn share(&mut self, string: &Rc<Pauli>) -> Result<(), Refusal>
         requires same_length { length string.now.value.letters ≡ self.old.qubits }
         ensures qubits { self.new.qubits ≡ self.old.qubits }

@@ -2,7 +2,6 @@ ghost use Rattle.std.specs.Prelude.{◌≡◌, ◌≤◌, take, drop};
 ghost use Rattle.stab_steps.specs.Records.{ones};
 
 use crate::bits::count_ones;
-use crate::keys::Keys;
 use crate::letters::weight_of;
 use stab_pauli::{Letter, Pauli, masks};
 use stab_steps::Addition;
@@ -18,9 +17,6 @@ pub struct FrameWalk {
     letters: Vec<Letter>,
     // How many letters are not I.
     weight: usize,
-    // Qubits, among which are all of these, if that is covered.
-    keys: Keys,
-    covered: bool,
     records: Vec<bool>,
     detectors: Vec<bool>,
     additions: Vec<Addition>,
@@ -33,11 +29,10 @@ pub struct FrameWalk {
 }
 
 impl Model for FrameWalk {
-    ghost use Rattle.std.specs.Prelude.{◌≡◌, ℕ, ◌+◌, ◌≤◌, true, false, replicate};
+    ghost use Rattle.std.specs.Prelude.{◌≡◌, ℕ, ◌+◌, ◌≤◌, false, replicate};
     ghost use Rattle.stab_steps.specs.Records.{looked_up};
     ghost use Rattle.stab_frames.specs.Walks.{WalkState};
     ghost use Rattle.stab_frames.specs.inner.Weights.{string_weight};
-    ghost use Rattle.stab_frames.specs.inner.Touches.{Covers};
 
     ghost Value = { WalkState };
 
@@ -48,18 +43,17 @@ impl Model for FrameWalk {
       number = w.number;
     } };
 
-    ghost invariant = { λ w. (w.weight ≡ string_weight w.letters.items) × ((k : ℕ) → k ≤ w.still → looked_up w.records.items k ≡ false) × (w.passed ≤ w.coin) × (w.number ≤ w.coin) × (w.covered ≡ true → Covers w.keys w.letters.items) };
+    ghost invariant = { λ w. (w.weight ≡ string_weight w.letters.items) × ((k : ℕ) → k ≤ w.still → looked_up w.records.items k ≡ false) × (w.passed ≤ w.coin) × (w.number ≤ w.coin) };
 }
 
 impl FrameWalk {
-    ghost use Rattle.std.specs.Prelude.{◌≡◌, ℕ, ◌+◌, ◌*◌, ◌^◌, ◌≤◌, ◌<◌, ◌∷◌, [], ◌++◌, true, length, replicate, take, drop, slice_index_or, slice_set, OnOk, IfOk, IfSome};
+    ghost use Rattle.std.specs.Prelude.{◌≡◌, ℕ, ◌+◌, ◌*◌, ◌^◌, ◌≤◌, ◌<◌, ◌∷◌, [], ◌++◌, true, length, replicate, take, drop, slice_index_or, slice_set, OnOk, IfOk};
     ghost use Rattle.stab_letters.specs.declared.letter.Letter.TheVariants.{I};
     ghost use Rattle.stab_pauli.specs.Paulis.{single, string_product};
     ghost use Rattle.stab_steps.specs.Records.{ones};
     ghost use Rattle.stab_steps.specs.Points.{nothing, joined};
     ghost use Rattle.stab_frames.specs.Walks.{frame_at, IsGone};
-    ghost use Rattle.stab_frames.specs.inner.Passes.{one_coin, none_flipped, no_detectors};
-    ghost use Rattle.stab_frames.specs.inner.Touches.{Covers};
+    ghost use Rattle.stab_frames.specs.inner.Passes.{one_coin, none_flipped};
     ghost use Rattle.stab_frames.specs.inner.Products.{AreMultiplied};
     ghost use Rattle.stab_frames.specs.Flips.{flipped};
 
@@ -73,8 +67,6 @@ impl FrameWalk {
         Ok(FrameWalk {
             letters: vec![in alloc; Letter::I; n]?,
             weight: 0,
-            keys: Keys::new(),
-            covered: true,
             records: Vec::new(alloc),
             detectors: Vec::new(alloc),
             additions: Vec::new(alloc),
@@ -126,7 +118,7 @@ impl FrameWalk {
         }
     }
 
-    /// Goes back to the coin with this number, behind so many free outcomes, with its letters and the
+    /// Goes back to the coin with this number, after this many free outcomes, with its letters and the
     /// records that it has flipped.
     pub fn begin_again(&mut self, coin: usize, number: usize)
         requires within { number ≤ coin }
@@ -139,8 +131,8 @@ impl FrameWalk {
         self.number = number;
     }
 
-    /// Flips further records, behind those that it has gone over: where one list differs from
-    /// another, as long as both are.
+    /// Flips further records, after those that it has passed: those at which one list differs from
+    /// another of the same length.
     pub fn flip_records(&mut self, records: &[bool], others: &[bool]) -> Result<(), AllocError>
         requires same_length { length others.now ≡ length records.now }
         ensures value { OnOk result (self.new ≡ record self.old { flips = record self.old.flips { records = self.old.flips.records ++ flipped records.now others.now } }) }
@@ -208,17 +200,6 @@ impl FrameWalk {
         self.weight == 0 && reach <= self.still
     }
 
-    /// Qubits, among which are all at which it has another letter than I; `None` where these are more than a few.
-    pub(crate) fn keys(&self) -> Option<&[u16]>
-        ensures covers { IfSome result (λ keys. Covers keys.now self.now.letters) }
-    {
-        if self.covered {
-            Some(self.keys.as_slice())
-        } else {
-            None
-        }
-    }
-
     /// Puts a letter at a qubit.
     pub(crate) fn set(&mut self, qubit: usize, letter: Letter)
         requires in_range { qubit < length self.old.letters }
@@ -228,9 +209,6 @@ impl FrameWalk {
         let old = self.letters[qubit];
         self.letters[qubit] = letter;
         self.weight = self.weight - weight_of(old) + weight_of(letter);
-        if self.covered {
-            self.covered = self.keys.follow(self.letters.as_slice(), qubit, old);
-        }
     }
 
     /// Flips the next record, or not.
@@ -256,16 +234,6 @@ impl FrameWalk {
         Ok(())
     }
 
-    /// Flips none of the next so many detectors.
-    pub(crate) fn flip_no_detectors(&mut self, count: usize) -> Result<(), AllocError>
-        ensures value { OnOk result (self.new ≡ record self.old { flips = joined self.old.flips (no_detectors count) }) }
-        ensures letters { self.new.letters ≡ self.old.letters }
-    {
-        self.detectors
-            .resize(self.detectors.len().saturating_add(count), false)?;
-        Ok(())
-    }
-
     /// Flips the next addition to an observable, or not.
     pub(crate) fn flip_addition(&mut self, addition: Addition) -> Result<(), AllocError>
         ensures value { OnOk result (self.new ≡ record self.old { flips = record self.old.flips { additions = self.old.flips.additions ++ addition ∷ [] } }) }
@@ -275,7 +243,7 @@ impl FrameWalk {
         Ok(())
     }
 
-    /// Goes over the measurement of the next coin, whose outcome was free or not.
+    /// Passes the measurement of the next coin, whose outcome was free or not.
     pub(crate) fn pass_coin(&mut self, free: bool)
         requires few { self.old.coin < 2 ^ 63 }
         ensures value { self.new ≡ record self.old { flips = joined self.old.flips one_coin; coin = self.old.coin + 1; number = self.old.number + ones (free ∷ []) } }
@@ -285,7 +253,7 @@ impl FrameWalk {
         self.number += usize::from(free);
     }
 
-    /// Goes over measurements of the next so many coins of a run with these flags, each of which
+    /// Passes measurements of this many next coins of a run with these flags, each of which
     /// makes a record that is not flipped.
     pub(crate) fn pass_still(&mut self, free: &[bool], count: usize) -> Result<(), AllocError>
         requires few { self.old.coin + count < 2 ^ 63 }
@@ -301,7 +269,7 @@ impl FrameWalk {
     }
 }
 
-/// How many of so many bits from a place on are 1, as far as there are any.
+/// How many bits from a place on are 1, among as many as this.
 fn ones_from(bits: &[bool], from: usize, count: usize) -> usize
     ensures value { result ≡ ones (take count (drop from bits.now)) }
     ensures few { result ≤ count }

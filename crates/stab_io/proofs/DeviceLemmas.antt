@@ -61,7 +61,7 @@ failed_within {a} {b} xs ys p = record {
   moved = λ h. let m = p.moved h in (m.0, m.1 ++ ys, ap (λ l. l ++ ys) m.2 ∙ append_assoc m.0 m.1 ys, m.3);
 }
 
--- the bytes but for the rest were written
+-- all bytes except the rest were written
 abbrev pub WroteUpTo : OutputView → OutputView → List ℕ → List ℕ → Type 0
 WroteUpTo a b bytes rest = (front : List ℕ) × (bytes ≡ front ++ rest) × Took a b front
 
@@ -90,7 +90,7 @@ wrote_and_failed {a} {b} {c} bytes left part rest e p q =
     subst (λ l. TookAndFailed a c l) (sym (p.1 ∙ ap (λ l. p.0 ++ l) e))
     (took_and_failed p.0 (part ++ rest) p.2 (failed_within part rest q))
 
--- a failed write is handed on as it was told
+-- a failed write is passed on as the device reported it
 pub failed_on : {T : Type 0} (a b : OutputView) (bytes : List ℕ) (e : Refusal) (r : Result T Refusal) → IsErrAnd r (λ y. y ≡ e)
     → e ≡ WriteFault → TookAndFailed a b bytes → WritesAll a b bytes r
 failed_on a b bytes e (Ok x) is fault failed = absurd is

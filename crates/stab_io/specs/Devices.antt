@@ -1,5 +1,5 @@
 -- Devices: an input and an output as contracts see them, and what a call leaves of them.
--- Source: this project's own. Calls are those of std's `Read` and `Write`, but that each error is one counted failure.
+-- Source: this project's own. Calls are those of std's `Read` and `Write`, except that each error is one counted failure.
 use Rattle.std.specs.Prelude.{◌≡◌, ℕ, ◌+◌, ◌-◌, ◌^◌, ◌<◌, ◌≤◌, min, Bool, IsTrue, List, [], ◌++◌, length, take, ◌⊎◌, Result, MatchResult}
 use Rattle.stab_io.specs.declared.device.DeviceFault.{DeviceFault}
 use Rattle.stab_io.specs.declared.refusal.Refusal.{Refusal}
@@ -24,7 +24,7 @@ pub record OutputView : Type 0 where
 abbrev pub greatest_count : ℕ
 greatest_count = 2 ^ 64 - 1
 
--- a count after one more, which stays where it is the greatest
+-- a count after one more, or the same count if it is the greatest
 abbrev pub counted_up : ℕ → ℕ
 counted_up count = min (count + 1) greatest_count
 
@@ -78,7 +78,7 @@ pub record TookSome (old new : OutputView) (bytes : List ℕ) : Type 0 where
 abbrev pub CutOff : OutputView → OutputView → List ℕ → Fault → Type 0
 CutOff old new bytes f = ((f ≡ whole WriteFault) × TookAndFailed old new bytes) ⊎ ((f ≡ whole OutOfMemory) × TookSome old new bytes)
 
--- a write took some first bytes, at least one where there are any; or it failed and took none
+-- a write took some first bytes, at least one if there are any; or it failed and took none
 abbrev pub Writes : OutputView → OutputView → Result ℕ DeviceFault → List ℕ → Type 0
 Writes old new r bytes = MatchResult r (λ n. (n ≤ length bytes) × (0 < length bytes → 0 < n) × Took old new (take n bytes)) (λ _. TookAndFailed old new [])
 
@@ -104,6 +104,6 @@ Flushes old new r = MatchResult r (λ _. Flushed old new) (λ _. FlushFailed old
 abbrev pub WritesAll : {T : Type 0} → OutputView → OutputView → List ℕ → Result T Refusal → Type 0
 WritesAll old new bytes r = MatchResult r (λ _. Took old new bytes) (λ e. (e ≡ WriteFault) × TookAndFailed old new bytes)
 
--- the same, where the answer is a fault, which then has no line
+-- the same, if the answer is a fault, which then has no line
 abbrev pub WritesAllOrFault : {T : Type 0} → OutputView → OutputView → List ℕ → Result T Fault → Type 0
 WritesAllOrFault old new bytes r = MatchResult r (λ _. Took old new bytes) (λ f. (f ≡ whole WriteFault) × TookAndFailed old new bytes)

@@ -52,13 +52,13 @@ pub record RoomyBytes : Type 0 where
 abbrev pub roomy_output : RoomyBytes → OutputView
 roomy_output o = record { honest = true; written = o.written; flushes = o.flushes; failures = o.failures }
 
--- an output in memory takes what fits, and fails exactly where there are bytes and no room is left
+-- an output in memory takes what fits, and fails if and only if there are bytes and no room is left
 abbrev pub TakesWhatFits : {E : Type 0} → RoomyBytes → RoomyBytes → Result ℕ E → List ℕ → Type 0
 TakesWhatFits old new r bytes = MatchResult r
     (λ n. (n ≡ min (length bytes) (old.room - length old.written)) × (new ≡ record old { written = old.written ++ take n bytes }))
     (λ _. (0 < length bytes) × (old.room ≡ length old.written) × (new ≡ record old { failures = counted_up old.failures }))
 
--- a flush of an output in memory fails exactly where flushes fail
+-- a flush of an output in memory fails if and only if flushes fail
 abbrev pub FlushesAsSet : {T E : Type 0} → RoomyBytes → RoomyBytes → Result T E → Type 0
 FlushesAsSet old new r = MatchResult r
     (λ _. (old.flush_fails ≡ false) × (new ≡ record old { flushes = counted_up old.flushes }))

@@ -1,4 +1,4 @@
--- Refusals: their numbers and names, the fault of a whole text or call, and how a call answers on which there is a verdict.
+-- Refusals: their numbers and names, the fault of a whole text or call, and how a call answers when there is a verdict on it.
 -- Source: this project's own numbers and names.
 use Rattle.std.specs.Prelude.{◌≡◌, ℕ, List, codes, Option, Some, None, Result, Ok, Err}
 use Rattle.stab_io.specs.declared.refusal.Refusal.{Refusal}
@@ -53,12 +53,12 @@ name_of OutOfMemory = codes "OutOfMemory"
 abbrev pub whole : Refusal → Fault
 whole r = record { refusal = r; line = 0 }
 
--- the fault of a call on which there is this verdict: what it names; where it refuses nothing, the call wanted memory
+-- the fault of a call with this verdict: what the verdict names; if it refuses nothing, memory was refused
 abbrev pub IsCallFault : Option Refusal → Fault → Type 0
 IsCallFault (Some refusal) fault = fault ≡ whole refusal
 IsCallFault None fault = fault ≡ whole OutOfMemory
 
--- a call answers as the verdict says: it is done where that refuses nothing, and else refused by it, or for want of memory
+-- a call answers as the verdict says: it is done if that refuses nothing, and else refused by it or for lack of memory
 abbrev pub Refuses : {A : Type 0} → Result A Fault → Option Refusal → Type 0
 Refuses (Ok x) verdict = verdict ≡ None
 Refuses (Err fault) verdict = IsCallFault verdict fault

@@ -16,7 +16,7 @@ pub struct DeviceFault;
 ///
 /// An honest input hands over the bytes that it has, in order, and loses none. An input may be
 /// dishonest; then nothing is known of its bytes, but it still counts its failures. The count of
-/// failures stays at 2^64 - 1 where it gets there.
+/// failures stays at 2^64 - 1 once it gets there.
 pub trait Input {
     // The input as contracts see it: whether it is honest, its unread bytes, its failures.
     ghost seen: { Self → InputView };
@@ -33,26 +33,26 @@ pub trait Input {
 ///
 /// An honest output keeps the bytes that it took, in order, and no others. An output may be
 /// dishonest; then nothing is known of its bytes, but it still counts its flushes and failures.
-/// Each count stays at 2^64 - 1 where it gets there.
+/// Each count stays at 2^64 - 1 once it gets there.
 pub trait Output {
     // The output as contracts see it: whether it is honest, its written bytes, its flushes and
     // failures.
     ghost seen: { Self → OutputView };
 
-    /// Writes bytes from the front, and says how many: at least one, where there are any.
+    /// Writes bytes from the front, and says how many: at least one if there are any.
     ///
     /// A failed write takes none.
     fn write(&mut self, bytes: &[u8]) -> Result<usize, DeviceFault>
         ensures writes { Writes (seen self.old) (seen self.new) result bytes.now };
 
-    /// Sees to it that what was written has gone out.
+    /// Makes sure that what was written has gone out.
     fn flush(&mut self) -> Result<(), DeviceFault>
         ensures flushes { Flushes (seen self.old) (seen self.new) result };
 }
 
 /// Any reader or writer of std.
 ///
-/// It hands over what the reader gave, and hands on what it is given. Where std shows the bytes of
+/// It hands over what the reader gave, and passes on what it is given. If std shows the bytes of
 /// a reader or writer, as of a slice that is read or a vector that is written, it is an honest
 /// device of these bytes.
 ///
@@ -72,7 +72,7 @@ impl<T> Model for Device<T> {
 }
 
 impl<T> Device<T> {
-    /// A device round a reader or a writer, which was not flushed and has not failed yet.
+    /// A device around a reader or a writer, which was not flushed and has not failed yet.
     pub fn new(inner: T) -> Device<T>
         ensures unused { result ≡ record { inner = inner; flushes = 0; failures = 0 } }
     {
@@ -83,7 +83,7 @@ impl<T> Device<T> {
         }
     }
 
-    // Tells what std answered, and counts an error, of whatever kind, as one failure.
+    // Reports what std answered, and counts an error, of whatever kind, as one failure.
     fn told<A>(&mut self, answer: io::Result<A>) -> Result<A, DeviceFault>
         ensures told { Tells answer self.old self.new result }
     {
@@ -97,7 +97,7 @@ impl<T> Device<T> {
     }
 }
 
-// What std answered to a write of so many bytes, where none taken of at least one is an error.
+// What std answered to a write of this many bytes, except that none taken of at least one is an error.
 fn taken(answer: io::Result<usize>, given: usize) -> io::Result<usize>
     ensures taken { TakesNoneAsError answer given result }
 {
@@ -134,7 +134,7 @@ impl<T: Write> Output for Device<T> {
 
 /// Writes all the bytes, in as many writes as the output needs, and does not flush.
 ///
-/// Refusal `WriteFault` where a write failed; what was written is then a prefix of the bytes, and
+/// Refusal `WriteFault` if a write failed; what was written is then a prefix of the bytes, and
 /// nothing more is tried.
 pub fn write_all<O: Output>(out: &mut O, bytes: &[u8]) -> Result<(), Refusal>
     ensures writes { WritesAll (O.seen out.old) (O.seen out.new) bytes.now result }

@@ -146,7 +146,7 @@ pub struct MemoryOutput {
     failures: u64,
 }
 
-// Written out, so that to a proof an output that is let go is one call, and not one for each of its parts.
+// Written out, so that a proof sees the drop of an output as one call, and not one for each of its parts.
 impl Drop for MemoryOutput {
     fn drop(self) {
         let MemoryOutput {

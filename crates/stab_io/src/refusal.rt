@@ -60,7 +60,7 @@ pub enum Refusal {
     /// 17: a number of a path before its last is the place of an item that isn't a block.
     #[error("the path leads into an item that is not a block")]
     NotABlock,
-    /// 18: a detector's or observable's bit differs with the coins, where it must not.
+    /// 18: a detector's or observable's bit depends on the random bits, and it must not.
     #[error("a detector or observable is not the same for all coins")]
     NotDeterministic,
     /// 20: memory was refused.
@@ -154,7 +154,7 @@ impl<T: Drop> From<AllocFailed<T>> for Refusal {
 pub struct Fault {
     /// Why.
     pub refusal: Refusal,
-    /// The line, counted from 1, or 0 where the refusal belongs to no line.
+    /// The line, counted from 1, or 0 if the refusal belongs to no line.
     pub line: u64,
 }
 

@@ -1,4 +1,4 @@
--- Copies of some items of a list behind all.
+-- Copies of some items of a list, after all of its items.
 use Rattle.std.proofs.Common.{◌≡◌, ◌≤◌, ◌<◌, refl, ap, sym, ◌∙◌, ℕ, ◌+◌, zero, suc, List, [], ◌∷◌, ◌++◌, length, take, drop, get_or, arith, append_assoc, append-nil}
 use Rattle.std.proofs.lemmas.List.{take_more, drop-append-le, length-append, length-take-le}
 use Rattle.stab_items.specs.Items.{OneItem}

@@ -20,7 +20,7 @@ none_first : (rest : List ℕ) → slice_get rest 0 ≡ None → rest ≡ []
 none_first [] e = refl
 none_first (x ∷ xs) e = cc
 
--- the text is the line alone, where nothing stands behind it
+-- the text is the line alone, if nothing is after it
 pub line_alone : (text line rest : List ℕ) (r : Bool) → r ≡ pointwise eqb line (take (length line) text) → r ≡ true → rest ≡ drop (length line) text → slice_get rest 0 ≡ None → text ≡ line
 line_alone text line rest r e holds same none =
     (starts_is Decides-eqb text line r e).0 holds
@@ -64,13 +64,13 @@ split_cut text first (Some after) e =
     sym (join_with_byte-slice_split 10 text) ∙ ap (join_with_byte 10) e ∙ joined_more first after (slice_split (is_byte 10) after) refl
     ∙ ap (λ l. first ++ 10 ∷ l) (join_with_byte-slice_split 10 after)
 
--- what stands before lines
+-- what is before lines
 pub before_cut : (text first after : List ℕ) → text ≡ first ++ 10 ∷ after → take (length text - (length after + 1)) text ≡ first
 before_cut text first after cut =
     let long : length text - (length after + 1) ≡ length first = omega (arith, ap length cut, length-append first (10 ∷ after)) in
     (λ i. take (long i) (cut i)) ∙ take-append_seam first (10 ∷ after)
 
--- the lines behind the first are shorter than the text
+-- the lines after the first are shorter than the text
 pub cut_shorter : (text first : List ℕ) (after : Option (List ℕ)) → IsCut text first after → MatchOption after (Unit {0}) (λ rest. length rest < length text)
 cut_shorter text first None cut = tt
 cut_shorter text first (Some after) cut = omega (arith, ap length cut, length-append first (10 ∷ after))
@@ -83,7 +83,7 @@ some_first text = begun (slice_split (is_byte 10) text) refl
     begun [] e = absurd (omega (arith, ap length e, length-slice_split (is_byte 10) text))
     begun (p ∷ ps) e = (p, ps, e)
 
--- what a look at the first line told
+-- what a look at the first line said
 pub some_told : (text : List ℕ) (given : Option (Kind × Option (Bor (List ℕ)))) (found : Kind × Option (Bor (List ℕ))) → given ≡ Some found → TellsInstruction text (Ok given)
     → BeginsWithInstruction text found.0 (option_copied found.1)
 some_told text given found e h = subst (λ x. TellsInstruction text (Ok x)) e h

@@ -25,7 +25,7 @@ depth-join done ys = omega arith
 depth-join (next op rest) ys = depth-join rest ys
 depth-join (block c t body rest) ys = omega (arith, depth-join rest ys)
 
--- an item put behind others
+-- an item put after others
 pub listed_pushed : (xs : List OneItem) (x : OneItem) → listed (xs ++ x ∷ []) ≡ join (listed xs) (before x done)
 listed_pushed xs x = listed-append xs (x ∷ [])
 

@@ -16,11 +16,11 @@ use Rattle.stab_items.proofs.FrontLemmas.{cut_split, split_cut, cut_shorter}
 pub known_front : (text bytes : List ℕ) (op : Operation) (x : OneItem) (after : Option (List ℕ)) → IsKnownLine bytes op → IsCut text bytes after → x ≡ operation op → BeginsWithItem text x after
 known_front text bytes op x after known cut e = (bytes, op, cut_split text bytes after known.whole cut, known.means, e)
 
--- the lines behind it are shorter than the text
+-- the lines after it are shorter than the text
 pub begun_shorter : (text : List ℕ) (x : OneItem) (after : Option (List ℕ)) → BeginsWithItem text x after → MatchOption after (Unit {0}) (λ rest. length rest < length text)
 begun_shorter text x after b = cut_shorter text b.0 after (split_cut text b.0 after b.2)
 
--- where a line means an instruction, it does so whatever was read before it
+-- if a line means an instruction, it does so whatever was read before it
 instruction_alone : (b d : Bool) (c : List ℕ) (n : Bool) (op : Operation) → (if b then (if n then Ok Blank else if d then Ok Close else Err BadLine) else meaning_of c) ≡ Ok (line.Operation op) → meaning_of c ≡ Ok (line.Operation op)
 instruction_alone false d c n op e = e
 instruction_alone true d c true op e = cc

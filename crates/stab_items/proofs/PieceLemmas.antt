@@ -48,7 +48,7 @@ few_pieces (x ∷ xs) = by_first (few_pieces xs) (is_byte 10 x) refl
     by_first few true e = omega (arith, ap length (slice_split-cons_yes (is_byte 10) x xs e), few)
     by_first few false e = omega (arith, ap length (slice_split-cons_no (is_byte 10) x xs e), onto_count x (slice_split (is_byte 10) xs) (some_pieces xs), few)
 
--- so a text is longer than what stands behind lines of it, by as many bytes or more
+-- so a text is longer than what is after lines of it, by as many bytes or more
 pub lines_shorter : (text front : List ℕ) (after : Option (List ℕ)) (count : ℕ) → IsCut text front after → length (slice_split (is_byte 10) front) ≡ count
     → MatchOption after (Unit {0}) (λ rest. (length rest < length text) × (length rest + count ≤ length text))
 lines_shorter text front None count cut few = tt

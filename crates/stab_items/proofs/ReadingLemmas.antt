@@ -1,4 +1,4 @@
--- What a reader keeps, of which the first items of the outermost list stand by themselves.
+-- What a reader keeps, of which the first items of the outermost list are kept by themselves.
 use Rattle.std.proofs.Common.{◌≡◌, ◌≤◌, ◌<◌, refl, ap, sym, ◌∙◌, subst, suc, List, [], ◌∷◌, ◌++◌, true, ◌==◌, ◌&&◌, not, length, map, reverse, nat_lt, Ok, arith, append_assoc, append-nil}
 use Rattle.std.proofs.lemmas.List.{map-append, reverse-append, length-reverse, length-map}
 use Rattle.std.proofs.lemmas.Bool.Decides.{nat_tests}
@@ -32,7 +32,7 @@ outermost_pushed xs (g ∷ gs) f = refl
 pub kept_pushed : (xs : List OneItem) (fs : List StoredBlock) (ys : List OneItem) (x : OneItem) → listed (outermost xs fs ++ (ys ++ x ∷ [])) ≡ join (listed (outermost xs fs ++ ys)) (before x done)
 kept_pushed xs fs ys x = ap listed (sym (append_assoc (outermost xs fs) ys (x ∷ []))) ∙ listed_pushed (outermost xs fs ++ ys) x
 
--- the items are put behind the first
+-- the items are put after the first
 pub settled : (xs all : List OneItem) (fs gs : List StoredBlock) (ys zs : List OneItem) → length fs ≡ 0 → gs ≡ fs → zs ≡ [] → all ≡ xs ++ ys → kept_progress all gs zs ≡ kept_progress xs fs ys
 settled xs all [] gs ys zs none same empty e =
     (λ i. kept_progress (e i) (same i) (empty i)) ∙ ap (λ l. record { open_blocks = []; now = listed l }) (append-nil (xs ++ ys))

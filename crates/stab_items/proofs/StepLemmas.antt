@@ -73,7 +73,7 @@ any_greatest : (m : ℕ) (ks : List ℕ) → list_any (nat_lt m) ks ≡ nat_lt m
 any_greatest m [] = grind arith
 any_greatest m (k ∷ ks) = ap (λ b. nat_lt m k || b) (any_greatest m ks) ∙ lt_max m k (greatest ks)
 
--- some step looks too far where the reach does
+-- some step looks too far if the reach does
 pub looks_too_far_reach : (m : ℕ) (ss : List Step) → looks_too_far m ss ≡ nat_lt m (reach ss)
 looks_too_far_reach m [] = grind arith
 looks_too_far_reach m (s ∷ ss) =

@@ -1,4 +1,4 @@
--- Lines that put items behind others where no block is open, and the runs and stretches of them.
+-- Lines that put items after others if no block is open, and the runs and stretches of them.
 use Rattle.std.proofs.Common.{◌≡◌, ◌<◌, refl, ap, sym, ◌∙◌, subst, ℕ, ◌+◌, ◌-◌, List, [], ◌∷◌, ◌++◌, All, Bool, true, false, nat_lt, length, take, drop, map, Option, Some, None, MatchOption, Ok, Err, if◌then◌else◌, ◌⊎◌, inl, inr, arith, append_assoc, length-append}
 use Rattle.std.specs.List.{slice_split}
 use Rattle.std.proofs.lemmas.List.{map-append, take-append-le, take_all}
@@ -21,7 +21,7 @@ use Rattle.stab_items.proofs.ItemLemmas.{join_done, join_assoc, listed-append, d
 use Rattle.stab_items.proofs.FrontLemmas.{split_cut, one_line_first}
 use Rattle.stab_items.proofs.PieceLemmas.{cut_pieces, ran_more}
 
--- no line, and lines behind others
+-- no line, and lines after others
 pub reads_none : Reads [] done
 reads_none = record {
   on = λ n now ms. λ i. read_on (none n i) (outside (sym (join_done now) i)) ms;
@@ -78,7 +78,7 @@ line_puts n l now t e none = by_meaning (meaning_of (content_of l)) refl e
         let same : outside (join now (next op done)) ≡ t = cc in
         (next op done, record { on = λ k at ms. ap (λ w. read_on k (outside at) (w ∷ ms)) q; flat = refl }, sym same)
 
--- what is kept where no block is open
+-- what is kept if no block is open
 pub kept_outside : (xs : List OneItem) (fs : List StoredBlock) (ys : List OneItem) → length fs ≡ 0 → kept_progress xs fs ys ≡ outside (join (listed xs) (listed ys))
 kept_outside xs [] ys none = ap outside (listed-append xs ys)
 kept_outside xs (f ∷ fs) ys none = absurd (omega (arith, none))
@@ -133,7 +133,7 @@ runs_on xs s n text first (Some rest) old new single fs ys r split e (inr k) =
     goes_on t none taken None r = tt
     goes_on t none taken (Some run) r = run_goes_on xs s t n text rest first run r split taken none
 
--- the items of a run are put behind the first
+-- the items of a run are put after the first
 join_cancel : (a x y : Items) → join a x ≡ join a y → x ≡ y
 join_cancel done x y e = e
 join_cancel (next op rest) x y e = let same : join rest x ≡ join rest y = cc in join_cancel rest x y same

@@ -238,7 +238,7 @@ summary_taken xs n d h small =
 still_more : (n : ℕ) → nat_lt 1048576 n ≡ nat_lt 1048576 (min n 1048577)
 still_more n = grind arith
 
--- a summary tells what refuses a whole circuit
+-- a summary says what refuses a whole circuit
 pub check_judged : (items : Items) → check_of items ≡ judged (summary_of items)
 unfolding check_of
 check_judged items =

@@ -1,4 +1,4 @@
--- Circuits: which items the lines of a text stand for, and its one fault where there are none.
+-- Circuits: which items the lines of a text stand for, and its one fault if there are none.
 -- Source: Stim's circuit file format, its lines and blocks. The limits, the numbers of refusals and the text of one item are this
 -- project's own.
 use Rattle.std.specs.Prelude.{◌≡◌, ℕ, ◌+◌, ◌-◌, Bool, false, nat_lt, ◌==◌, List, [], ◌∷◌, ◌++◌, length, map, if◌then◌else◌, Option, Some, None, Result, Ok, Err}
@@ -43,7 +43,7 @@ pub data Joins : List Meaning → Items → Type 0 where
 abbrev pub at_line : ℕ → Refusal → Fault
 at_line n r = record { refusal = r; line = n }
 
--- the first fault from line n on, where blocks were opened at these lines and not closed, the innermost first
+-- the first fault from line n on, if blocks were opened at these lines and not closed, the innermost first
 abbrev pub fault_from : ℕ → List ℕ → List Meaning → Option Fault
 fault_from n [] [] = None
 fault_from n (at ∷ outer) [] = Some (at_line at BadBlock)
@@ -58,7 +58,7 @@ fault_from n (at ∷ outer) (Ok Close ∷ ms) = fault_from (n + 1) outer ms
 abbrev pub most_bytes : ℕ
 most_bytes = 16777216
 
--- the fault of a text whose lines mean this, where it is within its limit
+-- the fault of a text whose lines mean this, if it is within its limit
 abbrev pub limited : List ℕ → Option Fault → Option Fault
 limited text fault = if nat_lt most_bytes (length text) then Some (whole TooLong) else fault
 
@@ -70,7 +70,7 @@ text_fault text = limited text (fault_from 1 [] (meanings text))
 abbrev pub StandsFor : List ℕ → Items → Type 0
 StandsFor text items = (text_fault text ≡ None) × Joins (meanings text) items
 
--- what a content means after a whole item: only blanks and stray closes are told apart
+-- what a content means after a whole item: only blanks and stray closes are distinguished
 abbrev pub meaning_after : List ℕ → Meaning
 meaning_after content = if length content == 0 then Ok Blank else if is_close content then Ok Close else Err BadLine
 
@@ -86,7 +86,7 @@ ends_item d (Ok (line.Operation op)) = d == 0
 ends_item d (Ok Close) = d == 1
 ends_item d m = false
 
--- what the lines of one item's text mean, where so many blocks are open
+-- what the lines of one item's text mean, if this many blocks are open
 abbrev pub one_item : ℕ → List (List ℕ) → List Meaning
 one_item d [] = []
 one_item d (c ∷ cs) = meaning_of c ∷ (if ends_item d (meaning_of c) then map meaning_after cs else one_item (depth_after d (meaning_of c)) cs)

@@ -74,7 +74,7 @@ steps_of kind.Tick = []
 steps_of (kind.QubitCoords located) = []
 steps_of (kind.ShiftCoords coordinates) = []
 
--- so many rounds of steps
+-- this many rounds of steps
 abbrev pub rounds : ℕ → List Step → List Step
 rounds zero steps = []
 rounds (suc n) steps = steps ++ rounds n steps

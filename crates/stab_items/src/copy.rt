@@ -46,7 +46,7 @@ fn copied_head(alloc: Global, head: &Head) -> Result<Head, AllocError>
     })
 }
 
-/// Puts copies of some items behind all.
+/// Puts copies of some items after all of them.
 pub(crate) fn push_copies(
     alloc: Global,
     items: &mut Vec<Item>,

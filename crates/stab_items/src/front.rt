@@ -8,8 +8,8 @@ use stab_io::Refusal;
 use stab_lines::{Kind, Line, detector_in_front, instruction_in_front, is_close};
 use std::alloc::Global;
 
-/// The instruction that the first line means, where a look at its bytes is enough to tell, and the lines
-/// behind it. Where one item alone is read, a line behind it means no more.
+/// The instruction that the first line means, if a look at its bytes is enough to see it, and the lines
+/// after it. If only one item is read, a line after it means no more.
 pub(crate) fn first_instruction(
     alloc: Global,
     single: bool,
@@ -41,7 +41,7 @@ pub(crate) fn meaning_after(content: &[u8]) -> Result<Line, Refusal>
     }
 }
 
-/// The lines behind a line, if there are any, where the text begins with that.
+/// The lines after a line with which the text begins, if there are any.
 pub(crate) fn behind_front<'a>(text: &'a [u8], line: &[u8]) -> Option<Option<&'a [u8]>>
     ensures front { MatchOption result (Unit {0}) (λ after. IsCut text.now line.now (option_copied after)) }
 {
@@ -56,7 +56,7 @@ pub(crate) fn behind_front<'a>(text: &'a [u8], line: &[u8]) -> Option<Option<&'a
     }
 }
 
-/// What stands in a text before these lines.
+/// What is in a text before these lines.
 #[tactic(auto, using(crate::proofs::FrontLemmas::before_cut))]
 pub(crate) fn before_lines<'a>(text: &'a [u8], after: Option<&[u8]>) -> &'a [u8]
     ensures value { (front : List ℕ) → IsCut text.now front (option_copied after.entry) → result.now ≡ front }

@@ -10,7 +10,7 @@ pub(crate) struct Instruction {
     sum: Summary,
 }
 
-// Written out, so that to a proof a value that is let go is one call, and not one for each of its parts.
+// Written out, so that a proof sees the drop of a value as one call, and not one for each of its parts.
 impl Drop for Instruction {
     fn drop(self) {
         let Instruction {
@@ -74,7 +74,7 @@ impl Instruction {
         &self.kind
     }
 
-    /// The tag, which is empty where there is none.
+    /// The tag, which is empty if there is none.
     pub(crate) fn tag(&self) -> &[u8]
         ensures value { result.now ≡ self.now.tag }
     {

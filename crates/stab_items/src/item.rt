@@ -43,7 +43,7 @@ pub(crate) struct Head {
     pub(crate) kept: Summary,
 }
 
-// Written out, so that to a proof a value that is let go is one call, and not one for each of its parts.
+// Written out, so that a proof sees the drop of a value as one call, and not one for each of its parts.
 impl Drop for Head {
     fn drop(self) {
         let Head {
@@ -85,7 +85,7 @@ pub enum Part<'a> {
     Tick,
     Operation {
         kind: &'a Kind,
-        /// Empty where there is none.
+        /// Empty if there is none.
         tag: &'a [u8],
     },
     Block {
@@ -187,7 +187,7 @@ impl Item {
         }
     }
 
-    /// Has a block run so many rounds. An instruction stays as it is.
+    /// Makes a block run this many rounds. An instruction stays as it is.
     pub fn set_rounds(&mut self, count: Count)
         ensures value { self.new ≡ with_rounds count self.old }
     {
@@ -216,7 +216,7 @@ impl Item {
         }
     }
 
-    /// Has these items stand in a block, in the stead of those in it, and renews what it keeps. An
+    /// Puts these items in a block, in place of those in it, and renews what it keeps. An
     /// instruction stays as it is. It takes no memory.
     pub fn set_body(&mut self, items: Vec<Item>)
         requires shallow { depth (listed items.items) ≤ 15 }

@@ -6,16 +6,16 @@ use std::alloc::{AllocError, Global};
 use std::marker::Model;
 use std::rc::Rc;
 
-/// So many lines are remembered at most.
+/// At most this many lines are remembered.
 const MOST: usize = 65_535;
 
-/// So many lines are remembered before the table is made: a short text pays nothing for it.
+/// This many lines are remembered before the table is made: a short text pays nothing for it.
 const FEW: usize = 256;
 
-/// After so many lines that were not known, none is looked for any more.
+/// After this many lines that were not known, none is looked for any more.
 const PATIENCE: u32 = 8192;
 
-/// A line that was known makes up for so many that were not.
+/// A line that was known makes up for this many that were not.
 const WORTH: u32 = 64;
 
 /// A line that was read, and the instruction that it means. Contracts see both.
@@ -24,7 +24,7 @@ struct KnownLine<'a> {
     instruction: Rc<Instruction>,
 }
 
-// Written out, so that to a proof a value that is let go is one call, and not one for each of its parts.
+// Written out, so that a proof sees the drop of a value as one call, and not one for each of its parts.
 impl<'a> Drop for KnownLine<'a> {
     fn drop(self) {
         let KnownLine {
@@ -46,7 +46,7 @@ impl<'a> Model for KnownLine<'a> {
     ghost invariant = { λ l. IsKnownLine l.bytes.now l.instruction.value };
 }
 
-/// The item of a known line that a text begins with, and the lines behind it, if there are any.
+/// The item of a known line that a text begins with, and the lines after it, if there are any.
 #[derive(Drop)]
 pub(crate) struct FoundLine<'a> {
     pub(crate) item: Item,
@@ -63,12 +63,12 @@ struct Newest {
 /// Lines that were read, so that a line that comes again is not read again.
 ///
 /// Circuits that are written out have the same lines in one order over and over. So a line is looked
-/// for behind the one that was found last, and only if it is another by its first bytes.
+/// for after the one that was found last, and elsewhere only if its first bytes are different.
 #[derive(Drop)]
 pub(crate) struct KnownLines<'a> {
     alloc: Global,
     lines: Vec<KnownLine<'a>>,
-    // The number of the line that is looked for first, behind the one that was found last.
+    // The number of the line that is looked for first, after the one that was found last.
     next: usize,
     // The newest line by each slot. What it says is tried, and nothing rests on it.
     table: Vec<Newest>,
@@ -85,7 +85,7 @@ impl<'a> KnownLines<'a> {
     ghost use Rattle.stab_items.specs.Items.{operation};
     ghost use Rattle.stab_items.specs.inner.KnownLines.{IsOneLine, BeginsWithItem, Means};
 
-    /// No lines. None will be remembered where a text has no line twice, as that of one item.
+    /// No lines. None will be remembered for a text that has no line twice, such as that of one item.
     pub(crate) fn new(alloc: Global, gave_up: bool) -> KnownLines<'a> {
         KnownLines {
             alloc,
@@ -161,7 +161,7 @@ impl<'a> KnownLines<'a> {
             return Item::operation(self.alloc, instruction);
         }
         self.misses += 1;
-        // Often one line alone is another, and those behind it come again.
+        // Often one line alone is another, and those after it come again.
         self.next = self.next.saturating_add(1);
         let number = self.lines.len();
         if self.gave_up || number >= MOST {

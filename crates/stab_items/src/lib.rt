@@ -1,15 +1,15 @@
 //! The items of a circuit: instructions and blocks, read from the lines of a text, summed up, copied and
 //! printed.
 //!
-//! What one line means is said by `stab_lines`; here lines are put together to items. Circuits of
+//! `stab_lines` says what one line means; here lines are put together into items. Circuits of
 //! them, with edits and unrolled steps, are `stab_circuit`'s.
 //!
 //! - `instruction`: instructions, which keep their numbers.
 //! - `item`: instructions and blocks, which keep the numbers of one round.
 //! - `reader`: the items of a text's lines, with the blocks that are open.
-//! - `front`: the first line of a text: where it ends, and what a look at its bytes tells.
+//! - `front`: the first line of a text: where it ends, and what a look at its bytes says.
 //! - `known_lines`: lines that were read, so that one that comes again is not read again.
-//! - `stretches`: the same of many lines at once, one behind the other.
+//! - `stretches`: the same for many lines at once, one after the other.
 //! - `marks`: by which first bytes a line or a stretch is looked for.
 //! - `whole_text`: the items of a text, by its stretches and lines.
 //! - `summary`: the numbers that are kept.
@@ -17,7 +17,7 @@
 //! - `print`: the one text of items.
 //!
 //! `specs/` says which items a text stands for, what its fault is, what the unrolled steps of items
-//! are, and what is printed of them; `specs/inner` has what private contracts alone speak of, and
+//! are, and what is printed of them; `specs/inner` has what only private contracts use, and
 //! those of calls that `stab_circuit` alone makes.
 //!
 //! Sources: Stim's circuit file format (.stim) without noise, in Stim's repository
@@ -44,6 +44,6 @@ mod whole_text;
 
 pub use copy::copied_item;
 pub use item::{Item, Part, items_summary};
-pub use print::{write_all_items, write_one_item};
+pub use print::{write_all_items, write_item_coordinates, write_one_item};
 pub use summary::{STEPS_CAP, Summary};
 pub use whole_text::read_lines;

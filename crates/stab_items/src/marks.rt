@@ -6,17 +6,17 @@ pub(crate) const LINE_SLOTS: usize = 4096;
 /// How many slots the table of known stretches has.
 pub(crate) const STRETCH_SLOTS: usize = 1024;
 
-/// By so many bytes in front of it a line has its slot.
+/// A line's slot comes from this many of its first bytes.
 const LINE_FRONT: usize = 16;
 
-/// By so many bytes in front of it, which are of a few lines, a stretch has its slot.
+/// A stretch's slot comes from this many of its first bytes, which are of a few lines.
 const STRETCH_FRONT: usize = 32;
 
 /// An odd number by which sums of bytes are spread over the slots.
 const SPREAD: u64 = 0x9E37_79B9_7F4A_7C15;
 
 /// What a line or a stretch has by its first bytes: a slot in a table, and a mark, by which most of one slot
-/// are told apart without a look at them.
+/// are distinguished without a look at them.
 #[derive(Clone, Copy)]
 pub(crate) struct Mark {
     pub(crate) slot: usize,
@@ -81,15 +81,15 @@ fn word_at(bytes: &[u8], place: usize) -> u64
     ])
 }
 
-/// The highest bit of the first of eight bytes that ends a line, and perhaps of others behind it: a byte
-/// becomes 0 where it does.
+/// The highest bit of the first of eight bytes that ends a line, and perhaps of others after it: a byte
+/// becomes 0 where it ends one.
 #[inline(always)]
 fn line_ends(word: u64) -> u64 {
     let apart = word ^ 0x0A0A_0A0A_0A0A_0A0A;
     apart.wrapping_sub(0x0101_0101_0101_0101) & !apart & 0x8080_8080_8080_8080
 }
 
-/// The bytes before the first that ends a line, and 0 for the others; all, where none does.
+/// The bytes before the first that ends a line, and 0 for the others; all if none does.
 #[inline(always)]
 fn before_end(word: u64, ends: u64) -> u64 {
     let end = (ends & 0_u64.wrapping_sub(ends)) >> 7;

@@ -3,13 +3,13 @@ ghost use Rattle.stab_items.specs.Items.{before, done, listed};
 ghost use Rattle.stab_io.specs.Devices.{WritesAll};
 ghost use Rattle.stab_items.specs.inner.Margins.{margin_depth};
 ghost use Rattle.stab_lines.specs.Prints.{operation_text, open_text};
-ghost use Rattle.stab_items.specs.Prints.{line_text, printed_in, printed};
+ghost use Rattle.stab_items.specs.Prints.{line_text, printed_in, printed, item_coordinates};
 
 use crate::item::{Item, Part};
 use stab_io::{Output, Refusal, write_all};
-use stab_lines::{Count, Kind, write_opening, write_operation};
+use stab_lines::{Count, Kind, write_detector_coordinates, write_opening, write_operation};
 
-/// The blocks round a line, from the innermost outwards.
+/// The blocks around a line, from the innermost outwards.
 #[derive(Clone, Copy)]
 enum Margin<'a> {
     None,
@@ -96,7 +96,7 @@ fn write_items<O: Output>(out: &mut O, margin: &Margin, items: &[Item]) -> Resul
 
 /// Writes the text of items: that of a circuit of these items.
 ///
-/// Refusal `WriteFault` where a write failed; what was written is then a prefix of the text, and
+/// Refusal `WriteFault` if a write failed; what was written is then a prefix of the text, and
 /// nothing more is tried.
 pub fn write_all_items<O: Output>(out: &mut O, items: &[Item]) -> Result<(), Refusal>
     ensures writes { WritesAll (O.seen out.old) (O.seen out.new) (printed (listed items.now)) result }
@@ -106,10 +106,23 @@ pub fn write_all_items<O: Output>(out: &mut O, items: &[Item]) -> Result<(), Ref
 
 /// Writes the text of one item, as `write_circuit` does that of a circuit of this item alone.
 ///
-/// Refusal `WriteFault` where a write failed; what was written is then a prefix of the text, and
+/// Refusal `WriteFault` if a write failed; what was written is then a prefix of the text, and
 /// nothing more is tried.
 pub fn write_one_item<O: Output>(out: &mut O, item: &Item) -> Result<(), Refusal>
     ensures writes { WritesAll (O.seen out.old) (O.seen out.new) (printed (before item.now done)) result }
 {
     write_item(out, &Margin::None, item)
+}
+
+/// Writes the coordinates of an item that is a detector after a space, as its line is printed, such as
+/// ` (1, 3, 2)`. It writes nothing if there are none, or for any other item, and does not flush.
+///
+/// Refusal `WriteFault` if a write failed; what was written is then a prefix of the text.
+pub fn write_item_coordinates<O: Output>(out: &mut O, item: &Item) -> Result<(), Refusal>
+    ensures writes { WritesAll (O.seen out.old) (O.seen out.new) (item_coordinates item.now) result }
+{
+    match item.part() {
+        Part::Operation { kind, .. } => write_detector_coordinates(out, kind),
+        Part::Tick | Part::Block { .. } => Ok(()),
+    }
 }

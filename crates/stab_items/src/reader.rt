@@ -17,7 +17,7 @@ pub struct OpenBlock {
 }
 
 /// The first items of the outermost list, the open blocks, the innermost last, and the items read in
-/// that, where no block is open those behind the first.
+/// that block, or, if no block is open, those after the first.
 #[derive(Drop)]
 pub struct CircuitReader {
     pub(crate) alloc: Global,
@@ -46,7 +46,7 @@ impl CircuitReader {
         }
     }
 
-    /// The items, where no block is open.
+    /// The items, if no block is open.
     pub(crate) fn finish(self) -> Result<Vec<Item>, Fault>
         ensures gives { ReadsItems result (finished (progress_of self)) }
     {
@@ -88,7 +88,7 @@ impl CircuitReader {
         }
     }
 
-    /// Takes the first line of a text, and gives the lines behind it, if there are any.
+    /// Takes the first line of a text, and gives the lines after it, if there are any.
     pub(crate) fn take_first<'a>(
         &mut self,
         single: bool,
@@ -101,7 +101,7 @@ impl CircuitReader {
         ensures shorter { IfOk result (λ after. MatchOption (option_copied after) (Unit {0}) (λ rest. length rest < length text.entry.now)) }
         ensures outer { OnOk result (self.new.outer.items ≡ self.old.outer.items) }
     {
-        // Where one item alone is read, a line behind it means no more, and in blocks few lines come again.
+        // If only one item is read, a line after it means no more, and in blocks few lines come again.
         if single || !self.open_blocks.is_empty() {
             return self.take_new(single, line, text, known);
         }
@@ -115,7 +115,7 @@ impl CircuitReader {
         }
     }
 
-    /// Takes the first line of a text, which is not known, and gives the lines behind it.
+    /// Takes the first line of a text, which is not known, and gives the lines after it.
     fn take_new<'a>(
         &mut self,
         single: bool,
@@ -200,7 +200,7 @@ impl CircuitReader {
         self.put(item)
     }
 
-    /// Puts an item behind the others.
+    /// Puts an item after the others.
     #[inline]
     #[tactic(auto, using(crate::proofs::ReadingLemmas::kept_pushed))]
     fn put(&mut self, item: Item) -> Result<(), Refusal>

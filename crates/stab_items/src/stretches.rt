@@ -5,15 +5,15 @@ use crate::item::Item;
 use crate::marks::{STRETCH_SLOTS, stretch_mark};
 use std::alloc::{AllocError, Global};
 
-/// After so many lines at which no stretch was found but by its place, none is looked for by its first
+/// After this many lines at which no stretch was found except by its place, none is looked for by its first
 /// bytes.
 const PATIENCE: u32 = 65_536;
 
-/// Stretches of so few lines are found by their place alone, since each is remembered again.
+/// Stretches of this few lines are found by their place alone, since each is remembered again.
 const FEW: u64 = 64;
 
-/// Lines that were read, one behind the other, how many they are, and the place of their first item in the
-/// outermost list and that behind the last.
+/// Lines that were read, one after the other, how many they are, and the place of their first item in the
+/// outermost list and the place after the last.
 #[derive(Clone, Copy)]
 pub(crate) struct Stretch<'a> {
     pub(crate) bytes: &'a [u8],
@@ -30,7 +30,7 @@ pub(crate) struct Run<'a> {
     pub(crate) from: u64,
 }
 
-/// Lines that were taken at once: how many, and those behind them, if there are any.
+/// Lines that were taken at once: how many, and those after them, if there are any.
 #[derive(Clone, Copy)]
 pub(crate) struct Taken<'a> {
     pub(crate) lines: u64,
@@ -44,19 +44,19 @@ struct Newest {
     number: usize,
 }
 
-/// Stretches of lines, so that where many lines come again in one order they are not read one by one.
+/// Stretches of lines, so that, if many lines come again in one order, they are not read one by one.
 ///
-/// A stretch is looked for behind the one that was found last, and only if the text begins otherwise by
-/// its first bytes. Copies are stretches too: so in a text that repeats itself each is where it is looked
+/// A stretch is looked for after the one that was found last, and elsewhere only if the text begins differently in
+/// its first bytes. Copies are stretches too: so in a text that repeats itself each one is found where it is looked
 /// for.
 #[derive(Drop)]
 pub(crate) struct Stretches<'a> {
     alloc: Global,
-    /// The lines of the items behind the last stretch, where they have neither a block nor its end among
+    /// The lines of the items after the last stretch, if neither a block nor its end is among
     /// them.
     pub(crate) run: Option<Run<'a>>,
     all: Vec<Stretch<'a>>,
-    // The number of the stretch behind the one that was found last.
+    // The number of the stretch after the one that was found last.
     next: usize,
     // The newest stretch by each slot. What it says is tried, and nothing rests on it.
     table: Vec<Newest>,
@@ -86,8 +86,8 @@ impl<'a> Stretches<'a> {
         }
     }
 
-    /// The stretch that a text begins with, and the lines behind it, if there are any. One of few lines is
-    /// found only right behind a stretch.
+    /// The stretch that a text begins with, and the lines after it, if there are any. One with few lines is
+    /// found only right after a stretch.
     pub(crate) fn find(
         &mut self,
         behind_stretch: bool,
@@ -115,8 +115,8 @@ impl<'a> Stretches<'a> {
         }
     }
 
-    /// The stretch of this number, if it has at least so many lines and the text begins with it, and the
-    /// lines behind it.
+    /// The stretch of this number, if it has at least this many lines and the text begins with it, and the
+    /// lines after it.
     #[inline]
     fn at_front(
         &self,

@@ -10,7 +10,7 @@ use stab_io::Refusal;
 use stab_lines::{ControlledPair, Factor, Kind, MeasureTarget, Pair, Product, Qubit};
 
 /// What checks need to know of items: how many steps they make, up to 1,048,577, how many
-/// records and how many detectors, up to 16,777,215 each, how many records have to stand before them, how
+/// records and how many detectors, up to 16,777,215 each, how many records have to be before them, how
 /// many qubits and observables they name, and how deep blocks are nested in them, up to 17.
 #[derive(Clone, Copy)]
 pub struct Summary {
@@ -81,7 +81,7 @@ impl Summary {
         }
     }
 
-    /// The summary of so many rounds of these items.
+    /// The summary of this many rounds of these items.
     pub fn repeated(self, count: u64) -> Summary
         requires once { IsSummary self }
         ensures value { result ≡ repeated_of count self }
@@ -231,7 +231,7 @@ fn past_and_reach(pairs: &[ControlledPair]) -> (u32, u32)
     (past, furthest)
 }
 
-/// The summary of so many steps on so many qubits that make no records.
+/// The summary of this many steps on this many qubits that make no records.
 fn plain(steps: usize, qubits: u32) -> Summary
     requires few { qubits ≤ most_qubits }
     ensures value { result ≡ record { steps = min steps steps_cap; records = 0; detectors = 0; reach = 0; qubits = qubits; observables = 0; depth = 0 } }
@@ -244,7 +244,7 @@ fn plain(steps: usize, qubits: u32) -> Summary
     }
 }
 
-/// The summary of one step that looks back, and of so many detectors.
+/// The summary of one step that looks back, and of this many detectors.
 #[tactic(auto, using(crate::proofs::SummaryLemmas::greatest_small))]
 fn look(records: &[u32], detectors: u32, observables: u32) -> Summary
     requires each { All IsLookback records.now }
@@ -274,7 +274,7 @@ fn controlled(pairs: &[ControlledPair]) -> Summary
     }
 }
 
-/// The summary of so many steps on so many qubits that make a record each.
+/// The summary of this many steps on this many qubits that make a record each.
 fn measurement(steps: usize, qubits: u32) -> Summary
     requires few { qubits ≤ most_qubits }
     ensures value { result ≡ record { steps = min steps steps_cap; records = min steps most_lookback; detectors = 0; reach = 0; qubits = qubits; observables = 0; depth = 0 } }

@@ -49,8 +49,8 @@ impl CircuitReader {
         }
     }
 
-    /// The known stretch that a text begins with, and the lines behind it, if there are any. None is looked
-    /// for in a block, and where one item alone is read.
+    /// The known stretch that a text begins with, and the lines after it, if there are any. None is looked
+    /// for in a block, or if only one item is read.
     fn known_stretch<'a>(
         &self,
         single: bool,
@@ -123,7 +123,7 @@ impl CircuitReader {
         self.cut(line, rest, stretches)
     }
 
-    /// Puts the items that were read behind the first of the outermost list, and remembers their lines,
+    /// Puts the items that were read after the first of the outermost list, and remembers their lines,
     /// which end before this line, with which the rest begins.
     fn cut<'a>(
         &mut self,
@@ -148,7 +148,7 @@ impl CircuitReader {
         Ok(())
     }
 
-    /// Puts copies of the items of a stretch behind the others, and remembers them as a stretch.
+    /// Puts copies of the items of a stretch after the others, and remembers them as a stretch.
     fn push_copy<'a>(
         &mut self,
         stretch: Stretch<'a>,
@@ -216,7 +216,7 @@ impl CircuitReader {
         }
     }
 
-    /// Keeps a run that goes on behind a line, where no block is open behind it.
+    /// Keeps a run that goes on after a line, if no block is open after it.
     fn keep_run<'a>(&self, single: bool, run: Option<Run<'a>>, stretches: &mut Stretches<'a>)
         ensures all { stretches.new.all.items ≡ stretches.old.all.items }
         ensures run { (stretches.new.run ≡ None) ⊎ ((stretches.new.run ≡ run.entry) × (single ≡ false) × (length self.now.open_blocks.items ≡ 0)) }
@@ -228,7 +228,7 @@ impl CircuitReader {
         };
     }
 
-    /// Makes a stretch of the items that were read, where there are enough.
+    /// Makes a stretch of the items that were read, if there are enough.
     fn settle<'a>(
         &mut self,
         line: u64,
@@ -251,7 +251,7 @@ impl CircuitReader {
     }
 }
 
-/// The fault of a refusal at a line; want of memory has no line.
+/// The fault of a refusal at a line; lack of memory has no line.
 fn fault_at(refusal: Refusal, line: u64) -> Fault
     ensures value { result ≡ line_fault line refusal }
 {

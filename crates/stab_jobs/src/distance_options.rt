@@ -12,8 +12,8 @@ pub struct DistanceOptions {
     pub graphlike: bool,
     /// Up to how many errors.
     pub most: Option<usize>,
-    /// Detectors and observables that are not the same for all coins are left out, and not refused.
+    /// Detectors and observables that are not the same for all random bits are left out, and not refused.
     pub sure_only: bool,
-    /// Each number of errors that was excluded is told meanwhile.
+    /// Each number of errors that was excluded is reported meanwhile.
     pub progress: bool,
 }

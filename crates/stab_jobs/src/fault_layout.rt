@@ -6,6 +6,6 @@ use stab_results::Format;
 pub enum FaultLayout {
     /// A line for each fault or coin: where it is, its name, and what it flips.
     Lines,
-    /// A shot for each fault or coin, whose bits are 1 where it flips them.
+    /// A shot for each fault or coin, whose bits are 1 if it flips them.
     Shots(Format),
 }

@@ -33,7 +33,7 @@ impl Shots {
     /// The most shots that a command takes.
     pub const MOST: usize = 1_000_000;
 
-    /// So many shots from shot 0 on, at most 1,000,000.
+    /// This many shots from shot 0 on, at most 1,000,000.
     pub fn new(number: usize) -> Shots
         requires in_range { number ≤ most_shots }
         ensures value { result ≡ record { first = 0; number = number } }
@@ -41,7 +41,7 @@ impl Shots {
         Shots { first: 0, number }
     }
 
-    /// So many shots from this one on, at most 1,000,000, or none where they go beyond shot 2^64 - 1.
+    /// This many shots from this one on, at most 1,000,000, or none if they go beyond shot 2^64 - 1.
     pub fn from_first(first: u64, number: usize) -> Option<Shots>
         requires in_range { number ≤ most_shots }
         ensures some { IfSome result (λ shots. shots ≡ record { first = first; number = number }) }
@@ -97,7 +97,7 @@ impl QubitCount {
     /// The most qubits of a circuit.
     pub const MOST: usize = 1024;
 
-    /// So many qubits, at most 1,024.
+    /// This many qubits, at most 1,024.
     pub fn new(number: usize) -> QubitCount
         requires in_range { number ≤ most_qubits }
         ensures value { result ≡ number }
@@ -141,7 +141,7 @@ impl Stride {
     /// The greatest stride.
     pub const MOST: usize = 65_536;
 
-    /// So many steps, from 1 to 65,536.
+    /// This many steps, from 1 to 65,536.
     pub fn new(steps: usize) -> Stride
         requires above { 1 ≤ steps }
         requires within { steps ≤ most_stride }
@@ -168,7 +168,7 @@ pub enum Command {
         format: Format,
         shots: Shots,
     },
-    /// Writes the detectors of each shot and, where `append` says so, the observables behind them.
+    /// Writes the detectors of each shot and, if `append` says so, the observables after them.
     Detect {
         format: Format,
         shots: Shots,
@@ -178,19 +178,19 @@ pub enum Command {
     Stabilisers,
     /// Writes the numbers of a circuit, or what is wrong with it.
     Check,
-    /// Writes a bit for each detector and then each observable: 1 where it is the same for all coins.
+    /// Writes a bit for each detector and then each observable: 1 if it is the same for all random bits.
     Deterministic {
         format: Format,
     },
     /// Writes which detectors and observables each fault flips, at the places that the circuit marks
-    /// or `everywhere`. A circuit in which one is not the same for all coins is refused, but where
-    /// `sure_only` leaves such ones out.
+    /// or `everywhere`. A circuit in which one is not the same for all random bits is refused, unless
+    /// `sure_only` leaves such bits out.
     Faults {
         layout: FaultLayout,
         everywhere: bool,
         sure_only: bool,
     },
-    /// Writes, for each detector and observable that is not the same for all coins, which coins decide it.
+    /// Writes, for each detector and observable that is not the same for all random bits, which coins decide it.
     Explain,
     /// Writes which records, detectors and observables each coin flips that decides an outcome.
     Coins {
@@ -198,8 +198,8 @@ pub enum Command {
     },
     /// Writes the least number of errors that flip an observable and no detector, and that many such errors.
     Distance(DistanceOptions),
-    /// Edits the circuit by a script, on so many qubits or on as many as it names, and writes the
-    /// replies, framed where a program is to read them.
+    /// Edits the circuit by a script, on this many qubits or on as many as it names, and writes the
+    /// replies, framed if a program is to read them.
     Edit {
         framed: bool,
         qubits: Option<QubitCount>,

@@ -102,7 +102,7 @@ module _ (n : ℕ) (coins : ℕ → Bool) (K : ℕ) (xs : List Step) (count : �
             b.next)
       ]
 
-  -- where both runs agree they agree at each copy behind
+  -- if both runs agree they agree at each copy after
   agree-at : (far : ℕ) → AgreeBehindSpan n coins xs ys s far → (c : Checkpoint) → s.old_end + far ≤ c.step → AgreeBehindSpan n coins xs ys s (c.step - s.old_end)
   agree-at far agree c after =
       let same : drop (s.old_end + far) xs ≡ drop (s.new_end + far) ys =
@@ -125,7 +125,7 @@ module _ (n : ℕ) (coins : ℕ → Bool) (K : ℕ) (xs : List Step) (count : �
       (λ i. take (h.lengths i).records (kept.run.output i).records) ∙ ap (λ (o : RunOutput). o.records) (front-output n coins xs c.step) in
       missed xs h records agree_there
 
-  -- where both runs agree so many steps behind what was changed, it ends at most a stride behind that
+  -- if both runs agree this many steps after what was changed, it ends at most a stride after that
   pub ends-near : (p : Plan) → p.old_end ≡ s.old_end → p.new_end ≡ s.new_end → length ys < 2 ^ 64 → (far : ℕ) → AgreeBehindSpan n coins xs ys s far → (end : ℕ)
       → EndsSoon n coins p ys old.checkpoints.items old.outputs.records.items end → end ≤ length ys
       → (length xs ≤ (s.old_end + far) + K) ⊎ IsNearCopy K (s.old_end + far) p.next old.checkpoints.items → end ≤ (s.new_end + far) + K
@@ -246,7 +246,7 @@ module _ (n : ℕ) (coins : ℕ → Bool) (K : ℕ) (xs : List Step) (count : �
     here : begin ≡ b.copy.step
     here = some-at (λ c. begin ≡ c.step) old.checkpoints.items (m - 1) b.copy b.here at
 
-    -- so it took just so many steps
+    -- so it took just this many steps
     pub is-counted : m ≤ length old.checkpoints.items → All (λ c. c.step < s.first + 1) (take m old.checkpoints.items)
         → IfSome (slice_get old.checkpoints.items m) (λ c. s.first + 1 ≤ c.step)
         → NoneBefore (AgreeBehindSpan n coins xs ys s) (checkpoint_steps old.checkpoints.items) s.first s.old_end s.new_end end

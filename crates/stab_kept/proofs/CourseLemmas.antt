@@ -29,7 +29,7 @@ use Rattle.stab_replay.specs.Replays.{IsReplay, Ascending, IsEnd, EndsSoon, step
 use Rattle.stab_copies.specs.Meets.{Meets}
 use Rattle.stab_kept.specs.inner.Prepared.{IsCount, Begins, HasCopy, IsRest, IsOldRest, IsPrepared, IsCommitted, copies_behind, meeting_of}
 use Rattle.stab_kept.proofs.SpacingLemmas.{IsBefore}
-use Rattle.stab_kept.proofs.FollowLemmas.{are-moved, some-at, some-and, prepared-same, committed-same, before-first, begun, same-records, next-behind, all-ascending, all-qubits, kept-end, end-flags}
+use Rattle.stab_kept.proofs.FollowLemmas.{some-at, some-and, prepared-same, committed-same, before-first, begun, same-records, next-behind, all-ascending, all-qubits, kept-end, end-flags}
 use Rattle.stab_kept.proofs.CountLemmas.{applied-within, few-steps, ends-at, none-before, is-counted}
 
 pub count-of : (step : ℕ) (seen copies : List Checkpoint) (m : ℕ) → seen ≡ copies → m ≤ length seen → All (λ c. c.step < step) (take m seen)
@@ -44,7 +44,6 @@ same-trans a b c f g = record {
   strings = f.strings ∙ g.strings;
   reach = f.reach ∙ g.reach;
   checkpoints = f.checkpoints ∙ g.checkpoints;
-  sections = f.sections ∙ g.sections;
 }
 
 has-copy : (n : ℕ) (p : Plan) (r : Replay) (copies : List Checkpoint) (bits free : List Bool) (end : End) → IsEnd n p r copies bits free end → HasCopy copies end
@@ -66,7 +65,7 @@ seen-soon {n} {k} coins p {zs} {ys} {seen} {copies} {bits} end qubits all same a
     (subst (λ steps. EndsSoon n coins p steps seen bits end) all
     (subst (λ m. EndsSoon m coins p zs seen bits end) qubits is)))
 
--- the old copies that come behind a replay stand behind the first of them that may be met
+-- the old copies that come after a replay are after the first of them that may be met
 few-behind : (n : ℕ) (p : Plan) (r : Replay) (old : KeptRun) (end : End) (new : RunOutput) (strings : StringsState) (rest : Rest) (m : ℕ) → m ≤ p.next → m ≤ length old.checkpoints.items
     → IsEnd n p r old.checkpoints.items old.outputs.records.items old.outputs.free.items end → IsRest old r.tableau (output_of r.outputs) r.notes.strings r.step end new strings rest
     → m + length (copies_behind rest old.checkpoints.items) ≤ length old.checkpoints.items
@@ -95,10 +94,10 @@ pub record HasBegun (n : ℕ) (coins : ℕ → Bool) (K : ℕ) (ys : List Step) 
   pub copies : All (λ c. c.tableau.qubits ≡ r.tableau.qubits) old.checkpoints.items
 
 -- what was prepared can be put in place, and is the run of the new steps then
-pub record IsReady (n : ℕ) (coins : ℕ → Bool) (K : ℕ) (ys : List Step) (s : Span) (m : ℕ) (r : Replay) (mid : KeptRun) (observables : ℕ) (q : Prepared) : Type 0 where
+pub record IsReady (n : ℕ) (coins : ℕ → Bool) (K : ℕ) (ys : List Step) (m : ℕ) (r : Replay) (mid : KeptRun) (observables : ℕ) (q : Prepared) : Type 0 where
   pub behind : (there : KeptRun) → IsSameKept there mid → m + length (copies_behind q.rest there.checkpoints.items) ≤ length there.checkpoints.items
-  pub kept : (there : KeptRun) → IsSameKept there mid → All (StepFits n) ys → (new : KeptRun) → IsCommitted there q s m K new → IsKeptRun n coins K ys observables new
-  pub flags : (there : KeptRun) → IsSameKept there mid → (new : KeptRun) → IsCommitted there q s m K new → ones r.outputs.free.items ≤ ones new.outputs.free.items
+  pub kept : (there : KeptRun) → IsSameKept there mid → All (StepFits n) ys → (new : KeptRun) → IsCommitted there q m K new → IsKeptRun n coins K ys observables new
+  pub flags : (there : KeptRun) → IsSameKept there mid → (new : KeptRun) → IsCommitted there q m K new → ones r.outputs.free.items ≤ ones new.outputs.free.items
 
 -- how many steps a replay took that has ended, and what is prepared from it
 pub record HasEnded (n : ℕ) (coins : ℕ → Bool) (K : ℕ) (ys : List Step) (s : Span) (old : KeptRun) (m : ℕ) (xs : List Step) (begin : ℕ) (p : Plan) (r : Replay) (end : End)
@@ -110,7 +109,7 @@ pub record HasEnded (n : ℕ) (coins : ℕ → Bool) (K : ℕ) (ys : List Step) 
       → AgreeBehindSpan n coins xs ys s far → applied ≤ ((s.new_end - s.first) + 2 * K) + far
   pub counted : (applied : ℕ) → applied + begin ≡ r.step → EndsSoon n coins p ys old.checkpoints.items old.outputs.records.items r.step
       → IsCounted (AgreeBehindSpan n coins xs ys s) (AgreeBackBehindSpan n coins xs ys s) (checkpoint_steps old.checkpoints.items) s.first s.old_end s.new_end (length ys) applied
-  pub ready : (mid : KeptRun) → IsSameKept mid old → (observables : ℕ) (q : Prepared) → IsPrepared mid r observables end q → IsReady n coins K ys s m r mid observables q
+  pub ready : (mid : KeptRun) → IsSameKept mid old → (observables : ℕ) (q : Prepared) → IsPrepared mid r observables end q → IsReady n coins K ys m r mid observables q
 
 module _ {n : ℕ} {coins : ℕ → Bool} {K : ℕ} {ys : List Step} {s : Span} {old : KeptRun} (f : Follows n coins K ys s None old) (few : length ys ≤ 1048576)
     {m : ℕ} (count : IsCount (s.first + 1) old.checkpoints.items m) where
@@ -167,7 +166,7 @@ module _ {n : ℕ} {coins : ℕ → Bool} {K : ℕ} {ys : List Step} {s : Span} 
         all-ascending n coins K f.old f.count old f.kept ys s f.span p r0.step old_end new_end total (omega (arith, few)) next-there
         (let w = near.within in omega (arith, step_is))
 
-    -- whose steps are the new ones behind what was changed
+    -- whose steps are the new ones after what was changed
     pub old-run : IsOldRun r0.tableau.qubits coins p r0.cursor.all old.checkpoints.items (output_of old.outputs) old.strings
     old-run =
         subst (λ zs. IsOldRun r0.tableau.qubits coins p zs old.checkpoints.items (output_of old.outputs) old.strings) (sym begins.all)
@@ -203,23 +202,22 @@ module _ {n : ℕ} {coins : ℕ → Bool} {K : ℕ} {ys : List Step} {s : Span} 
         prepared_here : IsPrepared old r observables end q
         prepared_here = prepared-same mid old r observables end q same prepared
 
-        placed : (there : KeptRun) → IsSameKept there mid → (new : KeptRun) → IsCommitted there q s m K new → IsCommitted old q s m K new
-        placed there again new committed = committed-same there old q s m K new (same-trans there mid old again same) committed
+        placed : (there : KeptRun) → IsSameKept there mid → (new : KeptRun) → IsCommitted there q m K new → IsCommitted old q m K new
+        placed there again new committed = committed-same there old q m K new (same-trans there mid old again same) committed
 
-        kept-here : All (StepFits n) ys → (new : KeptRun) → IsCommitted old q s m K new → IsKeptRun n coins K ys observables new
+        kept-here : All (StepFits n) ys → (new : KeptRun) → IsCommitted old q m K new → IsKeptRun n coins K ys observables new
         kept-here fits new put =
             kept-end n coins K f.old f.count old f.kept ys s f.span m near count.before r done (omega (arith, raised, begins.reach)) fits few observables new
             (put.observables
             ∙ prepared_here.observables
             ∙ ap (λ (o : RunOutput). with_additions o.additions (replicate observables false)) (sym put.output))
-            (put.sections f.old ys few (are-moved n coins K f.old f.count old f.kept ys s f.span) f.kept.sections)
             p end q reach old_end new_end total (omega (arith, few)) next-there end_here prepared_here.rest prepared_here.reach prepared_here.laid put
 
-        flags-here : (new : KeptRun) → IsCommitted old q s m K new → ones r.outputs.free.items ≤ ones new.outputs.free.items
+        flags-here : (new : KeptRun) → IsCommitted old q m K new → ones r.outputs.free.items ≤ ones new.outputs.free.items
         flags-here new put =
             omega (arith, end-flags n p r old end (output_of q.outputs) q.strings q.rest end_here prepared_here.rest, ap (λ (o : RunOutput). ones o.free) put.output)
 
-        is-ready : IsReady n coins K ys s m r mid observables q
+        is-ready : IsReady n coins K ys m r mid observables q
         is-ready = record {
           behind = λ there again.
               subst (λ cs. m + length (copies_behind q.rest cs) ≤ length cs) (sym (again.checkpoints ∙ same.checkpoints))

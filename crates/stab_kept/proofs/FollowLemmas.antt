@@ -29,12 +29,11 @@ use Rattle.stab_run.specs.Ends.{AgreeBack, with_coin}
 use Rattle.stab_copies.specs.Checkpoints.{IsRunFromStart, IsCheckpoint, checkpoint_steps}
 use Rattle.stab_copies.specs.LaidCopies.{all_laid, moved, moved_copy}
 use Rattle.stab_frames.specs.KeptStrings.{StringsState}
-use Rattle.stab_replay.specs.Sections.{IsSection, IsMoved}
 use Rattle.stab_kept.specs.KeptRuns.{IsKeptRun, IsSameKept, IsSpan}
 use Rattle.stab_replay.specs.NotedStrings.{IsNoted, IsSpliced}
 use Rattle.stab_replay.specs.Replays.{IsReplay, Ascending, IsEnd, step_among_new}
 use Rattle.stab_copies.specs.Meets.{Meets}
-use Rattle.stab_kept.specs.inner.Prepared.{Begins, IsRest, IsOldRest, IsPrepared, IsInPlace, IsCommitted, copies_behind, tableau_behind, meeting_of}
+use Rattle.stab_kept.specs.inner.Prepared.{Begins, IsRest, IsOldRest, IsPrepared, IsCommitted, copies_behind, tableau_behind, meeting_of}
 use Rattle.stab_steps.specs.declared.records.Lengths.{Lengths}
 use Rattle.stab_steps.proofs.RecordLemmas.{ones-append}
 use Rattle.stab_laws.proofs.PointLemmas.{flags-are-coins, front-output}
@@ -106,37 +105,18 @@ prepared-same a b r count end p same h = record {
   laid = h.laid;
 }
 
-pub committed-of : (old : KeptRun) (p : Prepared) (s : Span) (before K : ℕ) (mid new : KeptRun) → IsInPlace old p before K mid → mid.sections.items ≡ old.sections.items
-    → new.tableau ≡ mid.tableau → new.outputs ≡ mid.outputs → new.observables ≡ mid.observables → new.strings ≡ mid.strings → new.reach ≡ mid.reach → new.checkpoints ≡ mid.checkpoints
-    → ((xs ys : List Step) → length ys ≤ 1048576 → IsMoved xs ys s → All (IsSection xs) mid.sections.items → All (IsSection ys) new.sections.items)
-    → IsCommitted old p s before K new
-committed-of old p s before K mid new h same tableau outputs observables strings reach checkpoints moved = record {
-  tableau = tableau ∙ h.tableau;
-  output = ap output_of outputs ∙ h.output;
-  observables = (λ i. (observables i).items) ∙ h.observables;
-  strings = strings ∙ h.strings;
-  reach = reach ∙ h.reach;
-  checkpoints = (λ i. (checkpoints i).items) ∙ h.checkpoints;
-  sections = λ xs ys few are_moved are. moved xs ys few are_moved (subst (All (IsSection xs)) (sym same) are);
-}
-
-pub committed-same : (a b : KeptRun) (p : Prepared) (s : Span) (before K : ℕ) (new : KeptRun) → IsSameKept a b → IsCommitted a p s before K new → IsCommitted b p s before K new
-committed-same a b p s before K new same h = record {
+pub committed-same : (a b : KeptRun) (p : Prepared) (before K : ℕ) (new : KeptRun) → IsSameKept a b → IsCommitted a p before K new → IsCommitted b p before K new
+committed-same a b p before K new same h = record {
   tableau = h.tableau ∙ ap (tableau_behind p.rest) same.tableau;
   output = h.output;
   observables = h.observables;
   strings = h.strings;
   reach = h.reach;
   checkpoints = h.checkpoints ∙ ap (λ cs. all_laid K (copies_behind p.rest cs) (all_laid K (reverse p.laid.items) (take before cs))) same.checkpoints;
-  sections = λ xs ys few moved is. h.sections xs ys few moved (subst (All (IsSection xs)) (sym same.sections) is);
 }
 
 module _ (n : ℕ) (coins : ℕ → Bool) (K : ℕ) (xs : List Step) (count : ℕ) (old : KeptRun) (kept : IsKeptRun n coins K xs count old)
     (ys : List Step) (s : Span) (span : IsSpan xs ys s) where
-  -- the same before the span and behind it
-  pub are-moved : IsMoved xs ys s
-  are-moved = record { old_within = span.old_within; new_within = span.new_within; before = span.before; behind = span.behind }
-
   -- where it begins
 
   pub before-first : (b : ℕ) → b ≤ length old.checkpoints.items → All (λ c. c.step < s.first + 1) (take b old.checkpoints.items)
@@ -241,8 +221,8 @@ module _ (n : ℕ) (coins : ℕ → Bool) (K : ℕ) (xs : List Step) (count : �
 
   module _ (m : ℕ) (b : IsBefore K (length xs) s.first m old.checkpoints.items) (front : All (λ c. c.step < s.first + 1) (take m old.checkpoints.items))
       (r : Replay) (replay : IsReplay n coins K b.copy.step ys r) (raised : old.reach ≤ r.notes.reach) (fits : All (StepFits n) ys) (small : length ys ≤ 1048576) (total : ℕ) (new : KeptRun)
-      (observables : new.observables.items ≡ with_additions new.outputs.additions.items (replicate total false)) (sections : All (IsSection ys) new.sections.items) where
-    -- behind the last step
+      (observables : new.observables.items ≡ with_additions new.outputs.additions.items (replicate total false)) where
+    -- after the last step
     kept-last : r.step ≡ length ys → new.tableau ≡ r.tableau → output_of new.outputs ≡ output_of r.outputs → new.strings ≡ r.notes.strings → new.reach ≡ r.notes.reach
         → new.checkpoints.items ≡ all_laid K r.laid.items (take m old.checkpoints.items) → IsKeptRun n coins K ys total new
     kept-last end tableau output strings reach copies = record {
@@ -264,7 +244,6 @@ module _ (n : ℕ) (coins : ℕ → Bool) (K : ℕ) (xs : List Step) (count : �
           (spaced-all K (length ys) b.copy.step r.laid.items (take m old.checkpoints.items)
           (subst (λ k. Near K (b.copy.step ∷ checkpoint_steps r.laid.items ++ k ∷ [])) end replay.near)
           (front-spaced m b).0 (front-spaced m b).1);
-      sections = sections;
     }
       where
         whole : IsRunFromStart n coins ys (program_state r.tableau (output_of r.outputs))
@@ -310,7 +289,6 @@ module _ (n : ℕ) (coins : ℕ → Bool) (K : ℕ) (xs : List Step) (count : �
           subst (λ cs. IsSpaced K (length ys) (checkpoint_steps cs)) (sym all_copies)
           (spaced-all K (length ys) b.copy.step (r.laid.items ++ behind_meeting) (take m old.checkpoints.items) (subst (Near K) steps_are near)
           (front-spaced m b).0 (front-spaced m b).1);
-      sections = sections;
     }
       where
         is : IsCheckpoint n coins xs d
@@ -396,7 +374,7 @@ module _ (n : ℕ) (coins : ℕ → Bool) (K : ℕ) (xs : List Step) (count : �
         → IfSome (slice_get old.checkpoints.items p.next) (λ c. s.old_end ≤ c.step)
         → IsEnd n p r old.checkpoints.items old.outputs.records.items old.outputs.free.items end
         → IsRest old r.tableau (output_of r.outputs) r.notes.strings r.step end (output_of q.outputs) q.strings q.rest → q.reach ≡ r.notes.reach
-        → reverse q.laid.items ≡ r.laid.items → IsCommitted old q s m K new → IsKeptRun n coins K ys total new
+        → reverse q.laid.items ≡ r.laid.items → IsCommitted old q m K new → IsKeptRun n coins K ys total new
     kept-end p Last q reach_is old_end new_end total few next end rest reach laid committed =
         kept-last (end ∙ total) (committed.tableau ∙ rest.1) (committed.output ∙ rest.2) (committed.strings ∙ rest.3) (committed.reach ∙ reach)
         (committed.checkpoints ∙ (λ i. all_laid K (rest.0 i) (all_laid K (laid i) (take m old.checkpoints.items))))

@@ -5,17 +5,15 @@ use Rattle.std.proofs.lemmas.List.Elements.{All-nil, All-cons}
 use Rattle.stab_pauli.specs.Paulis.{Signed}
 use Rattle.stab_tableau.specs.Traces.{member}
 use Rattle.stab_tableau.specs.Groups.{SameGroup}
-use Rattle.stab_tableau.specs.Tableaus.{TableauState, stabilises}
+use Rattle.stab_tableau.specs.Tableaus.{stabilises}
 use Rattle.stab_circuit.specs.Steps.{Step}
 use Rattle.stab_copies.specs.declared.checkpoint.Checkpoint.{Checkpoint}
 use Rattle.stab_kept.specs.declared.kept.KeptRun.{KeptRun}
 use Rattle.stab_run.specs.Points.{RunOutput, nothing, origin, point_after, outputs, with_additions}
-use Rattle.stab_run.specs.ProgramStates.{StepFits, program_state, output_of}
+use Rattle.stab_run.specs.ProgramStates.{StepFits, output_of}
 use Rattle.stab_copies.specs.Spacing.{IsSpaced}
 use Rattle.stab_run.specs.Cuts.{lengths_of}
-use Rattle.stab_copies.specs.Checkpoints.{IsRunFromStart, IsCheckpoint, checkpoint_steps}
-use Rattle.stab_replay.specs.NotedStrings.{IsNoted}
-use Rattle.stab_replay.specs.Sections.{IsSection}
+use Rattle.stab_copies.specs.Checkpoints.{IsCheckpoint, checkpoint_steps}
 use Rattle.stab_kept.specs.KeptRuns.{IsKeptRun, Follows}
 use Rattle.stab_frames.specs.Limits.{most_strings}
 use Rattle.stab_replay.proofs.NotedLemmas.{noted-nothing}
@@ -28,8 +26,8 @@ first-spaced K s e = subst (λ s. IsSpaced K 0 (s ∷ [])) (sym e) (record { fir
 pub kept-nothing : (n : ℕ) (coins : ℕ → Bool) (K : ℕ) (r : KeptRun) (c : Checkpoint) → r.tableau.qubits ≡ n
     → ((p : Signed) → length p.letters ≡ n → stabilises r.tableau p ≡ member [] p) → output_of r.outputs ≡ nothing → r.observables.items ≡ []
     → r.checkpoints.items ≡ c ∷ [] → c.step ≡ 0 → c.lengths ≡ lengths_of nothing → c.tableau ≡ r.tableau
-    → r.strings ≡ record { qubits = n; most = most_strings n; strings = [] } → r.sections.items ≡ [] → IsKeptRun n coins K [] 0 r
-kept-nothing n coins K r c qubits zeros empty none one first short same unnoted unlined = record {
+    → r.strings ≡ record { qubits = n; most = most_strings n; strings = [] } → IsKeptRun n coins K [] 0 r
+kept-nothing n coins K r c qubits zeros empty none one first short same unnoted = record {
   qubits = qubits;
   run = record { group = zeros; output = empty };
   observables = none ∙ ap (λ (o : RunOutput). with_additions o.additions (replicate 0 false)) (sym empty);
@@ -45,7 +43,6 @@ kept-nothing n coins K r c qubits zeros empty none one first short same unnoted 
     lengths = short ∙ ap (λ xs. lengths_of (outputs n coins xs origin)) (sym (take_all c.step [] (omega arith)));
   }) (All-nil (IsCheckpoint n coins [])));
   spaced = subst (λ cs. IsSpaced K 0 (checkpoint_steps cs)) (sym one) (first-spaced K c.step first);
-  sections = subst (All (IsSection [])) (sym unlined) (All-nil (IsSection []));
 }
 
 -- any steps follow it: all of them are put in
@@ -64,20 +61,4 @@ nothing-follows n coins K r kept ys end is = record {
     behind = sym (drop_all end ys (omega (arith, is)));
   };
   differ = tt;
-}
-
--- the same run with other outlines of its steps
-pub with-sections : (n : ℕ) (coins : ℕ → Bool) (K : ℕ) (xs : List Step) (count : ℕ) (r new : KeptRun) → new.tableau ≡ r.tableau → new.outputs ≡ r.outputs
-    → new.observables ≡ r.observables → new.strings ≡ r.strings → new.reach ≡ r.reach → new.checkpoints ≡ r.checkpoints → All (IsSection xs) new.sections.items
-    → IsKeptRun n coins K xs count r → IsKeptRun n coins K xs count new
-with-sections n coins K xs count r new tableau outputs observables strings reach checkpoints sections kept = record {
-  qubits = ap (λ (t : TableauState). t.qubits) tableau ∙ kept.qubits;
-  run = subst (IsRunFromStart n coins xs) (λ i. program_state (sym tableau i) (output_of (sym outputs i))) kept.run;
-  observables = (λ i. (observables i).items) ∙ kept.observables ∙ (λ i. with_additions (sym outputs i).additions.items (replicate count false));
-  fits = kept.fits;
-  few = kept.few;
-  noted = subst (λ x. x) (λ i. IsNoted n coins xs (sym strings i) (sym outputs i).free.items (sym reach i)) kept.noted;
-  checkpoints = subst (λ cs. All (IsCheckpoint n coins xs) cs) (λ i. (sym checkpoints i).items) kept.checkpoints;
-  spaced = subst (λ cs. IsSpaced K (length xs) (checkpoint_steps cs)) (λ i. (sym checkpoints i).items) kept.spaced;
-  sections = sections;
 }

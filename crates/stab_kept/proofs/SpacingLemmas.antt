@@ -95,7 +95,7 @@ spaced-front K L steps b s h e =
       last-front b s 0 steps e,
     )
 
--- one copy laid behind others
+-- one copy laid after others
 
 by-test : (P : List Checkpoint → Type 0) (m K : ℕ) (xs ys : List Checkpoint) → (m ≤ K → P xs) → (K < m → P ys) → P (if nat_le m K then xs else ys)
 by-test P m K xs ys f g =
@@ -154,7 +154,7 @@ spaced-laid K end c (a ∷ xs) s e l u = record {
   sparse = sparse-laid K c (a ∷ xs) s.sparse (omega arith);
 }
 
--- copies laid behind others
+-- copies laid after others
 
 near-end : (K a L d : ℕ) (xs : List ℕ) → Near K (xs ++ a ∷ []) → last_of d xs ≡ a → a ≤ L → L ≤ a + K → Near K (xs ++ L ∷ [])
 near-end K a L d [] h e l u = tt
@@ -187,7 +187,7 @@ pub all-laid-append : (K : ℕ) (cs ds xs : List Checkpoint) → all_laid K (cs 
 all-laid-append K [] ds xs = refl
 all-laid-append K (c ∷ cs) ds xs = all-laid-append K cs ds (laid K c xs)
 
--- a copy and what is behind it
+-- a copy and what is after it
 
 next-near : (K L n : ℕ) (c : Checkpoint) (cs : List Checkpoint) → Near K (checkpoint_steps cs ++ L ∷ []) → slice_get cs n ≡ Some c
     → MatchOption (slice_get cs (suc n)) (L ≤ c.step + K) (λ d. (c.step ≤ d.step) × (d.step ≤ c.step + K))
@@ -197,7 +197,7 @@ next-near K L zero c (a ∷ b ∷ cs) h e = let same : a ≡ c = cc in subst (λ
 next-near K L (suc n) c (a ∷ []) h e = absurd (cc)
 next-near K L (suc n) c (a ∷ b ∷ cs) h e = next-near K L n c (b ∷ cs) h.2 e
 
--- the last of the first so many copies, which are those at or before a step; the one behind it is near too
+-- the last of the first copies, which are those at or before a step; the one after it is near too
 pub record IsBefore (K L p n : ℕ) (cs : List Checkpoint) : Type 0 where
   pub some : 0 < n
   pub copy : Checkpoint
@@ -240,7 +240,7 @@ near-behind : (K L e a : ℕ) (o : Option Checkpoint) → a < e → IfSome o (λ
 near-behind K L e a None l g m = omega arith
 near-behind K L e a (Some c) l g m = let within = m.1 in (g, omega arith)
 
--- the first copy at or behind a step, or the end where there is none
+-- the first copy at or after a step, or the end if there is none
 pub behind-near : (K L e n : ℕ) (cs : List Checkpoint) → IsSpaced K L (checkpoint_steps cs) → n ≤ length cs
     → All (λ c. c.step < e) (take n cs) → IfSome (slice_get cs n) (λ c. e ≤ c.step)
     → MatchOption (slice_get cs n) (L ≤ e + K) (λ c. (e ≤ c.step) × (c.step ≤ e + K))
@@ -251,7 +251,7 @@ behind-near K L e (suc m) (a ∷ cs) s w f g =
     let last = last-before e m a (a ∷ cs) (omega arith) f in
     near-behind K L e last.0.step (slice_get (a ∷ cs) (suc m)) last.2 g (next-near K L m last.0 (a ∷ cs) s.near last.1)
 
--- from one on a copy stands at or behind a step, and at most K steps behind it
+-- from one on a copy is at or after a step, and at most K steps after it
 pub record IsNearCopy (K t n : ℕ) (cs : List Checkpoint) : Type 0 where
   pub number : ℕ
   pub copy : Checkpoint
@@ -268,7 +268,7 @@ one-further K L t m n c cs le h =
           inr (record { number = suc found.number; copy = found.copy; from = omega (arith, le, from); here = found.here; behind = found.behind; near = found.near })
     ]
 
--- or the end does, where the first of them, or else the end, is at most so far behind it
+-- or the end does, if the first of them, or else the end, is at most so far after it
 pub near-copy : (K L t n : ℕ) (cs : List Checkpoint) → Near K (checkpoint_steps cs ++ L ∷ []) → MatchOption (slice_get cs n) (L ≤ t + K) (λ c. c.step ≤ t + K)
     → (L ≤ t + K) ⊎ IsNearCopy K t n cs
 near-copy K L t zero [] near h = inl h
@@ -285,7 +285,7 @@ near-copy K L t zero (c ∷ d ∷ cs) near h =
       | inr le ↦ inr (record { number = 0; copy = c; from = omega arith; here = refl; behind = le; near = h })
     ]
 
--- copies from one at or behind a step on
+-- copies from one at or after a step on
 
 all-between : (K L e a : ℕ) (cs : List Checkpoint) → e ≤ a → Near K (a ∷ checkpoint_steps cs ++ L ∷ []) → All (λ c. (e ≤ c.step) × (c.step ≤ L)) cs
 all-between K L e a [] l h = All-nil (λ c. (e ≤ c.step) × (c.step ≤ L))
@@ -302,7 +302,7 @@ all-behind K L e zero (c ∷ cs) h g =
     All-cons (λ x. (e ≤ x.step) × (x.step ≤ L)) c cs (g, near-le K L c.step (checkpoint_steps cs) h) (all-between K L e c.step cs g h)
 all-behind K L e (suc n) (c ∷ cs) h g = all-behind K L e n cs (near-tail K L c.step (checkpoint_steps cs) h) g
 
--- a step that moves, where 64 bits are enough
+-- a step that moves, if 64 bits are enough
 pub moved-within : (old new x L : ℕ) → x ≤ L → new + (L - old) < 2 ^ 64 → moved old new x ≡ new + (x - old)
 moved-within old new x L l f = omega arith
 

@@ -1,4 +1,4 @@
--- States put in the stead of those of copies, from the last on.
+-- States put in place of those of copies, from the last on.
 use Rattle.std.proofs.Common.{◌≡◌, ℕ, zero, suc, ◌<◌, ◌≤◌, refl, sym, ◌∙◌, ap, arith, List, [], ◌∷◌, ◌++◌, length, take, drop, map, reverse, set, get_or}
 use Rattle.std.proofs.lemmas.List.{length-append, length-take, length-drop, reverse-reverse, take-take}
 use Rattle.stab_tableau.specs.Tableaus.{TableauState}
@@ -21,7 +21,7 @@ same-length [] cs = refl
 same-length (t ∷ ts) [] = refl
 same-length (t ∷ ts) (c ∷ cs) = ap suc (same-length ts cs)
 
--- a list of which the first so many stayed, and others came behind
+-- a list of which the first ones stayed, and others came after
 take-front : {X : Type 0} (k : ℕ) (xs ys : List X) → k ≤ length xs → take k (take k xs ++ ys) ≡ take k xs
 take-front zero xs ys le = refl
 take-front (suc k) [] ys le = absurd (omega arith)
@@ -48,7 +48,7 @@ module _ (k K : ℕ) (ts : List TableauState) (cs put : List Checkpoint) (within
   pub put-front : take k put ≡ take k cs
   put-front = ap (take k) is ∙ take-front k cs (with_states ts (drop k cs)) within
 
-  -- moved, and laid behind others, which were laid behind those before
+  -- moved, and laid after others, which were laid after those before
   pub put-laid : (m : ℕ) (s : Meeting) (room taken left passed flipped mid laid : List Checkpoint) → m ≤ k → room ≡ [] → taken ≡ room ++ reverse (map (moved_copy s) (drop k put))
       → left ≡ take k put → flipped ≡ reverse passed → mid ≡ all_laid K (reverse flipped) (take m left) → laid ≡ all_laid K (reverse taken) mid
       → laid ≡ all_laid K (passed ++ map (moved_copy s) (with_states ts (drop k cs))) (take m cs)

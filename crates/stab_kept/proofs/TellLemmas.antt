@@ -1,4 +1,4 @@
--- What a led frame tells: from what was made of a kept run to the run of the new steps.
+-- What a led frame says: from what was made of a kept run to the run of the new steps.
 use Rattle.std.proofs.Common.{◌≡◌, ℕ, ◌+◌, ◌-◌, ◌≤◌, refl, sym, ◌∙◌, ap, subst, Bool, List, [], ◌∷◌, ◌++◌, length, take, drop, All, Option, Some, None, arith}
 use Rattle.std.specs.Prelude.{IfSome, slice_get}
 use Rattle.std.proofs.lemmas.List.Elements.{All-append, All-drop, All-take}
@@ -147,7 +147,7 @@ module _ {coins : ℕ → Bool} {K : ℕ} {xs ys : List Step} {s : Span} {change
         (output_of old.outputs) p.from p.walk t.walk run;
   }
 
--- the end that a frame leads to is behind the span
+-- the end that a frame leads to is after the span
 pub end-behind : (s : Span) (total : ℕ) (o : Option Checkpoint) → s.new_end ≤ total → total ≤ 1048576 → s.new_end ≤ turned_end s total o
 end-behind s total None within few = within
 end-behind s total (Some c) within few = omega (arith, within, few)

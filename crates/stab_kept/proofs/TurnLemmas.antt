@@ -1,4 +1,4 @@
--- Turned runs: what is kept once a frame turned a run where it lies is the run of the new steps, and so many steps were followed for it.
+-- Turned runs: what is kept once a frame turned a run where it lies is the run of the new steps, and this many steps were followed for it.
 use Rattle.std.proofs.Common.{◌≡◌, ℕ, zero, suc, ◌+◌, ◌-◌, ◌*◌, ◌<◌, ◌≤◌, inl, inr, refl, sym, ◌∙◌, ap, subst, Bool, false, List, [], ◌∷◌, ◌++◌, length, max, take, drop, All, Option, Some, None, arith}
 use Rattle.std.specs.Prelude.{IfSome, IsSomeAnd, MatchOption, option_map, slice_get}
 use Rattle.std.proofs.lemmas.Bool.{cases_lt}
@@ -41,11 +41,11 @@ use Rattle.stab_kept.specs.KeptRuns.{IsKeptRun, IsSpan, AgreeBehindSpan, AgreeBa
 use Rattle.stab_kept.specs.inner.Prepared.{IsCount}
 use Rattle.stab_kept.specs.inner.Turned.{StaysNear, IsPut, HasTurned, copies_moved, turned_end}
 use Rattle.stab_kept.proofs.SpacingLemmas.{IsBefore, all-laid-all, spaced-all, all-behind, near-copy, moved-within}
-use Rattle.stab_kept.proofs.FollowLemmas.{are-moved, at-get, some-at, if-some, from-drop, before-first, front-copies, front-spaced, same-rest}
+use Rattle.stab_kept.proofs.FollowLemmas.{at-get, some-at, if-some, from-drop, before-first, front-copies, front-spaced, same-rest}
 use Rattle.stab_kept.proofs.CountLemmas.{applied-within, ends-near, none-before, is-counted}
 use Rattle.stab_kept.proofs.TurnSpacingLemmas.{turned-near, near-both, stays-behind}
 
--- what a frame that was led past the places of a change and over the steps behind its span tells of the run of the new steps, where the old
+-- what a frame that was led past the places of a change and over the steps after its span says of the run of the new steps, if the old
 -- run gave this
 pub record TellsRun (n : ℕ) (coins : ℕ → Bool) (xs ys : List Step) (s : Span) (copies : List Checkpoint) (o : RunOutput) (strings : StringsState) (reach : ℕ)
     (from : Lengths) (w : WalkState) (passed : List Checkpoint) (turned : List TableauState) : Type 0 where
@@ -90,13 +90,13 @@ kept-records n coins K xs count r kept c is =
     (λ i. take (is.lengths i).records (kept.run.output i).records)
     ∙ ap (λ (o : RunOutput). o.records) (front-output n coins xs c.step)
 
--- so many copies stand before a step behind another one, and those from there up to another count before the end of a span
+-- this many copies are before a step after another one, and those from there up to another count before the end of a span
 pub record AreInside (s : Span) (copies : List Checkpoint) (m k : ℕ) : Type 0 where
   pub order : m ≤ k
   pub within : k ≤ length copies
   pub among : All (λ c. c.step < s.old_end) (take (k - m) (drop m copies))
 
--- where there are some, that step stands before the end
+-- if there are some, that step is before the end
 first-among : (m k place end : ℕ) (cs : List Checkpoint) → 0 < k → m + k ≤ length cs → All (λ c. c.step < end) (take k (drop m cs)) → IfSome (slice_get cs m) (λ c. place ≤ c.step)
     → place < end
 first-among zero zero place end cs some within among behind = absurd (omega (arith, some))
@@ -166,13 +166,12 @@ module _ {n : ℕ} {coins : ℕ → Bool} {K : ℕ} {xs ys : List Step} {s : Spa
         (near-both K (length ys) near.copy.step last t.passed.items (copies_moved s t.from t.turned.items (drop j old.checkpoints.items)) close last_is
         (turned-near K (length xs) (length ys) last j s t.from t.turned.items old.checkpoints.items span.old_within rest (omega (arith, few)) stays kept.spaced.near))
         (front-spaced n coins K xs count old kept ys s span m near).0 (front-spaced n coins K xs count old kept ys s span m near).1);
-    sections = put.sections xs ys few (are-moved n coins K xs count old kept ys s span) kept.sections;
   }
     where
       put_turned : IsTurned n t.walk.letters (stabilises old.tableau) (stabilises new.tableau)
       put_turned = subst (λ k. IsTurned k t.walk.letters (stabilises old.tableau) (stabilises new.tableau)) kept.qubits put.turned
 
-  -- the first copy that was not turned, if there is one, stands behind the span
+  -- the first copy that was not turned, if there is one, is after the span
   abbrev stop : Option Checkpoint
   stop = slice_get old.checkpoints.items (j + length t.turned.items)
 
@@ -211,7 +210,7 @@ module _ {n : ℕ} {coins : ℕ → Bool} {K : ℕ} {xs ys : List Step} {s : Spa
         (copy-agrees n coins xs zs c old.outputs.records.items (is-copy k c here) also (kept-records n coins K xs count old kept c (is-copy k c here)) records)
         (subst (λ i. AgreeAt n (point_after n coins (take c.step zs) origin) (point_after n coins (take i ys) origin)) (place k c here) agree))
 
-    -- a copy behind the first one that was not turned is not before it
+    -- a copy after the first one that was not turned is not before it
     not-before : (o : Option Checkpoint) → slice_get old.checkpoints.items (j + length t.turned.items) ≡ o → (k : ℕ) (c : Checkpoint) → j + length t.turned.items ≤ k
         → slice_get old.checkpoints.items k ≡ Some c → turned_end s (length ys) o ≤ step_among_new plan c
     not-before None is k c from here =
@@ -246,7 +245,7 @@ module _ {n : ℕ} {coins : ℕ → Bool} {K : ℕ} {xs ys : List Step} {s : Spa
         at-stop None is = omega arith
         at-stop (Some d) is = let w = (is-copy (j + length t.turned.items) d is).within in omega (arith, place (j + length t.turned.items) d is, rest, w)
 
-    -- the first copy behind the span stands near its end
+    -- the first copy after the span is near its end
     next-near : (zs : List Step) (far : ℕ) → length ys ≡ s.new_end + (length zs - s.old_end)
         → MatchOption (slice_get old.checkpoints.items j) (length zs ≤ (s.old_end + far) + K) (λ c. c.step ≤ (s.old_end + far) + K)
     next-near zs far long = at-next (slice_get old.checkpoints.items j) refl stays

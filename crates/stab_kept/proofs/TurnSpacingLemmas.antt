@@ -1,4 +1,4 @@
--- Turned copies: where copies stand that were turned, and moved with a span.
+-- Turned copies: where copies are that were turned, and moved with a span.
 use Rattle.std.proofs.Common.{◌≡◌, ℕ, zero, suc, ◌+◌, ◌-◌, ◌^◌, ◌<◌, ◌≤◌, refl, sym, ◌∙◌, ap, subst, List, [], ◌∷◌, ◌++◌, drop, map, Option, Some, None, arith}
 use Rattle.std.specs.Prelude.{IfSome, MatchOption, slice_get}
 use Rattle.stab_tableau.specs.Tableaus.{TableauState}
@@ -12,18 +12,18 @@ use Rattle.stab_turns.specs.LedFrames.{AreInOrder, with_states}
 use Rattle.stab_kept.specs.inner.Turned.{StaysNear, span_meeting}
 use Rattle.stab_kept.proofs.SpacingLemmas.{near-le, near-tail, near-moved, moved-within, steps-moved}
 
--- a copy that stays near is behind the span
+-- a copy that stays near is after the span
 pub stays-behind : (K : ℕ) (s : Span) (total step : ℕ) (o : Option Checkpoint) → StaysNear K s total step o → IfSome o (λ c. s.old_end ≤ c.step)
 stays-behind K s total step None h = tt
 stays-behind K s total step (Some c) h = h.1.0
 
--- other states stand where the states before stood
+-- other states are where the states before stood
 pub same-steps : (ts : List TableauState) (cs : List Checkpoint) → checkpoint_steps (with_states ts cs) ≡ checkpoint_steps cs
 same-steps [] cs = refl
 same-steps (t ∷ ts) [] = refl
 same-steps (t ∷ ts) (c ∷ cs) = ap (λ steps. c.step ∷ steps) (same-steps ts cs)
 
--- copies from a step on, up to the last step, stand in order
+-- copies from a step on, up to the last step, are in order
 near-order : (K L a : ℕ) (cs : List Checkpoint) → Near K (a ∷ checkpoint_steps cs ++ L ∷ []) → AreInOrder a L cs
 near-order K L a [] h = h.0
 near-order K L a (c ∷ cs) h = (h.0, near-order K L c.step cs h.2)

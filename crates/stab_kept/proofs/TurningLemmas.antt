@@ -1,4 +1,4 @@
--- Turnings: what a frame needs to be led over the steps behind a span of a kept run's circuit, and what was made of the run then.
+-- Turnings: what a frame needs to be led over the steps after a span of a kept run's circuit, and what was made of the run then.
 use Rattle.std.proofs.Common.{◌≡◌, ℕ, ◌+◌, ◌-◌, ◌^◌, ◌<◌, ◌≤◌, sym, ◌∙◌, ap, subst, Bool, List, [], ◌∷◌, ◌++◌, length, take, drop, All, Some, get_or, arith}
 use Rattle.std.specs.Prelude.{IfSome, slice_get}
 use Rattle.std.proofs.lemmas.List.{length-append, length-drop, length-take, drop-take}
@@ -26,7 +26,7 @@ use Rattle.stab_kept.proofs.SpacingLemmas.{IsBefore}
 use Rattle.stab_kept.proofs.FollowLemmas.{at-get, before-first, same-rest, all-qubits}
 use Rattle.stab_kept.proofs.TurnSpacingLemmas.{in-order}
 
--- lists that others are put behind
+-- lists that others are put after
 lengths-longer : (a b c : RunOutput) → c ≡ record { records = a.records ++ b.records; free = a.free ++ b.free; detectors = a.detectors ++ b.detectors; additions = a.additions ++ b.additions }
     → longer (lengths_of a) (lengths_of b) ≡ lengths_of c
 lengths-longer a b c is = (λ i. record {
@@ -36,7 +36,7 @@ lengths-longer a b c is = (λ i. record {
   additions = sym (length-append a.additions b.additions) i;
 }) ∙ ap lengths_of (sym is)
 
--- copies from one behind a span on
+-- copies from one after a span on
 
 module _ {n : ℕ} {coins : ℕ → Bool} {K : ℕ} {xs ys : List Step} {s : Span} {old : KeptRun} (count : ℕ) (kept : IsKeptRun n coins K xs count old) (span : IsSpan xs ys s) where
   pub behind-order : (j : ℕ) → IfSome (slice_get old.checkpoints.items j) (λ c. s.old_end ≤ c.step)

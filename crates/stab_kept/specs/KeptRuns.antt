@@ -13,10 +13,8 @@ use Rattle.stab_copies.specs.Checkpoints.{IsRunFromStart, IsCheckpoint, checkpoi
 use Rattle.stab_replay.specs.NotedStrings.{IsNoted}
 use Rattle.stab_turns.specs.PauliSpans.{DifferByPaulis}
 use Rattle.stab_turns.specs.declared.passing.PauliChange.{PauliChange}
-use Rattle.stab_replay.specs.Sections.{IsSection}
 
--- what is kept is the run of these steps, which fit on the qubits, with so many observables, copies at most K steps apart, and outlines of
--- parts of the steps
+-- what is kept is the run of these steps, which fit on the qubits, with this many observables, and copies at most K steps apart
 pub record IsKeptRun (n : ℕ) (coins : ℕ → Bool) (K : ℕ) (xs : List Step) (count : ℕ) (r : KeptRun) : Type 0 where
   pub qubits : r.tableau.qubits ≡ n
   pub run : IsRunFromStart n coins xs (program_state r.tableau (output_of r.outputs))
@@ -26,7 +24,6 @@ pub record IsKeptRun (n : ℕ) (coins : ℕ → Bool) (K : ℕ) (xs : List Step)
   pub noted : IsNoted n coins xs r.strings r.outputs.free.items r.reach
   pub checkpoints : All (IsCheckpoint n coins xs) r.checkpoints.items
   pub spaced : IsSpaced K (length xs) (checkpoint_steps r.checkpoints.items)
-  pub sections : All (IsSection xs) r.sections.items
 
 -- contracts see the same of both
 pub record IsSameKept (a b : KeptRun) : Type 0 where
@@ -36,9 +33,8 @@ pub record IsSameKept (a b : KeptRun) : Type 0 where
   pub strings : a.strings ≡ b.strings
   pub reach : a.reach ≡ b.reach
   pub checkpoints : a.checkpoints.items ≡ b.checkpoints.items
-  pub sections : a.sections.items ≡ b.sections.items
 
--- two lists of steps are the same before one step, and behind another of each
+-- two lists of steps are the same before one step, and after another of each
 pub record IsSpan (xs ys : List Step) (s : Span) : Type 0 where
   pub old_order : s.first ≤ s.old_end
   pub new_order : s.first ≤ s.new_end
@@ -47,7 +43,7 @@ pub record IsSpan (xs ys : List Step) (s : Span) : Type 0 where
   pub before : take s.first xs ≡ take s.first ys
   pub behind : drop s.old_end xs ≡ drop s.new_end ys
 
--- what is kept is the run of other steps, from which these differ within the span; where a change is given, by Pauli gates alone, as it says
+-- what is kept is the run of other steps, from which these differ within the span; if a change is given, by Pauli gates alone, as it says
 pub record Follows (n : ℕ) (coins : ℕ → Bool) (K : ℕ) (ys : List Step) (s : Span) (paulis : Option PauliChange) (r : KeptRun) : Type 0 where
   pub old : List Step
   pub count : ℕ
@@ -55,13 +51,13 @@ pub record Follows (n : ℕ) (coins : ℕ → Bool) (K : ℕ) (ys : List Step) (
   pub span : IsSpan old ys s
   pub differ : IfSome paulis (λ p. DifferByPaulis n old ys s p.string.letters p.old p.new p.gaps.items)
 
--- so many steps behind what was changed both runs have the same group, number of the next coin and records
+-- this many steps after what was changed both runs have the same group, number of the next coin and records
 abbrev pub AgreeBehindSpan : ℕ → (ℕ → Bool) → List Step → List Step → Span → ℕ → Type 0
 AgreeBehindSpan n coins xs ys s far =
     AgreeAt n (point_after n coins (take (s.old_end + far) xs) origin) (point_after n coins (take (s.new_end + far) ys) origin)
 
--- and so they have the same records as far back as the steps behind look, where these differ before that, and another number of the
--- next coin at most where none decides any more
+-- and so they have the same records as far back as the steps after look, if these differ before that, and another number of the
+-- next coin at most if none decides any more
 abbrev pub AgreeBackBehindSpan : ℕ → (ℕ → Bool) → List Step → List Step → Span → ℕ → Type 0
 AgreeBackBehindSpan n coins xs ys s far =
     AgreeAsFarAsLooked n coins (drop (s.new_end + far) ys) (point_after n coins (take (s.old_end + far) xs) origin) (point_after n coins (take (s.new_end + far) ys) origin)

@@ -13,7 +13,7 @@ ghost use Rattle.stab_frames.specs.KeptStrings.{front_kept};
 ghost use Rattle.stab_copies.specs.Checkpoints.{checkpoint_steps};
 ghost use Rattle.stab_copies.specs.LaidCopies.{all_laid};
 ghost use Rattle.stab_kept.specs.KeptRuns.{IsKeptRun, IsSameKept, IsSpan, Follows, AgreeBehindSpan, AgreeBackBehindSpan};
-ghost use Rattle.stab_kept.specs.inner.Prepared.{Begins, HasCopy, IsRest, HasRoom, IsPrepared, copies_behind, IsInPlace};
+ghost use Rattle.stab_kept.specs.inner.Prepared.{Begins, HasCopy, IsRest, HasRoom, IsPrepared, copies_behind, IsCommitted};
 ghost use Rattle.stab_replay.specs.NotedStrings.{IsSpliced};
 
 use stab_circuit::{Circuit, Cursor, Repeat, Span};
@@ -21,12 +21,12 @@ use stab_copies::{Checkpoint, Meeting, count_before, lay_all, take_moved};
 use stab_frames::{KeptStrings, RunNotes, count_ones};
 use stab_io::Refusal;
 use stab_pauli::Pauli;
-use stab_replay::{End, Plan, Replay, Section, move_sections};
+use stab_replay::{End, Plan, Replay};
 use stab_run::{Coins, Outputs, observables};
 use stab_tableau::Tableau;
 use std::alloc::{AllocError, Global};
 
-/// A run that is kept: the state behind the last step, what the steps gave, copies of the state on
+/// A run that is kept: the state after the last step, what the steps gave, copies of the state on
 /// the way, the first before the first step, and strings that exchange its free outcomes. Its steps
 /// look back to no more records than its reach.
 #[derive(Drop)]
@@ -35,13 +35,11 @@ pub struct KeptRun {
     pub outputs: Outputs,
     pub observables: Vec<bool>,
     pub checkpoints: Vec<Checkpoint>,
-    /// Outlines of parts of its steps.
-    pub sections: Vec<Section>,
     pub strings: KeptStrings,
     pub reach: u32,
 }
 
-/// How an edit was followed: how many steps were carried out for it, and how many a frame went over.
+/// How an edit was followed: how many steps were carried out for it, and how many a frame passed.
 #[derive(Clone, Copy)]
 pub struct Followed {
     pub applied: u64,
@@ -60,10 +58,10 @@ struct Prepared {
     rest: Rest,
 }
 
-/// What comes behind the steps of a replay.
+/// What comes after the steps of a replay.
 #[derive(Drop)]
 enum Rest {
-    /// Nothing: this is the state behind the last step.
+    /// Nothing: this is the state after the last step.
     Nothing(Tableau),
     /// The old run from the copy with this number on, which moves at the meeting into the room.
     Old(usize, Meeting, Vec<Checkpoint>),
@@ -91,7 +89,6 @@ impl KeptRun {
             checkpoints,
             strings: KeptStrings::new(alloc, n),
             reach: 0,
-            sections: Vec::new(alloc),
         })
     }
 
@@ -147,8 +144,8 @@ impl KeptRun {
     }
 
     /// Makes this the run of an edited circuit, whose steps differ within the span, by carrying out
-    /// steps anew, and tells how many were, and how many a frame went over. In repeats of the circuit's steps
-    /// what rounds gave is given again, where they come again. The run is as before where memory is refused.
+    /// steps anew, and says how many were, and how many a frame passed. In repeats of the circuit's steps
+    /// what rounds gave is given again, if they come again. The run is as before if memory is refused.
     ///
     /// The replay goes on in the memory of a spare tableau if there is one, and one of the two
     /// that are then at hand is the next spare.
@@ -198,7 +195,6 @@ impl KeptRun {
             self.checkpoints.as_slice(),
             &self.outputs,
             &self.strings,
-            self.sections.as_slice(),
             plan,
             coins,
         )?;
@@ -208,7 +204,6 @@ impl KeptRun {
         };
         let prepared = self.prepare(alloc, replay, end, circuit.observables(), spare)?;
         self.commit(prepared, before, stride, spare);
-        move_sections(&mut self.sections, span);
         Ok(followed)
     }
 
@@ -256,8 +251,8 @@ impl KeptRun {
         })
     }
 
-    /// What comes behind a replay that ended before a step with this tableau, these outputs and
-    /// these strings, to which those behind it are appended. A tableau that is not needed is the next
+    /// What comes after a replay that ended before a step with this tableau, these outputs and
+    /// these strings, to which those after it are appended. A tableau that is not needed is the next
     /// spare.
     ///
     /// Refusal `OutOfMemory` alone.
@@ -316,7 +311,7 @@ impl KeptRun {
             .as_slice()
             .split_at(coin.min(self.outputs.free.len()));
         strings.append_rest(&self.strings, count_ones(before))?;
-        // Where strings were missing, none may be put behind those that are there.
+        // If strings were missing, none may be put after those that are there.
         if strings.len() < count_ones(free) {
             strings.close();
         }
@@ -335,8 +330,7 @@ impl KeptRun {
         requires room { HasRoom prepared.rest self.old.checkpoints.items }
         requires capacity { length self.old.checkpoints.items + length prepared.laid.items ≤ vec_capacity self.old.checkpoints }
         requires behind { before + length (copies_behind prepared.rest self.old.checkpoints.items) ≤ length self.old.checkpoints.items }
-        ensures in_place { IsInPlace self.old prepared before stride self.new }
-        ensures sections { self.new.sections.items ≡ self.old.sections.items }
+        ensures committed { IsCommitted self.old prepared before stride self.new }
     {
         let Prepared {
             outputs,
@@ -363,7 +357,7 @@ impl KeptRun {
         }
     }
 
-    /// Lays copies, the last of them first, behind so many of those that are kept. It takes no
+    /// Lays copies, the last of them first, after this many of those that are kept. It takes no
     /// memory.
     pub(crate) fn lay_behind(&mut self, before: usize, laid: &mut Vec<Checkpoint>, stride: usize)
         requires room { before + length laid.old.items ≤ vec_capacity self.old.checkpoints }
@@ -372,7 +366,6 @@ impl KeptRun {
         ensures observables { self.new.observables.items ≡ self.old.observables.items }
         ensures strings { self.new.strings ≡ self.old.strings }
         ensures reach { self.new.reach ≡ self.old.reach }
-        ensures sections { self.new.sections.items ≡ self.old.sections.items }
         ensures checkpoints { self.new.checkpoints.items ≡ all_laid stride (reverse laid.old.items) (take before self.old.checkpoints.items) }
         ensures shorter { length self.new.checkpoints.items ≤ before + length laid.old.items }
         ensures capacity { vec_capacity self.new.checkpoints ≡ vec_capacity self.old.checkpoints }

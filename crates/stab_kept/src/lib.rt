@@ -2,11 +2,11 @@
 //!
 //! - `kept`: a run that is kept with its copies, and how steps are carried out anew for an edit of its
 //!   circuit.
-//! - `turning`: how it follows an edit: turned where it lies, where old and new steps differ by Pauli
+//! - `turning`: how it follows an edit: turned in place, if old and new steps differ by Pauli
 //!   gates alone, and else by steps that are carried out anew.
 //! - `opening`: the run of a circuit, kept for the first time.
 //!
-//! Copies of the state are `stab_copies`', how steps are carried out anew behind one of them
+//! Copies of the state are `stab_copies`', how steps are carried out anew after one of them
 //! `stab_replay`'s, and how a frame turns a run `stab_turns`'. What edits are, and which steps they change, is `stab_circuit`'s: here an edit is a span
 //! of steps that changed.
 //!
@@ -14,8 +14,8 @@
 //!
 //! Proved: what is kept is the run of the circuit's steps from the first one on, whatever edits it
 //! followed, with copies of the state at most a stride apart (`specs/KeptRuns.antt`, over `Checkpoints`
-//! and `Spacing` of `stab_copies`); where memory is refused it is as before. How many steps an edit takes,
-//! and between which copies, stands in `specs/Counts.antt`, and how many coins it asks for in the contract
+//! and `Spacing` of `stab_copies`); if memory is refused it is as before. How many steps an edit takes,
+//! and between which copies, is in `specs/Counts.antt`, and how many coins it asks for in the contract
 //! of `KeptRun::follow`. `specs/inner/` has what only private contracts cite.
 #![tactic(auto)]
 

@@ -14,7 +14,6 @@ use stab_circuit::{Circuit, Span};
 use stab_io::{Fault, Refusal};
 use stab_rounds::find_rounds;
 use stab_run::Coins;
-use stab_turns::outline_between;
 use std::alloc::Global;
 
 /// Runs a circuit once on n qubits, at most 1,024, and keeps the run.
@@ -74,7 +73,5 @@ fn run_checked<C: Coins>(
         coins,
         &mut None,
     )?;
-    let copies = kept.checkpoints.as_slice();
-    kept.sections = outline_between(alloc, circuit, copies, rounds.as_slice())?;
     Ok(kept)
 }

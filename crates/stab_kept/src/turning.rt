@@ -20,12 +20,10 @@ use stab_circuit::{Circuit, Cursor, Span};
 use stab_copies::{Checkpoint, Meeting, count_before, lay_all, shifted, take_moved};
 use stab_frames::FrameWalk;
 use stab_io::Refusal;
-use stab_replay::move_sections;
 use stab_run::{Coins, Lengths};
 use stab_tableau::{CompactTableau, Tableau};
 use stab_turns::{
-    PauliChange, Trail, flip_outputs, lead_frame, lengths_behind, pass_places, sum_additions,
-    turn_tableau,
+    PauliChange, flip_outputs, lead_frame, lengths_behind, pass_places, sum_additions, turn_tableau,
 };
 use std::alloc::Global;
 
@@ -36,7 +34,7 @@ struct Passed {
     from: Lengths,
     /// The frame, with what it flipped from there on.
     walk: FrameWalk,
-    /// The copies that stand between the places, turned, where they stand now.
+    /// The copies that are between the places, turned, where they are now.
     copies: Vec<Checkpoint>,
 }
 
@@ -47,15 +45,15 @@ struct Turning {
     from: Lengths,
     /// The frame, with what it flipped from there on.
     walk: FrameWalk,
-    /// The copies between the places of the change, turned, where they stand now.
+    /// The copies between the places of the change, turned, where they are now.
     passed: Vec<Checkpoint>,
-    /// The first copies behind, turned.
+    /// The first copies after these, turned.
     turned: Vec<CompactTableau>,
-    // Where copies stand while they move.
+    // Where copies are while they move.
     room: Vec<Checkpoint>,
 }
 
-/// How many of some copies stand before a step, where so many of the first do.
+/// How many of some copies are before a step, if this many of the first are.
 fn count_within(copies: &[Checkpoint], before: usize, step: usize) -> usize
     requires in_range { before ≤ length copies.now }
     ensures order { before ≤ result }
@@ -67,8 +65,8 @@ fn count_within(copies: &[Checkpoint], before: usize, step: usize) -> usize
     before + count_before(behind, step)
 }
 
-/// The last of a step and those of copies, where each is at least the one before, and at most a stride
-/// behind it.
+/// The last of a step and those of copies, if each is at least the one before, and at most a stride
+/// after it.
 fn last_near(step: usize, copies: &[Checkpoint], stride: usize) -> Option<usize>
     ensures near { IfSome result (λ last. Near stride (step ∷ checkpoint_steps copies.now)) }
     ensures value { IfSome result (λ last. last_of step (checkpoint_steps copies.now) ≡ last) }
@@ -83,8 +81,8 @@ fn last_near(step: usize, copies: &[Checkpoint], stride: usize) -> Option<usize>
     Some(last)
 }
 
-/// Whether the copy with a number, once it has moved with a span behind which it stands, or the last
-/// step where there is none, is at most a stride from a step that is not behind the span.
+/// Whether the copy with a number, once it has moved with a span after which it is, or the last
+/// step if there is none, is at most a stride from a step that is not after the span.
 fn stays_near(
     step: usize,
     copies: &[Checkpoint],
@@ -107,7 +105,7 @@ fn stays_near(
     }
 }
 
-/// Where a copy stands among the new steps once it has moved with a span, or the end where there is none.
+/// Where a copy is among the new steps once it has moved with a span, or the end where there is none.
 fn end_place(copies: &[Checkpoint], number: usize, span: Span, total: usize) -> usize
     ensures value { result ≡ turned_end span total (slice_get copies.now number) }
 {
@@ -117,7 +115,7 @@ fn end_place(copies: &[Checkpoint], number: usize, span: Span, total: usize) -> 
     }
 }
 
-/// A frame went over the steps from one to another, and none was carried out.
+/// A frame passed the steps from one to another, and none was carried out.
 fn framed_between(begin: usize, end: usize) -> Followed
     requires order { begin ≤ end }
     ensures applied { result.applied ≡ 0 }
@@ -129,7 +127,7 @@ fn framed_between(begin: usize, end: usize) -> Followed
     }
 }
 
-/// Puts states in the stead of those of copies, from a place on. It takes no memory.
+/// Puts states in place of those of copies, from a place on. It takes no memory.
 fn put_states(copies: &mut Vec<Checkpoint>, from: usize, states: &mut Vec<CompactTableau>)
     requires in_range { from + length states.old.items ≤ length copies.old.items }
     ensures value { copies.new.items ≡ take from copies.old.items ++ with_states states.old.items (drop from copies.old.items) }
@@ -142,8 +140,8 @@ fn put_states(copies: &mut Vec<Checkpoint>, from: usize, states: &mut Vec<Compac
 
 impl KeptRun {
     /// Leads a frame past the places of a change of Pauli gates within a span, from the copy before it on,
-    /// which has the number one less than the one count of copies; those up to the other count stand within
-    /// the span. `None` where it can't tell the run there.
+    /// which has the number one less than the one count of copies; those up to the other count are within
+    /// the span. `None` if it can't give the run there.
     ///
     /// Refusal `OutOfMemory` alone.
     fn passing(
@@ -194,8 +192,8 @@ impl KeptRun {
         }))
     }
 
-    /// Leads a frame that went past the places of a change on over the steps behind its span, past the
-    /// copies from a number on. `None` where it can't tell the run behind. Copies are looked at in the
+    /// Leads a frame that went past the places of a change on over the steps after its span, past the
+    /// copies from a number on. `None` if it can't give the run after it. Copies are looked at in the
     /// memory of a spare tableau if there is one.
     ///
     /// Refusal `OutOfMemory` alone.
@@ -224,12 +222,7 @@ impl KeptRun {
             mut walk,
             copies,
         } = passed;
-        let mut trail = Trail::new(
-            circuit,
-            self.sections.as_slice(),
-            span.old_end,
-            span.new_end,
-        );
+        let mut cursor = Cursor::at(alloc, circuit, span.new_end)?;
         let (_, behind) = self.checkpoints.as_slice().split_at(inside);
         let mut turned = Vec::new(alloc);
         let led = lead_frame(
@@ -239,7 +232,7 @@ impl KeptRun {
             &self.strings,
             self.outputs.free.as_slice(),
             self.reach,
-            &mut trail,
+            &mut cursor,
             &mut walk,
             &mut turned,
             spare,
@@ -286,12 +279,11 @@ impl KeptRun {
         passed.reverse();
         self.lay_behind(before, &mut passed, stride);
         lay_all(&mut self.checkpoints, &mut room, stride);
-        move_sections(&mut self.sections, span);
     }
 
     /// Makes this the run of an edited circuit, whose steps differ within the span by Pauli gates alone,
     /// as a change says, by turning it where it lies. `None`, and nothing has changed, where a frame
-    /// can't tell the new run, or a copy must be laid. Copies are looked at in the memory of a spare tableau
+    /// can't give the new run, or a copy must be laid. Copies are looked at in the memory of a spare tableau
     /// if there is one.
     ///
     /// Refusal `OutOfMemory` alone; then nothing has changed either.
@@ -339,12 +331,12 @@ impl KeptRun {
         Ok(Some(followed))
     }
 
-    /// Makes this the run of an edited circuit, whose steps differ within the span, and tells how
-    /// many steps were carried out for it, and how many a frame went over. The run is as before where
+    /// Makes this the run of an edited circuit, whose steps differ within the span, and says how
+    /// many steps were carried out for it, and how many a frame passed. The run is as before if
     /// memory is refused.
     ///
-    /// If old and new steps differ by Pauli gates alone, they do as the change that is given says. A frame then turns
-    /// the run where it lies, and no step is carried out. Else, and if that can't be, steps are carried out anew, in
+    /// If old and new steps differ by Pauli gates alone, they differ as the given change says. A frame then turns
+    /// the run in place, and no step is carried out. Else, and if that can't be, steps are carried out anew, in
     /// the memory of a spare tableau if there is one, and one of the two that are then at hand is the next spare.
     pub fn follow<C: Coins>(
         &mut self,

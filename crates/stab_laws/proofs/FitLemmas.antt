@@ -153,7 +153,7 @@ pub check-steps : (items : Items) → check_of items ≡ None → length (unroll
 unfolding check_of
 check-steps items e = not_less most_steps (length (unroll items)) (chosen _ _ _ (chosen _ _ _ e).1).0
 
--- where nothing refuses the items, they have as many steps as are counted
+-- if nothing refuses the items, they have as many steps as are counted
 pub counted-steps : (n : ℕ) (items : Items) → check_within n items ≡ None → min (length (unroll items)) steps_cap ≡ length (unroll items)
 counted-steps n items e = let few = check-steps items (check-whole n items e) in omega arith
 

@@ -1,4 +1,4 @@
--- Fixed outcomes: where no coin decides, it makes no difference which number the next coin has.
+-- Fixed outcomes: if no coin decides, it makes no difference which number the next coin has.
 use Rattle.std.proofs.Common.{◌≡◌, ℕ, ◌+◌, refl, ◌∙◌, ap, Bool, true, false, ◌&&◌, not, List, [], ◌∷◌, ◌++◌, arith}
 use Rattle.std.specs.Prelude.{if◌then◌else◌}
 use Rattle.stab_letters.specs.Letters.{◌⊕◌}

@@ -7,7 +7,7 @@ use Rattle.std.proofs.lemmas.List.{length-append, get_or_append_left, get_or-app
 use Rattle.stab_letters.specs.Letters.{◌⊕◌}
 use Rattle.stab_steps.specs.Records.{looked_up, parity}
 
--- lookbacks into a list behind another
+-- lookbacks into a list that follows another
 
 below : (a b : ℕ) → b ≤ a → nat_lt a b ≡ false
 below a b le = grind arith
@@ -44,7 +44,7 @@ looked_up-far xs ys k lt = by_size (cases_lt (length xs) (k - length ys))
         index : length (xs ++ ys) - k ≡ length xs - (k - length ys)
         index = omega (arith, length-append xs ys)
 
--- lists that agree so far back agree so much further back where the same was put behind both
+-- lists that agree back to here agree further back by as much as was put after both
 pub looked_up-more : (m : ℕ) (xs zs ys : List Bool) → ((k : ℕ) → k ≤ m → looked_up xs k ≡ looked_up zs k)
     → (k : ℕ) → k ≤ m + length ys → looked_up (xs ++ ys) k ≡ looked_up (zs ++ ys) k
 looked_up-more m xs zs ys same k le = by_place (cases_lt (length ys) k)

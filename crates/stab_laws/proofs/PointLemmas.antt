@@ -1,4 +1,4 @@
--- Points: the flags and records behind steps, and what steps give in two parts.
+-- Points: the flags and records after steps, and what steps give in two parts.
 use Rattle.std.proofs.Common.{◌≡◌, ℕ, ◌+◌, ◌≤◌, refl, sym, ◌∙◌, ap, subst, Bool, true, false, List, [], ◌∷◌, ◌++◌, append_assoc, append-nil, length, take, drop, arith}
 use Rattle.std.proofs.lemmas.List.{length-append, take-append-drop, take_at, drop_at}
 use Rattle.stab_circuit.specs.Steps.{Step, one, two, controlled, collapse, product, detector, observable}
@@ -6,7 +6,7 @@ use Rattle.stab_steps.specs.Points.{Point, RunOutput, origin, joined, given, coi
 use Rattle.stab_steps.specs.Cuts.{lengths_of, front_of, rest_of}
 use Rattle.stab_steps.proofs.RunLemmas.{outputs-append}
 
--- the flags and records behind some steps
+-- the flags and records after some steps
 
 pub flags-given : (n : ℕ) (coins : ℕ → Bool) (x : Step) (p : Point) → length (given n coins x p).free ≡ coins_of x
 flags-given n coins (one g q) p = refl
@@ -72,7 +72,7 @@ rest-output n coins xs i =
     let b = outputs n coins (drop i xs) (point_after n coins (take i xs) origin) in
     ap (rest_of (lengths_of a)) (cut n coins xs i) ∙ rest-joined a b
 
--- each list of an output has at most so many elements
+-- each list of an output has at most this many elements
 pub record HasAtMost (k : ℕ) (o : RunOutput) : Type 0 where
   pub records : length o.records ≤ k
   pub free : length o.free ≤ k

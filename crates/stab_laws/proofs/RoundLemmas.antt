@@ -38,7 +38,7 @@ rounds-within m (suc p) ys near =
 
 -- rounds that come again
 
--- what a round gives behind one that no coin decided and that led to where it began, as far back as it looks; and where it leads
+-- what a round gives after one that no coin decided and that led to where it began, as far back as it looks; and where it leads
 module _ (n : ℕ) (coins : ℕ → Bool) (m : ℕ) (xs : List Step) (a : Point) (near : looks_too_far m xs ≡ false)
     (none : ones (outputs n coins xs a).free ≡ 0) (agree : AgreeBack n m (with_coin (point_after n coins xs a).coin a) (point_after n coins xs a)) where
   abbrev next : Point

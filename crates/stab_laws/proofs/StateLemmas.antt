@@ -1,4 +1,4 @@
--- States: a run is the point where it leads with what it gives, and free coins alone decide it.
+-- States: a run is the point where it leads with what it gives, and only free coins decide it.
 use Rattle.std.proofs.Common.{◌≡◌, ℕ, ◌+◌, refl, sym, ◌∙◌, ap, Bool, true, false, not, ◌&&◌, List, [], ◌∷◌, ◌++◌, append_assoc, append-nil, add-zero, length, get_or}
 use Rattle.std.specs.Prelude.{if◌then◌else◌, slice_index_or}
 use Rattle.std.proofs.lemmas.List.{length-append}
@@ -84,7 +84,7 @@ get_or-behind : (xs ys : List Bool) (b d : Bool) → get_or ((xs ++ b ∷ []) ++
 get_or-behind [] ys b d = refl
 get_or-behind (x ∷ xs) ys b d = get_or-behind xs ys b d
 
--- behind a step, the flag of its coin number is the one that it gave
+-- after a step, the flag of its coin number is the one that it gave
 flag-behind : (n : ℕ) (coins : ℕ → Bool) (xs : List Step) (s r : State) (flag : Bool) → s.coin ≡ length s.free → r.free ≡ s.free ++ flag ∷ []
     → slice_index_or (run n coins xs r).free s.coin false ≡ flag
 flag-behind n coins xs s r flag e is =

@@ -1,4 +1,4 @@
--- Steps left: the first so many of them, as they are carried out one after another.
+-- Steps left: as many of the first ones as are asked for, as they are carried out one after another.
 use Rattle.std.proofs.Common.{◌≡◌, ℕ, zero, suc, ◌+◌, ◌-◌, ◌≤◌, refl, ◌∙◌, ap, arith, List, [], ◌∷◌, ◌++◌, length, take, drop}
 use Rattle.std.proofs.Math.Seq.{take-append-add, drop-append-add}
 use Rattle.stab_circuit.specs.Steps.{Step}
@@ -18,7 +18,7 @@ drop-steps k m xs ys rest e count l = ap (drop k) e ∙ ap (λ t. drop t (ys ++ 
     whole : k ≡ length ys + (k - m)
     whole = omega arith
 
--- where none are to be carried out, or none are left
+-- if none are to be carried out, or none are left
 
 pub take-none : (k : ℕ) (xs : List Step) → k ≤ 0 → take k xs ≡ []
 take-none zero xs l = refl
@@ -42,7 +42,7 @@ take-whole (suc k) [] l = refl
 take-whole zero (x ∷ xs) l = absurd (omega arith)
 take-whole (suc k) (x ∷ xs) l = ap (λ t. x ∷ t) (take-whole k xs (omega arith))
 
--- all steps, where as many are to be carried out as are left
+-- all steps, if as many are to be carried out as are left
 
 pub take-all : (from count : ℕ) (all : List Step) → length all ≤ from + count → take (from + count) all ≡ all
 take-all from count all enough = take-whole (from + count) all enough

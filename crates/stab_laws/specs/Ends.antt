@@ -1,4 +1,4 @@
--- Ends: points of two runs that no step behind them tells apart.
+-- Ends: points of two runs that no step after them distinguishes.
 -- Source: this project's own.
 use Rattle.std.specs.Prelude.{◌≡◌, ℕ, ◌≤◌}
 use Rattle.stab_tableau.specs.Traces.{member}

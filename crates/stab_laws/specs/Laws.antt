@@ -1,7 +1,7 @@
 -- Laws of runs: a state is a point with what was given so far; a coin that does not decide makes no difference; the trace of
 -- a run is sound; and the future depends on the group, the number of the next coin and the records alone: on these as far back as
--- steps look, and on that number where a coin decides.
--- Source: Aaronson and Gottesman 2004, section III: an outcome is fixed, or either of both. That a coin is given for each, and what
+-- steps look, and on that number if a coin decides.
+-- Source: Aaronson and Gottesman 2004, section III: an outcome is fixed, or it may be either. That a coin is given for each, and what
 -- the future depends on, is this project's own.
 use Rattle.std.specs.Prelude.{◌≡◌, ℕ, ◌+◌, Bool, true, false, List, All, None, slice_index_or}
 use Rattle.stab_pauli.specs.Paulis.{Signed}
@@ -17,7 +17,7 @@ use Rattle.stab_steps.specs.Points.{Point, all_coins_of, point_after, outputs, p
 use Rattle.stab_steps.specs.ProgramStates.{StepFits}
 use Rattle.stab_laws.specs.Ends.{AgreeBack, with_coin}
 
--- a run ends at the point where its steps lead, with what they give put behind what there was
+-- a run ends at the point where its steps lead, with what they give put after what there was
 abbrev pub RunsArePointsWithOutputs : Type 0
 RunsArePointsWithOutputs =
     (n : ℕ) (coins : ℕ → Bool) (xs : List Step) (s : State) →
@@ -46,11 +46,11 @@ RunsDependOnFreeCoins = (n : ℕ) (coins : ℕ → Bool) (items : Items) → Dep
 abbrev pub IsSoundRun : ℕ → (ℕ → Bool) → Items → Type 0
 IsSoundRun n coins items = Fits n (run_of n coins items).trace × IsSound (run_of n coins items).trace
 
--- that is so of all items that lines stand for, where nothing refuses them on n qubits
+-- that is so for all items that lines stand for, if nothing refuses them on n qubits
 abbrev pub RunsAreSound : Type 0
 RunsAreSound = (n : ℕ) (coins : ℕ → Bool) (lines : List (List ℕ)) (items : Items) → AreLinesOf lines items → check_within n items ≡ None → IsSoundRun n coins items
 
--- the qubits of each step are below n, and those of a pair differ, where nothing refuses the items on n qubits and no step pairs
+-- the qubits of each step are below n, and those of a pair differ, if nothing refuses the items on n qubits and no step pairs
 -- a qubit with itself, which no lines' steps do
 abbrev pub CheckedStepsFit : Type 0
 CheckedStepsFit = (n : ℕ) (items : Items) → check_within n items ≡ None → All IsApart (unroll items) → All (StepFits n) (unroll items)
@@ -67,13 +67,13 @@ SameFuture =
     (n : ℕ) (coins : ℕ → Bool) (xs : List Step) (a b : Point) → AgreeAt n a b →
     (outputs n coins xs a ≡ outputs n coins xs b) × AgreeAt n (point_after n coins xs a) (point_after n coins xs b)
 
--- points that agree as far back as steps look give the same by these steps, and lead to points that agree so much further back
+-- points that agree as far back as steps look give the same by these steps, and then agree further back by the records of the steps
 abbrev pub SameFutureBack : Type 0
 SameFutureBack =
     (n : ℕ) (coins : ℕ → Bool) (m : ℕ) (xs : List Step) (a b : Point) → looks_too_far m xs ≡ false → AgreeBack n m a b →
     (outputs n coins xs a ≡ outputs n coins xs b) × AgreeBack n (m + records_of xs) (point_after n coins xs a) (point_after n coins xs b)
 
--- where no coin decides, steps give the same whichever number the next coin has, and lead to the same but for that number
+-- if no coin decides, steps give the same whichever number the next coin has, and lead to the same except that number
 abbrev pub FixedOutcomesNeedNoCoins : Type 0
 FixedOutcomesNeedNoCoins =
     (n : ℕ) (coins : ℕ → Bool) (c : ℕ) (xs : List Step) (a : Point) → ones (outputs n coins xs a).free ≡ 0 →

@@ -1,4 +1,4 @@
--- Laws of rounds: where no coin decides and nothing has changed that the steps of a round look back to, rounds come again.
+-- Laws of rounds: if no coin decides and nothing has changed that the steps of a round look back to, rounds come again.
 -- Source: this project's own.
 use Rattle.std.specs.Prelude.{◌≡◌, ℕ, zero, suc, Bool, false, List}
 use Rattle.stab_tableau.specs.Traces.{member}
@@ -8,13 +8,13 @@ use Rattle.stab_steps.specs.Records.{ones}
 use Rattle.stab_steps.specs.Points.{Point, RunOutput, nothing, joined, point_after, outputs}
 use Rattle.stab_laws.specs.Ends.{AgreeBack, with_coin}
 
--- an output so often, one behind the other
+-- an output this often, one after the other
 abbrev pub copies : ℕ → RunOutput → RunOutput
 copies zero o = nothing
 copies (suc k) o = joined o (copies k o)
 
--- steps that no coin decides, behind which nothing that they look back to differs from before them but the number of the next coin,
--- give the same again, however often, and lead to where they led, but for what was recorded and that number
+-- steps that no coin decides, after which nothing that they look back to differs from before them except the number of the next coin,
+-- give the same again, however often, and lead to where they led, except for what was recorded and that number
 abbrev pub RoundsComeAgain : Type 0
 RoundsComeAgain =
     (n : ℕ) (coins : ℕ → Bool) (m k : ℕ) (xs : List Step) (a : Point) → looks_too_far m xs ≡ false →

@@ -3,7 +3,7 @@
 ghost use Rattle.stab_laws.specs.Laws.{CheckedStepsFit, FixedOutcomesNeedNoCoins, RunsArePointsWithOutputs, CoinsDecideFreeOutcomes, RunsDependOnFreeCoins, RunsAreSound, SameFuture, SameFutureBack};
 ghost use Rattle.stab_laws.specs.RoundLaws.{RoundsComeAgain};
 
-/// A run ends at the point where its steps lead, with what the steps give put behind what there
+/// A run ends at the point where its steps lead, with what the steps give put after what there
 /// was; so prefixes and tails of runs are prefixes and tails of lists.
 pub fn runs_are_points_with_outputs()
     ensures law { RunsArePointsWithOutputs }
@@ -19,16 +19,16 @@ pub fn runs_depend_on_free_coins()
     ensures law { RunsDependOnFreeCoins }
 {}
 
-/// Where nothing refuses the items of any faultless lines on n qubits, the trace of their run fits
-/// n qubits and is sound, whatever the coins. So the laws of `stab_tableau::laws` hold of every
+/// If nothing refuses the items of any faultless lines on n qubits, the trace of their run fits
+/// n qubits and is sound, for all random bits. So the laws of `stab_tableau::laws` hold for every
 /// run. The lines rule out pairs of one qubit with itself, which a bare list of items could hold.
 pub fn runs_are_sound()
     ensures law { RunsAreSound }
 {}
 
 /// The qubits of each step of a circuit that nothing refuses on n qubits are below n, and those of a
-/// pair differ: that no pair is of one qubit with itself is so of the items of any faultless lines
-/// (`stab_circuit::laws::lines_keep_qubits_apart`), and a `Cursor` says so of its circuit.
+/// pair differ: no pair in the items of any faultless lines is of one qubit with itself
+/// (`stab_circuit::laws::lines_keep_qubits_apart`), and a `Cursor` says so about its circuit.
 pub fn checked_steps_fit()
     ensures law { CheckedStepsFit }
 {}
@@ -45,7 +45,7 @@ pub fn same_future_back()
     ensures law { SameFutureBack }
 {}
 
-/// Where no coin decides, the number of the next coin makes no difference.
+/// If no coin decides, the number of the next coin makes no difference.
 pub fn fixed_outcomes_need_no_coins()
     ensures law { FixedOutcomesNeedNoCoins }
 {}

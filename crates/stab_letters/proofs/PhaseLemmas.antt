@@ -75,7 +75,7 @@ phase_add-back_left = each_phase (λ a. phase_add (phase_inverse a) a ≡ Zero) 
 pub phase_add-back_right : (a : Phase) → phase_add a (phase_inverse a) ≡ Zero
 phase_add-back_right = each_phase (λ a. phase_add a (phase_inverse a) ≡ Zero) refl refl refl refl
 
--- a sum is told by one part and the other
+-- a sum is determined by one part and the other
 pub phase_add-cancel : (a b c : Phase) → phase_add a b ≡ phase_add a c → b ≡ c
 phase_add-cancel a b c e = sym (taken_back b) ∙ ap (phase_add (phase_inverse a)) e ∙ taken_back c
   where
@@ -129,7 +129,7 @@ is_even-sign true t = each_phase (λ t. is_even (phase_add Half t) ≡ is_even t
 pub is_even-quarter : (t : Phase) → is_even (phase_add Quarter t) ≡ not (is_even t)
 is_even-quarter = each_phase (λ t. is_even (phase_add Quarter t) ≡ not (is_even t)) refl refl refl refl
 
--- a power is even exactly where its square is 1
+-- a power is even if and only if its square is 1
 pub is_even-twice : (t : Phase) (b : Bool) → phase_add t t ≡ phase_of_sign b → is_even t ≡ not b
 is_even-twice Zero false e = refl
 is_even-twice Zero true e = cc
@@ -163,6 +163,6 @@ quarters-mod m n =
     ∙ sym (quarters-add (n % (4 * m)) (4 * (m * (n / (4 * m)))))
     ∙ ap quarters whole
 
--- a count modulo 4 tells the power
+-- a count modulo 4 determines the power
 pub quarters_counted : (n m : ℕ) → n % 4 ≡ m → quarters m ≡ quarters n
 quarters_counted n m e = ap quarters (sym e) ∙ quarters-mod 1 n

@@ -32,14 +32,14 @@ is_even Quarter = false
 is_even Half = true
 is_even ThreeQuarters = false
 
--- the sign of an even power, true for -; an odd power is no sign, and it is never asked of one: a product has a sign where its factors commute, and its power is even there (`EvenWhereCommuting`, `ProductsAreSigned`)
+-- the sign of an even power, true for -; an odd power has no sign and is never asked for one: a product has a sign if its factors commute, and its power is even then (`EvenWhereCommuting`, `ProductsAreSigned`)
 abbrev pub sign_of_phase : Phase → Bool
 sign_of_phase Zero = false
 sign_of_phase Quarter = false
 sign_of_phase Half = true
 sign_of_phase ThreeQuarters = true
 
--- the power of so many factors i
+-- the power of this many factors i
 abbrev pub quarters : ℕ → Phase
 quarters zero = Zero
 quarters (suc n) = phase_add Quarter (quarters n)

@@ -7,7 +7,7 @@
 //! Sources: D. Gottesman, Stabilizer codes and quantum error correction (1997); S. Aaronson and
 //! D. Gottesman, Improved simulation of stabilizer circuits (2004), section II.
 //!
-//! Proved: each call gives what the tables of products and powers in `specs/` say. What a gate does stands in
+//! Proved: each call gives what the tables of products and powers in `specs/` say. What a gate does is in
 //! `stab_tableau`, beside the states that it acts on.
 #![tactic(auto)]
 

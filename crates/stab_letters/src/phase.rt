@@ -63,7 +63,7 @@ impl Phase {
         }
     }
 
-    /// The product of so many factors i.
+    /// The product of this many factors i.
     #[inline(always)]
     pub fn of_count(count: u32) -> Phase
         ensures value { result ≡ quarters count }
@@ -76,7 +76,7 @@ impl Phase {
         }
     }
 
-    /// The sign of an even power, true for -; of an odd power it is that of the power before.
+    /// The sign of an even power, true for -; for an odd power it is that of the power before.
     #[inline(always)]
     pub fn sign(self) -> bool
         ensures value { result ≡ sign_of_phase self }

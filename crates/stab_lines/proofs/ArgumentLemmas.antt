@@ -1,11 +1,12 @@
 -- Arguments as they are printed, one after another.
-use Rattle.std.proofs.Common.{◌≡◌, ℕ, List, ◌∷◌, ◌++◌, Option, Some, map, codes, ap, sym, ◌∙◌}
+use Rattle.std.proofs.Common.{◌≡◌, ◌<◌, ℕ, List, [], ◌∷◌, ◌++◌, length, Option, Some, false, if◌then◌else◌, map, codes, ap, sym, refl, ◌∙◌, arith}
 use Rattle.std.specs.List.{slice_split}
+use Rattle.std.proofs.lemmas.List.Splits.{length-slice_split}
 use Rattle.stab_lines.specs.Lines.{is_byte, trimmed}
-use Rattle.stab_lines.specs.Words.{pieces_after}
-use Rattle.stab_lines.specs.Prints.{each_after, arguments_text}
+use Rattle.stab_lines.specs.Words.{arguments_of, is_blank, pieces_after}
+use Rattle.stab_lines.specs.Prints.{after_space, arguments_text, each_after}
 
--- the text of what stands between commas, each after a comma and a space
+-- the text of what is between commas, each after a comma and a space
 abbrev pub more_text : List (List ℕ) → List ℕ
 more_text pieces = each_after (codes ", ") (λ b. b) (map trimmed pieces)
 
@@ -23,3 +24,12 @@ pub arguments_are : (bytes first argument : List ℕ) (more : List (List ℕ)) �
 arguments_are bytes first argument more p t =
     ap (λ l. arguments_text (map trimmed l)) p
     ∙ ap (λ a. codes "(" ++ (a ++ (more_text more ++ codes ")"))) (sym t)
+
+-- arguments that are not blank, after a space
+pub spaced_arguments : (bytes : List ℕ) → is_blank bytes ≡ false
+    → codes " " ++ arguments_text (map trimmed (slice_split (is_byte 44) bytes)) ≡ after_space (arguments_text (arguments_of bytes))
+spaced_arguments bytes h = pieces (slice_split (is_byte 44) bytes) (omega (arith, length-slice_split (is_byte 44) bytes)) ∙ ap (λ b. after_space (arguments_text (if b then [] else map trimmed (slice_split (is_byte 44) bytes)))) (sym h)
+  where
+    pieces : (parts : List (List ℕ)) → 0 < length parts → codes " " ++ arguments_text (map trimmed parts) ≡ after_space (arguments_text (map trimmed parts))
+    pieces [] h = absurd (omega arith)
+    pieces (p ∷ ps) h = refl

@@ -37,7 +37,7 @@ word_free ds h =
     free-append is_brace (codes "rec[-") (ds ++ codes "]") (refl, (refl, (refl, (refl, (refl, tt)))))
     (free-append is_brace ds (codes "]") (digits_free is_brace ds digit_clear h) (refl, tt))
 
--- what follows a record in front has a brace where the whole has one
+-- what follows a record in front has a brace if the whole has one
 pub record_clear : (bs front behind rest : List ℕ) (n : ℕ) → front ≡ trimmed_front bs → front ≡ record_word (take n behind) ++ rest → list_all is_digit (take n behind) ≡ true
     → list_any is_brace bs ≡ list_any is_brace rest
 record_clear bs front behind rest n e parts digits =

@@ -15,7 +15,7 @@ coordinate_refused : (c : List ℕ) → is_coordinate c ≡ false → coordinate
 unfolding coordinate_of
 coordinate_refused c h = passed (is_coordinate c) _ _ h
 
--- where each is written as one, all are read as they are
+-- if each is written as one, all are read as they are
 pub each_coordinate : (cs : List (List ℕ)) → list_all is_coordinate cs ≡ true → each coordinate_of cs ≡ Ok cs
 each_coordinate [] h = refl
 each_coordinate (c ∷ cs) h =
@@ -28,7 +28,7 @@ refused_case c cs true e h more =
     ap (λ r. r >>= λ first. each coordinate_of cs >>= λ rest. Ok (first ∷ rest)) (coordinate_read c e) ∙ ap (λ r. r >>= λ rest. Ok (c ∷ rest)) (more h)
 refused_case c cs false e h more = ap (λ r. r >>= λ first. each coordinate_of cs >>= λ rest. Ok (first ∷ rest)) (coordinate_refused c e)
 
--- where one is not, they are refused
+-- if one is not, they are refused
 pub no_coordinate : (cs : List (List ℕ)) → list_all is_coordinate cs ≡ false → each coordinate_of cs ≡ Err BadArguments
 no_coordinate [] h = cc
 no_coordinate (c ∷ cs) h = refused_case c cs (is_coordinate c) refl h (no_coordinate cs)

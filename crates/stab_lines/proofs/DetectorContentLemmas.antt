@@ -58,7 +58,7 @@ unfolding is_apart
 end_apart [] w = refl
 end_apart (b ∷ bs) w = spaced_apart b bs w
 
--- the content of a detector that holds these bytes in its brackets, with these behind them
+-- the content of a detector that holds these bytes in its brackets, with these after them
 abbrev detector_text : List ℕ → List ℕ → List ℕ
 detector_text inside behind = codes "DETECTOR(" ++ (inside ++ 41 ∷ behind)
 
@@ -78,7 +78,7 @@ text_shape inside behind h w clear =
     ∙ ap (λ r. r >>= shaped content []) (brackets_again 40 41 all inside behind refl refl (inner_unclosed inside h) refl)
     ∙ shaped_again content (codes "DETECTOR") [] inside behind behind false refl refl (end_apart behind w) (inner_unbraced inside h) free (passed (ends_with_byte behind 123) _ _ closed) closed
 
--- what a detector does, where its coordinates are written as coordinates are
+-- what a detector does, if its coordinates are written as coordinates are
 pub detector_kind : (s : Shape) → list_all is_coordinate (arguments_of s.arguments) ≡ true
     → kind_of instruction.Detector s ≡ (behind_coordinates s.arguments (each lookback_of (words s.targets)) >>= λ d. Ok (kind.Detector d))
 unfolding kind_of
@@ -90,7 +90,7 @@ detector_kind s written =
     joined cs (Ok ks) = refl
     joined cs (Err r) = refl
 
--- where they are not
+-- if they are not
 pub detector_refused : (s : Shape) → list_all is_coordinate (arguments_of s.arguments) ≡ false → kind_of instruction.Detector s ≡ Err BadArguments
 unfolding kind_of
 detector_refused s h = ap (λ r. r >>= λ cs. each lookback_of (words s.targets) >>= λ ks. Ok (kind.Detector (cs, ks))) (no_coordinate (arguments_of s.arguments) h)
@@ -120,7 +120,7 @@ detector_means : (content inside behind : List ℕ) → IsCutDetector content in
     → meaning_of content ≡ (behind_coordinates inside (each lookback_of (words behind)) >>= detector_line)
 detector_means content inside behind cut written clear = ap meaning_of cut.0 ∙ text_means inside behind cut.1 cut.2 clear written
 
--- it is told by its few records
+-- it is determined by its few records
 pub few_tell : (content inside behind : List ℕ) (d : List (List ℕ) × List ℕ) → IsCutDetector content inside behind → list_all is_coordinate (arguments_of inside) ≡ true
     → d.0 ≡ arguments_of inside → each lookback_of (words behind) ≡ Ok d.1 → list_any is_brace behind ≡ false → TellsDetector content (Ok (Some d))
 few_tell content inside behind d cut written same read clear =

@@ -19,7 +19,7 @@ found_in_range found count k bs rest room h before =
     subst (All IsLookback) (sym (take_more_set found count k room))
     (All-append IsLookback (take count found) (k ∷ []) before (All-cons IsLookback k [] (lookback_in_range h.0 k h.2) (All-nil IsLookback)))
 
--- a record more, and what is read behind it
+-- a record more, and what is read after it
 pub found_more : (found : List ℕ) (count k : ℕ) (bs rest : List ℕ) → count < length found → BeginsWithTarget lookback_of bs k rest
     → behind (take (count + 1) (set found count k)) (each lookback_of (words rest)) ≡ behind (take count found) (each lookback_of (words bs))
 found_more found count k bs rest room h =

@@ -107,7 +107,7 @@ coordinate_word b bs h k =
     solid [] e = tt
     solid (x ∷ xs) e = (coordinate_solid x (and_left (is_coordinate_byte x) _ e), solid xs (and_right (is_coordinate_byte x) _ e))
 
--- the pieces between commas, where the first is perhaps the rest of a coordinate
+-- the pieces between commas, if the first is perhaps the rest of a coordinate
 abbrev pub ArePieces : Bool → List (List ℕ) → Type 0
 ArePieces within [] = ⊥
 ArePieces true (w ∷ ws) = (list_all is_coordinate_byte w ≡ true) × (list_all is_coordinate (map trimmed ws) ≡ true)
@@ -159,7 +159,7 @@ listed_coordinates bs h = blank (is_blank bs)
     blank true = refl
     blank false = pieces_coordinates (slice_split comma bs) (listed_pieces false bs h)
 
--- records as they are printed, one behind the other
+-- records as they are printed, one after the other
 pub record AreRecords (ks text : List ℕ) : Type 0 where
   pub read : each lookback_of (words text) ≡ Ok ks
   pub apart : is_word_end text ≡ true
@@ -200,7 +200,7 @@ digit_lined d h = grind (arith, nat_tests)
 digit_uncommented : (d : ℕ) → is_digit d ≡ true → is_byte 35 d ≡ false
 digit_uncommented d h = grind (arith, nat_tests)
 
--- the line of a detector with these bytes in its brackets, and these behind them
+-- the line of a detector with these bytes in its brackets, and these after them
 abbrev detector_line : List ℕ → List ℕ → List ℕ
 detector_line inside records = codes "DETECTOR(" ++ (inside ++ 41 ∷ records)
 

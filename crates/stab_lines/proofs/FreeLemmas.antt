@@ -46,7 +46,7 @@ free_cut p x xs false e f =
     let g : Free p (take (suc (prefix_len (λ y. not (p y)) xs)) (x ∷ xs)) = (e, f) in
     subst (λ m. Free p (take m (x ∷ xs))) one g
 
--- what stands before the first such byte has none
+-- what is before the first such byte has none
 pub free_before : (p : ℕ → Bool) (xs : List ℕ) → Free p (before_first p xs)
 free_before p [] = tt
 free_before p (x ∷ xs) = free_cut p x xs (p x) refl (free_before p xs)
@@ -87,7 +87,7 @@ drop_front [] [] = refl
 drop_front [] (y ∷ ys) = refl
 drop_front (x ∷ xs) ys = drop_front xs ys
 
--- where the first byte that passes stands, and what stands before and after it
+-- where the first byte that passes is, and what is before and after it
 pub position_front : (p : ℕ → Bool) (xs : List ℕ) (y : ℕ) (ys : List ℕ) → Free p xs → p y ≡ true → position_or_len p (xs ++ y ∷ ys) ≡ length xs
 position_front p xs y ys f e = prefix_front (λ x. not (p x)) xs (y ∷ ys) (each_weaker (λ x. p x ≡ false) (λ x. not (p x) ≡ true) xs (λ x h. ap not h) f) (ap not e)
 

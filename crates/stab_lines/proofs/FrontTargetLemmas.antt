@@ -57,7 +57,7 @@ qubit_measured word n h =
     passed (starts_with_byte word 33) _ _ (number_unmarked word (qubit_is_number word n h))
     ∙ ap (λ r. r >>= λ q. Ok (record { qubit = q; inverted = false })) h
 
--- a qubit in front is measured as it stands
+-- a qubit in front is measured as it is
 pub measure_target_begins : (bs rest : List ℕ) (n : ℕ) → BeginsWithTarget qubit_of bs n rest → BeginsWithTarget measure_target_of bs (record { qubit = n; inverted = false }) rest
 measure_target_begins bs rest n h = (h.0, h.1, qubit_measured h.0 n h.2)
 
@@ -137,7 +137,7 @@ pub some_value : (ds : List ℕ) → 0 < value ds → is_some_word ds ≡ true
 some_value [] h = absurd (omega arith)
 some_value (d ∷ ds) h = grind arith
 
--- what a byte stands first in
+-- what a byte is first in
 pub closing_is : (bs : List ℕ) (b : ℕ) → starts_with_byte bs b ≡ true → bs ≡ b ∷ drop 1 bs
 closing_is [] b h = cc
 closing_is (x ∷ xs) b h = ap (λ y. y ∷ xs) (byte_is x b h) ∙ ap (λ l. b ∷ l) (sym (drop_none xs))
@@ -145,7 +145,7 @@ closing_is (x ∷ xs) b h = ap (λ y. y ∷ xs) (byte_is x b h) ∙ ap (λ l. b 
     byte_is : (x b : ℕ) → (x == b) ≡ true → x ≡ b
     byte_is x b h = grind arith
 
--- the parts of what stands in front, where it is written as a record is
+-- the parts of what is in front, if it is written as a record is
 pub record_parts : (front behind closing rest : List ℕ) (n : ℕ) → starts_with nat_eq front (codes "rec[-") ≡ true → behind ≡ drop 5 front → closing ≡ drop n behind
     → starts_with_byte closing 93 ≡ true → rest ≡ drop 1 closing → front ≡ record_word (take n behind) ++ rest
 record_parts front behind closing rest n s b c e r =

@@ -23,7 +23,7 @@ passes_at : (p : ℕ → Bool) (xs : List ℕ) (k : ℕ) (b : Bool) → k < leng
 passes_at p xs k true lt e h = refl
 passes_at p xs k false lt e h = sym (list_all_at p xs k 0 lt e) ∙ h
 
--- digits up to the end of a word stand before the first spacing
+-- digits up to the end of a word are before the first spacing
 number_place : (bs : List ℕ) (n : ℕ) → n ≤ length bs → list_all is_digit (take n bs) ≡ true → is_word_end (drop n bs) ≡ true → n ≡ position_or_len is_spacing bs
 number_place bs n within digits end =
     sym (position_or_len_is is_spacing bs n 0 within (λ k lt. digit_solid (get_or bs k 0) (at k lt)) (λ lt. end_spacing bs n lt end))

@@ -61,7 +61,7 @@ some_kept (b ∷ bs) ws h = grind arith
 position_solid : (x : ℕ) (xs : List ℕ) → is_spacing x ≡ false → 0 < position_or_len is_spacing (x ∷ xs)
 position_solid x xs e = let one = ap (λ b. if not b then 1 + position_or_len is_spacing xs else 0) e in omega (arith, one)
 
--- where spacing follows, the rest begins after it
+-- if spacing follows, the rest begins after it
 rest_spacing : (bs : List ℕ) (n : ℕ) → n ≡ position_or_len is_spacing bs → n < length bs → words (drop n bs) ≡ words (drop (n + 1) bs)
 rest_spacing bs n e h =
     let here : position_or_len is_spacing bs < length bs = omega (arith, e, h) in

@@ -59,7 +59,7 @@ number_clear (w ∷ ws) h = (
 plain_targets : (ws : List (List ℕ)) → list_all is_number ws ≡ true → AreTargets (spaced_words ws)
 plain_targets ws h = spaced_targets (λ w. w) ws (number_words ws h) (number_clear ws h)
 
--- what they mean where nothing follows
+-- what they mean if nothing follows
 plain_read : {X : Type 0} (meaning : List (List ℕ) → Result (List X) Refusal) (ws : List (List ℕ)) (xs : List X) → meaning [] ≡ Ok [] → list_all is_number ws ≡ true
     → ((more : List (List ℕ)) → meaning (ws ++ more) ≡ follows xs (meaning more)) → meaning (words (spaced_words ws)) ≡ Ok xs
 plain_read meaning ws xs none h read =
@@ -142,7 +142,7 @@ plain_name (x ∷ xs) h l = name_is x xs (letter (is_letter x) (sym (ap (λ ys. 
     letter true e = refl
     letter false e = e
 
--- the line of a name with numbers behind it
+-- the line of a name with numbers after it
 abbrev plain_line : List ℕ → List (List ℕ) → List ℕ
 plain_line name ws = head_text name [] ++ spaced_words ws
 
@@ -191,7 +191,7 @@ plain_told text first bs i (Err r) e n named h = h
 parts : (text first bs : List ℕ) (k : ℕ) → first ≡ take k text → bs ≡ drop k text → text ≡ first ++ bs
 parts text first bs k f b = sym (take-append-drop k text) ∙ ap (λ l. l ++ drop k text) (sym f) ∙ ap (λ l. first ++ l) (sym b)
 
--- the name that stands in front
+-- the name that is in front
 pub name_told : (text first bs : List ℕ) (k : ℕ) (i : Instruction) (r : Result (Option (Kind × Option (Bor (List ℕ)))) Refusal) → first ≡ take k text → bs ≡ drop k text → k ≡ prefix_len is_name_byte text
     → list_any is_letter (take 1 first) ≡ true → name_of first ≡ Ok (name.Instruction i) → TellsKind i bs r → TellsInstruction text r
 name_told text first bs k i r f b p l named h =

@@ -23,7 +23,7 @@ use Rattle.stab_lines.specs.Controls.{control_of, by_turns, pair_of, paired, con
 use Rattle.stab_lines.specs.Targets.{qubit_of, measure_target_of, lookback_of, count_of, pairs_of, coordinate_of, one_argument, number_of, observable_of}
 use Rattle.stab_lines.specs.Meanings.{targets_alone, coordinates_of, kind_of, observable_include_of, only_count, opened, block_of, named_line, shape_meaning, is_close, meaning_of, is_of_line}
 
--- where it is refused, a line can be refused so
+-- if it is refused, a line can be refused in this way
 abbrev pub OfLine : {A : Type 0} → Result A Refusal → Type 0
 OfLine (Ok x) = Unit {0}
 OfLine (Err r) = is_of_line r ≡ true

@@ -22,7 +22,7 @@ others_more bs byte n m within h k =
     ∙ ap (λ b. b || list_any (is_byte byte) (take m (drop n bs))) h
     ∙ k
 
--- what stands somewhere stands in front or behind
+-- what occurs somewhere is in front or comes after
 pub any_split : (p : ℕ → Bool) (bs : List ℕ) (n : ℕ) → list_any p bs ≡ (list_any p (take n bs) || list_any p (drop n bs))
 any_split p bs n = ap (list_any p) (sym (take-append-drop n bs)) ∙ list_any-append p (take n bs) (drop n bs)
 
@@ -34,7 +34,7 @@ position_behind p (x ∷ xs) ys h =
     let one : position_or_len p (x ∷ (xs ++ ys)) ≡ 1 + position_or_len p (xs ++ ys) = ap (λ b. if not b then 1 + position_or_len p (xs ++ ys) else 0) parts.0 in
     omega (arith, more, one)
 
--- where others stand in front, the byte stands first behind them
+-- if others are in front, the byte comes first after them
 pub behind_others : (bs : List ℕ) (byte n near : ℕ) → n ≤ length bs → list_any (is_byte byte) (take n bs) ≡ false → near ≡ position_or_len (is_byte byte) (drop n bs) → n + near ≡ position_or_len (is_byte byte) bs
 behind_others bs byte n near within h e =
     let all = ap (position_or_len (is_byte byte)) (take-append-drop n bs) in

@@ -59,7 +59,7 @@ unfolding is_apart
 apart_again [] a = refl
 apart_again (b ∷ bs) a = spaced_apart b bs (ap is_spacing a)
 
--- what stands in brackets is read again
+-- what is in brackets is read again
 pub brackets_again : (opening closing : ℕ) (all inner rest : List ℕ) → (opening == opening) ≡ true → (closing == closing) ≡ true → Free (is_byte closing) inner → all ≡ inner ++ closing ∷ rest
     → bracketed opening closing (opening ∷ all) ≡ Ok (inner, rest)
 unfolding bracketed
@@ -78,7 +78,7 @@ tag_again : (tag rest : List ℕ) → Free (is_byte 93) tag → Stops (is_byte 9
 tag_again [] rest f s = no_brackets 91 93 rest s
 tag_again (b ∷ bs) rest f s = brackets_again 91 93 (((b ∷ bs) ++ 93 ∷ []) ++ rest) (b ∷ bs) rest refl refl f (append_assoc (b ∷ bs) (93 ∷ []) rest)
 
--- what stands between the brackets of arguments
+-- what is between the brackets of arguments
 abbrev pub inner_of : List (List ℕ) → List ℕ
 inner_of [] = []
 inner_of (a ∷ more) = a ++ further more
@@ -141,7 +141,7 @@ letter_again : (name tag : List ℕ) (arguments : List (List ℕ)) (tail : List 
 letter_again name tag arguments tail n =
     ap (λ l. list_any is_letter (take 1 l)) (append_assoc name (tag_text tag) (arguments_text arguments ++ tail)) ∙ letter_first name (tag_text tag ++ (arguments_text arguments ++ tail)) n
 
--- a shape, where the targets without a brace and whether one opens are known
+-- a shape, if the targets without a brace and whether one opens are known
 pub shaped_again : (content name tag inner tail targets : List ℕ) (open' : Bool) → list_any is_letter (take 1 content) ≡ true → take_while is_name_byte content ≡ name → is_apart tail ≡ true → Free is_brace inner
     → Free is_brace targets → without_brace tail ≡ targets → ends_with_byte tail 123 ≡ open'
     → shaped content tag (inner, tail) ≡ Ok (record { name = name; tag = tag; arguments = inner; targets = targets; opens = open' })

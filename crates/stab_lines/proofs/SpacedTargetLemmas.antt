@@ -1,4 +1,4 @@
--- Targets that are written as numbers, each behind a space.
+-- Targets that are written as numbers, each after a space.
 use Rattle.std.proofs.Common.{Bor, Option, Some, None, MatchOption, ◌≡◌, ◌≢◌, ◌<◌, ◌≤◌, ℕ, true, false, ◌==◌, List, [], ◌∷◌, ◌++◌, length, take, drop, Result, Ok, Err, refl, sym, ap, ◌∙◌, append_assoc, append-nil}
 use Rattle.std.specs.List.{list_all}
 use Rattle.std.proofs.lemmas.List.Folds.{list_all-append}
@@ -22,7 +22,7 @@ use Rattle.stab_lines.proofs.TargetLemmas.{different}
 use Rattle.stab_lines.proofs.FrontTargetLemmas.{number_qubit, qubit_measured, closing_is}
 use Rattle.stab_lines.proofs.ControlLemmas.{control_qubit, second_is}
 
--- a qubit in digits behind a space
+-- a qubit in digits after a space
 pub qubit_spaced : (bs digits : List ℕ) (n number q : ℕ) → starts_with_byte bs 32 ≡ true → digits ≡ drop 1 bs → 0 < n → n ≤ length digits → list_all is_digit (take n digits) ≡ true
     → number ≡ value (take n digits) → number < most_qubits → q ≡ number → IsSpacedQubit bs q (drop n digits)
 qubit_spaced bs digits n number q s d some within all same small e =

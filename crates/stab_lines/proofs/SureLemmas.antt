@@ -38,7 +38,7 @@ use Rattle.stab_lines.proofs.WordLemmas.{eighteen_digits}
 use Rattle.stab_lines.proofs.TargetLemmas.{lookback_in_range, split_some}
 use Rattle.stab_lines.proofs.FreeLemmas.{Each, Free, free_take, free_drop, free_before}
 
--- where there is a result, it has P
+-- if there is a result, it has P
 abbrev OnOk' : {A : Type 0} → (A → Type 0) → Result A Refusal → Type 0
 OnOk' P (Ok x) = P x
 OnOk' P (Err r) = Unit {0}

@@ -5,7 +5,7 @@ use Rattle.stab_io.specs.declared.refusal.Refusal.TheVariants.{WriteFault}
 use Rattle.stab_io.specs.Devices.{OutputView, Took, TookAndFailed, WritesAll}
 use Rattle.stab_io.proofs.DeviceLemmas.{took_more, took_and_failed, failed_within}
 
--- a write that fails ends the writing, and its failure is handed on
+-- a write that fails ends the writing, and its failure is passed on
 failed_case : {a b : OutputView} {r e : Refusal} (q : Result (Unit {0}) Refusal) (front back : List ℕ)
     → q ≡ Err e → e ≡ r → (r ≡ WriteFault) × TookAndFailed a b front → WritesAll a b (front ++ back) q
 failed_case (Ok x) front back p k s = cc
@@ -30,7 +30,7 @@ writes_as a b r e s = subst (λ l. WritesAll a b l r) e s
 pub took_as : {a b : OutputView} {x y : List ℕ} → x ≡ y → Took a b x → Took a b y
 took_as {a} {b} e s = subst (λ l. Took a b l) e s
 
--- of a whole some was written, and this is left
+-- some of a whole was written, and this is left
 abbrev pub HasWritten : OutputView → OutputView → List ℕ → List ℕ → Type 0
 HasWritten a b whole left = (front : List ℕ) × Took a b front × (whole ≡ front ++ left)
 

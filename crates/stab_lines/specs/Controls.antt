@@ -1,5 +1,5 @@
 -- Controls: the pairs of targets of a controlled gate, whose first is a qubit or a record.
--- Source: Stim's circuit file format, where a target rec[-k] may control a gate. Here it stands before the qubit alone.
+-- Source: Stim's circuit file format, in which a target rec[-k] may control a gate. Here it may only come before the qubit.
 use Rattle.std.specs.Prelude.{ℕ, ◌==◌, List, [], ◌∷◌, if◌then◌else◌, Result, Ok, Err}
 use Rattle.stab_io.specs.declared.refusal.Refusal.{Refusal}
 use Rattle.stab_io.specs.declared.refusal.Refusal.TheVariants.{BadPairing}

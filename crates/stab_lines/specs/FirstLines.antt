@@ -1,4 +1,4 @@
--- First lines: what the first line of a text means, told before the line is cut.
+-- First lines: what the first line of a text means, found before the line is cut.
 -- Source: this project's own.
 use Rattle.std.specs.Prelude.{◌≡◌, ℕ, List, [], ◌∷◌, Option, None, Some, Result, Ok, Err}
 use Rattle.std.specs.Borrow.{Bor}
@@ -23,7 +23,7 @@ BeginsWithInstruction text k after =
 abbrev pub BeginsWithDetector : List ℕ → List (List ℕ) × List ℕ → Option (List ℕ) → Type 0
 BeginsWithDetector text d after = BeginsWithInstruction text (kind.Detector d) after
 
--- the call gave the instruction that the first line means and the lines behind it, or told nothing, or failed for want of memory
+-- the call gave the instruction that the first line means and the lines after it, or said nothing, or failed for lack of memory
 abbrev pub TellsInstruction : List ℕ → Result (Option (Kind × Option (Bor (List ℕ)))) Refusal → Type 0
 TellsInstruction text (Ok None) = Unit {0}
 TellsInstruction text (Ok (Some found)) = BeginsWithInstruction text found.0 (option_copied found.1)

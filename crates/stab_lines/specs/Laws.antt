@@ -20,7 +20,7 @@ line_printed Close = codes "}"
 line_printed (Open count tag) = open_text count tag
 line_printed (line.Operation op) = operation_text op
 
--- the content fits on one line, is what is left of it behind any margin of spaces, and means this
+-- the content fits on one line, is what is left of it after any margin of spaces, and means this
 pub record Says (content : List ℕ) (meaning : Line) : Type 0 where
   pub one_line : IsLine content
   pub left : (spaces : ℕ) → content_of (replicate spaces 32 ++ content) ≡ content

@@ -1,5 +1,5 @@
 -- Lines: what is left of a line, and the shape of it: a name, perhaps a tag, arguments, targets and a last brace.
--- Source: Stim's circuit file format (.stim), but that a tag can't hold `#` here.
+-- Source: Stim's circuit file format (.stim), except that a tag can't hold `#` here.
 use Rattle.std.specs.Prelude.{ℕ, ◌-◌, Bool, false, ◌&&◌, ◌||◌, not, nat_le, nat_lt, ◌==◌, List, [], ◌∷◌, length, drop, take, reverse, if◌then◌else◌, Result, Ok, Err}
 use Rattle.std.specs.List.{position_or_len, prefix_len, suffix_len, take_while, before_first, after_first, list_any}
 use Rattle.stab_lines.specs.Results.{◌>>=◌}
@@ -43,26 +43,26 @@ trimmed bs = trimmed_end (trimmed_front bs)
 unfoldable pub content_of : List ℕ → List ℕ
 content_of line = trimmed (before_first (is_byte 35) line)
 
--- whether this byte stands first
+-- whether this byte comes first
 abbrev pub starts_with_byte : List ℕ → ℕ → Bool
 starts_with_byte [] byte = false
 starts_with_byte (b ∷ bs) byte = b == byte
 
--- whether this byte stands last
+-- whether this byte comes last
 abbrev pub ends_with_byte : List ℕ → ℕ → Bool
 ends_with_byte bs byte = starts_with_byte (reverse bs) byte
 
--- whether this byte stands anywhere
+-- whether this byte occurs anywhere
 abbrev pub has_byte : ℕ → List ℕ → Bool
 has_byte byte bs = nat_lt (position_or_len (is_byte byte) bs) (length bs)
 
--- what the brackets that stand directly in front hold, and what follows them; without brackets nothing, and all
+-- what the brackets directly in front hold, and what follows them; without brackets nothing, and all
 unfoldable pub bracketed : ℕ → ℕ → List ℕ → Result (List ℕ × List ℕ) Refusal
 bracketed opening closing bs =
     if starts_with_byte bs opening then (if has_byte closing (drop 1 bs) then Ok (before_first (is_byte closing) (drop 1 bs), after_first (is_byte closing) (drop 1 bs)) else Err BadLine)
     else Ok ([], bs)
 
--- a name, its arguments and targets as they stand, and whether a block opens
+-- a name, its arguments and targets as they are, and whether a block opens
 pub record Shape : Type 0 where
   pub name : List ℕ
   pub tag : List ℕ
@@ -78,7 +78,7 @@ is_apart bs = (length bs == 0) || list_any is_spacing (take 1 bs) || ((length bs
 abbrev pub without_brace : List ℕ → List ℕ
 without_brace bs = if ends_with_byte bs 123 then take (length bs - 1) bs else bs
 
--- the shape, where the rest is as it must be
+-- the shape, if the rest is as it must be
 abbrev pub shaped : List ℕ → List ℕ → List ℕ × List ℕ → Result Shape Refusal
 shaped content tag arguments =
     if list_any is_letter (take 1 content) && is_apart arguments.1 && not (list_any is_brace arguments.0) && not (list_any is_brace (without_brace arguments.1))

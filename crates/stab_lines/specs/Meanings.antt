@@ -19,15 +19,15 @@ use Rattle.stab_lines.specs.Controls.{controlled_of}
 use Rattle.stab_lines.specs.Products.{product_of}
 use Rattle.stab_lines.specs.Targets.{qubit_of, measure_target_of, lookback_of, count_of, pairs_of, coordinate_of, number_of, observable_of}
 
--- refusal 2 where there are arguments
+-- refusal 2 if there are arguments
 abbrev pub without_arguments : {A : Type 0} → Shape → Result A Refusal → Result A Refusal
 without_arguments s given = if is_blank s.arguments then given else Err BadArguments
 
--- refusal 3 where there are targets
+-- refusal 3 if there are targets
 abbrev pub without_targets : {A : Type 0} → Shape → Result A Refusal → Result A Refusal
 without_targets s given = if is_blank s.targets then given else Err BadTarget
 
--- refusal 5 where a brace opens a block
+-- refusal 5 if a brace opens a block
 abbrev pub without_open : {A : Type 0} → Shape → Result A Refusal → Result A Refusal
 without_open s given = if s.opens then Err BadBlock else given
 
@@ -61,12 +61,12 @@ kind_of instruction.Tick s = without_arguments s (without_targets s (Ok kind.Tic
 kind_of instruction.QubitCoords s = coordinates_of s >>= λ coordinates. each qubit_of (words s.targets) >>= λ qubits. Ok (kind.QubitCoords (coordinates, qubits))
 kind_of instruction.ShiftCoords s = coordinates_of s >>= λ coordinates. without_targets s (Ok (kind.ShiftCoords coordinates))
 
--- the count, where there is one alone
+-- the count, if there is exactly one
 abbrev pub only_count : List (Option ℕ) → Option ℕ
 only_count (count ∷ []) = count
 only_count counts = None
 
--- a block's opening, where there is a count and a brace
+-- a block's opening, if there is a count and a brace
 abbrev pub opened : Shape → Option ℕ → Result Line Refusal
 opened s (Some count) = if s.opens then Ok (line.Open count s.tag) else Err BadBlock
 opened s None = Err BadBlock
@@ -95,7 +95,7 @@ meaning_of content =
     else if is_close content then Ok line.Close
     else shape_of content >>= shape_meaning
 
--- whether a line can be refused like this, whatever stands around it: 1 to 7 and 11
+-- whether a line can be refused like this, whatever is around it: 1 to 7 and 11
 abbrev pub is_of_line : Refusal → Bool
 is_of_line UnsupportedName = true
 is_of_line BadArguments = true

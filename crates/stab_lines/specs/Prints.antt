@@ -28,7 +28,7 @@ kind_name kind.Tick = instruction_name instruction.Tick
 kind_name (kind.QubitCoords located) = instruction_name instruction.QubitCoords
 kind_name (kind.ShiftCoords coordinates) = instruction_name instruction.ShiftCoords
 
--- a tag in its brackets, where there is one
+-- a tag in its brackets, if there is one
 abbrev pub tag_text : List ℕ → List ℕ
 tag_text [] = []
 tag_text (b ∷ bs) = codes "[" ++ ((b ∷ bs) ++ codes "]")
@@ -38,7 +38,7 @@ abbrev pub each_after : {A : Type 0} → List ℕ → (A → List ℕ) → List 
 each_after separator text [] = []
 each_after separator text (x ∷ xs) = separator ++ (text x ++ each_after separator text xs)
 
--- arguments in their brackets, where there are any, joined by a comma and a space
+-- arguments in their brackets, if there are any, joined by a comma and a space
 abbrev pub arguments_text : List (List ℕ) → List ℕ
 arguments_text [] = []
 arguments_text (a ∷ more) = codes "(" ++ (a ++ (each_after (codes ", ") (λ b. b) more ++ codes ")"))
@@ -119,6 +119,25 @@ head_text name tag = name ++ tag_text tag
 -- one instruction
 abbrev pub operation_text : Operation → List ℕ
 operation_text op = head_text (kind_name op.kind) op.tag ++ (arguments_text (kind_arguments op.kind) ++ targets_text op.kind)
+
+-- a text after a space, and nothing if there is none
+abbrev pub after_space : List ℕ → List ℕ
+after_space [] = []
+after_space (b ∷ bs) = codes " " ++ (b ∷ bs)
+
+-- the coordinates of a detector after a space, as ` (1, 3, 2)`: nothing if it has none, or for any other instruction
+abbrev pub coordinates_text : Kind → List ℕ
+coordinates_text (kind.Detector located) = after_space (arguments_text located.0)
+coordinates_text (kind.Gate g qubits) = []
+coordinates_text (kind.Controlled axis pairs) = []
+coordinates_text (kind.Swap pairs) = []
+coordinates_text (kind.Measure m targets) = []
+coordinates_text (kind.Reset axis qubits) = []
+coordinates_text (kind.MeasureProducts products) = []
+coordinates_text (kind.ObservableInclude j ks) = []
+coordinates_text kind.Tick = []
+coordinates_text (kind.QubitCoords located) = []
+coordinates_text (kind.ShiftCoords coordinates) = []
 
 -- the opening of a block
 abbrev pub open_text : ℕ → List ℕ → List ℕ

@@ -1,5 +1,5 @@
 -- Products: what a word means as a product of letters on different qubits.
--- Source: Stim's circuit file format, the targets of MPP. It differs in that no qubit stands twice in a product.
+-- Source: Stim's circuit file format, the targets of MPP. It differs in that no qubit occurs twice in a product.
 use Rattle.std.specs.Prelude.{ℕ, Bool, false, ◌&&◌, ◌||◌, ◌==◌, List, [], ◌∷◌, drop, if◌then◌else◌, Option, Some, None, is_some, Result, Ok, Err}
 use Rattle.std.specs.List.{list_all, list_any, slice_split}
 use Rattle.stab_io.specs.declared.refusal.Refusal.{Refusal}
@@ -12,7 +12,7 @@ use Rattle.stab_lines.specs.Words.{is_number}
 use Rattle.stab_lines.specs.Axes.{first_axis}
 use Rattle.stab_lines.specs.Targets.{qubit_of}
 
--- without the mark ! in front, where there is one
+-- without the mark ! in front if there is one
 abbrev pub unmarked : List ℕ → List ℕ
 unmarked word = if starts_with_byte word 33 then drop 1 word else word
 
@@ -38,11 +38,11 @@ abbrev pub names_twice : List Factor → Bool
 names_twice [] = false
 names_twice (f ∷ fs) = is_on f.qubit fs || names_twice fs
 
--- the factors, where they are on different qubits
+-- the factors, if they are on different qubits
 abbrev pub on_different : List Factor → Result (List Factor) Refusal
 on_different factors = if names_twice factors then Err BadTarget else Ok factors
 
--- a product of factors joined by *: spelling, then ranges, then whether a qubit stands twice
+-- a product of factors joined by *: spelling, then ranges, then whether a qubit occurs twice
 unfoldable pub product_of : List ℕ → Result (List Factor) Refusal
 product_of word =
     if list_all is_factor (slice_split (is_byte 42) word) then (each factor_of (slice_split (is_byte 42) word) >>= on_different)

@@ -15,7 +15,7 @@ abbrev pub each : {A X E : Type 0} → (A → Result X E) → List A → Result 
 each f [] = Ok []
 each f (a ∷ more) = f a >>= λ first. each f more >>= λ rest. Ok (first ∷ rest)
 
--- the call gave what the definition gives, or failed as it does, or for want of memory
+-- the call gave what the definition gives, or failed as it does, or for lack of memory
 abbrev pub Gives : {X : Type 0} → Result X Refusal → Result X Refusal → Type 0
 Gives (Ok x) given = given ≡ Ok x
 Gives (Err r) given = (r ≡ OutOfMemory) ⊎ (given ≡ Err r)

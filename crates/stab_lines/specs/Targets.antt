@@ -24,7 +24,7 @@ measure_target_of word =
     if starts_with_byte word 33 then (qubit_of (drop 1 word) >>= λ q. Ok (record { qubit = q; inverted = true }))
     else (qubit_of word >>= λ q. Ok (record { qubit = q; inverted = false }))
 
--- what stands in the brackets of rec[-k]
+-- what is in the brackets of rec[-k]
 abbrev pub lookback_digits : List ℕ → List ℕ
 lookback_digits word = take (length word - 6) (drop 5 word)
 
@@ -38,7 +38,7 @@ lookback_of word =
     if is_lookback word && nat_lt 0 (value (lookback_digits word)) && nat_le (value (lookback_digits word)) most_lookback then Ok (value (lookback_digits word))
     else Err BadTarget
 
--- a count of rounds, at least one and of at most 18 digits; or digits that are none
+-- a count of rounds, at least one and of at most 18 digits; or digits that are no count
 unfoldable pub count_of : List ℕ → Result (Option ℕ) Refusal
 count_of word =
     if not (is_number word) then Err BadTarget
@@ -56,7 +56,7 @@ abbrev pub pair_qubits : List (ℕ × ℕ) → List ℕ
 pair_qubits [] = []
 pair_qubits (pair ∷ pairs) = pair.0 ∷ pair.1 ∷ pair_qubits pairs
 
--- whether the byte may stand in a coordinate: a digit, +, -, ., e or E
+-- whether the byte may be in a coordinate: a digit, +, -, ., e or E
 abbrev pub is_coordinate_byte : ℕ → Bool
 is_coordinate_byte b = is_digit b || (b == 43) || (b == 45) || (b == 46) || (b == 101) || (b == 69)
 
@@ -64,7 +64,7 @@ is_coordinate_byte b = is_digit b || (b == 43) || (b == 45) || (b == 46) || (b =
 unfoldable pub coordinate_of : List ℕ → Result (List ℕ) Refusal
 coordinate_of argument = if is_some_word argument && list_all is_coordinate_byte argument then Ok argument else Err BadArguments
 
--- the argument, where there is one alone
+-- the argument, if there is exactly one
 abbrev pub one_argument : List (List ℕ) → Result (List ℕ) Refusal
 one_argument (argument ∷ []) = Ok argument
 one_argument arguments = Err BadArguments

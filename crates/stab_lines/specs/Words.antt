@@ -16,7 +16,7 @@ words bs = filter is_some_word (slice_split is_spacing bs)
 abbrev pub is_blank : List ℕ → Bool
 is_blank bs = list_all is_spacing bs
 
--- the parts between commas, without the spacing round each; of spacing alone none
+-- the parts between commas, without the spacing around each; none if there is only spacing
 abbrev pub arguments_of : List ℕ → List (List ℕ)
 arguments_of bs = if is_blank bs then [] else map trimmed (slice_split (is_byte 44) bs)
 
@@ -33,7 +33,7 @@ value_from n (d ∷ ds) = value_from (n * 10 + (d - 48)) ds
 abbrev pub value : List ℕ → ℕ
 value ds = value_from 0 ds
 
--- the parts between such bytes of what follows the first one, where there is one
+-- the parts between such bytes of what follows the first one, if there is one
 abbrev pub pieces_after : ℕ → Option (List ℕ) → List (List ℕ)
 pieces_after byte None = []
 pieces_after byte (Some after) = slice_split (is_byte byte) after

@@ -19,7 +19,7 @@ pub enum Control {
     Record(Lookback),
 }
 
-/// A control and a qubit, as they stand one after the other.
+/// A control and a qubit, one after the other.
 #[derive(Clone, Copy)]
 pub struct ControlTarget {
     control: Control,
@@ -31,7 +31,7 @@ pub struct ControlTarget {
 #[derive(Clone, Copy, Debug, PartialEq, Eq)]
 pub enum ControlledPair {
     Qubits(Pair),
-    // The qubit on which the record acts stands before it, so that no room is left between them.
+    // The qubit on which the record acts is before it, so that no room is left between them.
     Record(Qubit, Lookback),
 }
 
@@ -91,7 +91,7 @@ fn pair(target: ControlTarget) -> Result<ControlledPair, Refusal>
     }
 }
 
-/// The pairs, and those of more controls and qubits behind them.
+/// The pairs, and those of more controls and qubits after them.
 fn with_pairs(
     mut found: Sequence<ControlledPair>,
     targets: &[ControlTarget],
@@ -104,7 +104,7 @@ fn with_pairs(
     Ok(found)
 }
 
-/// The pair of a qubit and that which the first word is, and what follows the word, where this is
+/// The pair of a qubit and the one that the first word is, and what follows the word, if this is
 /// another number in range.
 #[tactic(auto, using(crate::proofs::ControlLemmas::second_begins))]
 fn second_at_front(first: Qubit, bytes: &[u8]) -> Option<(ControlledPair, &[u8])>
@@ -120,7 +120,7 @@ fn second_at_front(first: Qubit, bytes: &[u8]) -> Option<(ControlledPair, &[u8])
     }
 }
 
-/// The pair of different qubits that the first two words are, and what follows these, where they
+/// The pair of different qubits that the first two words are, and what follows these, if they
 /// are numbers in range.
 #[tactic(auto, using(crate::proofs::ControlLemmas::pair_seen))]
 fn pair_at_front(bytes: &[u8]) -> Option<(ControlledPair, &[u8])>

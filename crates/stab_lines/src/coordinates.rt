@@ -2,12 +2,12 @@ use crate::sequence::Sequence;
 use std::alloc::{AllocError, Global};
 use std::marker::Model;
 
-/// How many bytes stand in place.
+/// How many bytes are in place.
 const SHORT: usize = 22;
 
 /// Coordinates, each as it was written.
 ///
-/// They are kept in one piece, with what stood between them. Few take no memory.
+/// They are kept in one piece, with what was between them. Few take no memory.
 pub struct Coordinates {
     written: BracketText,
 }
@@ -15,13 +15,13 @@ pub struct Coordinates {
 /// What brackets held.
 #[derive(Drop)]
 enum BracketText {
-    /// The first so many of the bytes.
+    /// The bytes up to this number of them.
     Short { len: u8, bytes: [u8; 22] },
     // In a box, so that coordinates stay small.
     Long(Box<Sequence<u8>>),
 }
 
-// Written out, so that to a proof a value that is let go is one call, and not one for each of its parts.
+// Written out, so that a proof sees the drop of a value as one call, and not one for each of its parts.
 impl Drop for Coordinates {
     fn drop(self) {
         let Coordinates { written: _ } = self;

@@ -15,15 +15,15 @@ use stab_io::Refusal;
 use std::alloc::{AllocError, Global};
 use std::marker::Model;
 
-/// How many bytes of coordinates stand in place.
+/// How many bytes of coordinates are in place.
 pub const SHORT: usize = 13;
 
-/// How many records stand in place.
+/// How many records are in place.
 pub const FEW: usize = 2;
 
 /// The records of a detector, and the coordinates before them.
 ///
-/// Most detectors look at one record or two: few records behind short coordinates take no memory.
+/// Most detectors look at one record or two: few records after short coordinates take no memory.
 pub struct DetectorTargets {
     form: Form,
 }
@@ -31,7 +31,7 @@ pub struct DetectorTargets {
 /// How they are kept.
 #[derive(Drop)]
 enum Form {
-    /// The first so many bytes of the coordinates' text, and the first so many numbers k of `rec[-k]`.
+    /// As many of the bytes of the coordinates' text, and of the numbers k of `rec[-k]`, as are given, from the first on.
     Short {
         bytes: u8,
         numbers: u8,
@@ -41,7 +41,7 @@ enum Form {
     Long(Located<Lookbacks>),
 }
 
-// Written out, so that to a proof a value that is let go is one call, and not one for each of its parts.
+// Written out, so that a proof sees the drop of a value as one call, and not one for each of its parts.
 impl Drop for DetectorTargets {
     fn drop(self) {
         let DetectorTargets { form: _ } = self;
@@ -93,7 +93,7 @@ impl DetectorTargets {
     ghost use Rattle.stab_lines.specs.Lookbacks.{IsLookback};
     ghost use Rattle.stab_lines.specs.Words.{arguments_of};
 
-    /// The first so many of the numbers behind coordinates, which are the first so many of the bytes.
+    /// As many of the numbers as are given, from the first on, after coordinates, which are as many of the bytes as are given.
     /// More bytes than these are copied, since a copy of a fixed number takes no call.
     pub(crate) fn in_place(
         bytes: &[u8],
@@ -119,7 +119,7 @@ impl DetectorTargets {
         }
     }
 
-    /// Records behind coordinates, in memory of their own.
+    /// Records after coordinates, in memory of their own.
     fn long(
         alloc: Global,
         coordinates: Coordinates,
@@ -180,7 +180,7 @@ impl DetectorTargets {
     }
 }
 
-/// The records that the words are, behind coordinates that are written so.
+/// The records that the words are, after coordinates that are written in this way.
 pub fn detector_targets(
     alloc: Global,
     written: &[u8],
@@ -207,8 +207,8 @@ pub fn long_records(
     Ok(DetectorTargets::long(alloc, coordinates, records)?)
 }
 
-/// The same in place, where the coordinates and the records are few and a look at the words' bytes
-/// is enough to tell. There is no brace among such words.
+/// The same in place, if the coordinates and the records are few and a look at the words' bytes
+/// is enough to see it. There is no brace among such words.
 pub fn short_records(written: &[u8], words_text: &[u8]) -> Option<DetectorTargets>
     ensures in_front { IfSome result (λ d. d.0 ≡ arguments_of written.now) }
     ensures behind { IfSome result (λ d. each lookback_of (words words_text.now) ≡ Ok d.1) }

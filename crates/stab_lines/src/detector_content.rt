@@ -16,7 +16,7 @@ fn is_inner(byte: u8) -> bool
     !is_brace(byte) && byte != b')'
 }
 
-/// How many bytes stand before the first brace or closing bracket.
+/// How many bytes are before the first brace or closing bracket.
 fn inner_len(bytes: &[u8]) -> usize
     ensures value { result ≡ prefix_len inner bytes.now }
     ensures within { result ≤ length bytes.now }
@@ -24,8 +24,8 @@ fn inner_len(bytes: &[u8]) -> usize
     bytes.iter().take_while(|b| is_inner(**b)).count()
 }
 
-/// What the brackets directly behind the name of a detector hold, and what follows them, where the
-/// name stands in capitals.
+/// What the brackets directly after the name of a detector hold, and what follows them, if the
+/// name is in capitals.
 fn cut_detector(content: &[u8]) -> Option<(&[u8], &[u8])>
     ensures value { MatchOption result (Unit {0}) (λ p. IsCutDetector content.now p.0.now p.1.now) }
 {
@@ -45,8 +45,8 @@ fn cut_detector(content: &[u8]) -> Option<(&[u8], &[u8])>
     }
 }
 
-/// The detector that a content means, where it is written as one is printed without a tag, so that
-/// its parts are told apart at one look. `None` tells nothing: another content may mean a detector,
+/// The detector that a content means, if it is written as one is printed without a tag, so that
+/// its parts are found at one look. `None` says nothing: another content may mean a detector,
 /// too, or be refused. Refusals are those of the content, and `OutOfMemory`.
 ///
 /// A circuit that is written out has more lines of this form than of all others.

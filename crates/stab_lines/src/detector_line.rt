@@ -9,7 +9,7 @@ use crate::line::{is_digit, starts_with};
 use crate::target::MOST_LOOKBACK;
 use crate::word::few_digits_in_front;
 
-/// Whether it stands within a coordinate, where the byte may follow within one, or before one.
+/// Whether it is within a coordinate, if the byte may follow within one or before one.
 fn after_byte(within: bool, byte: u8) -> Option<bool>
     ensures value { MatchOption result (Unit {0}) (λ now. (may_follow within byte ≡ true) × (now ≡ coordinate_byte byte)) }
 {
@@ -24,7 +24,7 @@ fn after_byte(within: bool, byte: u8) -> Option<bool>
     }
 }
 
-/// How many bytes in front are coordinates between commas, where none is broken off.
+/// How many bytes in front are coordinates between commas, if none is broken off.
 fn listed_len(bytes: &[u8]) -> Option<usize>
     ensures within { MatchOption result (Unit {0}) (λ n. n ≤ length bytes.now) }
     ensures value { MatchOption result (Unit {0}) (λ n. are_listed false (take n bytes.now) ≡ true) }
@@ -40,7 +40,7 @@ fn listed_len(bytes: &[u8]) -> Option<usize>
     if within { Some(length) } else { None }
 }
 
-/// The number k of the `rec[-k]` that stands in front behind a space, and what follows it, where k has
+/// The number k of the `rec[-k]` that is in front after a space, and what follows it, if k has
 /// few digits.
 // Inlined, since each record of a long text is read by it.
 #[inline(always)]
@@ -64,7 +64,7 @@ fn spaced_record(bytes: &[u8]) -> Option<(u32, &[u8])>
     }
 }
 
-/// How many records stand in front, up to two, their numbers, and what follows them.
+/// How many records are in front, up to two, their numbers, and what follows them.
 fn few_records(bytes: &[u8]) -> (usize, [u32; FEW], &[u8])
     ensures few { result.0 ≤ 2 }
     ensures value { AreSpacedRecords bytes.now (take result.0 result.1) result.2.now }
@@ -78,7 +78,7 @@ fn few_records(bytes: &[u8]) -> (usize, [u32; FEW], &[u8])
     }
 }
 
-/// The lines behind the end of a line, if there are any, where it ends here.
+/// The lines after the end of a line, if it ends here and there are any.
 pub fn behind_line_end(bytes: &[u8]) -> Option<Option<&[u8]>>
     ensures value { MatchOption result (Unit {0}) (λ after. EndsLine bytes.now (option_copied after)) }
 {
@@ -89,8 +89,8 @@ pub fn behind_line_end(bytes: &[u8]) -> Option<Option<&[u8]>>
     }
 }
 
-/// The detector that the first line means, and the lines behind it, if there are any, where it is
-/// written as one is printed without a tag, with few records behind short coordinates. `None` tells
+/// The detector that the first line means, and the lines after it, if there are any. It is read if it is
+/// written as one is printed without a tag, with few records after short coordinates. `None` says
 /// nothing.
 ///
 /// A circuit that is written out has more lines of this form than of all others: such a line is read

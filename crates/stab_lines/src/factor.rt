@@ -105,7 +105,7 @@ fn names_twice(factors: &[Factor]) -> bool
 
 /// The product of a word: factors joined by `*`, each a letter on a qubit, perhaps with `!` before it.
 ///
-/// Refusals: `BadTarget` for another spelling or a qubit that stands twice, `QubitOutOfRange`, `OutOfMemory`.
+/// Refusals: `BadTarget` for another spelling or a qubit that occurs twice, `QubitOutOfRange`, `OutOfMemory`.
 #[tactic(auto, unfolding(crate::specs::Products::product_of))]
 pub fn read_product(alloc: Global, word: &[u8]) -> Result<Product, Refusal>
     ensures gives { Gives result (product_of word.now) }

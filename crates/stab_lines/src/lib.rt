@@ -1,7 +1,7 @@
 //! One line of a circuit's text: what it means, and how it is printed.
 //!
 //! A line is cut to its content, and the content means nothing, the opening or the end of a block,
-//! or an instruction, or it is refused. Which lines stand together is not known here: that is for
+//! or an instruction, or it is refused. Which lines belong together is not known here: that is for
 //! `stab_items`.
 //!
 //! The text is Stim's, without noise: the Stim circuit file format (.stim), in Stim's repository
@@ -14,7 +14,7 @@
 //! - `operation`: instructions.
 //! - `table`: the names of all instructions.
 //! - `name`, `target`, `argument`, `coordinates`: the parts of an instruction.
-//! - `located`: targets behind coordinates; `detector`: the records of a detector behind them;
+//! - `located`: targets after coordinates; `detector`: the records of a detector after them;
 //!   `detector_content`, `detector_line`: the usual content of one and its usual line, read at once.
 //! - `spaced_target`, `plain_line`: targets that are numbers alone, and the line of an instruction on
 //!   such targets, read at once.
@@ -23,7 +23,7 @@
 //! - `print`: the one text of an instruction, and of the opening of a block.
 //!
 //! `specs/` says what a content means (`meaning_of`) and what is printed of it; `specs/inner` has
-//! what private contracts alone speak of.
+//! what only private contracts use.
 //!
 //! Proved: a content is read as exactly what it means, or refused as exactly what refuses it first;
 //! what is printed of an instruction or an opening is its one text.
@@ -63,7 +63,7 @@ pub use located::Located;
 pub use meanings::{Line, is_close, meaning};
 pub use operation::{Kind, Measurement, Operation};
 pub use plain_line::instruction_in_front;
-pub use print::{write_opening, write_operation};
+pub use print::{write_detector_coordinates, write_opening, write_operation};
 pub use product::{Factor, Product};
 pub use range::{Count, Lookback, Lookbacks, MeasureTarget, ObservableNumber, Pair, Qubit};
 pub use sequence::Sequence;

@@ -6,7 +6,7 @@ ghost use Rattle.stab_lines.specs.Lines.{is_spacing as spacing, is_letter as let
 
 use stab_io::Refusal;
 
-// So many bytes are looked at at once.
+// This many bytes are looked at at once.
 const RUN: usize = 32;
 
 /// Whether the byte is a space, a tab or a carriage return.
@@ -35,7 +35,7 @@ fn is_name_byte(byte: u8) -> bool
     is_letter(byte) || is_digit(byte) || byte == b'_'
 }
 
-/// How many bytes in front may stand in a name.
+/// How many bytes in front may be in a name.
 pub fn name_len(bytes: &[u8]) -> usize
     ensures value { result ≡ prefix_len name_byte bytes.now }
     ensures within { result ≤ length bytes.now }
@@ -57,7 +57,7 @@ pub fn is_brace(byte: u8) -> bool
     byte == b'{' || byte == b'}'
 }
 
-// Looks at all bytes, also behind a brace: so the bytes of a run are looked at at once.
+// Looks at all bytes, also after a brace, so the bytes of a run are looked at at once.
 fn run_has_brace(run: &[u8]) -> bool
     ensures value { result ≡ list_any brace run.now }
 {
@@ -68,7 +68,7 @@ fn run_has_brace(run: &[u8]) -> bool
     found
 }
 
-/// Whether a curly bracket stands somewhere.
+/// Whether a curly bracket occurs somewhere.
 #[tactic(auto, using(crate::proofs::SearchLemmas::any_split))]
 pub fn has_brace(bytes: &[u8]) -> bool
     ensures value { result ≡ list_any brace bytes.now }
@@ -142,7 +142,7 @@ fn without_comment(line: &[u8]) -> &[u8]
     &line[..position_of(line, b'#')]
 }
 
-/// Where the byte first stands, or the length.
+/// Where the byte first occurs, or the length.
 pub fn position_of(bytes: &[u8], byte: u8) -> usize
     ensures value { result ≡ position_or_len (is_byte byte) bytes.now }
     ensures within { result ≤ length bytes.now }
@@ -184,7 +184,7 @@ fn bracketed_in_front(bytes: &[u8], opening: u8, closing: u8) -> Result<(&[u8], 
     Ok((inside.split_at(end).0, inside.split_at(end + 1).1))
 }
 
-/// Whether the byte stands first.
+/// Whether the byte comes first.
 pub fn starts_with(bytes: &[u8], byte: u8) -> bool
     ensures value { result ≡ starts_with_byte bytes.now byte }
     ensures some { IsTrue result → 0 < length bytes.now }
@@ -195,7 +195,7 @@ pub fn starts_with(bytes: &[u8], byte: u8) -> bool
     }
 }
 
-/// Whether the byte stands last.
+/// Whether the byte comes last.
 pub fn ends_with(bytes: &[u8], byte: u8) -> bool
     ensures value { result ≡ ends_with_byte bytes.now byte }
     ensures some { IsTrue result → 0 < length bytes.now }
@@ -206,7 +206,7 @@ pub fn ends_with(bytes: &[u8], byte: u8) -> bool
     }
 }
 
-/// A name, its tag, arguments and targets as they stand, and whether a block opens.
+/// A name, its tag, arguments and targets as they are, and whether a block opens.
 #[derive(Drop)]
 pub struct Shape<'a> {
     pub name: &'a [u8],
@@ -267,7 +267,7 @@ impl<'a> Shape<'a> {
     }
 }
 
-/// Whether a letter stands first.
+/// Whether a letter comes first.
 pub fn starts_with_letter(bytes: &[u8]) -> bool
     ensures value { result ≡ list_any letter (take 1 bytes.now) }
 {

@@ -6,7 +6,7 @@ use std::marker::Model;
 
 /// Targets and the coordinates before them.
 ///
-/// Both are long, so they stand in an allocation of their own, and instructions stay small.
+/// Both are long, so they are in an allocation of their own, and instructions stay small.
 #[derive(Drop)]
 pub struct Located<T> {
     parts: Box<Parts<T>>,
@@ -47,7 +47,7 @@ impl<T> Located<T> {
 impl<T: Drop> Located<T> {
     ghost use Rattle.std.specs.Prelude.{◌≡◌, IfOk};
 
-    /// Targets behind coordinates.
+    /// Targets after coordinates.
     pub(crate) fn new(
         alloc: Global,
         coordinates: Coordinates,

@@ -37,7 +37,7 @@ fn is(name: &[u8], spelling: &[u8]) -> bool
     name.eq_ignore_ascii_case(spelling)
 }
 
-/// What the first row stands for that has this name.
+/// What the first row that has this name stands for.
 macro_rules! first_named {
     ($name:expr; $([$($meaning:tt)+] $first:literal $(or $other:literal)*;)+) => {
         $(if is($name, $first) $(|| is($name, $other))* {

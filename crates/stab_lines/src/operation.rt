@@ -34,10 +34,10 @@ pub enum Kind {
     ShiftCoords(Coordinates),
 }
 
-// Long circuits are lists of instructions: what they do stands in place, where it is short.
+// Long circuits are lists of instructions: what they do is in place if it is short.
 const _: () = prove!(size_of::<Kind>() <= 32);
 
-// Written out, so that to a proof a value that is let go is one call, and not one for each of its parts.
+// Written out, so that a proof sees the drop of a value as one call, and not one for each of its parts.
 impl Drop for Kind {
     fn drop(self) {
         match self {

@@ -11,8 +11,8 @@ use crate::target::{MeasureTargets, QubitTargets};
 use stab_io::Refusal;
 use std::alloc::Global;
 
-/// What an instruction does to the targets that stand behind its name, and the lines behind its line, if
-/// there are any, where the targets are numbers alone, with one space before each. `None` tells nothing.
+/// What an instruction does to the targets that are after its name, and the lines after its line, if
+/// there are any. It is read if the targets are only numbers, with one space before each. `None` says nothing.
 fn kind_in_front(
     alloc: Global,
     instruction: Instruction,
@@ -49,13 +49,13 @@ fn kind_in_front(
     }
 }
 
-/// Whether a space and a digit stand in front: else no name need be looked up, as of products and of records.
+/// Whether a space and a digit are in front: else no name need be looked up, such as those of products and records.
 fn is_spaced_digit(bytes: &[u8]) -> bool {
     bytes.len() > 1 && bytes[0] == b' ' && is_digit(bytes[1])
 }
 
-/// The instruction that the first line means, and the lines behind it, if there are any, where it is
-/// written as one is printed without a tag: a name and numbers, with one space before each. `None` tells
+/// The instruction that the first line means, and the lines after it, if there are any. It is read if it is
+/// written as one is printed without a tag: a name and numbers, with one space before each. `None` says
 /// nothing. Refusal `OutOfMemory` alone.
 ///
 /// Most lines that are no detectors are of this form: each of their bytes is looked at once.

@@ -6,7 +6,7 @@ ghost use Rattle.stab_io.specs.Devices.{WritesAll};
 ghost use Rattle.stab_lines.specs.Lines.{is_byte, trimmed};
 ghost use Rattle.stab_lines.specs.Words.{arguments_of, pieces_after};
 ghost use Rattle.stab_lines.specs.Names.{gate_name as gate_name_of, controlled_name as controlled_name_of, measurement_name as measurement_name_of, instruction_name as instruction_name_of};
-ghost use Rattle.stab_lines.specs.Prints.{axis_text as axis_text_of, kind_name as kind_name_of, tag_text, each_after, head_text, arguments_text, kind_arguments, pair_text, target_text, lookback_text, controlled_text, factor_text, product_text, targets_text, operation_text, open_text};
+ghost use Rattle.stab_lines.specs.Prints.{axis_text as axis_text_of, kind_name as kind_name_of, tag_text, each_after, head_text, arguments_text, kind_arguments, after_space, coordinates_text, pair_text, target_text, lookback_text, controlled_text, factor_text, product_text, targets_text, operation_text, open_text};
 
 use crate::axis::Axis;
 use crate::control::ControlledPair;
@@ -254,7 +254,7 @@ fn write_head<O: Output>(out: &mut O, name: &[u8], tag: &[u8]) -> Result<(), Ref
     write_tag(out, tag)
 }
 
-/// Writes arguments, each after a comma and a space, as they stand between commas.
+/// Writes arguments, each after a comma and a space, as they are between commas.
 fn write_more<O: Output>(out: &mut O, more: Option<&[u8]>) -> Result<(), Refusal>
     ensures writes { WritesAll (O.seen out.old) (O.seen out.new) (each_after (codes ", ") (λ b. b) (map trimmed (pieces_after 44 (option_copied more.entry)))) result }
 {
@@ -267,7 +267,7 @@ fn write_more<O: Output>(out: &mut O, more: Option<&[u8]>) -> Result<(), Refusal
     Ok(())
 }
 
-/// Writes arguments, at least one, in their brackets, as they stand between commas.
+/// Writes arguments, at least one, in their brackets, as they are between commas.
 fn write_bracketed<O: Output>(out: &mut O, arguments: &[u8]) -> Result<(), Refusal>
     ensures writes { WritesAll (O.seen out.old) (O.seen out.new) (arguments_text (map trimmed (slice_split (is_byte 44) arguments.now))) result }
 {
@@ -277,7 +277,7 @@ fn write_bracketed<O: Output>(out: &mut O, arguments: &[u8]) -> Result<(), Refus
     write_all(out, b")")
 }
 
-/// Writes coordinates as they stand in their brackets, none where these hold nothing.
+/// Writes coordinates as they are in their brackets, none if these hold nothing.
 fn write_coordinates<O: Output>(out: &mut O, written: &[u8]) -> Result<(), Refusal>
     ensures writes { WritesAll (O.seen out.old) (O.seen out.new) (arguments_text (arguments_of written.now)) result }
 {
@@ -310,6 +310,30 @@ fn write_arguments<O: Output>(out: &mut O, kind: &Kind) -> Result<(), Refusal>
     }
 }
 
+/// Writes a space and coordinates as they are in their brackets, nothing if these are empty.
+fn write_after_space<O: Output>(out: &mut O, written: &[u8]) -> Result<(), Refusal>
+    ensures writes { WritesAll (O.seen out.old) (O.seen out.new) (after_space (arguments_text (arguments_of written.now))) result }
+{
+    if is_blank(written) {
+        return Ok(());
+    }
+    write_all(out, b" ")?;
+    write_bracketed(out, written)
+}
+
+/// Writes the coordinates of a detector after a space, as its line is printed, such as ` (1, 3, 2)`. It writes
+/// nothing if there are none, or for any other instruction, and does not flush.
+///
+/// Refusal `WriteFault` if a write failed; what was written is then a prefix of the text.
+pub fn write_detector_coordinates<O: Output>(out: &mut O, kind: &Kind) -> Result<(), Refusal>
+    ensures writes { WritesAll (O.seen out.old) (O.seen out.new) (coordinates_text kind.now) result }
+{
+    match kind {
+        Kind::Detector(targets) => write_after_space(out, targets.written()),
+        _ => Ok(()),
+    }
+}
+
 fn write_targets<O: Output>(out: &mut O, kind: &Kind) -> Result<(), Refusal>
     ensures writes { WritesAll (O.seen out.old) (O.seen out.new) (targets_text kind.now) result }
 {
@@ -334,10 +358,10 @@ fn write_name<O: Output>(out: &mut O, kind: &Kind, tag: &[u8]) -> Result<(), Ref
     write_head(out, kind_name(kind), tag)
 }
 
-/// Writes the one text of an instruction with this tag, which is empty where it has none, without a
+/// Writes the one text of an instruction with this tag, which is empty if it has none, without a
 /// line feed, and does not flush.
 ///
-/// Refusal `WriteFault` where a write failed; what was written is then a prefix of the text.
+/// Refusal `WriteFault` if a write failed; what was written is then a prefix of the text.
 pub fn write_operation<O: Output>(out: &mut O, kind: &Kind, tag: &[u8]) -> Result<(), Refusal>
     ensures writes { WritesAll (O.seen out.old) (O.seen out.new) (operation_text (record { kind = kind.now; tag = tag.now })) result }
 {
@@ -348,7 +372,7 @@ pub fn write_operation<O: Output>(out: &mut O, kind: &Kind, tag: &[u8]) -> Resul
 
 /// Writes the one text of a block's opening, without a line feed, and does not flush.
 ///
-/// Refusal `WriteFault` where a write failed; what was written is then a prefix of the text.
+/// Refusal `WriteFault` if a write failed; what was written is then a prefix of the text.
 pub fn write_opening<O: Output>(out: &mut O, count: Count, tag: &[u8]) -> Result<(), Refusal>
     ensures writes { WritesAll (O.seen out.old) (O.seen out.new) (open_text count tag.now) result }
 {

@@ -19,7 +19,7 @@ pub struct Product {
     factors: Sequence<Factor>,
 }
 
-// Written out, so that to a proof a value that is let go is one call, and not one for each of its parts.
+// Written out, so that a proof sees the drop of a value as one call, and not one for each of its parts.
 impl Drop for Product {
     fn drop(self) {
         let Product { factors: _ } = self;

@@ -168,7 +168,7 @@ pub struct Lookbacks {
     numbers: Sequence<u32>,
 }
 
-// Written out, so that to a proof a value that is let go is one call, and not one for each of its parts.
+// Written out, so that a proof sees the drop of a value as one call, and not one for each of its parts.
 impl Drop for Lookbacks {
     fn drop(self) {
         let Lookbacks { numbers: _ } = self;

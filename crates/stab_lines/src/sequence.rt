@@ -60,7 +60,7 @@ impl<T: Copy> Sequence<T> {
 }
 
 impl<T: Drop> Sequence<T> {
-    /// Adds an element at the end; where memory is refused the sequence stays as it was.
+    /// Adds an element at the end; if memory is refused the sequence stays as it was.
     pub(crate) fn push(&mut self, element: T) -> Result<(), AllocError>
         ensures ok { OnOk result (self.new ≡ self.old ++ element ∷ []) }
         ensures err { OnErr result (self.new ≡ self.old) }

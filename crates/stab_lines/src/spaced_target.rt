@@ -24,14 +24,14 @@ pub trait SpacedTarget {
     // What words mean as such targets.
     ghost meaning: { List (List ℕ) → Result (List Self.Kept) Refusal };
 
-    /// The target that stands in front as numbers of few digits, with one space before each, and what
+    /// The target that is in front as numbers of few digits, with one space before each, and what
     /// follows it.
     fn in_front(bytes: &[u8]) -> Option<(Self::Kept, &[u8])>
         ensures value { MatchOption result (Unit {0}) (λ p. AreSpacedTargets meaning bytes.now (p.0 ∷ []) p.1.now) }
         ensures shorter { MatchOption result (Unit {0}) (λ p. length p.1.now < length bytes.now) };
 }
 
-/// The qubit that stands in front as a number of few digits behind a space, and what follows it.
+/// The qubit that is in front as a number of few digits after a space, and what follows it.
 // Inlined, since each qubit of a long list is read by it.
 #[inline(always)]
 fn spaced_qubit(bytes: &[u8]) -> Option<(Qubit, &[u8])>
@@ -49,7 +49,7 @@ fn spaced_qubit(bytes: &[u8]) -> Option<(Qubit, &[u8])>
     Some((Qubit::new(number as u16), digits.split_at(length).1))
 }
 
-/// The two different qubits that stand in front in the same way, and what follows them.
+/// The two different qubits that are in front in the same way, and what follows them.
 #[inline(always)]
 fn spaced_pair(bytes: &[u8]) -> Option<(Pair, &[u8])>
     ensures value { MatchOption result (Unit {0}) (λ p. IsSpacedPair bytes.now p.0 p.1.now) }
@@ -78,7 +78,7 @@ impl SpacedTarget for QubitTargets {
     }
 }
 
-/// A qubit that is measured as it stands.
+/// A qubit that is measured as it is.
 #[inline(always)]
 fn measured(qubit: Qubit) -> MeasureTarget
     ensures value { result ≡ record { qubit = qubit; inverted = false } }
@@ -142,7 +142,7 @@ impl SpacedTarget for ControlledTargets {
     }
 }
 
-/// The targets up to the end of the line, and the lines behind it, if there are any, where they are
+/// The targets up to the end of the line, and the lines after it, if there are any. They are read if they are
 /// written as numbers of few digits, with one space before each.
 pub fn targets_in_front<T: SpacedTarget>(
     alloc: Global,

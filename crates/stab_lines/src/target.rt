@@ -32,8 +32,8 @@ pub trait Target {
     fn of(alloc: Global, word: &[u8]) -> Result<Self::Kept, Refusal>
         ensures gives { Gives result (meaning word.now) };
 
-    /// What the first word means, and what follows it, where a look at its bytes is enough to tell.
-    /// Where it isn't, `of` tells what the word means, or why it means nothing.
+    /// What the first word means, and what follows it, if a look at its bytes is enough to see it.
+    /// If it isn't, `of` says what the word means, or why it means nothing.
     fn at_front(bytes: &[u8]) -> Option<(Self::Kept, &[u8])>
         ensures value { MatchOption result (Unit {0}) (λ p. BeginsWithTarget meaning bytes.now p.0 p.1.now) }
         ensures shorter { MatchOption result (Unit {0}) (λ p. length p.1.now < length bytes.now) };
@@ -72,7 +72,7 @@ impl Target for QubitTargets {
     }
 }
 
-/// The qubit that the first word is, and what follows it, where the word is a number in range. It is inlined, since each qubit
+/// The qubit that the first word is, and what follows it, if the word is a number in range. It is inlined, since each qubit
 /// of a long list is read by it.
 #[inline(always)]
 #[tactic(auto, using(crate::proofs::FrontTargetLemmas::qubit_begins))]
@@ -161,7 +161,7 @@ impl Target for RecordTargets {
     }
 }
 
-/// How far back the record of the first word is looked for, and what follows the word, where it is
+/// How far back the record of the first word is looked for, and what follows the word, if it is
 /// written as a record in range is. There is no brace in a record.
 pub fn record_at_front(bytes: &[u8]) -> Option<(u32, &[u8])>
     ensures value { MatchOption result (Unit {0}) (λ p. BeginsWithTarget lookback_of bytes.now p.0 p.1.now) }
@@ -230,7 +230,7 @@ impl Target for CountTargets {
     }
 }
 
-/// What the first word means, and what follows it; none where there is no word.
+/// What the first word means, and what follows it; none if there is no word.
 fn first_target<T: Target>(alloc: Global, bytes: &[u8]) -> Result<Option<(T::Kept, &[u8])>, Refusal>
     ensures gives { GivesFirst T.meaning bytes.now result }
     ensures shorter { IsShorter bytes.now result }

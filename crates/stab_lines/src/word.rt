@@ -7,7 +7,7 @@ ghost use Rattle.stab_lines.specs.inner.Numbers.{BeginsWithNumber, IsBehindWord,
 
 use crate::line::{is_digit, is_spacing, position_of, without_spacing_in_front};
 
-/// So many digits are less than a number of 64 bits can hold.
+/// A number of 64 bits can hold any number of this many digits.
 const MOST_DIGITS: usize = 18;
 
 fn word_len(bytes: &[u8]) -> usize
@@ -30,7 +30,7 @@ pub fn first_word(bytes: &[u8]) -> Option<(&[u8], &[u8])>
     Some(bytes.split_at(word_len(bytes)))
 }
 
-/// What stands before the first such byte, and what follows it, where it stands somewhere.
+/// What is before the first such byte, and what follows it, if it occurs somewhere.
 #[tactic(auto, using(crate::proofs::PieceLemmas::pieces_more, crate::proofs::PieceLemmas::pieces_last))]
 pub fn first_piece(bytes: &[u8], byte: u8) -> (&[u8], Option<&[u8]>)
     ensures value { slice_split (is_byte byte) bytes.now ≡ result.0.now ∷ pieces_after byte (option_copied result.1) }
@@ -63,7 +63,7 @@ pub fn is_number(word: &[u8]) -> bool
     !word.is_empty() && are_digits(word)
 }
 
-/// How many digits stand in front, up to 18, and the number that these stand for.
+/// How many digits are in front, up to 18, and the number that they stand for.
 #[tactic(auto, using(crate::proofs::WordLemmas::digits_more, crate::proofs::WordLemmas::value_more, crate::proofs::WordLemmas::few_digits))]
 pub fn digits_in_front(bytes: &[u8]) -> (usize, u64)
     ensures within { result.0 ≤ length bytes.now }
@@ -80,7 +80,7 @@ pub fn digits_in_front(bytes: &[u8]) -> (usize, u64)
     (length, number)
 }
 
-/// The number with one digit more, where one stands behind its digits, which are so many.
+/// The number with one digit more, if one follows its digits, which are this many.
 // Inlined, as are the others on the way of a short number, since long lists have nothing else.
 #[inline(always)]
 #[tactic(auto, using(crate::proofs::WordLemmas::digits_more, crate::proofs::WordLemmas::value_more))]
@@ -122,7 +122,7 @@ pub fn few_digits_in_front(bytes: &[u8]) -> (usize, u64)
     }
 }
 
-/// The number below the cap that the first word is, and what follows it, where it is one of at most
+/// The number below the cap that the first word is, and what follows it, if it is one of at most
 /// 18 digits.
 #[inline(always)]
 pub fn first_number(bytes: &[u8], cap: u64) -> Option<(u64, &[u8])>
@@ -154,7 +154,7 @@ fn number_in_front(bytes: &[u8], cap: u64) -> Option<(u64, &[u8])>
     }
 }
 
-/// The same of any number, perhaps behind spacing.
+/// The same of any number, perhaps after spacing.
 // Not inlined, so that the loop over a list stays small.
 #[inline(never)]
 #[tactic(auto, using(crate::proofs::NumberLemmas::number_ends))]
@@ -196,7 +196,7 @@ pub fn ends_word(bytes: &[u8]) -> bool
     }
 }
 
-/// The number that digits stand for, or the cap where it isn't below that.
+/// The number that digits stand for, or the cap if it isn't below the cap.
 #[tactic(auto, using(crate::proofs::WordLemmas::le_value_from, crate::proofs::WordLemmas::value_from_drop))]
 pub fn capped_value(digits: &[u8], cap: u64) -> u64
     requires small { cap ≤ 10 ^ 18 }

@@ -10,7 +10,7 @@ use Rattle.stab_pauli.specs.Rows.{Rows, row_at, with_row}
 use Rattle.stab_pauli.specs.Masks.{chooses, AreChosen}
 use Rattle.stab_pauli.proofs.MaskLemmas.{clash, none-chosen, spared-above}
 
--- the chosen rows are changed but for those that are left in the rest of the mask
+-- the chosen rows are changed except those that are left in the rest of the mask
 pub record IsWalked (first mask rest : ℕ) (change : Bool → Signed → Signed) (old now : Rows) : Type 0 where
   pub qubits : now.qubits ≡ old.qubits
   pub size : length now.rows ≡ length old.rows
@@ -113,7 +113,7 @@ past-rows v a q le = ap (λ (p : Signed). has_x (get_or p.letters q I)) (get_or_
     by_place (inr (inl lt)) = blank lt
     by_place (inr (inr gt)) = past (omega arith)
 
--- which of 64 rows have X or Y at a qubit, and where any has, where only those before an end are looked at: there are no others
+-- which of 64 rows have X or Y at a qubit, and where any has them, if only those before an end are looked at: there are no others
 module _ (v : Rows) (first end q : ℕ) (last : (k : ℕ) → k < 64 → end ≤ first + k → length v.rows ≤ first + k) where
   pub mask-with_x : (mask : ℕ) → mask < 2 ^ (end - first) → ((k : ℕ) → first + k < end → chooses mask k ≡ has_x (get_or (row_at v (first + k)).letters q I))
       → (k : ℕ) → k < 64 → chooses mask k ≡ has_x (get_or (row_at v (first + k)).letters q I)

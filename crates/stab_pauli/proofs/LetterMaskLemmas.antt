@@ -26,7 +26,7 @@ module _ (m : ℕ) (row : List ℕ) (w at k : ℕ) (size : length row ≡ 8 * m)
   pub mask-blank : chooses (bit_or (get_or row at 0) (get_or row (at + 4) 0)) k ≡ false → get_or (row_letters m row) (64 * w + k) I ≡ I
   mask-blank none = letter_is ∙ blank_letter (get_or row at 0) (get_or row (at + 4) 0) k (bit-spared (bit_or (get_or row at 0) (get_or row (at + 4) 0)) k none)
 
--- a string in its words, where all later letters are I
+-- a string in its words, if all later letters are I
 
 module _ (n m : ℕ) (ws : List ℕ) (is : IsRow n m ws) where
   pub string-letter : (j : ℕ) → get_or (take n (row_letters m ws)) j I ≡ get_or (row_letters m ws) j I

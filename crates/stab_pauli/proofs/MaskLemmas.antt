@@ -94,7 +94,7 @@ pub with-others : (mask k r j : ℕ) (b : Bool) → k < 64 → j ≢ k → r ≡
 with-others mask k r j true lt ne e = ap (λ n. chooses (bit_or mask (n * 2 ^ k % 2 ^ 64)) j) e ∙ ap (λ n. eqb n 1) (bit_at_set_other w64 mask k lt j ne)
 with-others mask k r j false lt ne e = or-none mask j (r * 2 ^ k % 2 ^ 64) (nothing k r e)
 
--- behind a row
+-- after a row
 
 pub behind-first : (mask r : ℕ) (b : Bool) → r ≡ bool_byte b → chooses (2 * mask + r) 0 ≡ b
 behind-first mask r true e =
@@ -116,7 +116,7 @@ pub byte-small : (r : ℕ) (b : Bool) → r ≡ bool_byte b → r < 2
 byte-small r true e = let one : r ≡ 1 = e in omega arith
 byte-small r false e = let none : r ≡ 0 = e in omega arith
 
--- a mask of rows from a on, of which f tells, that has grown by the row before its first
+-- a mask of rows from a on, given by f, that has grown by the row before its first
 pub grown : (f : ℕ → Bool) (a end mask more : ℕ) (b : Bool) → 0 < a → b ≡ f (a - 1) → chooses more 0 ≡ b
     → ((k : ℕ) → chooses more (k + 1) ≡ chooses mask k) → ((k : ℕ) → a + k < end → chooses mask k ≡ f (a + k))
     → (k : ℕ) → a - 1 + k < end → chooses more k ≡ f (a - 1 + k)
@@ -136,7 +136,7 @@ grown-eight f a end mask more eight some here front others value k lt = by_place
         ap (chooses more) (let e : k ≡ k - 8 + 8 = omega arith in e) ∙ others (k - 8) ∙ value (k - 8) (omega arith)
         ∙ ap f (let e : a + (k - 8) ≡ a - 8 + k = omega arith in e)
 
--- behind several rows
+-- after several rows
 
 double : (s mask : ℕ) → 2 ^ suc s * mask ≡ 2 * (2 ^ s * mask)
 double s mask = ap (λ n. n * mask) (pow-succ' 2 s) ∙ (let e : 2 * 2 ^ s * mask ≡ 2 * (2 ^ s * mask) = grind arith in e)

@@ -15,7 +15,7 @@ use Rattle.stab_pauli.proofs.BlankLemmas.{fits}
 use Rattle.stab_pauli.proofs.PlaceLemmas.{x_place, bits_letter, letter_at_place}
 use Rattle.stab_pauli.proofs.XPartLemmas.{before, blank_behind}
 
--- bits of a word behind the first s
+-- bits of a word after the first s
 
 pub bit_behind : (word s i : ℕ) → bit_at (word / 2 ^ s) i ≡ bit_at word (s + i)
 bit_behind word s i = ap (λ x. x % 2) (shr-shr word s i)
@@ -102,7 +102,7 @@ module _ (m : ℕ) (row : List ℕ) (from w at start : ℕ) (size : length row �
             (ap (bits_letter (get_or row at 0) (get_or row (at + 4) 0)) (let eb : b ≡ (64 * w + b) % 64 = omega arith in eb) ∙ sym (letter_is (64 * w + b) (omega arith) (omega arith)) ∙ e);
       }
 
--- among the first n letters, where all later ones are I
+-- among the first n letters, if all later ones are I
 
 module _ (n m from : ℕ) (ws : List ℕ) (is : IsRow n m ws) where
   pub next_inside : (k : ℕ) → IsNextLetter from (256 * m) (row_letters m ws) k → IsNextLetter from n (take n (row_letters m ws)) k

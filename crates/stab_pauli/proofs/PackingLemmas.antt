@@ -39,7 +39,7 @@ blank_block xs size none =
     let z = bit_or (bit_or (get_or xs 4 0) (get_or xs 5 0)) (bit_or (get_or xs 6 0) (get_or xs 7 0)) in
     sym (take_all 8 xs (omega (arith, size))) ∙ blank_four xs 4 8 (omega (arith, size)) refl (none_right x z none) (blank_four xs 0 4 (omega (arith, size)) refl (none_left x z none) refl)
 
--- behind words
+-- after words
 
 even_more : (gs ks new_gs new_ks : List ℕ) (g w : ℕ) → length gs ≡ length ks → new_gs ≡ gs ++ g ∷ [] → new_ks ≡ ks ++ w ∷ [] → length new_gs ≡ length new_ks
 even_more gs ks new_gs new_ks g w e eg ek = ap length eg ∙ length-append gs (g ∷ []) ∙ ap (λ n. n + 1) e ∙ sym (length-append ks (w ∷ [])) ∙ ap length (sym ek)
@@ -52,7 +52,7 @@ sparse-kept gs ks new_gs new_ks b w e eg ek = record {
   words_are = (λ i. spread (eg i) (ek i) 0) ∙ spread-kept gs ks b w e;
 }
 
--- a word 0, that is kept, of those that stand behind
+-- a word 0 that is kept, of those that come after
 pub sparse-cut : (gs ks new_gs new_ks : List ℕ) (b g m : ℕ) → length gs ≡ length ks → new_gs ≡ gs ++ g ∷ [] → new_ks ≡ ks ++ 0 ∷ [] → b ≡ g + suc m
     → IsSparse new_gs new_ks m (spread gs ks b)
 sparse-cut gs ks new_gs new_ks b g m e eg ek split = record {
@@ -74,7 +74,7 @@ sparse-blank gs ks b m block e none = record {
   words_are = sym (spread-zeros gs ks b m) ∙ ap (λ t. spread gs ks b ++ t) (sym none);
 }
 
--- more words behind some
+-- more words after some
 pub sparse-behind : (gs ks new_gs new_ks : List ℕ) (b d : ℕ) (words more all : List ℕ) → words ++ more ≡ all → IsSparse gs ks b words
     → IsSparse new_gs new_ks d (spread gs ks b ++ more) → IsSparse new_gs new_ks d all
 sparse-behind gs ks new_gs new_ks b d words more all whole is new = record {
@@ -86,7 +86,7 @@ sparse-behind gs ks new_gs new_ks b d words more all whole is new = record {
 pub blocks-next : (words : List ℕ) (k n : ℕ) → n ≡ 8 → take (8 * k) words ++ take n (drop (8 * k) words) ≡ take (8 * (k + 1)) words
 blocks-next words k n e = sym (take-add (8 * k) n words) ∙ ap (λ m. take m words) (omega (arith, e))
 
--- no more stand behind than there are
+-- no more come after than there are
 spread-behind : (gs ks : List ℕ) (b : ℕ) → b ≤ length (spread gs ks b)
 spread-behind [] ks b = omega (arith, length-replicate {A = ℕ} b 0)
 spread-behind (g ∷ gs) [] b = omega (arith, length-replicate {A = ℕ} b 0)

@@ -1,4 +1,4 @@
--- One string in its words: what stands past its last letter is I, which changes no product.
+-- One string in its words: what is past its last letter is I, which changes no product.
 use Rattle.std.proofs.Common.{◌≡◌, ℕ, zero, suc, [], ◌∷◌, ◌++◌, ◌-◌, ◌*◌, ◌<◌, refl, sym, ◌∙◌, ap, List, length, set, take, drop, replicate, arith, subst}
 use Rattle.std.specs.Prelude.{bit_xor}
 use Rattle.std.proofs.lemmas.List.{length-replicate, length-take-le, append-nil, drop-set-lt}

@@ -121,13 +121,13 @@ has_x_bits false true = refl
 has_x_bits true false = refl
 has_x_bits true true = refl
 
--- a letter is X or Y where its X bit is 1
+-- a letter is X or Y if its X bit is 1
 pub has_x_at_place : (m : ℕ) (row : List ℕ) (q at : ℕ) → length row ≡ 8 * m → q < 256 * m → at ≡ x_place q
     → has_x (get_or (row_letters m row) q I) ≡ eqb (bit_at (get_or row at 0) (q % 64)) 1
 has_x_at_place m row q at e lt ea =
     ap has_x (letter_at_place m row q at e lt ea) ∙ has_x_bits (eqb (bit_at (get_or row at 0) (q % 64)) 1) (eqb (bit_at (get_or row (at + 4) 0) (q % 64)) 1)
 
--- the X words and the Z words stand apart
+-- the X words and the Z words do not overlap
 x_not_z : (j q : ℕ) → x_place j ≢ x_place q + 4
 x_not_z j q = λ e. omega arith
 

@@ -94,7 +94,7 @@ sign_power-of t p =
     phase_add-left (phase_inverse (string_power p)) t (string_power p)
     ∙ ap (phase_add t) (phase_add-back_left (string_power p)) ∙ phase_add-zero t
 
--- a power that leaves a sign is told by it and the letters
+-- a power that leaves a sign is determined by it and the letters
 pub power_told : (t : Phase) (p : List Letter) → IsSign (sign_power t p) → t ≡ phase_add (phase_of_sign (sign_of_phase (sign_power t p))) (string_power p)
 power_told t p is = sym (sign_power-left t p) ∙ ap (λ s. phase_add s (string_power p)) (sym (phase_of_sign-sign_of_phase (sign_power t p) is))
 
@@ -109,7 +109,7 @@ sign_of_left s t p e = ap sign_of_phase (sign_left s t p e) ∙ sign_of_phase-ph
 
 -- the powers of signed strings
 
--- of two with the same letters the powers tell the signs
+-- if two have the same letters, the powers show the signs
 pub power_of-tells : (v v' : Signed) → v.letters ≡ v'.letters → power_of v ≡ power_of v' → v.negative ≡ v'.negative
 power_of-tells v v' el e =
     phase_of_sign-injective v.negative v'.negative

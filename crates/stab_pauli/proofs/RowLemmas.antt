@@ -83,7 +83,7 @@ row_letters-drop m k p lt =
     ap (λ n. row_letters n (drop (8 * k) p)) e
     ∙ (λ i. packed_letters 64 (chunk (8 * k) 4 p) (take 4 (drop-drop 4 (8 * k) p i)) ++ row_letters (m - (k + 1)) ((drop-drop 8 (8 * k) p ∙ ap (λ n. drop n p) next) i))
 
--- a power of i of two strings that adds up where strings are appended
+-- a power of i of two strings that adds up if strings are appended
 pub record AddsUp (F : List Letter → List Letter → Phase) : Type 0 where
   pub none : F [] [] ≡ Zero
   pub append : (p q p' q' : List Letter) → length p ≡ length q → F (p ++ p') (q ++ q') ≡ phase_add (F p q) (F p' q')
@@ -184,7 +184,7 @@ IsXorBefore-two p q k now same le is =
     unread : chunk (8 * k + 4) 4 now ≡ chunk (8 * k + 4) 4 half
     unread = later is ∙ sym (IsXorBefore-ahead p q (8 * k + 4) 4 half (omega arith) first)
 
--- a part of a slice that was written, with what stands before and after it
+-- a part of a slice that was written, with what is before and after it
 
 pub put_front : (a j : ℕ) (words front back new : List ℕ) → front ++ back ≡ words → length new ≡ j → a + j ≤ length front
     → (take a front ++ (new ++ drop j (drop a front))) ++ back ≡ put_chunk a words new

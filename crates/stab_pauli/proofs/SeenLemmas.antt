@@ -61,7 +61,7 @@ row_seen {n} {m} {ws} {ps} seen a lt =
     })
     (sym (row_at-table n m ws ps a lt) ∙ ap (λ r. row_at r a) seen.is)
 
--- one letter of it, by the row's words, or I where there is none
+-- one letter of it, by the row's words, or I if there is none
 pub letter_seen : {n m : ℕ} {ws : List ℕ} {ps : List Phase} {v : Rows} → IsSeen n m ws ps v → (a q : ℕ) → a < length v.rows
     → {slice words : List ℕ} → words ≡ chunk (8 * m * a) (8 * m) slice → slice ≡ ws → get_or (row_letters m words) q I ≡ get_or (row_at v a).letters q I
 letter_seen {n} {m} {ws} seen a q lt e es =

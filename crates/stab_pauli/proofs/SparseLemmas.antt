@@ -1,4 +1,4 @@
--- Words of which most are 0: what a word behind them makes, how they are written over words 0, and how they are compared.
+-- Words of which most are 0: what a word after them makes, how they are written over words 0, and how they are compared.
 use Rattle.std.proofs.Common.{◌≡◌, ℕ, zero, suc, ◌+◌, ◌<◌, ◌≤◌, refl, sym, ◌∙◌, ap, arith, append_assoc, length-append, List, [], ◌∷◌, ◌++◌, length, get_or, set, drop, replicate}
 use Rattle.std.proofs.lemmas.List.{length-replicate, replicate-append-replicate, set-append_right, set_at, drop_more, length-set, drop_all}
 use Rattle.stab_pauli.specs.inner.Words.{AreShort}
@@ -10,7 +10,7 @@ use Rattle.stab_pauli.proofs.TellLemmas.{short_more, short_tail}
 abbrev pub told_by : SparseWords → List ℕ
 told_by w = spread w.gaps.items w.kept.items w.behind
 
--- behind them
+-- after them
 
 pub spread-zeros : (gs ks : List ℕ) (b m : ℕ) → spread gs ks b ++ replicate m 0 ≡ spread gs ks (b + m)
 spread-zeros [] ks b m = replicate-append-replicate b m 0
@@ -23,7 +23,7 @@ spread-kept [] (k ∷ ks) b w e = absurd (omega arith)
 spread-kept (g ∷ gs) [] b w e = absurd (omega arith)
 spread-kept (g ∷ gs) (k ∷ ks) b w e = ap (λ t. replicate g 0 ++ k ∷ t) (spread-kept gs ks b w (omega arith)) ∙ sym (append_assoc (replicate g 0) (k ∷ spread gs ks b) (w ∷ []))
 
--- one of a list, and those behind it
+-- one of a list, and those after it
 drop_here : (xs : List ℕ) (k x : ℕ) → k < length xs → x ≡ get_or xs k x → drop k xs ≡ x ∷ drop (k + 1) xs
 drop_here xs k x lt e = drop_more xs k x lt ∙ ap (λ y. y ∷ drop (k + 1) xs) (sym e)
 
@@ -49,7 +49,7 @@ written [] ks at words = words
 written (g ∷ gs) [] at words = words
 written (g ∷ gs) (w ∷ ks) at words = written gs ks (at + g + 1) (set words (at + g) w)
 
--- so many are written, up to a place
+-- this many are written, up to a place
 pub record IsWriting (gs ks : List ℕ) (b : ℕ) (k at : ℕ) (initial words : List ℕ) : Type 0 where
   pub writes : written (drop k gs) (drop k ks) at words ≡ written gs ks 0 initial
   pub room : at + length (spread (drop k gs) (drop k ks) b) ≡ length words
@@ -104,7 +104,7 @@ pub writing-end : (gs ks : List ℕ) (b k at : ℕ) (initial words : List ℕ) �
 writing-end gs ks b k at initial words e le zeros size is =
     sym (λ i. written (drop_all k gs (omega (arith, e, le)) i) (drop k ks) at words) ∙ is.writes ∙ written-all gs ks initial b e zeros size
 
--- words of so many bits stay such
+-- words of this many bits stay words of this many bits
 short-blank : (n : ℕ) → AreShort 64 (replicate n 0)
 short-blank zero = record { below = λ i. omega arith }
 short-blank (suc n) = short_more 64 0 (replicate n 0) (omega arith) (short-blank n)

@@ -34,13 +34,13 @@ passed-more whole words rest part new k n m e before here same =
     ∙ ap (λ t. t ++ new) (sym (take-add k n words))
     ∙ ap (λ i. take i words ++ new) (sym e)
 
--- where they are these, they have to go on so
+-- if they are these, they must go on in the same way
 pub passed-told : (whole words rest : List ℕ) (k n m : ℕ) → m ≡ n → k ≤ length words → whole ≡ take k words ++ rest → whole ≡ words → take n rest ≡ take m (drop k words)
 passed-told whole words rest k n m e le before all =
     ap (take n) (sym (ap (drop k) before ∙ drop_at (take k words) rest k (length-take-le k words le)) ∙ ap (drop k) all)
     ∙ ap (λ i. take i (drop k words)) (sym e)
 
--- where they begin with all of as many, they are these
+-- if they begin with all of them and are as many, they are these
 pub passed-all : (whole words rest : List ℕ) (k : ℕ) → whole ≡ take k words ++ rest → take k words ≡ words → length words ≡ length whole → whole ≡ words
 passed-all whole words rest k before all l = before ∙ (λ i. all i ++ none rest empty i) ∙ append-nil words
   where

@@ -1,4 +1,4 @@
--- Products by a walk over the blocks that a mask names, where all others are letters I.
+-- Products by a walk over the blocks that a mask names, if all others are letters I.
 use Rattle.std.proofs.Common.{◌≡◌, ◌≢◌, ℕ, zero, suc, ◌+◌, ◌*◌, ◌/◌, ◌%◌, ◌<◌, ◌≤◌, Bool, true, false, refl, sym, ◌∙◌, ap, subst, List, [], ◌∷◌, length, get_or, take, drop, replicate, arith, inl, inr}
 use Rattle.std.specs.Prelude.{◌⊎◌, bit_xor}
 use Rattle.std.specs.Int.Bits.{xor_zero_r}
@@ -53,7 +53,7 @@ parity-without (suc m) (suc k) f g lt gone same =
     ∙ parity-left (f 0) (f (suc k)) (parity m (λ b. g (suc b)))
     ∙ ap (λ t. f (suc k) ⊕ (t ⊕ parity m (λ b. g (suc b)))) (sym (same 0 (λ e. omega arith) (omega arith)))
 
--- a bit where another is 1, and else 0
+-- a bit if another is 1, and else 0
 abbrev pub where_chosen : Bool → Bool → Bool
 where_chosen false b = false
 where_chosen true b = b
@@ -153,7 +153,7 @@ pub words_odd-none : (k n : ℕ) → words_odd k (replicate n 0) ≡ false
 words_odd-none k zero = refl
 words_odd-none k (suc n) = λ i. word_odd-none k i ⊕ words_odd-none k n i
 
--- the blocks of p are multiplied by those of q but for those that are left in the rest of the mask, and whether the bits of these
+-- the blocks of p are multiplied by those of q except those that are left in the rest of the mask, and whether the bits of these
 -- others met at an odd number of places
 pub record IsTimesBut (m rest : ℕ) (p q : List ℕ) (odd : Bool) (now : List ℕ) : Type 0 where
   pub size : length now ≡ length p

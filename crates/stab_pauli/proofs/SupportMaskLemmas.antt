@@ -1,4 +1,4 @@
--- The support of a string, by blocks: a mask covers its words where it covers its letters, and the other way round.
+-- The support of a string, by blocks: a mask covers its words if and only if it covers its letters.
 use Rattle.std.proofs.Common.{◌≡◌, ℕ, ◌+◌, ◌*◌, ◌/◌, ◌%◌, ◌^◌, ◌<◌, ◌≤◌, false, sym, ◌∙◌, ap, List, length, get_or, take, drop, replicate, arith, refl, subst, inl, inr}
 use Rattle.std.specs.Prelude.{◌⊎◌}
 use Rattle.std.specs.Simd.Lanes.{chunk}

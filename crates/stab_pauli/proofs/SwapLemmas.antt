@@ -7,7 +7,7 @@ use Rattle.std.proofs.lemmas.Bool.{cases_order}
 use Rattle.std.proofs.lemmas.Simd.{length-chunk, get_or-chunk, length-put_chunk, get_or-put_chunk_below, get_or-put_chunk_at, get_or-put_chunk_above}
 use Rattle.stab_pauli.specs.inner.Words.{swapped_words}
 
--- before a part, in it, or behind it
+-- before a part, in it, or after it
 abbrev pub Place : ℕ → ℕ → ℕ → Type 0
 Place a s i = ((i < a) ⊎ (a + s ≤ i)) ⊎ ((j : ℕ) × (j < s) × (i ≡ a + j))
 
@@ -161,7 +161,7 @@ swapped-none a b ws la lb =
     outside c i (inr (inl lt)) = inl lt
     outside c i (inr (inr gt)) = inr (omega arith)
 
--- parts that stand apart
+-- parts that do not overlap
 pub earlier : (a b k s : ℕ) → k ≤ s → (a + s ≤ b) ⊎ (b + s ≤ a) → (a + k ≤ b) ⊎ (b + k ≤ a)
 earlier a b k s le (inl h) = inl (omega arith)
 earlier a b k s le (inr h) = inr (omega arith)

@@ -1,4 +1,4 @@
--- Rows are told by their letters: equal letters lie in equal words.
+-- Rows are determined by their letters: equal letters lie in equal words.
 use Rattle.std.proofs.Common.{◌≡◌, ℕ, zero, suc, ◌+◌, ◌*◌, ◌/◌, ◌%◌, ◌^◌, ◌<◌, Bool, true, false, refl, sym, ◌∙◌, ap, List, [], ◌∷◌, ◌++◌, length, get_or, take, drop, map, arith, rules, subst, inl, inr, eqb, length-drop}
 use Rattle.std.specs.Prelude.{◌⊎◌, ◌↔◌}
 use Rattle.std.specs.List.{All}
@@ -166,7 +166,7 @@ rows_told m (suc count) p q lp lq sp sq e =
     first : take (8 * m) p ≡ take (8 * m) q
     first = row_told m (take (8 * m) p) (take (8 * m) q) (lf p lp) (lf q lq) (short_take 64 (8 * m) p sp) (short_take 64 (8 * m) q sq) (ap (λ (l : List (List Letter)). get_or l 0 []) e)
 
--- the first n letters tell rows whose other letters are I
+-- the first n letters determine rows whose other letters are I
 
 padded_told : (n m : ℕ) (ls ls' : List (List Letter)) → All (IsPadded n m) ls → All (IsPadded n m) ls' → map (take n) ls ≡ map (take n) ls' → ls ≡ ls'
 padded_told n m [] [] h h' e = refl
@@ -266,7 +266,7 @@ rows_by (u ∷ us) (v ∷ vs) ep el = λ i. record { negative = power_of-tells u
     letters : u.letters ≡ v.letters
     letters = ap (λ (l : List (List Letter)). get_or l 0 []) el
 
--- letters and powers tell the rows
+-- letters and powers determine the rows
 pub all_told : {n m : ℕ} {ws : List ℕ} {ps : List Phase} {v : Rows} {n' m' : ℕ} {ws' : List ℕ} {ps' : List Phase} {v' : Rows}
     → IsSeen n m ws ps v → IsSeen n' m' ws' ps' v' → ps ≡ ps' → v.qubits ≡ v'.qubits → unsigned_rows v ≡ unsigned_rows v' → v ≡ v'
 all_told {v = v} {v' = v'} mine theirs es eq el = λ i. record { qubits = eq i; rows = rows_by v.rows v'.rows (powers_seen mine ∙ es ∙ sym (powers_seen theirs)) el i }

@@ -16,11 +16,11 @@ x-mask m row w at k size lt ea lk =
     ap (chooses (get_or row at 0)) (let e : k ≡ (64 * w + k) % 64 = omega arith in e)
     ∙ sym (has_x_at_place m row (64 * w + k) at size (omega arith) (let here : at ≡ x_place (64 * w + k) = omega arith in here))
 
--- one of the 64 places of a word, where f tells of each place
+-- one of the 64 places of a word, where f says so for each place
 pub x-at : (f : ℕ → Bool) (mask q : ℕ) → ((j : ℕ) → j < 64 → chooses mask j ≡ f (64 * (q / 64) + j)) → chooses mask (q % 64) ≡ f q
 x-at f mask q value = value (q % 64) (omega arith) ∙ ap f (let e : 64 * (q / 64) + q % 64 ≡ q = omega arith in e)
 
--- the places where any of several rows has X, where f tells of each row and place
+-- the places where any of several rows has X, where f says so for each row and place
 
 -- of the first rows and the next one
 pub gathered-next : (f : ℕ → ℕ → Bool) (a all more : ℕ) → ((j : ℕ) → j < 64 → chooses more j ≡ f a j)

@@ -109,7 +109,7 @@ get_or-replicate zero k x = refl
 get_or-replicate (suc n) zero x = refl
 get_or-replicate (suc n) (suc k) x = get_or-replicate n k x
 
--- among the first n letters, where all later ones are I
+-- among the first n letters, if all later ones are I
 
 HasNoXBefore-take : (n k : ℕ) (p : List Letter) → k ≤ n → HasNoXBefore k p → HasNoXBefore k (take n p)
 HasNoXBefore-take n k p le h = λ j lj. ap has_x (get_or-take n p j I (omega arith)) ∙ h j lj
@@ -121,7 +121,7 @@ none_in_row n m ws is h =
     let s : HasNoXBefore n (row_letters m ws) = λ j lj. h j (omega arith) in
     any_none n (row_letters m ws) s (rw (length-row m ws is.size) f)
 
--- what stands past the last letter is I
+-- what is past the last letter is I
 pub blank_behind : (n m : ℕ) (ws : List ℕ) (k : ℕ) → IsRow n m ws → n ≤ k → get_or (row_letters m ws) k I ≡ I
 blank_behind n m ws k is h =
     let there : n + (k - n) ≡ k = omega arith in

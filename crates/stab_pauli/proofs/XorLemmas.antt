@@ -15,7 +15,7 @@ pub record IsXorBefore (p q : List ℕ) (k : ℕ) (now : List ℕ) : Type 0 wher
   pub done : (j : ℕ) → j < k → get_or now j 0 ≡ bit_xor (get_or p j 0) (get_or q j 0)
   pub rest : (j : ℕ) → k ≤ j → get_or now j 0 ≡ get_or p j 0
 
--- the same where m more words were written
+-- the same if m more words were written
 pub IsXorBefore-block : (p q : List ℕ) (k m : ℕ) (now : List ℕ) → length p ≡ length q → k + m ≤ length q
     → IsXorBefore p q k now → IsXorBefore p q (k + m) (put_chunk k now (zip2 bit_xor (chunk k m now) (chunk k m q)))
 IsXorBefore-block p q k m now same le is = record {

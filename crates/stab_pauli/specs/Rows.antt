@@ -39,7 +39,7 @@ unsigned_rows r = map (λ p. p.letters) r.rows
 abbrev pub product_times_i : Signed → Signed → Signed
 product_times_i p q = record { negative = sign_of_phase (phase_add Quarter (product_phase p q)); letters = string_product p.letters q.letters }
 
--- the same where the bit says so, and else the first string
+-- the same if the bit says so, and else the first string
 abbrev pub product_times_i_if : Bool → Signed → Signed → Signed
 product_times_i_if false p q = p
 product_times_i_if true p q = product_times_i p q

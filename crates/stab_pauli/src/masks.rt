@@ -38,7 +38,7 @@ pub fn without(mask: u64, k: usize) -> u64
     mask & !(1 << k)
 }
 
-/// The mask with row k, which is not chosen before, where the bit says so.
+/// The mask with row k, which is not chosen before, if the bit says so.
 #[inline(always)]
 pub fn with_if(mask: u64, k: usize, chosen: bool) -> u64
     requires in_range { k < 64 }

@@ -9,10 +9,10 @@ use stab_letters::{Letter, Phase};
 use std::alloc::Global;
 use std::marker::Model;
 
-/// Signed Pauli strings of one length, side by side in one allocation, with the powers of i that tell their signs in
+/// Signed Pauli strings of one length, side by side in one allocation, with the powers of i that give their signs in
 /// another.
 ///
-/// Contracts see the number of qubits and the list of the strings. No call takes memory but `new` and `copy`.
+/// Contracts see the number of qubits and the list of the strings. Only `new` and `copy` take memory.
 pub struct PauliRows {
     qubits: usize,
     blocks: usize,
@@ -21,7 +21,7 @@ pub struct PauliRows {
     powers: Vec<Phase>,
 }
 
-// Written out, so that to a proof rows that are let go are one call, and not one for each of their parts.
+// Written out, so that a proof sees the drop of rows as one call, and not one for each of their parts.
 impl Drop for PauliRows {
     fn drop(self) {
         let PauliRows {
@@ -55,7 +55,7 @@ impl PauliRows {
     ghost use Rattle.stab_letters.specs.declared.phase.Phase.TheVariants.{Quarter};
     ghost use Rattle.stab_io.specs.declared.refusal.Refusal.TheVariants.{OutOfMemory};
 
-    /// So many strings of letters I with the sign +.
+    /// This many strings of letters I with the sign +.
     ///
     /// Refusal `OutOfMemory` alone.
     pub fn new(alloc: Global, rows: usize, qubits: usize) -> Result<PauliRows, Refusal>
@@ -136,7 +136,7 @@ impl PauliRows {
         row::is_negative(self.blocks, words, self.powers[a])
     }
 
-    /// Whether the sign of row a is -, where no letter of it is X or Y: then none has to be looked at.
+    /// Whether the sign of row a is -, if no letter of it is X or Y: then none has to be looked at.
     #[inline(always)]
     pub fn fixed_sign(&self, a: usize) -> bool
         requires in_range { a < length self.now.rows }
@@ -179,7 +179,7 @@ impl PauliRows {
         self.powers[a] = row::power_with(self.powers[a], old, letter);
     }
 
-    /// Turns the sign of row a where the bit is 1.
+    /// Turns the sign of row a if the bit is 1.
     #[inline(always)]
     pub fn negate_if(&mut self, a: usize, bit: bool)
         requires in_range { a < length self.old.rows }

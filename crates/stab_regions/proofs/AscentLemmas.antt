@@ -43,7 +43,7 @@ not-named i from below [] lt a = refl
 not-named i from below (k ∷ ks) lt a =
     ap (λ b. b ⊕ odd i ks) (different k i (omega (arith, a.0))) ∙ not-named i (k + 1) below ks (omega (arith, a.0)) a.2
 
--- with so many numbers behind the first, where the list is known for those
+-- with this many numbers after the first, if the list is known for those
 abbrev pub Known : ℕ → Type 0
 Known k = (i : ℕ) (ks : List ℕ) → Ascends i (i + k) ks → ks ≡ numbers_where (λ m. odd m ks) i k
 

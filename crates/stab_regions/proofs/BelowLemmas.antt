@@ -1,4 +1,4 @@
--- Observables that steps name: those of a circuit's items are some of so many.
+-- Observables that steps name: those of a circuit's items are among this many.
 use Rattle.std.proofs.Common.{ℕ, zero, suc, ◌≤◌, false, true, List, [], ◌∷◌, map, get_or, arith}
 use Rattle.std.specs.Prelude.{All}
 use Rattle.std.proofs.lemmas.List.Elements.{All-nil, All-cons, All-append, All-map}

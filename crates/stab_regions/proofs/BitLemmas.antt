@@ -38,11 +38,11 @@ module _ (law : RunsArePointsWithOutputs) (n count : ℕ) (coins : ℕ → Bool)
 -- the region of a parity before the last steps, and whether they keep it
 
 module _ (n D i : ℕ) (back : List Step) where
-  -- of a detector that stands before them nothing is asked there
+  -- nothing is asked there about a detector that is before them
   region-none : i < D → i < detectors_before D back → parity_region n D i back ≡ region_of n []
   region-none lt before = cond-true (nat_lt i D) _ _ (lt-ltb i D lt) ∙ cond-true (nat_lt i (detectors_before D back)) _ _ (lt-ltb i (detectors_before D back) before)
 
-  -- one that stands among them has its own region
+  -- one that is among them has its own region
   region-detector : i < D → detectors_before D back ≤ i → parity_region n D i back ≡ region_of_detector n (i - detectors_before D back) back
   region-detector lt le = cond-true (nat_lt i D) _ _ (lt-ltb i D lt) ∙ cond-false (nat_lt i (detectors_before D back)) _ _ (le-ltb i (detectors_before D back) le)
 
@@ -58,7 +58,7 @@ module _ (n D i : ℕ) (back : List Step) where
   kept-observable : D ≤ i → parity_kept n D i back ≡ keep_region n (asks_observable (i - D)) back (region_of n [])
   kept-observable le = cond-false (nat_lt i D) _ _ (le-ltb i D le)
 
--- what the pass over all steps finds sure
+-- what the pass over all steps finds deterministic
 
 module _ (n i : ℕ) (xs : List Step) where
   -- a detector's number among all
@@ -77,7 +77,7 @@ module _ (n i : ℕ) (xs : List Step) where
 -- what it says of an inserted letter
 
 module _ (n i : ℕ) (front : List Step) (l : Letter) (q : ℕ) (back : List Step) where
-  -- how many detectors stand in front of it
+  -- how many detectors are in front of it
   before : detectors_before (detectors_of (front ++ back)) back ≡ detectors_of front
   before = omega (arith, count-append front back)
 

@@ -13,7 +13,7 @@ use Rattle.stab_regions.specs.Laws.{bit_asked}
 use Rattle.stab_regions.specs.Tables.{named, steps_before_detector, named_by}
 use Rattle.stab_regions.specs.TableLaws.{detector_bit}
 
--- the first step, where it is a detector and where it is not: how many there are, the steps before detector d, and what it names
+-- the first step, if it is a detector and if it is not: how many there are, the steps before detector d, and what it names
 
 module _ (x : Step) (xs : List Step) where
   pub count-other : is_detector x ≡ false → detectors_of (x ∷ xs) ≡ detectors_of xs
@@ -57,7 +57,7 @@ before-front (suc d) (x ∷ xs) = by_kind (is_detector x) refl (before-front d x
     by_kind true e next other = (next.0, ap (λ ys. x ∷ ys) next.1 ∙ ap (λ ys. ys ++ next.0) (sym (before-next x xs d e)))
     by_kind false e next other = (other.0, ap (λ ys. x ∷ ys) other.1 ∙ ap (λ ys. ys ++ other.0) (sym (before-other x xs (suc d) e)))
 
--- a front fits where all do
+-- a front fits if all do
 pub fits-front : (n : ℕ) (xs ys : List Step) → All (StepFits n) (xs ++ ys) → All (StepFits n) xs
 fits-front n [] ys fits = All-nil (StepFits n)
 fits-front n (x ∷ xs) ys fits =
@@ -80,7 +80,7 @@ none d lt = omega arith
 
 -- the bits of a run
 
--- a step gives a detector's bit where it is a detector
+-- a step gives a detector's bit if it is a detector
 detectors-given : (n : ℕ) (coins : ℕ → Bool) (x : Step) (p : Point) → (given n coins x p).detectors ≡ when (is_detector x) (parity p.records (named x))
 detectors-given n coins (one g q) p = refl
 detectors-given n coins (two g a b) p = refl
@@ -99,7 +99,7 @@ module _ (n : ℕ) (coins : ℕ → Bool) (x : Step) (xs : List Step) (p : Point
   abbrev bits_behind : List Bool
   bits_behind = (outputs n coins xs (next_point n coins x p)).detectors
 
-  -- the first step's bit stands first, where it has one
+  -- the first step's bit comes first, if it has one
   bits-given : (b : Bool) → is_detector x ≡ b → (outputs n coins (x ∷ xs) p).detectors ≡ when b (parity p.records (named x)) ++ bits_behind
   bits-given b e = ap (λ bits. bits ++ bits_behind) (detectors-given n coins x p ∙ ap (λ c. when c (parity p.records (named x))) e)
 
@@ -122,7 +122,7 @@ has-bits : (n : ℕ) (coins : ℕ → Bool) (xs : List Step) (p : Point) → Has
 has-bits n coins [] p d lt = absurd (none d lt)
 has-bits n coins (x ∷ xs) p d lt = bits-next n coins x xs p (has-bits n coins xs (next_point n coins x p)) (is_detector x) refl d lt
 
--- a detector of a run is the parity that is asked for behind the steps before it
+-- a detector of a run is the parity that is asked for after the steps before it
 pub detector-bit : RunsArePointsWithOutputs → (n : ℕ) (coins : ℕ → Bool) (xs : List Step) (count d : ℕ) → d < detectors_of xs
     → detector_bit n coins xs count d ≡ bit_asked n coins asks_nothing (steps_before_detector d xs) (named_by d xs) origin
 detector-bit law n coins xs count d lt = ap (λ (s : State). slice_index_or s.detectors d false) (law n coins xs (start count)) ∙ has-bits n coins xs origin d lt

@@ -55,7 +55,7 @@ blank-at zero q = refl
 blank-at (suc n) zero = refl
 blank-at (suc n) (suc q) = blank-at n q
 
--- a letter that is put in where there is none is multiplied in
+-- a letter that is put in if there is none is multiplied in
 
 letter-alone : (l m : Letter) → m ≡ I → l ≡ letter_product l m
 letter-alone l m e = grind arith
@@ -122,7 +122,7 @@ product-moves n fs inverted taken old_x old_z old new_x new_z new is others move
       looks = earlier-shows i true old new r.looks shows.looks others;
     }
   where
-    -- the sign of what is multiplied is of no account
+    -- the sign of what is multiplied does not matter
     letters-counted : (a b sign : Bool) → a ≡ b → ShowsLetters i new_x new_z (times_where a (string_of n fs) r.string).letters
         → ShowsLetters i new_x new_z (times_where b (string_of n fs) (record { negative = sign; letters = r.string.letters })).letters
     letters-counted true true sign e shows = shows

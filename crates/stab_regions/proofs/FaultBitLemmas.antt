@@ -23,12 +23,12 @@ use Rattle.stab_regions.proofs.BitLemmas.{bit-detector, bit-observable, sure-det
 difference : (flipped plain flips : Bool) → flipped ≡ plain ⊕ flips → flipped ⊕ plain ≡ flips
 difference flipped plain flips e = ap (λ b. b ⊕ plain) e ∙ parity-comm (plain ⊕ flips) plain ∙ parity-twice plain flips
 
--- the bit is the same whatever the coins
+-- the bit is the same for all random bits
 abbrev pub SameForAll : (n count : ℕ) → List Step → ℕ → Type 0
 SameForAll n count xs i = (coins others : ℕ → Bool) → bit n count others xs i ≡ bit n count coins xs i
 
 module _ (law : RunsArePointsWithOutputs) (n count : ℕ) where
-  -- exactly these are found sure
+  -- exactly these are found deterministic
   pub sure-parity : (xs : List Step) (i : ℕ) → All (StepFits n) xs → i < detectors_of xs + count
       → (parity_sure n (detectors_of xs) i xs ≡ true) ↔ SameForAll n count xs i
   sure-parity xs i fits lt = by_place (cases_lt i (detectors_of xs))
@@ -56,11 +56,11 @@ module _ (law : RunsArePointsWithOutputs) (n count : ℕ) where
     same_count : detectors_of (with_fault front l q back) ≡ D
     same_count = count-fault front l q back
 
-    -- with these coins with the letter, and those without it, the bit differs where the pass says so
+    -- with these coins with the letter, and those without it, the bit differs if the pass says so
     abbrev Flips : (coins others : ℕ → Bool) → Type 0
     Flips coins others = bit n count others (with_fault front l q back) i ⊕ bit n count coins (front ++ back) i ≡ parity_flips n D i l q back
 
-    -- so it is where the bits of detectors do
+    -- so does it if the bits of detectors do
     detector-flips : (coins others : ℕ → Bool) → i < D
         → detector_bit n others (with_fault front l q back) count i ≡ detector_bit n coins (front ++ back) count i ⊕ flips_detector n i front l q back
         → Flips coins others
@@ -69,7 +69,7 @@ module _ (law : RunsArePointsWithOutputs) (n count : ℕ) where
         ∙ difference _ _ _ e
         ∙ sym (flips-detector n i front l q back lt)
 
-    -- and where those of observables do
+    -- and if those of observables do
     observable-flips : (coins others : ℕ → Bool) → D ≤ i
         → observable_bit n others (with_fault front l q back) count (i - D)
         ≡ observable_bit n coins (front ++ back) count (i - D) ⊕ flips_asked n (asks_observable (i - D)) l q back []
@@ -82,7 +82,7 @@ module _ (law : RunsArePointsWithOutputs) (n count : ℕ) where
         ∙ sym (flips-observable n i front l q back D le)
 
     module _ (lt : i < D + count) (lt_q : q < n) (ff : All (StepFits n) front) (fb : All (StepFits n) back) where
-      -- so a bit that is found sure is flipped whatever the coins
+      -- so a bit that is found deterministic is flipped for all random bits
       pub sure-flips : parity_sure n D i (front ++ back) ≡ true → (coins others : ℕ → Bool) → Flips coins others
       sure-flips sure coins others = by_place (cases_lt i D)
         where

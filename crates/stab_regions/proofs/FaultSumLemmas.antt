@@ -1,4 +1,4 @@
--- Sums of rows: faults of a table flip a sure bit together where an odd number of their rows name it.
+-- Sums of rows: faults of a table flip a deterministic bit together if an odd number of their rows name it.
 use Rattle.std.proofs.Common.{◌≡◌, ℕ, zero, suc, ◌+◌, ◌<◌, ◌≤◌, ◌⊎◌, inl, inr, refl, sym, ap, ◌∙◌, Bool, true, false, List, [], ◌∷◌, map, length, arith}
 use Rattle.std.specs.Prelude.{All, ◌==◌, ◌&&◌, slice_index_or, if◌then◌else◌}
 use Rattle.std.specs.List.{flat_map}
@@ -40,7 +40,7 @@ odd-before f i (suc k) m lt =
     ∙ ap (λ c. c ⊕ odd m (numbers_where f (i + 1) k)) (and-false (f i))
     ∙ odd-before f (i + 1) k m (omega (arith, lt))
 
--- the first number, or another, where it is so of the others
+-- the first number, or another, if it is so for the others
 odd-next : (f : ℕ → Bool) (i k m : ℕ) → ((i ≡ m → ⊥) → odd m (numbers_where f (i + 1) k) ≡ f m) → (i ≡ m) ⊎ (i ≡ m → ⊥)
     → (f i && (i == m)) ⊕ odd m (numbers_where f (i + 1) k) ≡ f m
 odd-next f i k m others (inl same) =
@@ -56,7 +56,7 @@ odd-where f i (suc k) m le lt =
     odd-step f i k m (f i) refl
     ∙ odd-next f i k m (λ other. odd-where f (i + 1) k m (omega (arith, le, other)) (omega (arith, lt))) (cases_eq i m)
 
--- the faults that are asked for stand among the steps, on the qubits
+-- the faults that are asked for are among the steps, on the qubits
 
 before-end : (b : Bool) (t end : ℕ) → t + 1 ≤ end → (if b then t + 1 else t) ≤ end
 before-end true t end le = le
@@ -103,7 +103,7 @@ module _ (n : ℕ) (everywhere : Bool) (items : Items) (sure : List Bool) (rows 
       (λ k lt. fault-fits n everywhere (unroll items) k fits (omega (arith, lt, as-many))) numbers within)
 
   module _ (i : ℕ) (lt : i < bits_in items) (same : IsSure n items i) (coins : ℕ → Bool) where
-    -- a row names a sure bit where its fault flips it
+    -- a row names a deterministic bit if its fault flips it
     pub row-names : (k : ℕ) → k < length rows → flips n items coins (fault_at everywhere (unroll items) k) i ≡ odd i (row rows k)
     row-names k within =
         let f : FaultPlace = fault_at everywhere (unroll items) k in

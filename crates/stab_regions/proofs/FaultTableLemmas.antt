@@ -1,4 +1,4 @@
--- Fault tables: bits that the pass finds sure are sure, and its rows, of which these bits are kept, are those that faults flip.
+-- Fault tables: bits that the pass finds deterministic are so, and its rows, of which these bits are kept, are those that faults flip.
 use Rattle.std.proofs.Common.{◌≡◌, ℕ, ◌+◌, ◌<◌, refl, sym, ap, ◌∙◌, subst, Bool, true, false, List, [], ◌∷◌, map, length, reverse, arith}
 use Rattle.std.specs.Prelude.{All, ◌&&◌, ◌↔◌, slice_index_or}
 use mathlib.Core.List.{reverse_aux}
@@ -17,7 +17,7 @@ use Rattle.stab_regions.specs.inner.Sweeps.{Inserted, inserted_from, IsRowOf, Ha
 use Rattle.stab_regions.proofs.AscentLemmas.{ascends-below, ascending-is, kept-where, where-same}
 use Rattle.stab_regions.proofs.InsertedLemmas.{inserted_of, inserted-are, inserted-same, faults-within}
 
--- bits that tell which parities are found sure
+-- bits that say which parities are found deterministic
 abbrev pub AreFound : ℕ → Items → List Bool → Type 0
 AreFound n items sure = (i : ℕ) → i < bits_in items → slice_index_or sure i false ≡ parity_sure n (detectors_of (unroll items)) i (unroll items)
 

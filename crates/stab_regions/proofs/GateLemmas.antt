@@ -1,4 +1,4 @@
--- Gates on rows: how what X and Z flip before a gate follows from what they flip behind it.
+-- Gates on rows: how what X and Z flip before a gate follows from what they flip after it.
 use Rattle.std.proofs.Common.{◌≡◌, ◌≢◌, ℕ, ◌<◌, refl, sym, subst, ◌∙◌, ap, arith, Bool, ◌⊎◌, inl, inr, List, [], length, set}
 use Rattle.std.specs.Prelude.{Result, Ok, Err, OnOk}
 use Rattle.std.proofs.lemmas.Bool.{cases_eq}
@@ -11,7 +11,7 @@ use Rattle.stab_letters.specs.declared.gate.Gate.TheVariants as on
 use Rattle.stab_tableau.specs.Gates.{letter_at, letter_image, inverse, back}
 use Rattle.stab_regions.specs.Rows.{odd, row, Toggles, MovesLetters}
 
--- what X flips before a gate, and what Z does, by what X and Z flip behind it
+-- what X flips before a gate, and what Z does, by what X and Z flip after it
 abbrev pub x_before : Gate → Bool → Bool → Bool
 x_before on.I a b = a
 x_before on.X a b = a

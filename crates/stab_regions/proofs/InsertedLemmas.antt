@@ -1,4 +1,4 @@
--- Inserted letters: their rows, where these are put together, and the letters that the faults of a circuit insert.
+-- Inserted letters: their rows, when these are put together, and the letters that the faults of a circuit insert.
 use Rattle.std.proofs.Common.{◌≡◌, ℕ, zero, suc, ◌+◌, ◌-◌, ◌*◌, ◌<◌, refl, sym, ap, ◌∙◌, subst, Bool, true, false, List, [], ◌∷◌, ◌++◌, map, length, get_or, drop, arith}
 use Rattle.std.specs.Prelude.{All, if◌then◌else◌}
 use Rattle.std.specs.List.{flat_map}

@@ -1,4 +1,4 @@
--- Many faults: what they flip together of a sure bit is the exclusive or of what each flips alone.
+-- Many faults: what they flip together of a deterministic bit is the exclusive or of what each flips alone.
 use Rattle.std.proofs.Common.{◌≡◌, ℕ, ◌+◌, ◌-◌, ◌<◌, ◌≤◌, ◌⊎◌, inl, inr, sym, ◌∙◌, ap, subst, arith, refl, Bool, List, [], ◌∷◌, ◌++◌, append_assoc, take, drop, length, All, take-append-drop, length-take-le}
 use Rattle.std.specs.Prelude.{if◌then◌else◌}
 use Rattle.std.proofs.lemmas.Bool.{cases_lt, eq-eqb, ne_eqb}
@@ -49,7 +49,7 @@ module _ (f : FaultPlace) (fs : List FaultPlace) where
   no-gate : (t : ℕ) → (f.before ≡ t → ⊥) → gates_at t (f ∷ fs) ≡ gates_at t fs
   no-gate t other = ap (λ b. if b then its_gate ∷ gates_at t fs else gates_at t fs) (ne_eqb f.before t other)
 
-  -- steps behind its place are without its gate
+  -- steps after its place are without its gate
   gone-behind : (t : ℕ) (xs : List Step) → f.before < t → with_gates_from t (f ∷ fs) xs ≡ with_gates_from t fs xs
   gone-behind t [] lt = no-gate t (λ e. omega (arith, e, lt))
   gone-behind t (x ∷ xs) lt = (λ i. no-gate t (λ e. omega (arith, e, lt)) i ++ x ∷ gone-behind (t + 1) xs (omega (arith, lt)) i)
@@ -64,7 +64,7 @@ module _ (f : FaultPlace) (fs : List FaultPlace) where
   not-yet t [] le = refl
   not-yet t (x ∷ xs) le = (λ i. no-gate t (λ e. omega (arith, e, le)) i ++ x ∷ not-yet (t + 1) xs (omega (arith, le)) i)
 
-  -- so its gate stands between the two parts
+  -- so its gate is between the two parts
   put-in : (t : ℕ) (xs ys : List Step) → f.before ≡ t + length xs
       → with_gates_from t (f ∷ fs) (xs ++ ys) ≡ front_with t fs xs ++ its_gate ∷ with_gates_from f.before fs ys
   put-in t xs ys e =
@@ -72,7 +72,7 @@ module _ (f : FaultPlace) (fs : List FaultPlace) where
 
 -- what a letter flips in front of gates of faults
 
--- with other steps behind a place, the bit is still sure, and the letter flips it as before
+-- with other steps after a place, the bit is still deterministic, and the letter flips it as before
 record Alike (n count i : ℕ) (front : List Step) (l : Letter) (q : ℕ) (back others : List Step) : Type 0 where
   sure : HasSureBit n count (front ++ others) i
   detectors : detectors_of (front ++ others) ≡ detectors_of (front ++ back)
@@ -98,7 +98,7 @@ module _ (law : RunsArePointsWithOutputs) (n count i : ℕ) (front : List Step) 
       }
 
   module _ (t : ℕ) (long : length front ≡ t) where
-    -- one fault more, which may stand in front of the place
+    -- one fault more, which may be in front of the place
     one-fault-more : (f : FaultPlace) (fs : List FaultPlace) → FaultFits n (front ++ back) f → Alike n count i front l q back (with_gates_from t fs back)
         → Alike n count i front l q back (with_gates_from t (f ∷ fs) back)
     one-fault-more f fs fit a = by_place (cases_lt f.before t)
@@ -128,7 +128,7 @@ module _ (law : RunsArePointsWithOutputs) (n count i : ℕ) (front : List Step) 
 
 -- what faults flip together
 
--- one more flips what it flips alone, in front of others or behind them
+-- one more flips what it flips alone, in front of others or after them
 flips-still : (law : RunsArePointsWithOutputs) (n count i : ℕ) (f : FaultPlace) (front back : List Step) → length front ≡ f.before → f.qubit < n
     → HasSureBit n count (front ++ back) i → (fs : List FaultPlace) → All (FaultFits n (front ++ back)) fs → (coins : ℕ → Bool)
     → bit n count coins (with_gates (f ∷ fs) (front ++ back)) i ⊕ bit n count coins (with_gates fs (front ++ back)) i
@@ -154,7 +154,7 @@ module _ (law : RunsArePointsWithOutputs) (n count : ℕ) (xs : List Step) (i : 
   abbrev flips_alone : FaultPlace → Bool
   flips_alone f = bit n count coins (with_gate f xs) i ⊕ bit n count coins xs i
 
-  -- so it is of the steps around its place
+  -- the same for the steps around its place
   flips-on : (f : FaultPlace) → FaultFits n xs f → (fs : List FaultPlace) → All (FaultFits n xs) fs
       → bit n count coins (with_gates (f ∷ fs) xs) i ⊕ bit n count coins (with_gates fs xs) i ≡ flips_alone f
   flips-on f here fs fit =

@@ -1,4 +1,4 @@
--- Moves: what regions at a place become one step before it, where the rows, the records and the marks are changed.
+-- Moves: what regions at a place become one step before it, if the rows, the records and the marks are changed.
 use Rattle.std.proofs.Common.{◌≡◌, ℕ, ◌+◌, ◌-◌, ◌<◌, ◌≤◌, refl, sym, ◌∙◌, ap, subst, arith, Bool, true, false, not, ◌||◌, ◌&&◌, List, [], ◌∷◌, ◌++◌, append-nil, length, take, ne_eqb, Vec}
 use Rattle.std.specs.Prelude.{if◌then◌else◌, nat_lt, ◌==◌, slice_index_or, Result, OnOk}
 use Rattle.std.specs.Vec.{with_items}
@@ -165,7 +165,7 @@ pub arrives : {A E : Type 0} (result : Result A E) (x y : Step) (old new : Regio
 arrives result x y old new e there =
     on_ok result _ _ (λ m. moves-to x old new there (subst (λ z. MovesBack (length old.by_x.items) z old new) (sym e) m))
 
--- whatever the mark of a measurement's record
+-- for any mark of a measurement's record
 pub arrives-whichever : {A E : Type 0} (result : Result A E) (x : Step) (y : Bool → Step) (inverted : Bool) (old new : Regions) → x ≡ y inverted → HasParity old x
     → OnOk result ((b : Bool) → MovesBack (length old.by_x.items) (y b) old new) → OnOk result (MovesTo x old new)
 arrives-whichever result x y inverted old new e there h = arrives result x (y inverted) old new e there (on_ok result _ _ (λ m. m inverted) h)

@@ -1,4 +1,4 @@
--- Moved points: points that differ by a frame lead, by turned coins, to points that differ by the frame behind the steps.
+-- Moved points: points that differ by a frame lead, by turned coins, to points that differ by the frame after the steps.
 use Rattle.std.proofs.Common.{◌≡◌, ◌≢◌, ℕ, ◌+◌, ◌<◌, refl, sym, ◌∙◌, ap, arith, Bool, true, false, not, ◌&&◌, ◌||◌, List, [], ◌∷◌, ◌++◌, append-nil, length}
 use Rattle.std.specs.Prelude.{if◌then◌else◌}
 use Rattle.stab_letters.specs.declared.letter.Letter.{Letter}
@@ -30,7 +30,7 @@ use Rattle.stab_regions.proofs.SignLemmas.{image-sign, pair-sign, product-signs,
 use Rattle.stab_regions.proofs.LookLemmas.{look-flipped}
 use Rattle.stab_regions.proofs.ReadLemmas.{length-times}
 
--- what a string anticommutes with behind a gate
+-- what a string anticommutes with after a gate
 
 pub moved-gate : (n q : ℕ) (g : Gate) (f s : Signed) → length f.letters ≡ n → length s.letters ≡ n → anticommute (image g q f) s ≡ anticommute f (back g q s)
 moved-gate n q g f s lf ls =
@@ -122,7 +122,7 @@ module _ (n : ℕ) (f : Signed) (lf : length f.letters ≡ n) (t u : List Event)
       by_side false apart =
           λ i. not (anticommute m s) && (moved s ls i || (moved (times (with_sign other m) s) (length-product n (with_sign other m) s lm ls) ∙ ap (member t) (beside apart)) i)
 
--- outcomes differ where the string anticommutes with what is measured, and a coin that decides is turned with them
+-- outcomes differ if the string anticommutes with what is measured, and a coin that decides is turned with them
 
 turned-choice : (x y c : Bool) → (x ≡ true → y ≡ false) → (if y then false else (if x then true else not c)) ≡ not (if x then false else (if y then true else c))
 turned-choice true true c apart = let e : true ≡ false = apart refl in cc
@@ -160,7 +160,7 @@ outcome-turned n f m t u good moved lm c = by_side (anticommute m f) refl
 
 -- a step
 
--- the step's coin, where it has one, is turned as the frame says
+-- the step's coin, if it has one, is turned as the frame says
 abbrev pub TurnsCoin : ℕ → Step → Frame → ℕ → (ℕ → Bool) → (ℕ → Bool) → Type 0
 TurnsCoin n (one g q) f t coins others = Unit {0}
 TurnsCoin n (two g a b) f t coins others = Unit {0}

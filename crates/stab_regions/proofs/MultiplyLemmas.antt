@@ -11,7 +11,7 @@ use Rattle.stab_tableau.proofs.OneLetterLemmas.{here_one_letter, off_one_letter}
 use Rattle.stab_regions.specs.Regions.{times_where}
 use Rattle.stab_regions.specs.Rows.{odd, row, Toggles, MovesLetters, multiplied}
 
--- a row is toggled where the bit is 1, and the others stay
+-- a row is toggled if the bit is 1, and the others stay
 pub record TogglesWhere (bit : Bool) (old new : List (List ℕ)) (place : ℕ) (numbers : List ℕ) : Type 0 where
   pub here : (i : ℕ) → odd i (row new place) ≡ odd i (row old place) ⊕ (bit && odd i numbers)
   pub elsewhere : (k : ℕ) → k ≢ place → row new k ≡ row old k

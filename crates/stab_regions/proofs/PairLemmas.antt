@@ -1,4 +1,4 @@
--- Gates on two qubits on rows: what X and Z flip before them on each of the two, by what they flip behind them.
+-- Gates on two qubits on rows: what X and Z flip before them on each of the two, by what they flip after them.
 use Rattle.std.proofs.Common.{◌≡◌, ◌≢◌, ℕ, ◌<◌, refl, sym, subst, ◌∙◌, ap, Bool, ◌⊎◌, inl, inr, List, [], length, set}
 use Rattle.std.proofs.lemmas.Bool.{cases_eq}
 use Rattle.std.proofs.lemmas.List.{get_or-set_same, get_or-set_other, length-set}
@@ -10,7 +10,7 @@ use Rattle.stab_letters.specs.declared.gate.PairGate.TheVariants.{Cx, Cy, Cz, Sw
 use Rattle.stab_tableau.specs.Gates.{letter_at, pair_letters, back_pair}
 use Rattle.stab_regions.specs.Rows.{odd, row, Toggles, MovesLetters}
 
--- what X flips before a gate on the first qubit, what Z does, and the same of the second, by what X and Z flip behind it on the
+-- what X flips before a gate on the first qubit, what Z does, and the same for the second, by what X and Z flip after it on the
 -- first and on the second
 abbrev pub first_x : PairGate → (a b c d : Bool) → Bool
 first_x Cx a b c d = a ⊕ c

@@ -1,4 +1,4 @@
--- Parities one step backwards: how the region of each before a step, and whether it is kept, follow from those behind it.
+-- Parities one step backwards: how the region of each before a step, and whether it is kept, follow from those after it.
 use Rattle.std.proofs.Common.{◌≡◌, ℕ, suc, ◌+◌, ◌-◌, ◌<◌, ◌≤◌, ◌⊎◌, inl, inr, refl, sym, ◌∙◌, ap, subst, arith, Bool, true, false, not, ◌&&◌, List, [], ◌∷◌, append-nil, set, le-ltb, lt-ltb, ne_eqb}
 use Rattle.std.specs.Prelude.{if◌then◌else◌, nat_lt, ◌==◌, replicate}
 use Rattle.std.proofs.lemmas.Bool.{cases_lt, cases_eq, eq-eqb}
@@ -128,7 +128,7 @@ asked-detector D before i x here lt e =
 asked-other : (D before i : ℕ) (x : Step) → i < D → is_detector x ≡ false → asked_of D before i x ≡ []
 asked-other D before i x lt e = asked-detector D before i x false lt (ap (λ b. b && (i + 1 == before)) e)
 
--- the region of a parity before a step, and whether it is kept, by what they are behind it
+-- the region of a parity before a step, and whether it is kept, by what they are after it
 pub record IsNext (n D i : ℕ) (x : Step) (back : List Step) : Type 0 where
   pub region : parity_region n D i (x ∷ back) ≡ with_looks (asked_of D (detectors_before D back) i x) (region_before n x (parity_region n D i back))
   pub kept : parity_kept n D i (x ∷ back) ≡ (keeps_region n x (parity_region n D i back) && parity_kept n D i back)

@@ -1,4 +1,4 @@
--- Places: what regions at one say of what a letter flips there, of the end of all steps, and of what is sure at the start.
+-- Places: what regions at one say of what a letter flips there, of the end of all steps, and of what is deterministic at the start.
 use Rattle.std.proofs.Common.{◌≡◌, ℕ, zero, suc, ◌+◌, ◌-◌, ◌^◌, ◌<◌, refl, sym, ◌∙◌, ap, subst, arith, Bool, true, false, not, ◌||◌, ◌&&◌, List, [], ◌∷◌, length}
 use Rattle.std.specs.Prelude.{if◌then◌else◌, nat_lt, slice_index_or, replicate}
 use Rattle.std.specs.List.{list_any}
@@ -107,7 +107,7 @@ is-at-end n D count r few is_x is_z is_records detectors before unsure =
 
 -- the start
 
--- letters are I and Z alone where Z flips nothing of them
+-- letters are I and Z alone if Z flips nothing of them
 diagonal-rows : (i : ℕ) (letters : List Letter) (by_z : List (List ℕ)) → length by_z ≡ length letters
     → ((q : ℕ) → odd i (row by_z q) ≡ letters_anticommute Z (letter_at letters q)) → not (list_any (odd i) by_z) ≡ diagonal letters
 diagonal-rows i [] [] long shows = refl

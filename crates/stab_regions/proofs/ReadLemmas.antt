@@ -1,5 +1,5 @@
--- Reading: at a point a region reads a bit where its string stabilises with the sign that makes it so; steps that keep the region
--- lead to a point where the region behind them reads the same bit.
+-- Reading: at a point a region reads a bit if its string stabilises with the sign that makes it so; steps that keep the region
+-- lead to a point where the region after them reads the same bit.
 use Rattle.std.proofs.Common.{◌≡◌, ℕ, ◌<◌, refl, sym, ◌∙◌, ap, arith, Bool, true, false, not, ◌&&◌, List, [], ◌∷◌, ◌++◌, append-nil, length}
 use Rattle.std.specs.Prelude.{if◌then◌else◌}
 use Rattle.stab_letters.specs.declared.letter.Letter.{Letter}
@@ -54,7 +54,7 @@ commuting m p e = off (anticommute m p) e
     off : (b : Bool) → not b ≡ true → b ≡ false
     off b e = grind arith
 
--- behind a projection the string stands with a sign that counts the outcome, where it was multiplied before it
+-- after a projection the string has a sign that counts the outcome, if it was multiplied before it
 projected-reads : (m s : Signed) (t : List Event) (o d c : Bool) → anticommute m s ≡ false → member t (with_sign c (times_where d m s)) ≡ true
     → member (projected m o ∷ t) (with_sign (c ⊕ (d && o)) s) ≡ true
 projected-reads m s t o false c apart h =

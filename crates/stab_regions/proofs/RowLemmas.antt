@@ -1,4 +1,4 @@
--- Rows of numbers: which are named an odd number of times, where lists are joined, cut and merged.
+-- Rows of numbers: which are named an odd number of times, if lists are joined, cut and merged.
 use Rattle.std.proofs.Common.{◌≡◌, ℕ, zero, suc, ◌+◌, ◌<◌, refl, sym, subst, ◌∙◌, ap, arith, Bool, false, List, [], ◌∷◌, ◌++◌, length, drop, get_or, set}
 use Rattle.std.specs.Prelude.{◌==◌}
 use Rattle.std.proofs.lemmas.List.{get_or-set_same, get_or-set_other, length-set}

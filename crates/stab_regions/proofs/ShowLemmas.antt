@@ -60,7 +60,7 @@ controlled-moves n q k l by_x by_z old new numbers lt bits looks i r long shows 
       ∙ ap (λ b. odd (j + 1) (look_where b k r.looks)) (bits i ∙ bits-anticommute i n q l by_x by_z r.string lt long shows.letters);
 }
 
--- the outcome counts where its record does, and where what is corrected by it anticommutes
+-- the outcome counts if its record does, and if what is corrected by it anticommutes
 pub collapse-moves : (n q : ℕ) (l : Letter) (recorded inverted resets : Bool) (old_x old_z old new_x new_z new : List (List ℕ)) (corrected taken counted : List ℕ) → q < n
     → ((i : ℕ) → odd i corrected ≡ (resets && bits_at i (flip_of l) (row old_x q) (row old_z q)))
     → ((i : ℕ) → odd i taken ≡ (recorded && odd i (row old 0)))
@@ -80,7 +80,7 @@ collapse-moves n q l recorded inverted resets old_x old_z old new_x new_z new co
       looks = earlier-shows i recorded old new r.looks shows.looks others;
     }
   where
-    -- the sign of what is multiplied is of no account
+    -- the sign of what is multiplied does not matter
     letters-counted : (a b sign : Bool) → a ≡ b → ShowsLetters i new_x new_z (times_where a (single n q l) r.string).letters
         → ShowsLetters i new_x new_z (times_where b (single n q l) (record { negative = sign; letters = r.string.letters })).letters
     letters-counted true true sign e shows = shows

@@ -28,7 +28,7 @@ pair-sign g i j b p = signed_path _ _ (parity-left _ b p.negative) refl
 pub product-signs : (a b : Bool) (p q : Signed) → anticommute p q ≡ false → product (with_sign a p) (with_sign b q) ≡ with_sign (a ⊕ b) (product p q)
 product-signs a b p q e = product-sign_left a p (with_sign b q) e ∙ ap (with_sign a) (product-sign_right b p q e) ∙ sign-sign a b (product p q)
 
--- what a letter that is applied where a bit is 1 makes of members
+-- what a letter that is applied if a bit is 1 makes of members
 pub member-where : (n q : ℕ) (l : Letter) (bit : Bool) (t : List Event) (s : Signed) → length s.letters ≡ n → q < n
     → member (applied_where bit l q t) s ≡ member t (with_sign (bit && anticommute (single n q l) s) s)
 member-where n q l true t s long lt = ap (member t) (back-letter n q l s long lt)

@@ -1,4 +1,4 @@
--- Sure bits: what a region reads at a point is what is asked for at the end, and an inserted letter turns it.
+-- Deterministic bits: what a region reads at a point is what is asked for at the end, and an inserted letter turns it.
 use Rattle.std.proofs.Common.{◌≡◌, ℕ, ◌<◌, refl, sym, ◌∙◌, ap, arith, Bool, true, false, not, List, [], ◌∷◌, ◌++◌, append-nil, length, All}
 use Rattle.std.proofs.lemmas.List.{length-replicate}
 use Rattle.std.proofs.lemmas.Bool.{and_from}

@@ -46,14 +46,14 @@ taken-more k xs x rest e =
     let here : get_or xs k x ≡ x = ap (λ (ys : List Step). get_or ys 0 x) (sym (drop_more xs k x lt) ∙ e) in
     (take_more xs k x lt ∙ ap (λ y. take k xs ++ y ∷ []) here, ap (drop 1) (sym e) ∙ drop-drop 1 k xs)
 
--- a piece, and what is behind it
+-- a piece, and what is after it
 pub piece : (begin end : ℕ) (xs : List Step) → begin ≤ end → take (end - begin) (drop begin xs) ++ drop end xs ≡ drop begin xs
 piece begin end xs le =
     let there : begin + (end - begin) ≡ end = omega (arith, le) in
     ap (λ (ys : List Step). take (end - begin) (drop begin xs) ++ ys) (ap (λ n. drop n xs) (sym there) ∙ sym (drop-drop (end - begin) begin xs))
     ∙ take-append-drop (end - begin) (drop begin xs)
 
--- the last of the first so many values that stand for steps
+-- the last of this many values, from the first on, that stand for steps
 pub mapped-last : {A : Type 0} (f : A → Step) (xs : List A) (left : ℕ) (item : A) → 0 < left → left ≤ length xs → item ≡ get_or xs (left - 1) item →
     (drop (left - 1) (map f xs) ≡ f item ∷ drop ((left - 1) + 1) (map f xs)) × (map f (drop left xs) ≡ drop ((left - 1) + 1) (map f xs))
 mapped-last f xs left item some le is =
@@ -107,7 +107,7 @@ pub sweeps-more : (asked : Asked) (x : Step) (xs : List Step) (old mid new : Swe
 sweeps-more asked x xs old mid new first then_one = λ n D count back passes swept.
     then_one n D count (xs ++ back) (passes-head n D count x xs back passes) (first n D count back (passes-tail n D count x xs back passes) swept)
 
--- where it stands behind all of them, and went before those from number k + 1 on, it stands behind that with number k
+-- if it is after all of them, and came before those from number k + 1 on, it is after that with number k
 pub stands-next : (asked : Asked) (xs : List Step) (k : ℕ) (x : Step) (old s : Sweep) → drop k xs ≡ x ∷ drop (k + 1) xs → StandsBehind asked xs old →
     Sweeps asked (drop (k + 1) xs) old s → StandsBehind asked (x ∷ []) s
 stands-next asked xs k x old s here p sweeps =

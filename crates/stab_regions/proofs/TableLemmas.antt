@@ -32,7 +32,7 @@ same-of bit asked is sure exact = (
   λ same. exact.1 (λ coins others. sym (is others) ∙ same coins others ∙ is coins),
 )
 
--- the law of sure detectors
+-- the law of deterministic detectors
 pub sure-detectors : RunsArePointsWithOutputs → SureDetectors
 sure-detectors law n xs count d fits lt = record {
   bit = λ sure coins. detector-bit law n coins xs count d lt ∙ sure-bits n coins asks_nothing (steps_before_detector d xs) (named_by d xs) (fits-before n d xs fits) sure;
@@ -42,7 +42,7 @@ sure-detectors law n xs count d fits lt = record {
       (sure-where-the-same n asks_nothing (steps_before_detector d xs) (named_by d xs) (fits-before n d xs fits));
 }
 
--- the law of sure observables
+-- the law of deterministic observables
 pub sure-observables : RunsArePointsWithOutputs → SureObservables
 sure-observables law n xs count j fits lt = record {
   bit = λ sure coins. observable-bit law n coins xs count j lt ∙ sure-bits n coins (asks_observable j) xs [] fits sure;
@@ -74,7 +74,7 @@ module _ (law : RunsArePointsWithOutputs) (n : ℕ) (front back : List Step) (l 
     flips-none : flips_detector n d front l q back ≡ false
     flips-none = ap (λ b. if b then false else anticommute (single n q l) (region_of_detector n (d - detectors_of front) back).string) (lt-ltb d (detectors_of front) lt)
 
-    -- it is sure by the steps in front
+    -- it is deterministic by the steps in front
     sure-first : is_sure_detector n d (front ++ back) ≡ true → is_sure n asks_nothing (steps_before_detector d front) (named_by d front) ≡ true
     sure-first sure =
         let there = stands-first d front back lt in
@@ -100,7 +100,7 @@ module _ (law : RunsArePointsWithOutputs) (n : ℕ) (front back : List Step) (l 
           flips-none;
     }
 
-  -- a detector behind it
+  -- a detector after it
 
   module _ (d : ℕ) (lt : d < detectors_of back) where
     -- the steps between the letter and the detector
@@ -115,14 +115,14 @@ module _ (law : RunsArePointsWithOutputs) (n : ℕ) (front back : List Step) (l 
     abbrev place : ℕ
     place = detectors_of front + d
 
-    -- its bit is asked for behind these
+    -- its bit is asked for after these
     bit-behind : (coins : ℕ → Bool) → detector_bit n coins (front ++ back) count place ≡ bit_asked n coins asks_nothing (front ++ ys) ks origin
     bit-behind coins =
         let there = stands-behind d front back in
         detector-bit law n coins (front ++ back) count place (omega (arith, lt, count-append front back))
         ∙ (λ i. bit_asked n coins asks_nothing (there.0 i) (there.1 i) origin)
 
-    -- and with the letter behind these and the letter
+    -- and with the letter after these and the letter
     fault-behind : (coins : ℕ → Bool) → detector_bit n coins (with_fault front l q back) count place ≡ bit_asked n coins asks_nothing (with_fault front l q ys) ks origin
     fault-behind coins =
         let letter : Step = one (gate_of l) q in
@@ -138,7 +138,7 @@ module _ (law : RunsArePointsWithOutputs) (n : ℕ) (front back : List Step) (l 
         (le-ltb place (detectors_of front) (omega arith))
         ∙ ap (λ k. anticommute (single n q l) (region_of_detector n k back).string) (omega arith)
 
-    -- it is sure by the steps before it
+    -- it is deterministic by the steps before it
     sure-behind : is_sure_detector n place (front ++ back) ≡ true → is_sure n asks_nothing (front ++ ys) ks ≡ true
     sure-behind sure =
         let there = stands-behind d front back in

@@ -1,5 +1,5 @@
--- What a frame makes of what a region asks for is the same before a step and behind it, so a bit that is asked for at the end is
--- flipped where the frame touches the region, once the coins are turned with the frame.
+-- What a frame makes of what a region asks for is the same before a step and after it, so a bit that is asked for at the end is
+-- flipped if the frame touches the region, once the coins are turned with the frame.
 use Rattle.std.proofs.Common.{◌≡◌, ℕ, ◌+◌, ◌-◌, ◌<◌, refl, sym, ◌∙◌, ap, subst, arith, Bool, true, false, ◌&&◌, List, [], ◌∷◌, ◌++◌, length, All, add-zero, le-ltb, lt-ltb}
 use Rattle.std.specs.Prelude.{if◌then◌else◌, slice_index_or}
 use Rattle.std.proofs.lemmas.List.{length-replicate, get_or-append-add}
@@ -85,7 +85,7 @@ pub turned-before : (from : ℕ) (bits : List Bool) (coins : ℕ → Bool) (t : 
 turned-before from bits coins t lt =
     ap (λ b. coins t ⊕ (if b then false else slice_index_or bits (t - from) false)) (lt-ltb t from lt) ∙ parity-false (coins t)
 
--- the coins of a step, and those behind it
+-- the coins of a step, and those after it
 
 pub length-turned : (n : ℕ) (x : Step) (f : Frame) → length (turned_by n x f) ≡ coins_of x
 length-turned n (one g q) f = refl

@@ -1,4 +1,4 @@
--- Two faults: a sure bit stays sure where a letter is inserted, so each of two letters flips it as it would alone.
+-- Two faults: a deterministic bit stays deterministic if a letter is inserted, so each of two letters flips it as it would alone.
 use Rattle.std.proofs.Common.{◌≡◌, ℕ, ◌+◌, ◌<◌, sym, ◌∙◌, ap, subst, arith, Bool, false, List, ◌∷◌, ◌++◌, append_assoc, All}
 use Rattle.std.proofs.lemmas.List.Elements.{All-append, All-cons}
 use Rattle.stab_letters.specs.declared.letter.Letter.{Letter}
@@ -18,11 +18,11 @@ use Rattle.stab_regions.proofs.FaultBitLemmas.{SameForAll, sure-parity, sure-tur
 cancel : (a b x flips : Bool) → a ⊕ x ≡ flips → b ⊕ x ≡ flips → a ≡ b
 cancel a b x flips e f = grind arith
 
--- where one makes the same difference with the other as without, so does the other
+-- if one makes the same difference with the other as without, so does the other
 exchange : (both first second plain : Bool) → both ⊕ first ≡ second ⊕ plain → both ⊕ second ≡ first ⊕ plain
 exchange both first second plain e = grind arith
 
--- steps fit, and the bit is one of theirs and the same whatever the coins
+-- steps fit, and the bit is one of theirs and the same for all random bits
 pub record HasSureBit (n count : ℕ) (xs : List Step) (i : ℕ) : Type 0 where
   pub fits : All (StepFits n) xs
   pub within : i < detectors_of xs + count
@@ -35,14 +35,14 @@ module _ (law : RunsArePointsWithOutputs) (n count : ℕ) (front : List Step) (l
   abbrev flipped : List Step
   flipped = with_fault front l q back
 
-  -- it flips the bit whatever the coins, or does not
+  -- it flips the bit for all random bits, or for none
   pub letter-turns : (coins others : ℕ → Bool) → bit n count others flipped i ⊕ bit n count coins xs i ≡ parity_flips n (detectors_of xs) i l q back
   letter-turns = sure-turns law n count front l q back i xs parts sure.fits sure.within lt ((sure-parity law n count xs i sure.fits sure.within).1 sure.same)
 
   pub count-flipped : detectors_of flipped ≡ detectors_of xs
   count-flipped = count-fault front l q back ∙ ap detectors_of (sym parts)
 
-  -- so with it the bit is still sure
+  -- so with it the bit is still deterministic
   pub still-sure : HasSureBit n count flipped i
   still-sure = record {
     fits =
@@ -67,11 +67,11 @@ module _ (law : RunsArePointsWithOutputs) (n count : ℕ) (front : List Step) (l
   abbrev with_both : List Step
   with_both = with_fault front l q (mid ++ one (gate_of m) r ∷ back)
 
-  -- where the first is inserted
+  -- if the first is inserted
   around_first : xs ≡ front ++ (mid ++ back)
   around_first = parts ∙ append_assoc front mid back
 
-  -- behind the first the pass says of the second what it says of it alone
+  -- after the first the pass says about the second what it says about it alone
   second-turns : (coins : ℕ → Bool) → bit n count coins with_both i ⊕ bit n count coins with_first i ≡ parity_flips n (detectors_of xs) i m r back
   second-turns coins =
       ap (λ zs. bit n count coins zs i ⊕ bit n count coins with_first i) (sym (append_assoc front (one (gate_of l) q ∷ mid) (one (gate_of m) r ∷ back)))
@@ -85,7 +85,7 @@ module _ (law : RunsArePointsWithOutputs) (n count : ℕ) (front : List Step) (l
       exchange (bit n count coins with_both i) (bit n count coins with_first i) (bit n count coins with_second i) (bit n count coins xs i)
       (second-turns coins ∙ sym (letter-turns law n count (front ++ mid) m r back i xs parts sure lt_r coins coins))
 
-  -- so the pass says of the first the same with the second behind it as without
+  -- so the pass says the same about the first with the second after it as without
   pub flips-alike : parity_flips n (detectors_of xs) i l q (mid ++ one (gate_of m) r ∷ back) ≡ parity_flips n (detectors_of xs) i l q (mid ++ back)
   flips-alike =
       let coins : ℕ → Bool = λ t. false in

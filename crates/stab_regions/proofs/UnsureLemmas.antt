@@ -1,4 +1,4 @@
--- What the pass does not find sure: a member of the group that anticommutes with the region shows coins that give the other bit.
+-- What the pass does not find deterministic: a member of the group that anticommutes with the region shows coins that give the other bit.
 use Rattle.std.proofs.Common.{◌≡◌, ℕ, ◌+◌, ◌<◌, refl, sym, ◌∙◌, ap, subst, arith, Bool, true, false, not, ◌&&◌, List, [], ◌∷◌, ◌++◌, append-nil, length, All, add-zero}
 use Rattle.std.proofs.lemmas.List.{length-replicate}
 use Rattle.std.proofs.lemmas.List.Elements.{All-head, All-tail}
@@ -58,7 +58,7 @@ member-turns_none n t good q lq in_group s ls = by_side (anticommute q s) refl
 same-records : (records : List Bool) (k : ℕ) → looked_up records k ≡ looked_up records k ⊕ looked_up [] k
 same-records records k = sym (ap (λ b. looked_up records k ⊕ b) (look-nothing k) ∙ parity-false (looked_up records k))
 
--- a string of which what a step measures is a member behind it
+-- a string of which what a step measures is a member after it
 
 own-product : (n : ℕ) (m : Signed) (t : List Event) (o : Bool) → IsGood n t → length m.letters ≡ n → member (projected m o ∷ t) (with_sign o m) ≡ true
 own-product n m t o good lm =
@@ -101,7 +101,7 @@ behind n coins (product factors inverted) p r fits good e = (
 behind n coins (detector ks) p r fits good e = absurd (not_both true e refl)
 behind n coins (observable j ks) p r fits good e = absurd (not_both true e refl)
 
--- coins behind those of a step make no difference to it
+-- coins after those of a step make no difference to it
 
 pub next-same : (n : ℕ) (coins others : ℕ → Bool) (x : Step) (p : Point) → ((t : ℕ) → t < p.coin + coins_of x → others t ≡ coins t)
     → next_point n others x p ≡ next_point n coins x p

@@ -9,13 +9,13 @@ use Rattle.stab_regions.specs.Laws.{with_fault}
 use Rattle.stab_regions.specs.Parities.{parity_sure, parity_flips}
 use Rattle.stab_regions.specs.Faults.{FaultPlace, with_gates, bit, bits_in, IsSure, flips}
 
--- the pass finds sure exactly the bits that are the same whatever the coins
+-- the pass finds deterministic exactly the bits that are the same for all random bits
 abbrev pub SureParities : Type 0
 SureParities =
     (n : ℕ) (items : Items) (i : ℕ) → All (StepFits n) (unroll items) → i < bits_in items →
     (parity_sure n (detectors_of (unroll items)) i (unroll items) ≡ true) ↔ IsSure n items i
 
--- a letter that is inserted flips a bit that is found sure exactly where the pass says so, whatever the coins
+-- a letter that is inserted flips a bit that is found deterministic if and only if the pass says so, for all random bits
 abbrev pub FaultsFlipSureParities : Type 0
 FaultsFlipSureParities =
     (n : ℕ) (items : Items) (i : ℕ) (front back : List Step) (l : Letter) (q : ℕ) → All (StepFits n) (unroll items) → i < bits_in items →
@@ -23,7 +23,7 @@ FaultsFlipSureParities =
     bit n (observables_of items) coins (with_fault front l q back) i ⊕ bit n (observables_of items) coins (unroll items) i
     ≡ parity_flips n (detectors_of (unroll items)) i l q back
 
--- so the fault at a place does
+-- so does the fault at a place
 abbrev pub PlacesFlipSureParities : Type 0
 PlacesFlipSureParities =
     (n : ℕ) (items : Items) (i : ℕ) (f : FaultPlace) → All (StepFits n) (unroll items) → i < bits_in items → f.qubit < n →
@@ -40,7 +40,7 @@ abbrev pub flips_together : (FaultPlace → Bool) → List FaultPlace → Bool
 flips_together flips [] = false
 flips_together flips (f ∷ fs) = flips f ⊕ flips_together flips fs
 
--- faults, in any order, flip a sure bit together where an odd number of them do so alone
+-- faults, in any order, flip a deterministic bit together if an odd number of them do so alone
 abbrev pub FaultsAdd : Type 0
 FaultsAdd =
     (n : ℕ) (items : Items) (i : ℕ) (faults : List FaultPlace) → All (StepFits n) (unroll items) → i < bits_in items →

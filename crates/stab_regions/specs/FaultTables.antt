@@ -1,7 +1,7 @@
 -- Fault tables: what contracts see of one.
 use Rattle.std.specs.Prelude.{ℕ, Bool, List}
 
--- which bits are sure, and the rows: for each fault the numbers of the sure bits that it flips
+-- which bits are deterministic, and the rows: for each fault the numbers of the deterministic bits that it flips
 pub record FaultTableState : Type 0 where
   pub sure : List Bool
   pub rows : List (List ℕ)

@@ -10,7 +10,7 @@ use Rattle.stab_circuit.specs.Steps.{Step, one, two, controlled, collapse, produ
 use Rattle.stab_run.specs.Runs.{State, start, run, gate_of}
 use Rattle.stab_regions.specs.Rows.{odd, row}
 
--- a place for faults: a qubit, in front of a step or behind it
+-- a place for faults: a qubit, in front of a step or after it
 pub record Site : Type 0 where
   pub qubit : ℕ
   pub behind : Bool
@@ -26,7 +26,7 @@ abbrev pub marked_at : Step → List Site
 marked_at (one gate.I q) = in_front q ∷ []
 marked_at x = []
 
--- all places at a step: on each qubit of it, in front of it where it measures, and behind it
+-- all places at a step: on each qubit of it, in front of it if it measures, and after it
 abbrev pub all_at : Step → List Site
 all_at (one g q) = behind q ∷ []
 all_at (two g a b) = behind a ∷ behind b ∷ []
@@ -42,7 +42,7 @@ abbrev pub sites_at : (everywhere : Bool) → Step → List Site
 sites_at true x = all_at x
 sites_at false x = marked_at x
 
--- a fault: a letter on a qubit, with so many steps in front of it; and the number of the step that it is at
+-- a fault: a letter on a qubit, with this many steps in front of it; and the number of the step that it is at
 pub record FaultPlace : Type 0 where
   pub letter : Letter
   pub qubit : ℕ
@@ -74,7 +74,7 @@ abbrev pub gates_at : ℕ → List FaultPlace → List Step
 gates_at t [] = []
 gates_at t (f ∷ fs) = if f.before == t then one (gate_of f.letter) f.qubit ∷ gates_at t fs else gates_at t fs
 
--- the steps with the gates of faults put in, where the first step is number t
+-- the steps with the gates of faults put in, if the first step is number t
 abbrev pub with_gates_from : ℕ → List FaultPlace → List Step → List Step
 with_gates_from t faults [] = gates_at t faults
 with_gates_from t faults (x ∷ xs) = gates_at t faults ++ x ∷ with_gates_from (t + 1) faults xs
@@ -83,7 +83,7 @@ with_gates_from t faults (x ∷ xs) = gates_at t faults ++ x ∷ with_gates_from
 abbrev pub with_gates : List FaultPlace → List Step → List Step
 with_gates faults xs = with_gates_from 0 faults xs
 
--- the detectors and then the observables that a run of steps gives, with so many observables
+-- the detectors and then the observables that a run of steps gives, with this many observables
 abbrev pub bits_of : State → List Bool
 bits_of s = s.detectors ++ s.observables
 
@@ -94,16 +94,16 @@ bit n count coins xs i = slice_index_or (bits_of (run n coins xs (start count)))
 abbrev pub bits_in : Items → ℕ
 bits_in items = detectors_of (unroll items) + observables_of items
 
--- a bit is the same whatever the coins
+-- a bit is the same for all random bits
 abbrev pub IsSure : (n : ℕ) → Items → ℕ → Type 0
 IsSure n items i = (coins others : ℕ → Bool) → bit n (observables_of items) others (unroll items) i ≡ bit n (observables_of items) coins (unroll items) i
 
--- these bits tell of each detector and then each observable whether it is sure
+-- these bits say for each detector and then each observable whether it is deterministic
 pub record AreSure (n : ℕ) (items : Items) (sure : List Bool) : Type 0 where
   pub count : length sure ≡ bits_in items
   pub exact : (i : ℕ) → i < bits_in items → (slice_index_or sure i false ≡ true) ↔ IsSure n items i
 
--- a fault flips a bit where the runs with these coins with and without it differ
+-- a fault flips a bit if the runs with these coins with and without it differ
 abbrev pub flips : (n : ℕ) → Items → (ℕ → Bool) → FaultPlace → ℕ → Bool
 flips n items coins f i = bit n (observables_of items) coins (with_gate f (unroll items)) i ⊕ bit n (observables_of items) coins (unroll items) i
 
@@ -112,11 +112,11 @@ abbrev pub numbers_where : (ℕ → Bool) → (i k : ℕ) → List ℕ
 numbers_where f i zero = []
 numbers_where f i (suc k) = if f i then i ∷ numbers_where f (i + 1) k else numbers_where f (i + 1) k
 
--- the sure bits that a fault flips, by their numbers, ascending
+-- the deterministic bits that a fault flips, by their numbers, ascending
 abbrev pub flipped : (n : ℕ) → Items → (sure : List Bool) → (ℕ → Bool) → FaultPlace → List ℕ
 flipped n items sure coins f = numbers_where (λ i. slice_index_or sure i false && flips n items coins f i) 0 (bits_in items)
 
--- a table of faults: which bits are sure, and for each fault that is asked for, in order, which of these it flips, whatever the coins
+-- a table of faults: which bits are deterministic, and for each fault that is asked for, in order, which of these it flips, for all random bits
 pub record IsFaultTable (n : ℕ) (everywhere : Bool) (items : Items) (sure : List Bool) (rows : List (List ℕ)) : Type 0 where
   pub are_sure : AreSure n items sure
   pub are_flipped : (coins : ℕ → Bool) → rows ≡ map (flipped n items sure coins) (faults_of everywhere (unroll items))
@@ -125,7 +125,7 @@ pub record IsFaultTable (n : ℕ) (everywhere : Bool) (items : Items) (sure : Li
 abbrev pub fault_at : (everywhere : Bool) → List Step → ℕ → FaultPlace
 fault_at everywhere xs k = slice_index_or (faults_of everywhere xs) k (fault_on 0 (in_front 0) letter.X)
 
--- the faults of these rows, in any order, flip a sure bit together where an odd number of the rows name it
+-- the faults of these rows, in any order, flip a deterministic bit together if an odd number of the rows name it
 abbrev pub RowsAdd : (n : ℕ) (everywhere : Bool) → Items → (rows : List (List ℕ)) → Type 0
 RowsAdd n everywhere items rows =
     (numbers : List ℕ) (i : ℕ) → All (λ k. k < length rows) numbers → i < bits_in items → IsSure n items i → (coins : ℕ → Bool) →

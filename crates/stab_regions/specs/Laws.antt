@@ -1,4 +1,4 @@
--- Laws of regions: which parities of records are sure, what they are, and which inserted Paulis flip them.
+-- Laws of regions: which parities of records are deterministic, what they are, and which inserted Paulis flip them.
 -- Source: this project's own.
 use Rattle.std.specs.Prelude.{◌≡◌, ℕ, ◌<◌, Bool, true, false, not, List, [], ◌∷◌, ◌++◌, All, ◌↔◌}
 use Rattle.stab_letters.specs.declared.letter.Letter.{Letter}
@@ -25,26 +25,26 @@ with_fault front l q back = front ++ one (gate_of l) q ∷ back
 abbrev pub flips_asked : ℕ → (Step → List ℕ) → Letter → ℕ → List Step → List ℕ → Bool
 flips_asked n asked l q back ks = anticommute (single n q l) (region_through n asked back (region_of n ks)).string
 
--- what is asked is a sure bit where the pass finds it sure, whatever the coins
+-- what is asked is a fixed bit, for all random bits, if the pass finds it deterministic
 abbrev pub SureBits : Type 0
 SureBits =
     (n : ℕ) (coins : ℕ → Bool) (asked : Step → List ℕ) (xs : List Step) (ks : List ℕ) → All (StepFits n) xs →
     is_sure n asked xs ks ≡ true → bit_asked n coins asked xs ks origin ≡ sure_bit n asked xs ks
 
--- and an inserted letter flips a sure bit exactly where it anticommutes with the region there, whatever the coins
+-- and an inserted letter flips a deterministic bit if and only if it anticommutes with the region there, for all random bits
 abbrev pub FaultsFlip : Type 0
 FaultsFlip =
     (n : ℕ) (coins : ℕ → Bool) (asked : Step → List ℕ) (front back : List Step) (ks : List ℕ) (l : Letter) (q : ℕ) →
     q < n → All (StepFits n) front → All (StepFits n) back → asked (one (gate_of l) q) ≡ [] → is_sure n asked (front ++ back) ks ≡ true →
     bit_asked n coins asked (with_fault front l q back) ks origin ≡ sure_bit n asked (front ++ back) ks ⊕ flips_asked n asked l q back ks
 
--- what is not found sure is not: whatever the coins, there are others by which the bit is the other
+-- what is not found deterministic is not: for all random bits there are others that give the other bit
 abbrev pub UnsureBits : Type 0
 UnsureBits =
     (n : ℕ) (asked : Step → List ℕ) (xs : List Step) (ks : List ℕ) → All (StepFits n) xs → is_sure n asked xs ks ≡ false →
     (coins : ℕ → Bool) → (others : ℕ → Bool) × (bit_asked n others asked xs ks origin ≡ not (bit_asked n coins asked xs ks origin))
 
--- so the pass finds sure exactly what is one bit, whatever the coins
+-- so the pass finds deterministic exactly what is the same bit for all random bits
 abbrev pub SureWhereTheSame : Type 0
 SureWhereTheSame =
     (n : ℕ) (asked : Step → List ℕ) (xs : List Step) (ks : List ℕ) → All (StepFits n) xs →
@@ -54,7 +54,7 @@ SureWhereTheSame =
 abbrev pub turned_with : ℕ → List Step → Letter → ℕ → List Step → (ℕ → Bool) → ℕ → Bool
 turned_with n front l q back = turned (all_coins_of front) (all_turned_by n back (record { string = single n q l; flips = [] }))
 
--- whatever is asked for, sure or not, an inserted letter flips it exactly where it anticommutes with the region there, where the
+-- whatever is asked for, deterministic or not, an inserted letter flips it if and only if it anticommutes with the region there, if the
 -- coins are turned with it
 abbrev pub FaultsFlipWithTheirCoins : Type 0
 FaultsFlipWithTheirCoins =

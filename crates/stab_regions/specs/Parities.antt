@@ -1,4 +1,4 @@
--- Parities: detectors and observables under one numbering, and what one pass backwards finds of each. Of D detectors in all and so
+-- Parities: detectors and observables under one numbering, and what one pass backwards finds of each. With D detectors in all and this
 -- many observables, parity i below D is detector i, and parity D + j is observable j.
 -- Source: this project's own.
 use Rattle.std.specs.Prelude.{ℕ, ◌-◌, nat_lt, Bool, true, ◌&&◌, List, [], if◌then◌else◌}
@@ -9,7 +9,7 @@ use Rattle.stab_circuit.specs.Steps.{Step, detectors_of}
 use Rattle.stab_regions.specs.Regions.{Region, region_of, region_through, keep_region, asks_nothing, asks_observable}
 use Rattle.stab_regions.specs.Tables.{steps_before_detector, named_by, region_of_detector}
 
--- how many of D detectors stand before these steps, which are the last ones
+-- how many of D detectors are before these steps, which are the last ones
 abbrev pub detectors_before : ℕ → List Step → ℕ
 detectors_before D back = D - detectors_of back
 
@@ -28,7 +28,7 @@ parity_kept n D i back =
     else keep_region n asks_nothing (steps_before_detector (i - detectors_before D back) back) (region_of n (named_by (i - detectors_before D back) back)))
     else keep_region n (asks_observable (i - D)) back (region_of n [])
 
--- whether the pass over all steps finds parity i sure: all keep it, and at the start its letters are I and Z alone
+-- whether the pass over all steps finds parity i deterministic: all keep it, and at the start its letters are I and Z alone
 abbrev pub parity_sure : (n D i : ℕ) → (xs : List Step) → Bool
 parity_sure n D i xs = parity_kept n D i xs && diagonal (parity_region n D i xs).string.letters
 

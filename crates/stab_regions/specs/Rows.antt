@@ -9,7 +9,7 @@ use Rattle.stab_tableau.specs.Gates.{letter_at}
 use Rattle.stab_circuit.specs.Steps.{Step}
 use Rattle.stab_regions.specs.Regions.{Region, times_where, region_before}
 
--- whether a list names a number an odd number of times: a list in which no number stands twice, whether it names it
+-- whether a list names a number an odd number of times: for a list in which no number occurs twice, whether it names it
 abbrev pub odd : ℕ → List ℕ → Bool
 odd i [] = false
 odd i (k ∷ ks) = (k == i) ⊕ odd i ks
@@ -23,18 +23,18 @@ pub record Toggles (old new : List (List ℕ)) (place : ℕ) (numbers : List ℕ
   pub here : (i : ℕ) → odd i (row new place) ≡ odd i (row old place) ⊕ odd i numbers
   pub elsewhere : (k : ℕ) → k ≢ place → row new k ≡ row old k
 
--- the same rows, of which empty ones may stand behind the others
+-- the same rows, of which empty ones may be after the others
 abbrev pub SameRows : List (List ℕ) → List (List ℕ) → Type 0
 SameRows old new = (k : ℕ) → row new k ≡ row old k
 
--- a number is named by what a letter flips, where X flips one list and Z another
+-- a number is named by what a letter flips, if X flips one list and Z another
 abbrev pub bits_at : ℕ → Letter → List ℕ → List ℕ → Bool
 bits_at i I by_x by_z = false
 bits_at i X by_x by_z = odd i by_x
 bits_at i Y by_x by_z = odd i by_x ⊕ odd i by_z
 bits_at i Z by_x by_z = odd i by_z
 
--- the letters of parity i's string: X flips it where it anticommutes with the letter, and so does Z
+-- the letters of parity i's string: X flips it if it anticommutes with the letter, and so does Z
 pub record ShowsLetters (i : ℕ) (by_x by_z : List (List ℕ)) (letters : List Letter) : Type 0 where
   pub x : (q : ℕ) → odd i (row by_x q) ≡ letters_anticommute X (letter_at letters q)
   pub z : (q : ℕ) → odd i (row by_z q) ≡ letters_anticommute Z (letter_at letters q)
@@ -44,11 +44,11 @@ abbrev pub MovesLetters : ℕ → (ℕ → Signed → Signed) → (old_x old_z n
 MovesLetters n before old_x old_z new_x new_z =
     (i : ℕ) (s : Signed) → length s.letters ≡ n → ShowsLetters i old_x old_z s.letters → ShowsLetters i new_x new_z (before i s).letters
 
--- a string times a letter on a qubit, where the parity is among these
+-- a string times a letter on a qubit, if the parity is among these
 abbrev pub multiplied : ℕ → Letter → ℕ → List ℕ → ℕ → Signed → Signed
 multiplied n l q parities i s = times_where (odd i parities) (single n q l) s
 
--- and its lookbacks: row k of the records names it where rec[-(k + 1)] is named an odd number of times
+-- and its lookbacks: row k of the records names it if rec[-(k + 1)] is named an odd number of times
 abbrev pub ShowsLooks : ℕ → List (List ℕ) → List ℕ → Type 0
 ShowsLooks i records looks = (k : ℕ) → odd i (row records k) ≡ odd (k + 1) looks
 
@@ -57,7 +57,7 @@ pub record ShowsRegion (i : ℕ) (by_x by_z records : List (List ℕ)) (r : Regi
   pub letters : ShowsLetters i by_x by_z r.string.letters
   pub looks : ShowsLooks i records r.looks
 
--- each parity's region behind a step, that the old rows show, becomes the one before it, which the new rows show
+-- each parity's region after a step, that the old rows show, becomes the one before it, which the new rows show
 abbrev pub MovesRegion : ℕ → Step → (old_x old_z old_records new_x new_z new_records : List (List ℕ)) → Type 0
 MovesRegion n x old_x old_z old_records new_x new_z new_records =
     (i : ℕ) (r : Region) → length r.string.letters ≡ n → ShowsRegion i old_x old_z old_records r → ShowsRegion i new_x new_z new_records (region_before n x r)

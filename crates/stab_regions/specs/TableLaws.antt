@@ -10,14 +10,14 @@ use Rattle.stab_regions.specs.Regions.{asks_observable, is_sure, sure_bit}
 use Rattle.stab_regions.specs.Laws.{with_fault, flips_asked, turned_with}
 use Rattle.stab_regions.specs.Tables.{is_sure_detector, sure_detector_bit, flips_detector}
 
--- a detector and an observable of the run of steps, with so many observables
+-- a detector and an observable of the run of steps, with this many observables
 abbrev pub detector_bit : ℕ → (ℕ → Bool) → List Step → ℕ → ℕ → Bool
 detector_bit n coins xs count d = slice_index_or (run n coins xs (start count)).detectors d false
 
 abbrev pub observable_bit : ℕ → (ℕ → Bool) → List Step → ℕ → ℕ → Bool
 observable_bit n coins xs count j = slice_index_or (run n coins xs (start count)).observables j false
 
--- a detector that is found sure is this bit, whatever the coins, and no other is the same whatever the coins
+-- a detector that is found deterministic is this bit, for all random bits, and no other is the same for all random bits
 pub record IsSureDetector (n : ℕ) (xs : List Step) (count d : ℕ) : Type 0 where
   pub bit : is_sure_detector n d xs ≡ true → (coins : ℕ → Bool) → detector_bit n coins xs count d ≡ sure_detector_bit n d xs
   pub exact : (is_sure_detector n d xs ≡ true) ↔ ((coins others : ℕ → Bool) → detector_bit n others xs count d ≡ detector_bit n coins xs count d)
@@ -33,8 +33,8 @@ pub record IsSureObservable (n : ℕ) (xs : List Step) (count j : ℕ) : Type 0 
 abbrev pub SureObservables : Type 0
 SureObservables = (n : ℕ) (xs : List Step) (count j : ℕ) → All (StepFits n) xs → j < count → IsSureObservable n xs count j
 
--- a letter that is inserted flips a sure detector where the table says so, whatever the coins of both runs; and with the coins
--- that are turned with it, which are the same for all detectors, any detector
+-- an inserted letter flips a deterministic detector if and only if the table says so, for all random bits of both runs; with the coins
+-- that are turned with it, which are the same for all detectors, this holds for any detector
 pub record FlipsDetector (n : ℕ) (front : List Step) (l : Letter) (q : ℕ) (back : List Step) (count d : ℕ) : Type 0 where
   pub sure : is_sure_detector n d (front ++ back) ≡ true → (coins others : ℕ → Bool) →
       detector_bit n others (with_fault front l q back) count d ≡ detector_bit n coins (front ++ back) count d ⊕ flips_detector n d front l q back

@@ -4,7 +4,7 @@ ghost use Rattle.stab_regions.specs.inner.StoredRows.{rows_cut, Rises, ends_kept
 use std::alloc::{AllocError, Global};
 use std::marker::Model;
 
-/// Rows of numbers, one behind another in one allocation. Contracts see the list of the rows.
+/// Rows of numbers, one after another in one allocation. Contracts see the list of the rows.
 #[derive(Drop)]
 pub(crate) struct FaultRows {
     numbers: Vec<u32>,
@@ -52,7 +52,7 @@ impl FaultRows {
         row_of(self.ends.as_slice(), self.numbers.as_slice(), k)
     }
 
-    /// Puts a row behind the others.
+    /// Puts a row after the others.
     pub fn push(&mut self, row: &[u32]) -> Result<(), AllocError>
         ensures value { OnOk result (self.new ≡ self.old ++ row.now ∷ []) }
     {
@@ -124,7 +124,7 @@ fn count_kept(kept: &[bool], numbers: &[u32]) -> usize
         .count()
 }
 
-/// Moves the ends of rows to where they are once only those numbers stand there whose bit is set.
+/// Moves the ends of rows to where they are once only those numbers are there whose bit is set.
 fn move_ends(ends: &mut [usize], numbers: &[u32], kept: &[bool])
     requires rises { Rises 0 ends.old (length numbers.now) }
     ensures value { ends.new ≡ ends_kept kept.now 0 0 ends.old numbers.now }

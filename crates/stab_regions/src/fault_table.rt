@@ -16,11 +16,11 @@ use stab_io::{Fault, Refusal};
 use std::alloc::Global;
 use std::marker::Model;
 
-/// Which detectors and observables are sure, and which of these each fault flips.
+/// Which detectors and observables are deterministic, and which of these each fault flips.
 ///
 /// Contracts see a bit for each detector and then each observable, and for each fault, in the order
-/// of `specs/Faults.antt`, the numbers of the sure ones that it flips, ascending: detectors are
-/// numbered from 0, and observables behind them.
+/// of `specs/Faults.antt`, the numbers of the deterministic ones that it flips, ascending: detectors are
+/// numbered from 0, and observables after them.
 #[derive(Drop)]
 pub struct FaultTable {
     sure: Vec<bool>,
@@ -40,7 +40,7 @@ impl Model for FaultTable {
 impl FaultTable {
     ghost use Rattle.std.specs.Prelude.{◌≡◌, ◌<◌, [], length, slice_index_or};
 
-    /// For each detector and then each observable, whether its bit is the same whatever the coins.
+    /// For each detector and then each observable, whether its bit is the same for all random bits.
     pub fn sure(&self) -> &[bool]
         ensures value { result.now ≡ self.now.sure }
     {
@@ -54,7 +54,7 @@ impl FaultTable {
         self.rows.len()
     }
 
-    /// The numbers of the sure detectors and observables that a fault flips, ascending. Faults are
+    /// The numbers of the deterministic detectors and observables that a fault flips, ascending. Faults are
     /// numbered from 0.
     pub fn row(&self, fault: usize) -> &[u32]
         requires in_range { fault < length self.now.rows }
@@ -65,7 +65,7 @@ impl FaultTable {
 }
 
 /// For each detector of a circuit on n qubits, at most 1,024, and then each observable, whether its
-/// bit is the same whatever the coins.
+/// bit is the same for all random bits.
 ///
 /// Refused as `Circuit::check` refuses, else `OutOfMemory`, always with line 0.
 pub fn sure(alloc: Global, circuit: &Circuit, n: usize) -> Result<Vec<bool>, Fault>
@@ -79,9 +79,9 @@ pub fn sure(alloc: Global, circuit: &Circuit, n: usize) -> Result<Vec<bool>, Fau
 
 /// The table of the faults of a circuit on n qubits, at most 1,024: a letter X or Z between two steps,
 /// at each place that the circuit marks by a gate I, or everywhere, on each qubit of a step, in front
-/// of it where it makes a record, and behind it.
+/// of it if it makes a record, and after it.
 ///
-/// Faults that go wrong in one run, in whatever order they are listed, flip together the sure bits that
+/// Faults that go wrong in one run, in whatever order they are listed, flip together the deterministic bits that
 /// an odd number of their rows name.
 ///
 /// Refused as `Circuit::check` refuses, else `OutOfMemory`, always with line 0.
@@ -100,7 +100,7 @@ pub fn faults(
     faults_of_checked(alloc, circuit, n, everywhere).map_err(Fault::whole)
 }
 
-/// Which bits of a circuit that was checked are sure.
+/// Which bits of a circuit that was checked are deterministic.
 fn sure_of_checked(alloc: Global, circuit: &Circuit, n: usize) -> Result<Vec<bool>, Refusal>
     requires checked { check_within n (circuit_items circuit.now) ≡ None }
     ensures sure { IfOk result (λ s. AreSure n (circuit_items circuit.now) s.items) }

@@ -7,8 +7,8 @@ use crate::rows::{toggle, toggle_within};
 use stab_tableau::{Gate, PairGate};
 use std::alloc::{AllocError, Global};
 
-/// What the strings before a gate on a qubit are, by those behind it: their letters alone. Of a
-/// string's letter X flips those with a Z part, and Z those with an X part.
+/// What the strings before a gate on a qubit are, by those after it: their letters alone. In a
+/// string, X flips letters with a Z part, and Z those with an X part.
 pub fn before_gate(
     alloc: Global,
     by_x: &mut [Parities],
@@ -62,7 +62,7 @@ fn exchange_rows(rows: &mut [Parities], first: usize, second: usize)
     rows.swap(first, second);
 }
 
-/// What the strings before a gate on two qubits are, by those behind it.
+/// What the strings before a gate on two qubits are, by those after it.
 pub fn before_pair(
     alloc: Global,
     by_x: &mut [Parities],

@@ -1,11 +1,11 @@
-//! Regions: which parities of records are the same whatever the coins, and which inserted Paulis
+//! Regions: which parities of records are the same for all random bits, and which inserted Paulis
 //! flip them, as one pass backwards through the steps finds it.
 //!
 //! - `laws`, `table_laws`, `fault_laws`: what regions say of the bits that runs give.
 //! - `parities`: some parities by their numbers, and those that are in one of two lists alone.
 //! - `rows`: for each qubit the parities that X flips there, and those that Z does.
 //! - `looks`: for each lookback the parities whose regions have that record.
-//! - `gates`, `steps`, `products`: how these rows change from behind a step to before it.
+//! - `gates`, `steps`, `products`: how these rows change from after a step to before it.
 //! - `marks`, `regions`: all of this for one place, moved a step backwards.
 //! - `sites`, `fault_rows`: where faults are asked for at a step, and what each of them flips.
 //! - `sweep`, `fault_table`: the pass over a whole circuit, and the calls that answer by it.
@@ -14,11 +14,11 @@
 //! time-dynamics (2023), for regions, and C. Gidney, Stim: a fast stabilizer circuit simulator (2021), for frames.
 //! Regions with signs, tables of them and their laws are this project's own.
 //!
-//! Proved: the laws; that `sure` tells of each detector and observable whether its bit is the same
-//! whatever the coins, and that `faults` gives for each fault exactly the sure bits by which the runs
-//! with it and without it differ, whatever the coins, and that faults which are put in together, in any
+//! Proved: the laws; that `sure` says of each detector and observable whether its bit is the same
+//! for all random bits, and that `faults` gives for each fault exactly the deterministic bits by which the runs
+//! with it and without it differ, for all random bits, and that faults which are put in together, in any
 //! order, flip the bits that an odd number of their rows name: `specs/Faults.antt`. Within: rows which show the
-//! regions behind a step are changed to such as show those before it, up to signs (`specs/Rows.antt`);
+//! regions after a step are changed into rows that show those before it, up to signs (`specs/Rows.antt`);
 //! and the regions of all parities at the end of steps, moved backwards over one after another, are
 //! those at each place before it, with marks at those that a step does not keep
 //! (`specs/inner/RegionsAt.antt`).

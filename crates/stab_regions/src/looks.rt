@@ -18,7 +18,7 @@ pub fn newest(alloc: Global, records: &mut VecDeque<Parities>) -> Parities
     }
 }
 
-/// Adds rows of no parities until there are more than so many.
+/// Adds rows of no parities until there are more than this many.
 fn pad(alloc: Global, records: &mut VecDeque<Parities>, place: usize) -> Result<(), AllocError>
     ensures enough { OnOk result (place < length records.new.items) }
     ensures same { OnOk result (SameRows records.old.items records.new.items) }
@@ -62,7 +62,7 @@ pub fn look_back(
     Ok(())
 }
 
-/// Toggles these `rec[-k]` in the region of one parity, each as often as it stands there; `rec[-0]` is no record.
+/// Toggles these `rec[-k]` in the region of one parity, each as often as it is there; `rec[-0]` is no record.
 pub fn look_each(
     alloc: Global,
     records: &mut VecDeque<Parities>,

@@ -79,7 +79,7 @@ impl Parities {
         Ok(Parities { numbers })
     }
 
-    /// The same of these themselves, which takes no memory where there are no others.
+    /// The same of these themselves, which takes no memory if there are no others.
     pub fn with(self, alloc: Global, others: &Parities) -> Result<Parities, AllocError>
         ensures odd { IfOk result (λ p. (i : ℕ) → odd i p ≡ odd i self ⊕ odd i others.now) }
     {

@@ -35,7 +35,7 @@ fn multiply_product(
     Ok(())
 }
 
-/// Moves regions to the place before a measured product: its outcome counts where its record does.
+/// Moves regions to the place before a measured product: its outcome counts if its record does.
 pub fn before_product(
     alloc: Global,
     by_x: &mut [Parities],

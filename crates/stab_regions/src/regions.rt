@@ -24,14 +24,14 @@ pub(crate) struct Regions {
     by_z: Vec<Parities>,
     /// For each record in front of the place, the newest first, the parities whose regions have it.
     records: VecDeque<Parities>,
-    /// How many detectors there are, and how many of them stand in front of the place.
+    /// How many detectors there are, and how many of them are in front of the place.
     detectors: usize,
     before: usize,
-    /// Which parities depend on a coin of the steps behind the place.
+    /// Which parities depend on a coin of the steps after the place.
     unsure: Vec<bool>,
 }
 
-/// So many rows of no parities.
+/// This many rows of no parities.
 fn empty_rows(alloc: Global, count: usize) -> Result<Vec<Parities>, AllocError>
     ensures value { IfOk result (λ rows. rows.items ≡ replicate count []) }
 {
@@ -61,7 +61,7 @@ impl Regions {
     ghost use Rattle.stab_run.specs.ProgramStates.{StepFits};
     ghost use Rattle.stab_regions.specs.inner.RegionsAt.{IsRegionsAt, IsSized, HasParity, MovesBack, MovesTo, AreFlipped, TellSure};
 
-    /// The regions behind the last step, of so many detectors and observables on so many qubits.
+    /// The regions after the last step, of this many detectors and observables on this many qubits.
     pub(crate) fn at_end(
         alloc: Global,
         qubits: usize,
@@ -270,7 +270,7 @@ impl Regions {
         self.by_z[qubit].numbers()
     }
 
-    /// For each parity whether it is sure, where the place is the circuit's start: the steps behind
+    /// For each parity whether it is deterministic, if the place is the circuit's start: the steps after
     /// keep it, and it has no letter X or Y.
     pub(crate) fn sure(self) -> Vec<bool>
         ensures value { TellSure self result.items }

@@ -20,7 +20,7 @@ fn correction(letter: Letter) -> Letter
     }
 }
 
-/// Moves regions to the place before a letter that a record controls: the record counts where the
+/// Moves regions to the place before a letter that a record controls: the record counts if the
 /// letter flips.
 pub fn before_controlled(
     alloc: Global,
@@ -40,7 +40,7 @@ pub fn before_controlled(
     Ok(())
 }
 
-/// The parities that are flipped by what a reset corrects by; none where it is no reset.
+/// The parities that are flipped by what a reset corrects by; none if it is no reset.
 fn corrected(
     alloc: Global,
     by_x: &[Parities],
@@ -60,7 +60,7 @@ fn corrected(
     }
 }
 
-/// Takes away the newest record where there is one, and gives the parities whose regions had it.
+/// Takes away the newest record if there is one, and gives the parities whose regions had it.
 fn taken(alloc: Global, records: &mut VecDeque<Parities>, recorded: bool) -> Parities
     ensures odd { (i : ℕ) → odd i result ≡ (recorded && odd i (row records.old.items 0)) }
     ensures others { (k : ℕ) → row records.new.items k ≡ row records.old.items (if recorded then k + 1 else k) }
@@ -72,8 +72,8 @@ fn taken(alloc: Global, records: &mut VecDeque<Parities>, recorded: bool) -> Par
     }
 }
 
-/// Moves regions to the place before a measurement of a letter: its outcome counts where its record
-/// does, and where what is corrected by it flips.
+/// Moves regions to the place before a measurement of a letter: its outcome counts if its record
+/// does, and if what is corrected by it flips.
 pub fn before_collapse(
     alloc: Global,
     by_x: &mut [Parities],

@@ -18,7 +18,7 @@ use stab_circuit::{Circuit, Cursor, Step as StepValue};
 use stab_io::Refusal;
 use std::alloc::{AllocError, Global};
 
-// Steps are walked backwards in pieces of so many, each of which is unrolled forwards.
+// Steps are walked backwards in pieces of this many, each of which is unrolled forwards.
 const PIECE: usize = 4096;
 
 // More detectors or observables than any text of a circuit has.
@@ -28,13 +28,13 @@ const MOST_PARITIES: usize = 0x7fff_ffff;
 #[derive(Drop)]
 pub(crate) struct Sweep {
     pub regions: Regions,
-    /// The rows of the faults behind the place, the last fault's first.
+    /// The rows of the faults after the place, the last fault's first.
     pub rows: FaultRows,
-    // The rows of the letters behind the step that is passed.
+    // The rows of the letters after the step that is passed.
     kept: FaultRows,
 }
 
-/// Puts the rows of X and then Z on a qubit behind others.
+/// Puts the rows of X and then Z on a qubit after others.
 fn keep_letters(regions: &Regions, qubit: usize, kept: &mut FaultRows) -> Result<(), AllocError>
     requires in_range { qubit < length regions.now.by_x.items }
     requires same_length { length regions.now.by_z.items ≡ length regions.now.by_x.items }
@@ -46,7 +46,7 @@ fn keep_letters(regions: &Regions, qubit: usize, kept: &mut FaultRows) -> Result
     Ok(())
 }
 
-/// Keeps the rows of the letters on a step's qubits behind it, where faults there are asked for.
+/// Keeps the rows of the letters on a step's qubits after it, if faults there are asked for.
 fn keep_all(
     regions: &Regions,
     kept: &mut FaultRows,
@@ -77,7 +77,7 @@ fn add(rows: &mut FaultRows, by_x: &[u32], by_z: &[u32]) -> Result<(), AllocErro
     Ok(())
 }
 
-/// Adds the rows of the letters on a qubit in front of a step, where faults there are asked for.
+/// Adds the rows of the letters on a qubit in front of a step, if faults there are asked for.
 fn add_front(
     rows: &mut FaultRows,
     regions: &Regions,
@@ -98,8 +98,8 @@ fn add_front(
     Ok(())
 }
 
-/// Adds the last two of so many rows that are kept, those of the letters on a step's qubit behind it,
-/// where faults there are asked for.
+/// Adds the last two of this many rows that are kept, those of the letters on a step's qubit after it,
+/// if faults there are asked for.
 fn add_behind(
     rows: &mut FaultRows,
     kept: &FaultRows,
@@ -117,7 +117,7 @@ fn add_behind(
 }
 
 /// Adds the rows of all letters that are asked for at a step, by the regions in front of it and the
-/// rows that are kept of those behind it.
+/// rows that are kept of those after it.
 fn add_all(
     rows: &mut FaultRows,
     regions: &Regions,
@@ -142,7 +142,7 @@ fn add_all(
 }
 
 impl Sweep {
-    /// The pass behind the last step.
+    /// The pass after the last step.
     fn at_end(
         alloc: Global,
         qubits: usize,

@@ -1,4 +1,4 @@
--- Runs that come again: where a run stands as it stood before, and no coin decided since, the same steps give the same again.
+-- Runs that come again: if a run is as it stood before, and no coin decided since, the same steps give the same again.
 use Rattle.std.proofs.Common.{◌≡◌, ℕ, zero, suc, ◌+◌, ◌-◌, ◌*◌, ◌<◌, ◌≤◌, refl, sym, ◌∙◌, ap, subst, Bool, false, inl, inr, List, [], ◌∷◌, ◌++◌, length, take, drop, get_or, arith}
 use Rattle.std.proofs.Math.Seq.{drop-drop, length-take-le, take-add}
 use Rattle.std.proofs.Math.Nat.{add-mul, mul-le-mul_right}
@@ -22,7 +22,7 @@ use Rattle.stab_replay.proofs.SeenLemmas.{seen-later}
 
 -- steps in a block, some whole rounds later
 
--- a part of a list that ends before another list is put behind it
+-- a part of a list that ends before another list is put after it
 part-left : {X : Type 0} (m x : ℕ) (xs zs : List X) → x + m ≤ length xs → take m (drop x (xs ++ zs)) ≡ take m (drop x xs)
 part-left zero x xs zs le = refl
 part-left (suc m) x [] zs le = absurd (omega (arith, le))
@@ -96,7 +96,7 @@ front-at n coins ys i k le =
     ∙ front-output n coins (take k ys) i
     ∙ ap (λ xs. outputs n coins xs origin) (take-take i k ys le)
 
--- bits of which none is 1 behind some
+-- bits of which none is 1 after some
 
 pub ones-part : (a b : ℕ) (bits : List Bool) → ones (drop a (take b bits)) ≤ ones (drop a bits)
 ones-part zero b bits = omega (arith, ones-take b bits)

@@ -60,7 +60,7 @@ pub place-before : (P : ℕ → Type 0) (o : Option Checkpoint) (place : Checkpo
 place-before P None place h = tt
 place-before P (Some c) place h = h
 
--- a replay on its way that stands as it stood at a laid copy, and gives again what it gave from that to the next one
+-- a replay on its way that is as it stood at a laid copy, and gives again what it gave from that to the next one
 
 module _ (n : ℕ) (coins : ℕ → Bool) (begin : ℕ) (p : Plan) (ys : List Step) (copies : List Checkpoint) (old : List Bool) (next : ℕ) (block : Repeat) (spacing end : ℕ)
     (is_repeat : IsRepeat ys block) (is_end : IsEndIn p copies next block end) (total : p.total ≡ length ys) where
@@ -260,7 +260,7 @@ module _ (n : ℕ) (coins : ℕ → Bool) (begin : ℕ) (p : Plan) (ys : List St
             ∙ ap (λ (o : RunOutput). o.records) (front-at n coins ys d.step new.step (omega (arith, before, step)))
             ∙ records-are-records n coins (take d.step ys)
 
-  -- so one whose tableau lags behind goes on too
+  -- so one whose tableau is not up to date goes on too
 
   pub gave-on : (passed : Bool) (r s : Replay) (number : ℕ) → s ≡ record r { outputs = s.outputs; step = s.step; framed = s.framed; laid = s.laid }
       → IsOnWay n coins begin p ys copies old next (with_cursor ys (with_state passed r))

@@ -1,4 +1,4 @@
--- Cut lists: elements and bits of lists that are cut, or that others are put behind.
+-- Cut lists: elements and bits of lists that are cut, or that others are put after.
 use Rattle.std.proofs.Common.{◌≡◌, ℕ, zero, suc, ◌+◌, ◌≤◌, refl, sym, ◌∙◌, ap, Bool, ◌⊎◌, inl, inr, List, [], ◌∷◌, take, drop, slice_get, None, arith}
 use Rattle.std.proofs.lemmas.List.{take-append-drop, length-take}
 use Rattle.std.proofs.lemmas.Option.{slice_get_past}

@@ -1,4 +1,4 @@
--- Starts of frames: the frame by which a replay differs from an old copy, and that the two don't have the same records where it flips one.
+-- Starts of frames: the frame by which a replay differs from an old copy, and that the two don't have the same records if it flips one.
 use Rattle.std.proofs.Common.{◌≡◌, ℕ, zero, suc, ◌-◌, ◌≤◌, refl, sym, ◌∙◌, ap, subst, Bool, true, false, ◌⊎◌, inl, inr, List, [], ◌∷◌, ◌++◌, All, length, take, drop, get_or, replicate, arith}
 use Rattle.std.proofs.lemmas.List.{length-append, length-drop, length-take-le, take-append-drop, take-take, take_at, drop_at}
 use Rattle.std.proofs.lemmas.List.Elements.{All-take}
@@ -193,7 +193,7 @@ module _ (n : ℕ) (coins : ℕ → Bool) (xs ys : List Step) (k : ℕ) (c : Che
     placed = from.placed;
   }
 
--- where a frame flips a record the two don't have the same
+-- if a frame flips a record the two don't have the same
 
 flipped-ones : (bits flips : List Bool) → length flips ≡ length bits → bits ≡ flipped bits flips → ones flips ≡ 0
 flipped-ones [] [] size same = refl

@@ -1,4 +1,4 @@
--- Framed runs: behind a point where it differs by a frame from another, a run gives what the other gives, flipped, as far as the frame
+-- Framed runs: after a point where it differs by a frame from another, a run gives what the other gives, flipped, as far as the frame
 -- goes, and then the same.
 use Rattle.std.proofs.Common.{◌≡◌, ℕ, ◌-◌, ◌<◌, ◌≤◌, min, sym, ◌∙◌, ap, subst, Bool, false, inl, inr, List, [], ◌++◌, length, take, drop, All, replicate, Option, arith}
 use Rattle.std.proofs.lemmas.Bool.{cases_lt}
@@ -40,7 +40,7 @@ future-back n reach coins back a b near agree m =
     let both = same-future-back n coins reach (take m back) a b (looks-front reach m back near) agree in
     (both.0, both.1.group)
 
--- so have points at which the next coin has another number, where none decides behind
+-- so have points at which the next coin has another number, if none decides after
 pub future-moved : (n reach : ℕ) (coins : ℕ → Bool) (back : List Step) (a b : Point) → looks_too_far reach back ≡ false → MayHaveCoin n coins back a b.coin
     → AgreeBack n reach (with_coin b.coin a) b → HaveSameFuture n coins back a b
 future-moved n reach coins back a b near (inl same) agree m =
@@ -60,7 +60,7 @@ future-turned n coins back a b future m = (
   (λ p size. sym ((future m).1 p size) ∙ turned-blank n (member (point_after n coins (take m back) a).trace) p size),
 )
 
--- from points that differ by a frame, which goes over the first steps: so many steps on the one run differs from the other by letters,
+-- from points that differ by a frame, which passes the first steps: some steps later the one run differs from the other by letters,
 -- and gave what the other gave, flipped
 pub record IsFramedBehind (n : ℕ) (coins : ℕ → Bool) (strings : ℕ → Option (List Letter)) (count : ℕ) (back : List Step) (f : Frame) (a b : Point) (m : ℕ) : Type 0 where
   pub group : IsTurned n (frame_over n (same_coins strings) (take (min m count) back) a.coin f).letters
@@ -107,7 +107,7 @@ module _ (n : ℕ) (coins : ℕ → Bool) (strings : ℕ → Option (List Letter
           ∙ ap (λ c. c ⊕ looked_up (point_after n coins (take count back) a).records k) (gone.flips k le));
     }
 
-    -- so many steps further on
+    -- and further steps later
     later : (m : ℕ) → (outputs n coins (take m (drop count back)) (point_after n coins (take count back) a)
         ≡ outputs n coins (take m (drop count back)) (point_after n coins (take count back) b))
         × SameGroup n (member (point_after n coins (take m (drop count back)) (point_after n coins (take count back) a)).trace)

@@ -1,4 +1,4 @@
--- Framed steps: what a replay holds once a frame went over the steps to the next copy of an older run.
+-- Framed steps: what a replay holds once a frame passed the steps to the next copy of an older run.
 use Rattle.std.proofs.Common.{◌≡◌, ℕ, ◌+◌, sym, ◌∙◌, ap, Bool, List, take, drop, arith}
 use Rattle.std.proofs.lemmas.List.{take-take, drop-take}
 use Rattle.stab_pauli.specs.Paulis.{with_sign, strings_anticommute}

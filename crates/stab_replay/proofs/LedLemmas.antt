@@ -1,4 +1,4 @@
--- Led replays: a replay that a frame led to the place of the next old copy is there, and differs still where the frame is not gone.
+-- Led replays: a replay that a frame led to the place of the next old copy is there, and differs still if the frame is not gone.
 use Rattle.std.proofs.Common.{◌≡◌, ◌≢◌, ℕ, ◌+◌, ◌-◌, ◌^◌, ◌<◌, ◌≤◌, refl, sym, ◌∙◌, ap, subst, Bool, true, ◌⊎◌, inl, inr, List, [], ◌∷◌, ◌++◌, All, Some, slice_get, IsSomeAnd, length, take, drop, arith}
 use Rattle.std.proofs.lemmas.List.{length-drop, length-append, drop-drop, take_at}
 use Rattle.std.proofs.lemmas.List.Elements.{All-get_or}
@@ -33,7 +33,7 @@ use Rattle.stab_replay.proofs.NotedLemmas.{noted-more}
 use Rattle.stab_replay.proofs.FrameStartLemmas.{frame-begins, flips-differ}
 use Rattle.stab_replay.proofs.OverCopyLemmas.{over, there, coins-apart, at-copy}
 
--- what is so of all copies is so of the one with a number
+-- what holds for all copies holds for the one with a number
 pub at-number : {X : Type 0} (P : X → Type 0) (xs : List X) (k : ℕ) (x : X) → slice_get xs k ≡ Some x → All P xs → P x
 at-number P xs k x is all = subst P (get_or_from_slice_get xs k x x is) (All-get_or P xs k x (slice_get_within xs k x is) all)
 
@@ -99,7 +99,7 @@ led-from n coins p ys copies o s last c r string reach w beside from behind plac
     at : IsAtStep n coins ys r
     at = beside.at_step
 
--- what went over the steps between two copies may be said of all that gave the same
+-- what passed the steps between two copies may be said of all that gave the same
 pub went-same : (n : ℕ) (p : Plan) (c d : Checkpoint) (o : RunOutput) (s : StringsState) (r q t : Replay) (w v : WalkState) (stop : Stop) → WentOver n p c d o s r q w v stop
     → output_of t.outputs ≡ output_of q.outputs → t.notes.strings ≡ q.notes.strings → t.step ≡ q.step → t.framed ≡ q.framed → WentOver n p c d o s r t w v stop
 went-same n p c d o s r q t w v stop went output strings step framed = record {
@@ -117,7 +117,7 @@ went-same n p c d o s r q t w v stop went output strings step framed = record {
   framed = framed ∙ went.framed;
 }
 
--- and whatever the tableau held before
+-- and for any tableau that was held before
 went-from : (n : ℕ) (p : Plan) (c d : Checkpoint) (o : RunOutput) (s : StringsState) (r q : Replay) (t : TableauState) (w v : WalkState) (stop : Stop) → WentOver n p c d o s r q w v stop
     → WentOver n p c d o s (record r { tableau = t }) q w v stop
 went-from n p c d o s r q t w v stop went = record {
@@ -217,7 +217,7 @@ module _ {n : ℕ} {coins : ℕ → Bool} {p : Plan} {ys : List Step} {copies : 
             });
       }
 
-      -- and where the frame flips a record, or coins have other numbers, the runs differ
+      -- and if the frame flips a record, or coins have other numbers, the runs differ
       differs : (length r.outputs.free.items ≢ c.lengths.free) ⊎ (1 ≤ ones v.flips.records) → Misses n coins p ys o.records d
       differs how xs same_copy kept agree =
           elim how [

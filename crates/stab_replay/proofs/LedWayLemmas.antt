@@ -25,7 +25,7 @@ pub some-of : {X : Type 0} (m : Option X) (P : X → Type 0) → IsSomeAnd m P �
 some-of None P h = absurd h
 some-of (Some x) P h = (x, refl, h)
 
--- where the cursor stands, and which copies were laid
+-- where the cursor is, and which copies were laid
 
 pub at-laid : (n : ℕ) (coins : ℕ → Bool) (ys : List Step) (r s : Replay) → IsAtStep n coins ys r → IsAtStep n coins ys (record r { laid = s.laid })
 at-laid n coins ys r s at = record {
@@ -221,7 +221,7 @@ module _ (n : ℕ) (coins : ℕ → Bool) (begin : ℕ) (p : Plan) (ys : List St
       })
       laid
 
-  -- behind it
+  -- after it
   pub way-passed : (s : Replay) → s.laid.items ≡ r.laid.items ++ copy_of (with_state true s) ∷ []
       → IsSomeAnd (slice_get copies number) (λ d. WentTo n coins p ys r (with_state true s) d × Misses n coins p ys old d) → LedOn p copies number (number + 1) r s
       → IsOnWay n coins begin p ys copies old (number + 1) (with_state true s)

@@ -8,8 +8,6 @@ pub mod FrameStartLemmas
 mod FramedStepLemmas
 mod NotedSegmentLemmas
 mod OverCopyLemmas
-pub mod SectionLemmas
-pub mod OutlinedLemmas
 mod LedLemmas
 mod MovedLemmas
 mod LedWayLemmas

@@ -1,9 +1,9 @@
--- Replays apart: where a replay's next coin has another number than the old run's, or its records are others, the two agree at no later
+-- Replays apart: if a replay's next coin has another number than the old run's, or its records are others, the two agree at no later
 -- old copy.
 use Rattle.std.proofs.Common.{◌≡◌, ◌≢◌, ℕ, suc, zero, ◌+◌, ◌-◌, ◌<◌, ◌≤◌, refl, sym, ◌∙◌, ap, subst, Bool, ◌⊎◌, inl, inr, List, [], ◌∷◌, ◌++◌, Option, Some, None, length, take, drop, slice_get, arith}
 use Rattle.std.specs.Prelude.{IfSome, IsSomeAnd}
 use Rattle.std.proofs.lemmas.Bool.{cases_lt}
-use Rattle.std.proofs.lemmas.List.{length-append, length-drop, take_at}
+use Rattle.std.proofs.lemmas.List.{length-append, length-drop, drop-drop, take_at}
 use Rattle.stab_circuit.specs.Steps.{Step}
 use Rattle.stab_steps.specs.declared.records.Lengths.{Lengths}
 use Rattle.stab_copies.specs.declared.checkpoint.Checkpoint.{Checkpoint}
@@ -21,9 +21,16 @@ use Rattle.stab_replay.specs.FramedReplays.{IsOldRun}
 use Rattle.stab_replay.specs.inner.LedReplays.{IsBeside, IsApartFrom, LedOn}
 use Rattle.stab_replay.proofs.LedLemmas.{at-number}
 use Rattle.stab_replay.proofs.PointLemmas.{old_later, new_later}
-use Rattle.stab_replay.proofs.SectionLemmas.{steps-behind}
 
--- the number of the next coin where a copy stands
+-- steps after those that differ
+steps-behind : (xs ys : List Step) (old_end new_end : ℕ) → drop old_end xs ≡ drop new_end ys → (first : ℕ) → old_end ≤ first → drop first xs ≡ drop (new_end + (first - old_end)) ys
+steps-behind xs ys old_end new_end same first le =
+    ap (λ k. drop k xs) (omega (arith, le))
+    ∙ sym (drop-drop (first - old_end) old_end xs)
+    ∙ ap (drop (first - old_end)) same
+    ∙ drop-drop (first - old_end) new_end ys
+
+-- the number of the next coin at a copy
 copy-coin : (n : ℕ) (coins : ℕ → Bool) (xs : List Step) (c : Checkpoint) → IsCheckpoint n coins xs c → c.lengths.free ≡ (point_after n coins (take c.step xs) origin).coin
 copy-coin n coins xs c is = ap (λ (l : Lengths). l.free) is.lengths ∙ flags-are-coins n coins (take c.step xs)
 
@@ -41,7 +48,7 @@ same-fronts a b x y same ends =
     let size : length b ≡ length a = omega (arith, ap length same, length-append a x, length-append b y, ends) in
     sym (take_at a x (length a) refl) ∙ ap (take (length a)) same ∙ take_at b y (length a) size
 
--- so many steps on it is greater by as much in both runs, whose steps are the same there
+-- some steps later it is greater by as much in both runs, whose steps are the same there
 
 more-coins : (n : ℕ) (coins : ℕ → Bool) (xs : List Step) (a b : Point) → a ≡ point_after n coins xs b → a.coin ≡ b.coin + all_coins_of xs
 more-coins n coins xs a b same = ap (λ (q : Point). q.coin) same ∙ coins-are n coins xs b
@@ -49,7 +56,7 @@ more-coins n coins xs a b same = ap (λ (q : Point). q.coin) same ∙ coins-are 
 module _ (n : ℕ) (coins : ℕ → Bool) (p : Plan) (ys : List Step) (copies : List Checkpoint) (o : RunOutput) (s : StringsState) (old : IsOldRun n coins p ys copies o s)
     (few : length ys ≤ 1048576) (b c : Checkpoint) (from : IsCheckpoint n coins old.steps b) (to : IsCheckpoint n coins old.steps c) (behind : p.old_end ≤ b.step)
     (order : b.step ≤ c.step) (r : Replay) (at : IsAtStep n coins ys r) (place : step_among_new p b ≡ r.step) where
-  -- where the replay stands, and where it comes to the later copy
+  -- where the replay is, and where it comes to the later copy
   here : p.new_end + (b.step - p.old_end) ≡ r.step
   here =
       let within = at.within in
@@ -121,7 +128,7 @@ module _ (n : ℕ) (coins : ℕ → Bool) (p : Plan) (ys : List Step) (copies : 
   misses-later (inl apart) = misses-moved apart o.records
   misses-later (inr apart) = misses-others apart
 
--- copies behind the next one stand no earlier
+-- copies after the next one are no earlier
 pub ascending-from : (p : Plan) (step next later : ℕ) (cs : List Checkpoint) → Ascending p step (drop next cs) → next ≤ later → Ascending p step (drop later cs)
 ascending-from p step zero zero cs h le = h
 ascending-from p step zero (suc later) [] h le = h
@@ -158,7 +165,7 @@ way-past n coins begin p ys copies old next later r way le within missed =
       last = way.last;
     }
 
--- where it stands at the place of an old copy and is told apart from it, later old copies of the list are missed
+-- if it is at the place of an old copy and differs from it, later old copies of the list are missed
 pub all-missed : (n : ℕ) (coins : ℕ → Bool) (p : Plan) (ys : List Step) (copies : List Checkpoint) (o : RunOutput) (s : StringsState) (r : Replay) → IsBeside n coins p ys copies o s r
     → length ys ≤ 1048576 → (last : ℕ) (b : Checkpoint) → slice_get copies last ≡ Some b → IsSomeAnd (slice_get copies last) (IsApartFrom p r o) → (number : ℕ)
     → IfSome (slice_get copies number) (λ c. b.step ≤ c.step) → IfSome (slice_get copies number) (Misses n coins p ys o.records)

@@ -1,4 +1,4 @@
--- Noted strings: those that exchange the free outcomes of a run, cut and put together where runs are.
+-- Noted strings: those that exchange the free outcomes of a run, cut and put together as runs are.
 use Rattle.std.proofs.Common.{◌≡◌, ℕ, zero, suc, ◌+◌, ◌-◌, ◌<◌, ◌≤◌, min, refl, sym, ◌∙◌, ap, subst, Bool, true, false, ◌⊎◌, inl, inr, List, [], ◌∷◌, ◌++◌, length, take, drop, All, slice_get, get_or, nat_lt, nat_le, Option, None, arith}
 use Rattle.std.specs.Prelude.{IfSome, if◌then◌else◌}
 use Rattle.std.specs.List.{list_any}
@@ -77,7 +77,7 @@ true-changed n coins strings others (x ∷ xs) a h is = (
   true-changed n coins strings others xs (next_point n coins x a) (λ t le lt. h t (omega (arith, le)) (omega (arith, lt))) is.1,
 )
 
--- a note where strings and flags are cut
+-- a note when strings and flags are cut
 
 choose : (b c : Bool) (o p : Option (List Letter)) → b ≡ c → (c ≡ true → IsNoneOr o p) → IsNoneOr (if b then o else None) (if c then p else None)
 choose b true o p e h = subst (λ d. IsNoneOr (if d then o else None) p) (sym e) (h refl)
@@ -90,7 +90,7 @@ note-front strings free k m t lt =
     (λ is. subst (λ bits. IsNoneOr (slice_get (take k strings) (ones bits)) (slice_get strings (ones (take t free)))) (sym (take-take t m free (omega (arith, lt))))
     (get-take k (ones (take t free)) strings))
 
--- and where others are put behind them
+-- and where others are put after them
 
 module _ (s : StringsState) (flags : List Bool) (numbered : IsNumbered s flags) (others : List (List Letter)) (more : List Bool) where
   pub note-left : (t : ℕ) → t < length flags → IsNoneOr (note_at (take s.most (s.strings ++ others)) (flags ++ more) t) (note_at s.strings flags t)
@@ -244,7 +244,7 @@ noted-on n coins xs zs s t old new before after noted at size most raised near k
   near = All-append (LooksWithin after) xs zs (within-more before after xs raised noted.near) near;
 }
 
--- where no coin decides there are no notes
+-- if no coin decides there are no notes
 
 pub none-one : (bits : List Bool) (t : ℕ) → ones bits ≡ 0 → get_or bits t false ≡ false
 none-one [] t none = refl
@@ -283,8 +283,8 @@ noted-fixed n coins xs zs s flags more reach noted is none near = record {
         ∙ get_or-append-add flags more (t - length flags) false
         ∙ none-one more (t - length flags) none
 
--- a run with the rest of another behind it, from points on that differ by letters alone, and in the number of the next coin where none
--- decides behind
+-- a run with the rest of another after it, from points on that differ by letters alone, and in the number of the next coin if none
+-- decides after
 pub noted-spliced : (n : ℕ) (coins : ℕ → Bool) (xs ys : List Step) (i k : ℕ) → drop i xs ≡ drop k ys
     → MayHaveCoin n coins (drop i xs) (point_after n coins (take i xs) origin) (point_after n coins (take k ys) origin).coin
     → AreTurnedOver n coins (drop i xs) (point_after n coins (take i xs) origin) (point_after n coins (take k ys) origin)

@@ -40,7 +40,7 @@ numbers-few number coin count from to free is counts few =
       length-take to free,
     )
 
--- they are numbered where those before are
+-- they are numbered if those before are
 spliced-front : (s t u : StringsState) (from end before all : ℕ) → IsContinued t s from end u → length t.strings ≡ min before t.most → from ≤ end → all ≡ before + (end - from)
     → (u.most ≤ t.most) × (length u.strings ≤ all → length u.strings ≡ min all u.most)
 spliced-front s t u from end before all is numbered order all_is =

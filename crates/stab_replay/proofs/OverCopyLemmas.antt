@@ -1,4 +1,4 @@
--- Over copies: a replay that went by a frame to the place of the next copy of an older run is the run of the steps behind it there.
+-- Over copies: a replay that went by a frame to the place of the next copy of an older run is the run of the steps after it there.
 use Rattle.std.proofs.Common.{◌≡◌, ◌≢◌, ℕ, ◌+◌, ◌-◌, ◌^◌, ◌<◌, ◌≤◌, sym, ◌∙◌, ap, subst, Bool, inl, inr, List, ◌++◌, length, take, drop, arith}
 use Rattle.std.proofs.lemmas.List.{length-drop, drop-drop, take-take}
 use Rattle.std.proofs.Math.Seq.{take-add}
@@ -70,7 +70,7 @@ module _ (n : ℕ) (coins : ℕ → Bool) (p : Plan) (ys : List Step) (copies : 
         | inr none ↦ inr (ap (λ (t : RunOutput). ones t.free) (sym (segment-output n coins old.steps (d.step - c.step) o c d is also further old.output)) ∙ none)
       ]
 
-  -- where they have other numbers at the one copy, they have at the next
+  -- if they have other numbers at the one copy, they have at the next
   pub coins-apart : (k : ℕ) → k ≡ r.step + (d.step - c.step) → length r.outputs.free.items ≢ c.lengths.free
       → (point_after n coins (take d.step old.steps) origin).coin ≢ (point_after n coins (take k ys) origin).coin
   coins-apart k at_k apart alike =

@@ -1,4 +1,4 @@
--- Points: runs that go on from states on the way, copies of these, and meetings, where two runs come to points of one future.
+-- Points: runs that go on from states on the way, copies of these, and meetings, at which two runs come to points of one future.
 use Rattle.std.proofs.Common.{◌≡◌, ℕ, ◌+◌, ◌-◌, ◌^◌, ◌<◌, ◌≤◌, refl, sym, ◌∙◌, ap, subst, Bool, ◌⊎◌, inl, inr, List, ◌++◌, length, take, drop, arith}
 use Rattle.std.proofs.lemmas.Bool.{cases_lt}
 use Rattle.std.proofs.lemmas.List.{length-append, length-take-le, length-drop, take-append-drop, take-take, take_all}
@@ -106,7 +106,7 @@ looked-last m k xs ys last le =
           ∙ ap (λ l. looked_up l k) (take-append-drop (length ys - m) ys)
     ]
 
--- where the next coin has the same number at a copy, or none decides behind it, so it is at the point of the copy
+-- if the next coin has the same number at a copy, or none decides after it, so it is at the point of the copy
 pub may-have-coin : (n : ℕ) (coins : ℕ → Bool) (xs : List Step) (c : Checkpoint) (free : List Bool) (coin : ℕ) → IsCheckpoint n coins xs c → free ≡ (outputs n coins xs origin).free
     → (coin ≡ c.lengths.free) ⊎ (ones (drop c.lengths.free free) ≡ 0) → MayHaveCoin n coins (drop c.step xs) (point_after n coins (take c.step xs) origin) coin
 may-have-coin n coins xs c free coin h flags (inl same) =
@@ -157,7 +157,7 @@ module _ (n : ℕ) (coins : ℕ → Bool) (xs ys : List Step) (i k : ℕ) (same 
       ap (λ zs. point_after n coins zs origin) (take-add k m ys ∙ ap (λ zs. take k ys ++ take m zs) (sym same))
       ∙ after-append n coins (take k ys) (take m (drop i xs)) origin
 
-  -- where they agree there, they agree so many steps on
+  -- if they agree there, they agree some steps later
   pub agree-later : AgreeAt n (point_after n coins (take i xs) origin) (point_after n coins (take k ys) origin)
       → (m : ℕ) → AgreeAt n (point_after n coins (take (i + m) xs) origin) (point_after n coins (take (k + m) ys) origin)
   agree-later agree m =
@@ -186,7 +186,7 @@ module _ (n : ℕ) (coins : ℕ → Bool) (xs ys : List Step) (i k : ℕ) (same 
     whole : take (length (drop i xs)) (drop i xs) ≡ drop i xs
     whole = take_all (length (drop i xs)) (drop i xs) (omega arith)
 
-    -- behind the last step they have the same group
+    -- after the last step they have the same group
     pub group-end : SameGroup n (member (point_after n coins xs origin).trace) (member (point_after n coins ys origin).trace)
     group-end =
         subst (λ zs. SameGroup n (member (point_after n coins zs origin).trace) (member (point_after n coins ys origin).trace)) (take-append-drop i xs)

@@ -30,7 +30,7 @@ use Rattle.stab_laws.proofs.CoinLemmas.{coins-append}
 use Rattle.stab_replay.proofs.NotedLemmas.{noted-on}
 use Rattle.stab_replay.proofs.PointLemmas.{resumed, shows-from-start}
 
--- the coins that steps use up from one step to another are, with those behind the other, all behind the one
+-- the coins that steps use up from one step to another are, with those after the other, all after the one
 pub coins-cut : (i j : ℕ) (ys xs : List Step) → i ≤ j → xs ≡ drop i ys
     → all_coins_of (take (j - i) xs) + all_coins_of (drop j ys) ≡ all_coins_of (drop i ys)
 coins-cut i j ys xs le left =
@@ -113,7 +113,7 @@ near-more : (K a e : ℕ) (xs : List ℕ) → Near K (a ∷ xs ++ e ∷ []) → 
 near-more K a e [] h = (h.0, h.1, (omega arith, omega arith, tt))
 near-more K a e (b ∷ xs) h = (h.0, h.1, near-more K b e xs h.2)
 
--- where a run agrees with an old one at a copy, it meets that copy
+-- if a run agrees with an old one at a copy, it meets that copy
 
 agree-meets : (n reach : ℕ) (coins : ℕ → Bool) (xs zs : List Step) (c : Checkpoint) (t : TableauState) (o : RunOutput) (records free : List Bool) → IsRunFromStart n coins zs (program_state t o)
     → IsCheckpoint n coins xs c → take c.lengths.records records ≡ (outputs n coins (take c.step xs) origin).records
@@ -136,13 +136,13 @@ agree-meets n reach coins xs zs c t o records free run h kept agree = record {
 
 -- a replay on its way
 
--- where the next copy stands
+-- where the next copy is
 
 pub ascending-end : (p : Plan) (step : ℕ) (cs : List Checkpoint) → Ascending p step cs → step ≤ p.total
 ascending-end p step [] h = h
 ascending-end p step (c ∷ cs) h = let le = ascending-end p (step_among_new p c) cs h.1 in omega arith
 
--- a replay at a step is not behind the place of the next copy
+-- a replay at a step is not after the place of the next copy
 next-behind : (p : Plan) (step k : ℕ) (cs : List Checkpoint) → Ascending p step (drop k cs) → IfSome (option_map (step_among_new p) (slice_get cs k)) (λ q. step ≤ q)
 next-behind p step zero [] h = tt
 next-behind p step (suc k) [] h = tt
@@ -161,7 +161,7 @@ ascending-stop p step stop (suc k) [] h within before = within
 ascending-stop p step stop zero (c ∷ cs) h within before = (before, h.1)
 ascending-stop p step stop (suc k) (c ∷ cs) h within before = ascending-stop p step stop k cs h within before
 
--- nor is it behind those of later ones
+-- nor is it after those of later ones
 later-places : (p : Plan) (step k : ℕ) (cs : List Checkpoint) → Ascending p step cs → IfSome (slice_get cs k) (λ c. step ≤ step_among_new p c)
 later-places p step zero [] h = tt
 later-places p step (suc k) [] h = tt
@@ -176,7 +176,7 @@ all-later p step (suc next) zero cs h le = absurd (omega arith)
 all-later p step (suc next) (suc k) [] h le = tt
 all-later p step (suc next) (suc k) (c ∷ cs) h le = all-later p step next k cs h (omega arith)
 
--- behind the place of the next copy the one after it comes next
+-- after the place of the next copy the one after it comes next
 later-within : (copies : List Checkpoint) (k : ℕ) (P : Checkpoint → Type 0) → IsSomeAnd (slice_get copies k) P → k < length copies
 later-within [] k P h = absurd h
 later-within (c ∷ cs) zero P h = omega arith
@@ -228,7 +228,7 @@ module _ (n : ℕ) (coins : ℕ → Bool) (begin : ℕ) (p : Plan) (ys : List St
       was : IsAtStep n coins ys r
       was = h.stop.replay.at_step
 
-  -- where it does not meet a copy at its place, the runs do not agree there
+  -- if it does not meet a copy at its place, the runs do not agree there
   misses : (r : Replay) (free : List Bool) (c : Checkpoint) → IsAtStep n coins ys r → step_among_new p c ≡ r.step → (MeetsAt n p r old free c → ⊥) → Misses n coins p ys old c
   misses r free c h place apart xs is_copy kept agree =
       apart (
@@ -251,7 +251,7 @@ module _ (n : ℕ) (coins : ℕ → Bool) (begin : ℕ) (p : Plan) (ys : List St
         | inr le ↦ subst (λ k. IfSome (slice_get copies k) (Misses n coins p ys old)) (omega (arith, le, before)) apart
       ]
 
-  -- and wherever it ends, it missed each copy that stands before its step
+  -- and wherever it ends, it missed each copy that is before its step
   pub ends-soon : (next : ℕ) (r : Replay) → IsAtStop n coins begin p ys copies old next r → EndsSoon n coins p ys copies old r.step
   ends-soon next r h number from =
       elim (cases_lt number next) [
@@ -259,7 +259,7 @@ module _ (n : ℕ) (coins : ℕ → Bool) (begin : ℕ) (p : Plan) (ys : List St
         | inr le ↦ IfSome_then (slice_get copies number) (all-later p r.step next number copies h.ascending le) (λ c later before. absurd (omega (arith, later, before)))
       ]
 
-  -- before it the replay goes on, where it passed a copy with the one after it next
+  -- before it the replay goes on, if it passed a copy with the one after it next
   pub past : (next : ℕ) (r : Replay) → IsAtStop n coins begin p ys copies old next r → IsPlacedAt p copies next r.step
       → IfSome (slice_get copies next) (Misses n coins p ys old) → IsAtStop n coins begin p ys copies old (next + 1) r
   past next r h placed apart = record {
@@ -323,7 +323,7 @@ module _ (n : ℕ) (coins : ℕ → Bool) (begin : ℕ) (p : Plan) (ys : List St
                 (missed r free (slice_get copies next) h.replay.at_step (if-some (slice_get copies next) (λ c. step_among_new p c ≡ r.step) placed.1) arrival.1))
           ]
 
--- where it goes on it went a spacing, or passed the copy
+-- if it goes on it went a spacing, or passed the copy
 
 not-there : (p : Plan) (copies : List Checkpoint) (next step : ℕ) → step ≢ p.total → (IsPlacedAt p copies next step → ⊥) → (step ≡ p.total) ⊎ IsPlacedAt p copies next step → ⊥
 not-there p copies next step further unplaced at =

@@ -48,7 +48,7 @@ module _ (n : ℕ) (strings others : ℕ → Option (List Letter)) (c d : ℕ) (
   after-same : (x : Step) → (coins_of x ≡ 1 → strings c ≡ others d) → frame_after n (same_coins strings) x c f ≡ frame_after n (same_coins others) x d f
   after-same x e = λ i. record { letters = letters-same x e i; flips = f.flips ++ (given-same x e i).records }
 
--- notes are the same for so many coins, from one of the one on, and from one of the other
+-- notes are the same for this many coins, from one of the one on, and from one of the other
 abbrev pub AreSameFor : (strings others : ℕ → Option (List Letter)) → (c d count : ℕ) → Type 0
 AreSameFor strings others c d count = (t : ℕ) → t < count → strings (c + t) ≡ others (d + t)
 
@@ -82,7 +82,7 @@ flips-same n strings others (x ∷ xs) c d f same =
     ∙ ap (λ g. joined (flips_given n (same_coins others) x d f) (flips_over n (same_coins others) xs (d + coins_of x) g))
     (after-same n strings others c d f x here)
 
--- no note is needed where no coin decides
+-- no note is needed if no coin decides
 
 off : (b : Bool) → ones (b ∷ []) ≡ 0 → b ≡ false
 off true none = absurd (omega (arith, none))

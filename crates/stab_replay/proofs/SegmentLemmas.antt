@@ -1,4 +1,4 @@
--- Segments: a frame that went over the steps from one copy of a run to the next.
+-- Segments: a frame that passed the steps from one copy of a run to the next.
 use Rattle.std.proofs.Common.{◌≡◌, ℕ, zero, suc, ◌+◌, ◌≤◌, min, refl, sym, ◌∙◌, ap, subst, Bool, false, ◌⊎◌, inl, inr, List, [], ◌∷◌, ◌++◌, ◌<◌, All, Option, None, length, take, drop, get_or, replicate, arith}
 use Rattle.std.specs.Prelude.{◌≢◌}
 use Rattle.std.proofs.lemmas.List.{length-append, length-take-le, length-drop, take-append-drop, take-take, take_all, drop_at, get_or_append_left, get_or-drop}
@@ -60,13 +60,13 @@ since-joined o more old new m zeros is = λ i. record {
   additions = flipped_additions o.additions (sym (ap (λ (f : RunOutput). drop (length old.flips.additions) f.additions) is ∙ drop_at old.flips.additions more.additions (length old.flips.additions) refl) i);
 }
 
--- a walk that went over all is not one whose frame is gone
+-- a walk that passed all is not one whose frame is gone
 abbrev is-left : Stop → Type 0
 is-left Behind = ⊥
 is-left Gone = Unit {0}
 is-left NoString = Unit {0}
 
--- how far a walk went that went over all
+-- how far a walk went that passed all
 drop-taken : (k : ℕ) (xs : List Step) → drop (length (take k xs)) xs ≡ drop k xs
 drop-taken zero xs = refl
 drop-taken (suc k) [] = refl
@@ -82,7 +82,7 @@ left-behind n reach steps k xs ys w stop is behind left =
     is-told : Behind ≡ NoString → ⊥
     is-told e = subst is-left (sym e) tt
 
--- one that is neither gone nor without a string went over all
+-- one that is neither gone nor without a string passed all
 pub all-else : (stop : Stop) → stop ≢ NoString → stop ≢ Gone → stop ≡ Behind
 all-else Behind told still = refl
 all-else Gone told still = absurd (still refl)
@@ -134,7 +134,7 @@ module _ (n : ℕ) (coins : ℕ → Bool) (xs ys : List Step) (i k len : ℕ) (s
       ∙ (λ j. drop (flags-are-coins n coins (take i xs) j) (sym flags j))
       ∙ ap (λ c. drop c free) (sym at.coin)
 
-  -- so many steps on the old run goes on as from the point that is seen
+  -- some steps later the old run goes on as from the point that is seen
 
   near_back : looks_too_far reach (take len (drop i xs)) ≡ false
   near_back = near-enough reach reach (take len (drop i xs)) (omega arith) (All-take (LooksWithin reach) len (drop i xs) (All-drop (LooksWithin reach) i xs near))
@@ -157,7 +157,7 @@ module _ (n : ℕ) (coins : ℕ → Bool) (xs ys : List Step) (i k len : ℕ) (s
       subst (λ zs. (outputs n coins zs (point_after n coins (take i xs) origin) ≡ outputs n coins zs at.seen)
       × SameGroup n (member (point_after n coins zs (point_after n coins (take i xs) origin)).trace) (member (point_after n coins zs at.seen).trace)) whole (future len)
 
-  -- what is noted from there on: of the old run, or nothing where no coin decides
+  -- what is noted from there on: of the old run, or nothing if no coin decides
   abbrev noted : MayHaveCoin n coins (take len (drop i xs)) a b.coin → ℕ → Option (List Letter)
   noted (inl coin) = strings
   noted (inr none) = λ t. None

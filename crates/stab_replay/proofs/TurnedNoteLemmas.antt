@@ -24,7 +24,7 @@ none-or-both o p q (inl e) h = inl e
 none-or-both o p q (inr e) (inl f) = inl (e ∙ f)
 none-or-both o p q (inr e) (inr f) = inr (e ∙ f)
 
--- strings noted of what steps measure at one point are true at another, by their places behind the number of the next coin
+-- strings noted of what steps measure at one point are true at another, by their places after the number of the next coin
 true-shifted : (n : ℕ) (coins : ℕ → Bool) (strings others : ℕ → Option (List Letter)) (xs : List Step) (a b : Point)
     → ((j : ℕ) → j < all_coins_of xs → IsNoneOr (others (b.coin + j)) (strings (a.coin + j))) → AreTurnedOver n coins xs a b
     → AreTrue n coins strings xs a → AreTrue n coins others xs b

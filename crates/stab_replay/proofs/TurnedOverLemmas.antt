@@ -54,7 +54,7 @@ use Rattle.stab_frames.proofs.FlipLemmas.{flipped-empty}
 use Rattle.stab_frames.proofs.TrueLemmas.{true-front, true-rest}
 use Rattle.stab_replay.proofs.TurnedNoteLemmas.{noted-turned}
 
--- no copy stands behind where a replay is
+-- no copy is after the place of a replay
 pub near-at : (K a e i : ℕ) (cs : List Checkpoint) (c : Checkpoint) → Near K (a ∷ checkpoint_steps cs ++ e ∷ []) → slice_get cs i ≡ Some c → c.step ≤ e
 near-at K a e i [] c near here = absurd (none-some c here)
 near-at K a e zero (b ∷ cs) c near here = subst (λ (x : Checkpoint). x.step ≤ e) (same_Some b c here) (no-later b.step (checkpoint_steps cs) near.2)
@@ -85,7 +85,7 @@ copy-before n coins ys k c is le within = record {
   lengths = is.lengths ∙ ap (λ zs. lengths_of (outputs n coins zs origin)) (sym (take-take c.step k ys le));
 }
 
--- what is known of a replay that stands turned at a copy, with another one behind it
+-- what is known of a replay that is turned at a copy, with another one after it
 module _ (n : ℕ) (coins : ℕ → Bool) (begin : ℕ) (p : Plan) (ys : List Step) (copies : List Checkpoint) (old : List Bool) (next : ℕ) (block : Repeat) (end : ℕ) (r : Replay)
     (may : MayComeAgain n coins begin p ys copies old next block end r) (w : WalkState) (number : ℕ) (c d : Checkpoint) (here : slice_get r.laid.items number ≡ Some c)
     (there : slice_get r.laid.items (suc number) ≡ Some d) (stands : StandsTurned n coins block ys r w c) (order : c.step ≤ d.step) (within : r.step + (d.step - c.step) ≤ end) where
@@ -222,7 +222,7 @@ module _ (n : ℕ) (coins : ℕ → Bool) (begin : ℕ) (p : Plan) (ys : List St
     step : s.step ≡ r.step + (d.step - c.step)
     step = gave.step
 
-    -- behind the steps
+    -- after the steps
 
     first_end : point_after n coins (take d.step ys) origin ≡ point_after n coins part then
     first_end = first-point n coins ys c.step d.step r.step reach order before same_steps

@@ -143,7 +143,7 @@ pub turning-named : {m n : ℕ} {others coins : ℕ → Bool} {zs ys : List Step
 turning-named begin p copies old next block end number r w qubits coins all =
     subst (λ x. x) (λ i. IsTurning (qubits i) (coins i) begin p (all i) copies old next block end number r w)
 
--- what is known where a replay may go on from one copy to the next
+-- what is known if a replay may go on from one copy to the next
 pub record AreKnown (n : ℕ) (r : Replay) (w : WalkState) (c d : Checkpoint) : Type 0 where
   pub free : c.lengths.free ≤ length r.outputs.free.items
   pub size : length w.letters ≡ n
@@ -309,7 +309,7 @@ turned-on n coins begin p ys copies old next block spacing end passed r s number
     still : slice_get s.laid.items (number + 1) ≡ Some d
     still = ap (λ l. slice_get l (number + 1)) g.laid ∙ get-append r.laid.items _ (number + 1) (slice_get_within r.laid.items (number + 1) d second.1) ∙ second.1
 
--- behind a later step there are no more coins
+-- after a later step there are no more coins
 pub coins-behind : (i j : ℕ) (ys : List Step) → i ≤ j → all_coins_of (drop j ys) ≤ all_coins_of (drop i ys)
 coins-behind i j ys le = omega (arith, coins-cut i j ys (drop i ys) le refl)
 

@@ -29,7 +29,7 @@ use Rattle.stab_copies.specs.Checkpoints.{IsCheckpoint}
 use Rattle.stab_copies.specs.LaidCopies.{moved}
 use Rattle.stab_replay.specs.NotedStrings.{IsNoted}
 
--- an older run, of which these are copies, output and strings, and whose steps behind what was changed are the new ones
+-- an older run, of which these are copies, output and strings, and whose steps after what was changed are the new ones
 pub record IsOldRun (n : ℕ) (coins : ℕ → Bool) (p : Plan) (ys : List Step) (copies : List Checkpoint) (o : RunOutput) (strings : StringsState) : Type 0 where
   pub steps : List Step
   pub few : length steps ≤ most_steps
@@ -51,7 +51,7 @@ HaveSameFuture n coins back a b =
 abbrev pub HaveMoved : Point → Point → Type 0
 HaveMoved a b = (a.coin ≢ b.coin) ⊎ (length a.records ≢ length b.records)
 
--- before a step of an old run and a step of a new one the new one differs by a frame, which began behind so many records, from the point of
+-- before a step of an old run and a step of a new one the new one differs by a frame, which began after this many records, from the point of
 -- the old one: from that itself, or from it with the new one's numbers of records and of the next coin, and as far back as steps look with
 -- its own records
 pub record IsFramedAt (n : ℕ) (coins : ℕ → Bool) (xs ys : List Step) (i k : ℕ) (free : List Bool) (base reach : ℕ) (w : WalkState) : Type 0 where
@@ -63,7 +63,7 @@ pub record IsFramedAt (n : ℕ) (coins : ℕ → Bool) (xs ys : List Step) (i k 
   pub told : (seen.records ≡ (point_after n coins (take i xs) origin).records) ⊎ HaveMoved (point_after n coins (take i xs) origin) (point_after n coins (take k ys) origin)
   pub placed : IsPlaced free w
 
--- what a frame flipped behind so much of it: never a flag
+-- what a frame flipped after this much of it: never a flag
 abbrev pub flips_behind : Lengths → WalkState → RunOutput
 flips_behind l w = record {
   records = drop l.records w.flips.records;
@@ -80,7 +80,7 @@ flips_since old new = flips_behind (lengths_of old.flips) new
 abbrev pub between : Lengths → Lengths → RunOutput → RunOutput
 between from to o = rest_of from (front_of to o)
 
--- so many steps on the runs differ by the frame's letters, and by the frame where it is not gone; and the new one gave what the old one
+-- after this many steps the runs differ by the frame's letters, and by the frame if it is not gone; and the new one gave what the old one
 -- gave, flipped
 pub record IsFramedOver (n : ℕ) (coins : ℕ → Bool) (xs ys : List Step) (i k len : ℕ) (free : List Bool) (base reach : ℕ) (old new : WalkState) (stop : Stop) : Type 0 where
   pub group : IsTurned n new.letters (member (point_after n coins (take (i + len) xs) origin).trace) (member (point_after n coins (take (k + len) ys) origin).trace)
@@ -91,7 +91,7 @@ pub record IsFramedOver (n : ℕ) (coins : ℕ → Bool) (xs ys : List Step) (i 
       (member (point_after n coins (take m (take len (drop i xs))) (point_after n coins (take k ys) origin)).trace)
   pub goes_on : stop ≡ Behind → IsPlaced free new → IsFramedAt n coins xs ys (i + len) (k + len) free base reach new
 
--- so many of the newest records are compared where a frame begins: all behind the first ones, which are the same, where both runs have as
+-- this many of the newest records are compared where a frame begins: all after the first ones, which are the same, where both runs have as
 -- many records and the same number of the next coin; else those to which steps look back
 abbrev pub AreCompared : RunOutput → (base reach : ℕ) → Checkpoint → ℕ → Type 0
 AreCompared o base reach c m =
@@ -115,7 +115,7 @@ AreEnoughBy n strings free left steps w =
     (coins : ℕ → Bool) (a : Point) (base : ℕ) → a.coin ≡ w.coin → AreTrue n coins strings left a → (outputs n coins left a).free ≡ drop w.coin free
     → AreEnough n coins (same_coins strings) (take steps left) (frame_at base w) a
 
--- strings of another run up to a place put behind those before: where one is missing there, no more may follow
+-- strings of another run up to a place put after those before: if one is missing there, no more may follow
 pub record IsContinued (front others : StringsState) (from end : ℕ) (new : StringsState) : Type 0 where
   pub size : new.qubits ≡ front.qubits
   pub strings : new.strings ≡ kept_with front.most front.strings (drop from (take end others.strings))

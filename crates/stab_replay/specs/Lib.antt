@@ -1,5 +1,4 @@
 pub mod NotedStrings
 pub mod Replays
 pub mod FramedReplays
-pub mod Sections
 pub mod inner

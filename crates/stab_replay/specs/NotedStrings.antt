@@ -1,4 +1,4 @@
--- Noted strings: what is kept of a run beside its state, so that frames can go over its steps.
+-- Noted strings: what is kept of a run beside its state, so that frames can pass its steps.
 -- Source: this project's own.
 use Rattle.std.specs.Prelude.{◌≡◌, ℕ, ◌≤◌, min, Bool, List, All, length, drop}
 use Rattle.stab_circuit.specs.Steps.{Step}
@@ -16,7 +16,7 @@ pub record IsNoted (n : ℕ) (coins : ℕ → Bool) (xs : List Step) (strings : 
   pub are_true : AreTrue n coins (note_at strings.strings free) xs origin
   pub near : All (LooksWithin reach) xs
 
--- strings with others behind them, from one of these on, where so many outcomes are free in all
+-- strings with others after them, from one of these on, if this many outcomes are free in all
 pub record IsSpliced (front others : StringsState) (from count : ℕ) (new : StringsState) : Type 0 where
   pub size : new.qubits ≡ front.qubits
   pub most : new.most ≤ front.most

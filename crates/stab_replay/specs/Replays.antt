@@ -17,22 +17,22 @@ use Rattle.stab_copies.specs.Checkpoints.{IsRunFromStart, IsCheckpoint, checkpoi
 use Rattle.stab_replay.specs.NotedStrings.{IsNoted}
 use Rattle.stab_copies.specs.LaidCopies.{moved}
 
--- where an old copy stands among the new steps
+-- where an old copy is among the new steps
 abbrev pub step_among_new : Plan → Checkpoint → ℕ
 step_among_new p c = moved p.old_end p.new_end c.step
 
--- at least so far apart a replay lays copies: less than a stride K, where it is 8 or more, so that steps can be put in between two
+-- at least so far apart a replay lays copies: less than a stride K, if it is 8 or more, so that steps can be put in between two
 -- neighbours before these are more than a stride apart
 abbrev pub spacing_of : ℕ → ℕ
 spacing_of K = K - K / 8
 
 -- where a replay may stop next: at the place of the old copy that may be met next where that is no more than a stride further, and else
--- a spacing further, or behind the last step if that comes first
+-- a spacing further, or after the last step if that comes first
 abbrev pub next_stop : Plan → ℕ → Option ℕ → ℕ
 next_stop p step None = min (step + spacing_of p.stride) p.total
 next_stop p step (Some place) = min (if nat_le place (step + p.stride) then place else step + spacing_of p.stride) p.total
 
--- what a replay holds is the run of the steps behind it, and its cursor has the others left
+-- what a replay holds is the run of the steps after it, and its cursor has the others left
 pub record IsAtStep (n : ℕ) (coins : ℕ → Bool) (ys : List Step) (r : Replay) : Type 0 where
   pub qubits : r.tableau.qubits ≡ n
   pub string : length r.string.letters ≡ n
@@ -49,12 +49,12 @@ pub record IsReplay (n : ℕ) (coins : ℕ → Bool) (K begin : ℕ) (ys : List 
   pub checkpoints : All (IsCheckpoint n coins ys) r.laid.items
   pub near : Near K (begin ∷ checkpoint_steps r.laid.items ++ r.step ∷ [])
 
--- the places of old copies, the first at or behind a step, in order, and within the new steps
+-- the places of old copies, the first at or after a step, in order, and within the new steps
 abbrev pub Ascending : Plan → ℕ → List Checkpoint → Type 0
 Ascending p step [] = step ≤ p.total
 Ascending p step (c ∷ more) = (step ≤ step_among_new p c) × Ascending p (step_among_new p c) more
 
--- an old copy stands at this step among the new ones
+-- an old copy is at this step among the new ones
 abbrev pub IsPlacedAt : Plan → List Checkpoint → ℕ → ℕ → Type 0
 IsPlacedAt p copies number step = IsSomeAnd (slice_get copies number) (λ c. step_among_new p c ≡ step)
 
@@ -66,7 +66,7 @@ copy_of r = record { step = r.step; lengths = lengths_of (output_of r.outputs); 
 abbrev pub MeetsAt : ℕ → Plan → Replay → (records free : List Bool) → Checkpoint → Type 0
 MeetsAt n p r records free c = (step_among_new p c ≡ r.step) × Meets n p.reach r.tableau (output_of r.outputs) records free c
 
--- how a replay ended: behind the last step, or at the place of an old copy that it meets
+-- how a replay ended: after the last step, or at the place of an old copy that it meets
 abbrev pub IsEnd : ℕ → Plan → Replay → List Checkpoint → (records free : List Bool) → End → Type 0
 IsEnd n p r copies records free Last = r.step ≡ p.total
 IsEnd n p r copies records free (Joined j) = (p.next ≤ j) × IsSomeAnd (slice_get copies j) (MeetsAt n p r records free)
@@ -77,7 +77,7 @@ Misses n coins p ys records c =
     (xs : List Step) → IsCheckpoint n coins xs c → take c.lengths.records records ≡ (outputs n coins (take c.step xs) origin).records
     → AgreeAt n (point_after n coins (take c.step xs) origin) (point_after n coins (take (step_among_new p c) ys) origin) → ⊥
 
--- each old copy that may be met, and stands before the step where the replay ended, was missed
+-- each old copy that may be met, and is before the step where the replay ended, was missed
 abbrev pub EndsSoon : ℕ → (ℕ → Bool) → Plan → List Step → List Checkpoint → List Bool → ℕ → Type 0
 EndsSoon n coins p ys copies records end =
     (number : ℕ) → p.next ≤ number → IfSome (slice_get copies number) (λ c. step_among_new p c < end → Misses n coins p ys records c)
@@ -100,12 +100,12 @@ pub record IsOnWay (n : ℕ) (coins : ℕ → Bool) (begin : ℕ) (p : Plan) (ys
   pub stop : IsAtStop n coins begin p ys copies old next r
   pub last : last_of begin (checkpoint_steps r.laid.items) ≡ r.step
 
--- where a replay that went on from a step stops: a spacing further or more, or behind the last step, or at the place of the old copy
+-- where a replay that went on from a step stops: a spacing further or more, or after the last step, or at the place of the old copy
 -- that may be met next
 abbrev pub StopsAt : Plan → List Checkpoint → ℕ → ℕ → ℕ → Type 0
 StopsAt p copies next from step = (from + spacing_of p.stride ≤ step) ⊎ ((step ≡ p.total) ⊎ IsPlacedAt p copies next step)
 
--- how many of so many old copies a replay passed
+-- how many of this many old copies a replay passed
 abbrev pub copies_passed : Plan → ℕ → End → ℕ
 copies_passed p count Last = count - p.next
 copies_passed p count (Joined j) = j - p.next

@@ -24,10 +24,10 @@ use stab_io::Refusal;
 use stab_run::{Coins, Lengths, Outputs};
 use std::alloc::{AllocError, Global};
 
-/// A replay looks for a copy where it stood as it stands now among so many that it laid before.
+/// A replay looks for a copy at which it was as it is now among this many that it laid before.
 pub(crate) const LOOKED_BACK: usize = 64;
 
-/// Puts behind a list again what stands in it from one place to another.
+/// Puts after a list again what is in it from one place to another.
 pub(crate) fn append_again<T: Copy>(
     alloc: Global,
     list: &mut Vec<T>,
@@ -73,7 +73,7 @@ impl Plan {
 }
 
 impl<'a> Replay<'a> {
-    /// Whether the replay stands as it stood at a copy in a block, some whole rounds before.
+    /// Whether the replay is as it stood at a copy in a block, some whole rounds before.
     fn stands_as_at(&self, block: Repeat, copy: &Checkpoint) -> bool
         requires some { 0 < block.length }
         ensures value { IsTrue result → StandsAgain block self.now copy.now }
@@ -87,7 +87,7 @@ impl<'a> Replay<'a> {
             && comes_again(&self.tableau, &self.outputs, copy, self.notes.reach)
     }
 
-    /// The newest laid copy in a block, with another one behind it, at which the replay stood as it stands now.
+    /// The newest laid copy in a block, with another one after it, at which the replay stood as it is now.
     fn find_again(&self, block: Repeat) -> Option<usize>
         requires some { 0 < block.length }
         ensures found { IfSome result (λ number. (number + 1 < length self.now.laid.items) × IsSomeAnd (slice_get self.now.laid.items number) (StandsAgain block self.now)) }
@@ -102,7 +102,7 @@ impl<'a> Replay<'a> {
     }
 
     /// Gives again what was given from the laid copy with a number to the next one, if these are a spacing apart and that is not
-    /// behind an end, and lays a copy of the same state. Tells whether it did. The tableau stays as it is.
+    /// after an end, and lays a copy of the same state. Says whether it did. The tableau stays as it is.
     ///
     /// Refusal `OutOfMemory` alone.
     fn give_once(
@@ -142,7 +142,7 @@ impl<'a> Replay<'a> {
     }
 
     /// Gives again, from the laid copy with a number on, what was given since, as often as there is room before an end, and lays
-    /// copies. Tells whether it did. The tableau stays as it is.
+    /// copies. Says whether it did. The tableau stays as it is.
     ///
     /// Refusal `OutOfMemory` alone.
     fn give_on(
@@ -175,9 +175,9 @@ impl<'a> Replay<'a> {
         }
     }
 
-    /// Goes on in a block by what the replay gave before, where it stands as it stood at a copy that it laid there: the same comes
-    /// again, as often as there is room before the end of the block, and before the old copy that may be met next. Where it stands so
-    /// but for a frame, the same comes again flipped.
+    /// Goes on in a block by what the replay gave before, if it is as it was at a copy that it laid there: the same comes
+    /// again, as often as there is room before the end of the block, and before the old copy that may be met next. If it is so
+    /// except for a frame, the same comes again flipped.
     ///
     /// Refusal `OutOfMemory` alone.
     pub(crate) fn come_again<C: Coins>(

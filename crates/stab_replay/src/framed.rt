@@ -2,23 +2,20 @@ ghost use Rattle.std.specs.Prelude.{◌≡◌, ◌≢◌, ◌⊎◌, true, ◌+�
 ghost use Rattle.stab_io.specs.declared.refusal.Refusal.TheVariants.{OutOfMemory};
 ghost use Rattle.stab_tableau.specs.Tableaus.{stabilises};
 ghost use Rattle.stab_tableau.specs.Turns.{IsTurned};
-ghost use Rattle.stab_circuit.specs.Steps.{most_steps};
 ghost use Rattle.stab_run.specs.Records.{ones};
 ghost use Rattle.stab_run.specs.Points.{joined};
 ghost use Rattle.stab_run.specs.ProgramStates.{StepFits, output_of};
 ghost use Rattle.stab_frames.specs.Flips.{flipped_output};
-ghost use Rattle.stab_frames.specs.KeptStrings.{kept_with, note_at};
-ghost use Rattle.stab_frames.specs.Stops.{IsStop};
-ghost use Rattle.stab_frames.specs.Walks.{IsPlaced, WalksOver};
+ghost use Rattle.stab_frames.specs.KeptStrings.{kept_with};
+ghost use Rattle.stab_frames.specs.Walks.{IsPlaced};
 ghost use Rattle.stab_frames.specs.declared.steps.Stop.TheVariants.{Behind, NoString};
-ghost use Rattle.stab_replay.specs.FramedReplays.{between as between_lengths, flips_behind, AreCompared, IsFrameFrom, AreEnoughBy, WentOver};
+ghost use Rattle.stab_replay.specs.FramedReplays.{between as between_lengths, flips_behind, AreCompared, IsFrameFrom, WentOver};
 
-use crate::outlined::OutlinedSteps;
 use crate::replay::{Plan, Replay};
 use stab_copies::{Checkpoint, has_one, shifted};
 use stab_frames::{
-    FrameWalk, KeptStrings, Stop, Walked, append_flipped, append_flipped_additions, between,
-    count_ones, turn_state, walk_outline, walk_steps,
+    FrameWalk, KeptStrings, Stop, append_flipped, append_flipped_additions, between, count_ones,
+    turn_state, walk_steps,
 };
 use stab_io::Refusal;
 use stab_pauli::{Letter, Pauli};
@@ -26,7 +23,7 @@ use stab_run::{Lengths, Outputs};
 use stab_tableau::{CompactTableau, Tableau};
 use std::alloc::{AllocError, Global};
 
-/// How many records, detectors and additions a frame has gone over.
+/// How many records, detectors and additions a frame has passed.
 pub(crate) fn lengths_walked(walk: &FrameWalk) -> Lengths
     ensures records { result.records ≡ length walk.now.flips.records }
     ensures detectors { result.detectors ≡ length walk.now.flips.detectors }
@@ -40,7 +37,7 @@ pub(crate) fn lengths_walked(walk: &FrameWalk) -> Lengths
     }
 }
 
-/// Appends what a run gave between these lengths, flipped as a frame says that had gone over so much
+/// Appends what a run gave between these lengths, flipped as a frame says that had passed this much
 /// before.
 fn append_framed(
     outputs: &mut Outputs,
@@ -91,8 +88,8 @@ pub fn turned_copy(
     Ok(turned)
 }
 
-/// Appends the strings of free outcomes of another run, from one number to another. Where strings are
-/// missing, none may be put behind those that are there.
+/// Appends the strings of free outcomes of another run, from one number to another. If strings are
+/// missing, none may be put after those that are there.
 ///
 /// Refusal `OutOfMemory` alone.
 fn append_strings(
@@ -115,8 +112,8 @@ fn append_strings(
     Ok(())
 }
 
-/// How many of the newest records are compared where a frame begins that leads a run, which gave so much, from an old copy on; none
-/// where it can't begin. So many records are those of the old run, whose steps look back no further than the reach.
+/// How many of the newest records are compared where a frame begins that leads a run, which gave this much, from an old copy on; none
+/// if it can't begin. This many records are those of the old run, whose steps look back no further than the reach.
 fn records_compared(outputs: &Outputs, copy: &Checkpoint, base: usize, reach: u32) -> Option<usize>
     requires within { base ≤ length outputs.now.records.items }
     ensures compared { IfSome result (AreCompared (output_of outputs.now) base reach copy.now) }
@@ -133,7 +130,7 @@ fn records_compared(outputs: &Outputs, copy: &Checkpoint, base: usize, reach: u3
     }
 }
 
-/// Whether the coins of the old run, in so many numbers of which none decided, serve another one that comes to a copy with this number
+/// Whether the coins of the old run, in this many numbers of which none decided, serve another one that comes to a copy with this number
 /// of the next coin.
 pub(crate) fn coins_serve(coin: usize, from: &Checkpoint, flags: &[bool]) -> bool
     ensures value { result ≡ true → (coin ≡ from.now.lengths.free) ⊎ (ones flags.now ≡ 0) }
@@ -148,7 +145,7 @@ pub(crate) fn flags_between<'a>(old: &'a Outputs, from: &Checkpoint, to: &Checkp
     between(old.free.as_slice(), from.lengths.free, to.lengths.free)
 }
 
-/// Whether a frame can go from one copy to another: that one stands no further behind it than a stride, and the coins of the old run
+/// Whether a frame can go from one copy to another: that one is no further after it than a stride, and the coins of the old run
 /// between serve another one that comes to the first with this number of the next coin.
 fn can_go(coin: usize, old: &Outputs, from: &Checkpoint, to: &Checkpoint, stride: usize) -> bool
     ensures order { result ≡ true → from.now.step ≤ to.now.step }
@@ -160,15 +157,15 @@ fn can_go(coin: usize, old: &Outputs, from: &Checkpoint, to: &Checkpoint, stride
         && coins_serve(coin, from, flags_between(old, from, to))
 }
 
-/// The last of the first so many elements, so many.
+/// Of the first elements of a list, as many as the one number, the last ones, as many as the other.
 fn last_of_first(bits: &[bool], first: usize, last: usize) -> &[bool]
     ensures value { result.now ≡ drop (first - last) (take first bits.now) }
 {
     between(bits, first.saturating_sub(last), first)
 }
 
-/// The frame by which a state, whose run gave so much, differs from an old copy of a run, where the rows of both have the same letters.
-/// So many records are those of the old run, whose steps look back no further than the reach.
+/// The frame by which a state, whose run gave this much, differs from an old copy of a run, if the rows of both have the same letters.
+/// This many records are those of the old run, whose steps look back no further than the reach.
 ///
 /// Refusal `OutOfMemory` alone.
 pub(crate) fn frame_between(
@@ -207,8 +204,8 @@ pub(crate) fn frame_between(
 }
 
 impl<'a> Replay<'a> {
-    /// The frame by which the replay differs from an old copy of a run, where the rows of both states
-    /// have the same letters. So many records are those of the old run, whose steps look back no further than the reach.
+    /// The frame by which the replay differs from an old copy of a run, if the rows of both states
+    /// have the same letters. This many records are those of the old run, whose steps look back no further than the reach.
     ///
     /// Refusal `OutOfMemory` alone.
     pub(crate) fn frame_from(
@@ -241,60 +238,13 @@ impl<'a> Replay<'a> {
         )
     }
 
-    /// Leads a frame over the next so many steps, or those that are left, of a run with these kept strings and flags, none of which looks
-    /// back further than `reach` records: by their outline where they have one, and else by the cursor. It ends where the frame is gone,
-    /// if it may.
-    ///
-    /// Refusal `OutOfMemory` alone.
-    fn walk_on(
-        &mut self,
-        alloc: Global,
-        outlined: &OutlinedSteps<'a, '_>,
-        walk: &mut FrameWalk,
-        strings: &KeptStrings,
-        free: &[bool],
-        count: usize,
-        reach: u32,
-        may_end: bool,
-    ) -> Result<Walked, Refusal>
-        requires same_steps { outlined.now ≡ self.old.cursor.all }
-        requires there { self.old.cursor.left ≡ drop self.old.step self.old.cursor.all }
-        requires in_range { self.old.step ≤ length self.old.cursor.all }
-        requires few_steps { length self.old.cursor.all ≤ most_steps }
-        requires same_length { strings.now.qubits ≡ length walk.old.letters }
-        requires fits { All (StepFits (length walk.old.letters)) self.old.cursor.left }
-        requires placed { IsPlaced free.now walk.old }
-        requires few { walk.old.coin + length self.old.cursor.left < 2 ^ 63 }
-        ensures rest { self.new ≡ record self.old { cursor = self.new.cursor } }
-        ensures all { self.new.cursor.all ≡ self.old.cursor.all }
-        ensures length { length walk.new.letters ≡ length walk.old.letters }
-        ensures placed { OnOk result (IsPlaced free.now walk.new) }
-        ensures within { IfOk result (λ w. w.steps ≤ length (take count self.old.cursor.left)) }
-        ensures left { IfOk result (λ w. w.stop ≢ NoString → self.new.cursor.left ≡ drop w.steps self.old.cursor.left) }
-        ensures walked { IfOk result (λ w. WalksOver (length walk.old.letters) (note_at strings.now.strings free.now) (take w.steps self.old.cursor.left) walk.old walk.new) }
-        ensures stop { IfOk result (λ w. IsStop (length walk.old.letters) reach w.steps (length (take count self.old.cursor.left)) walk.new w.stop) }
-        ensures enough { IfOk result (λ w. AreEnoughBy (length walk.old.letters) (note_at strings.now.strings free.now) free.now self.old.cursor.left w.steps walk.old) }
-        ensures err { IfErr result (λ r. r ≡ OutOfMemory) }
-    {
-        let Some(outline) = outlined.outline(self.step, count) else {
-            return Ok(walk_steps(walk, strings, free, &mut self.cursor, count, reach, may_end)?);
-        };
-        let walked = walk_outline(walk, strings, free, outline, reach, may_end)?;
-        if walked.stop != Stop::NoString {
-            self.cursor = outlined.cursor(alloc, self.step + walked.steps)?;
-        }
-        Ok(walked)
-    }
-
-    /// Goes on to the place of the next old copy by a frame, and appends what the steps between give. The frame ends where it is
-    /// gone, if it may. `NoString` where it can't go there, since a string is missing, the copy is too far, or coins decide that have
+    /// Goes on to the place of the next old copy by a frame, and appends what the steps between give. The frame ends if it is
+    /// gone, if it may. `NoString` if it can't go there, since a string is missing, the copy is too far, or coins decide that have
     /// other numbers in the old run.
     ///
     /// Refusal `OutOfMemory` alone.
     pub(crate) fn frame_to(
         &mut self,
-        alloc: Global,
-        outlined: &OutlinedSteps<'a, '_>,
         old: &Outputs,
         strings: &KeptStrings,
         plan: Plan,
@@ -303,10 +253,6 @@ impl<'a> Replay<'a> {
         walk: &mut FrameWalk,
         may_end: bool,
     ) -> Result<Stop, Refusal>
-        requires same_steps { outlined.now ≡ self.old.cursor.all }
-        requires there { self.old.cursor.left ≡ drop self.old.step self.old.cursor.all }
-        requires in_range { self.old.step ≤ length self.old.cursor.all }
-        requires few_steps { length self.old.cursor.all ≤ most_steps }
         requires same_length { strings.now.qubits ≡ length walk.old.letters }
         requires same_strings { self.old.notes.strings.qubits ≡ strings.now.qubits }
         requires fits { All (StepFits (length walk.old.letters)) self.old.cursor.left }
@@ -335,12 +281,11 @@ impl<'a> Replay<'a> {
         let free = flags_between(old, from, to);
         let before = lengths_walked(walk);
         let number = walk.number();
-        let walked = self.walk_on(
-            alloc,
-            outlined,
+        let walked = walk_steps(
             walk,
             strings,
             old.free.as_slice(),
+            &mut self.cursor,
             steps,
             plan.reach,
             may_end,

@@ -13,7 +13,7 @@ use stab_run::Coins;
 use stab_tableau::CompactTableau;
 use std::alloc::Global;
 
-/// A copy shares memory with one of so many before it: in codes a state comes again within them, or not at all.
+/// A copy shares memory with one of this many before it: in codes a state comes again within them, or not at all.
 const SHARED_AMONG: usize = 16;
 
 /// How many steps a replay takes together while it looks for a better place for a copy.
@@ -57,7 +57,7 @@ impl<'a> Replay<'a> {
     }
 
     /// Carries out the steps up to a stop, and goes on from there, up to a limit at most, until it comes to steps that measure or
-    /// make a detector: there a round of a code ends, its state is told by few letters, and comes again in later rounds.
+    /// make a detector: there a round of a code ends, its state follows from few letters, and comes again in later rounds.
     ///
     /// Refusal `OutOfMemory` alone.
     pub(crate) fn run_past<C: Coins>(

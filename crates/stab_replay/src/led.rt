@@ -7,14 +7,11 @@ ghost use Rattle.stab_run.specs.Records.{ones};
 ghost use Rattle.stab_frames.specs.KeptStrings.{StringsState};
 ghost use Rattle.stab_frames.specs.declared.steps.Stop.TheVariants.{Gone};
 ghost use Rattle.stab_replay.specs.Replays.{IsAtStep, Ascending, IsOnWay, IsPlacedAt};
-ghost use Rattle.stab_replay.specs.Sections.{IsSectionBehind};
 ghost use Rattle.stab_replay.specs.inner.LedReplays.{IsBeside, IsLed, IsPassed, LedOn, IsLedTo, later_of, with_state, with_cursor};
 
 use crate::framed::{coins_serve, flags_between, turned_copy};
 use crate::moved::Telling;
-use crate::outlined::OutlinedSteps;
 use crate::replay::{Plan, Replay};
-use crate::sections::Section;
 use stab_circuit::{Circuit, Cursor, Repeat};
 use stab_copies::{Checkpoint, has_one, may_have_coin, shifted};
 use stab_frames::{FrameWalk, KeptStrings, Stop};
@@ -38,11 +35,11 @@ enum Passage {
     Stopped,
     /// It is there, and may have ended.
     Arrived,
-    /// It is there but for its tableau, and the runs differ still: a copy was laid.
+    /// It is there except for its tableau, and the runs differ still: a copy was laid.
     Passed,
 }
 
-/// Whether a frame that leads a run with this number of the next coin from an old copy on may end where it is gone: the old run is
+/// Whether a frame that leads a run with this number of the next coin from an old copy on may end if it is gone: the old run is
 /// kept from there on, if it can be joined, or both have the same coins.
 fn can_end(joins: bool, coin: usize, from: &Checkpoint) -> bool
     ensures moved { result ≡ false → coin ≢ from.now.lengths.free }
@@ -50,7 +47,7 @@ fn can_end(joins: bool, coin: usize, from: &Checkpoint) -> bool
     joins || coin == from.lengths.free
 }
 
-/// Whether a frame that stopped so may have ended: it is gone or flipped nothing, if it may end at all.
+/// Whether a frame that stopped in this way may have ended: it is gone or flipped nothing, if it may end at all.
 fn may_have_ended(stop: Stop, may_end: bool, flips: &[bool]) -> bool
     ensures gone { stop ≡ Gone → result ≡ true }
     ensures goes_on { result ≡ false → (may_end ≡ false) ⊎ (1 ≤ ones flips.now) }
@@ -59,15 +56,14 @@ fn may_have_ended(stop: Stop, may_end: bool, flips: &[bool]) -> bool
 }
 
 impl<'a> Replay<'a> {
-    /// Goes on by a frame to the place of the old copy with a number, and lays a turned copy there where the runs differ.
-    /// Nothing reads the tableau while a frame leads: it lags behind the copies that were laid on the way, and is
-    /// written where the frame may have ended, which it does only where the old run can be joined or has the same coins.
+    /// Goes on by a frame to the place of the old copy with a number, and lays a turned copy there if the runs differ.
+    /// Nothing reads the tableau while a frame leads: it is not brought up to date with the copies that were laid on the way, and is
+    /// written if the frame may have ended, which it does only if the old run can be joined or has the same coins.
     ///
     /// Refusal `OutOfMemory` alone.
     fn pass_copy(
         &mut self,
         alloc: Global,
-        outlined: &OutlinedSteps<'a, '_>,
         copies: &[Checkpoint],
         old: &Outputs,
         strings: &KeptStrings,
@@ -76,7 +72,6 @@ impl<'a> Replay<'a> {
         walk: &mut FrameWalk,
         joins: bool,
     ) -> Result<Passage, Refusal>
-        requires same_steps { outlined.now ≡ self.old.cursor.all }
         requires number { 1 ≤ number }
         requires within { number < length copies.now }
         requires fits { All (StepFits self.old.tableau.qubits) self.old.cursor.all }
@@ -95,7 +90,7 @@ impl<'a> Replay<'a> {
         let to = &copies[number];
         let from = &copies[number - 1];
         let may_end = can_end(joins, self.outputs.free.len(), from);
-        let stop = self.frame_to(alloc, outlined, old, strings, plan, from, to, walk, may_end)?;
+        let stop = self.frame_to(old, strings, plan, from, to, walk, may_end)?;
         if stop == Stop::NoString {
             return Ok(Passage::Stopped);
         }
@@ -112,7 +107,7 @@ impl<'a> Replay<'a> {
         Ok(Passage::Passed)
     }
 
-    /// Writes the state of the last copy laid into the tableau, where a copy was passed.
+    /// Writes the state of the last copy laid into the tableau, if a copy was passed.
     ///
     /// Refusal `OutOfMemory` alone.
     pub(crate) fn catch_up(&mut self, alloc: Global, passed: bool) -> Result<(), Refusal>
@@ -130,14 +125,13 @@ impl<'a> Replay<'a> {
     }
 
     /// Leads a frame that begins at the old copy before this one, at whose place a copy was laid last,
-    /// from old copy to old copy. It ends where a copy is too far or a string is missing, behind the last
+    /// from old copy to old copy. It ends if a copy is too far or a string is missing, after the last
     /// copy, or at one where it may have ended.
     ///
     /// Refusal `OutOfMemory` alone.
     fn lead(
         &mut self,
         alloc: Global,
-        outlined: &OutlinedSteps<'a, '_>,
         copies: &[Checkpoint],
         old: &Outputs,
         strings: &KeptStrings,
@@ -145,7 +139,6 @@ impl<'a> Replay<'a> {
         next: usize,
         walk: FrameWalk,
     ) -> Result<Led, Refusal>
-        requires same_steps { outlined.now ≡ self.old.cursor.all }
         requires number { 1 ≤ next }
         requires within { next ≤ length copies.now }
         requires fits { All (StepFits self.old.tableau.qubits) self.old.cursor.all }
@@ -168,9 +161,7 @@ impl<'a> Replay<'a> {
         let coin = self.outputs.free.len();
         let joins = may_have_coin(&copies[next - 1], old.free.as_slice(), coin);
         for number in next..copies.len() {
-            match self.pass_copy(
-                alloc, outlined, copies, old, strings, plan, number, &mut walk, joins,
-            )? {
+            match self.pass_copy(alloc, copies, old, strings, plan, number, &mut walk, joins)? {
                 Passage::Passed => passed = true,
                 Passage::Arrived => return Ok(Led {
                     next: number,
@@ -222,7 +213,7 @@ impl<'a> Replay<'a> {
         if copy.step < plan.old_end || shifted(plan.old_end, plan.new_end, copy.step) != self.step {
             return Ok(None);
         }
-        // Where it would stop at once, no frame is looked for.
+        // If it would stop at once, no frame is looked for.
         let flags = flags_between(old, copy, &copies[next]);
         if !coins_serve(self.outputs.free.len(), copy, flags) {
             return Ok(None);
@@ -233,8 +224,7 @@ impl<'a> Replay<'a> {
     }
 
     /// Goes on by a frame from the place of the old copy before this one, where a copy was laid last, as
-    /// far as it leads. Where there is none, old copies at which no more of the old run can be kept are passed. Sections are of the old
-    /// run's steps.
+    /// far as it leads. If there is none, old copies at which no more of the old run can be kept are passed.
     ///
     /// Refusal `OutOfMemory` alone.
     pub(crate) fn frame_on(
@@ -245,13 +235,11 @@ impl<'a> Replay<'a> {
         copies: &[Checkpoint],
         old: &Outputs,
         strings: &KeptStrings,
-        sections: &[Section],
         plan: Plan,
         next: usize,
     ) -> Result<Led, Refusal>
         requires same_circuit { unroll (circuit_items circuit.now) ≡ self.old.cursor.all }
         requires checked { check_of (circuit_items circuit.now) ≡ None }
-        requires sections { All (IsSectionBehind plan.old_end plan.new_end self.old.cursor.all) sections.now }
         requires next { next ≤ length copies.now }
         requires stride { 1 ≤ plan.stride }
         requires fits { All (StepFits self.old.tableau.qubits) self.old.cursor.all }
@@ -273,8 +261,7 @@ impl<'a> Replay<'a> {
     {
         match self.frame_at(alloc, copies, old, plan, next)? {
             Some(walk) => {
-                let outlined = OutlinedSteps::new(circuit, sections, plan.old_end, plan.new_end);
-                let led = self.lead(alloc, &outlined, copies, old, strings, plan, next, walk)?;
+                let led = self.lead(alloc, copies, old, strings, plan, next, walk)?;
                 self.cursor = Cursor::at(alloc, circuit, self.step)?;
                 Ok(led)
             }

@@ -1,17 +1,15 @@
 //! Replays: runs that begin at a copy of an older run's state, and may meet the older run again.
 //!
-//! In the order in which data flows; each module uses only those before it, but that `framed`, `led`,
+//! In the order in which data flows; each module uses only those before it, except that `framed`, `led`,
 //! `moved`, `laying`, `rhythm`, `again` and `turned` add calls to the replay of `replay`:
 //!
-//! - `sections`: outlines of parts of a run's steps, and where they stand once some steps are others.
-//! - `outlined`: the steps of a circuit, some of which have outlines.
 //! - `framed`: a replay that goes on by a frame, from a copy of an older run to the next one.
 //! - `led`: a replay that a frame leads from copy to copy, as far as it can.
 //! - `moved`: old copies that a replay passes, since it agrees with the old run at none of them.
 //! - `laying`: where a replay lays copies of the state, and what these share.
-//! - `rhythm`: where a replay stops next, so that its copies stand alike in each round of a block.
-//! - `again`: a replay that stands in a block where it stood before, and gives the same again.
-//! - `turned`: a replay that stands so but for a frame, and gives the same again, flipped.
+//! - `rhythm`: where a replay stops next, so that its copies are alike in each round of a block.
+//! - `again`: a replay that is in a block as it was before, and gives the same again.
+//! - `turned`: a replay that is so except for a frame, and gives the same again, flipped.
 //! - `replay`: a run from a copy on, up to a copy of an older run that it meets.
 //!
 //! Copies are `stab_copies`', runs themselves, with their coins and laws, `stab_run`'s, and frames
@@ -19,8 +17,8 @@
 //!
 //! Source: how a run is replayed is this project's own.
 //!
-//! Proved: what a replay holds is the run of the steps behind it from the first one on, with copies of the
-//! state at most a stride apart on its way (`specs/Replays.antt`); it ends behind the last step, or at the
+//! Proved: what a replay holds is the run of the steps after it from the first one on, with copies of the
+//! state at most a stride apart on its way (`specs/Replays.antt`); it ends after the last step, or at the
 //! first old copy that it comes to at which the old run goes on as it would, and a frame leads it only over
 //! steps of such an old run (`specs/FramedReplays.antt`). `specs/inner/` has what only private contracts
 //! cite.
@@ -31,14 +29,9 @@ mod framed;
 mod laying;
 mod led;
 mod moved;
-mod outlined;
 mod replay;
 mod rhythm;
-mod sections;
 mod turned;
 
 pub use framed::turned_copy;
-pub use outlined::OutlinedSteps;
 pub use replay::{End, Plan, Replay};
-pub use rhythm::{block_at, end_of};
-pub use sections::{Section, move_sections};

@@ -12,14 +12,14 @@ use stab_copies::{Checkpoint, has_one, shifted};
 use stab_frames::between;
 use stab_run::Outputs;
 
-/// Where a block has so many periods left, in which copies may stand alike, its rounds come again in less time than a frame of many
+/// If a block has this many periods left, in which copies may be alike, its rounds come again in less time than a frame of many
 /// letters takes from copy to copy.
 const MANY_PERIODS: usize = 16;
 
 impl Plan {
     ghost use Rattle.std.specs.Prelude.{◌≡◌, ℕ, ◌<◌, ◌≤◌, IfSome, length, slice_get};
 
-    /// The number of the first old copy, from one on, that stands before some old step, or not before some new one.
+    /// The number of the first old copy, from one on, that is before some old step, or not before some new one.
     fn first_from(self, copies: &[Checkpoint], next: usize, begin: usize, end: usize) -> usize
         requires next { next ≤ length copies.now }
         ensures order { next ≤ result }
@@ -36,7 +36,7 @@ impl Plan {
     }
 }
 
-/// By what a replay that stands at the place of an old copy may be told apart from the old run.
+/// By what a replay that is at the place of an old copy may be known to differ from the old run.
 #[derive(Clone, Copy, PartialEq, Eq)]
 pub(crate) enum Telling {
     /// The number of the next coin.
@@ -53,7 +53,7 @@ fn are_same(bits: &[bool], others: &[bool]) -> bool
 }
 
 impl<'a> Replay<'a> {
-    /// Whether the replay stands at the place of the old copy before the one that may be met next, and is told apart there from the old
+    /// Whether the replay is at the place of the old copy before the one that may be met next, and is known to differ there from the old
     /// run: so it agrees with it at no later copy.
     fn is_apart(
         &self,
@@ -93,10 +93,10 @@ impl<'a> Replay<'a> {
         Some(end)
     }
 
-    /// Passes old copies in the block of the replay's step at which no more of the old run can be kept: where it is told apart from that by
-    /// the number of its next coin, and coins decide behind these copies; or, as it has not met the copy at whose place it stands, by its
+    /// Passes old copies in the block of the replay's step at which no more of the old run can be kept: if it is known to differ from that by
+    /// the number of its next coin, and coins decide after these copies; or, as it has not met the copy at whose place it is, by its
     /// records too, since what differs there most likely differs up to the block's end. So the block's rounds may come again, as
-    /// those of a run that is opened do. Tells which old copy may be met next.
+    /// those of a run that is opened do. Says which old copy may be met next.
     pub(crate) fn pass_apart(
         &self,
         repeats: &[Repeat],

@@ -7,12 +7,10 @@ ghost use Rattle.stab_run.specs.Records.{ones};
 ghost use Rattle.stab_run.specs.Points.{all_coins_of};
 ghost use Rattle.stab_run.specs.ProgramStates.{StepFits, output_of};
 ghost use Rattle.stab_replay.specs.Replays.{IsAtStep, IsReplay, Ascending, spacing_of, IsEnd, EndsSoon, IsAtStop, IsOnWay, StopsAt, copies_passed};
-ghost use Rattle.stab_replay.specs.Sections.{IsSectionBehind};
 ghost use Rattle.stab_replay.specs.inner.Arrivals.{IsArrival};
 ghost use Rattle.stab_replay.specs.FramedReplays.{IsOldRun};
 
 use crate::moved::Telling;
-use crate::sections::Section;
 use stab_circuit::{Circuit, Cursor, Repeat};
 use stab_copies::{Checkpoint, meets, shifted};
 use stab_frames::{KeptStrings, RunNotes, run_noting};
@@ -32,11 +30,11 @@ pub struct Replay<'a> {
     /// What it notes of its steps, from the first on.
     pub notes: RunNotes,
     pub cursor: Cursor<'a>,
-    /// How many steps of the circuit are behind.
+    /// How many steps of the circuit are past.
     pub step: usize,
     /// How many steps were carried out.
     pub applied: u64,
-    /// How many a frame went over.
+    /// How many a frame passed.
     pub framed: u64,
     /// The copies laid on the way.
     pub laid: Vec<Checkpoint>,
@@ -53,15 +51,15 @@ pub struct Plan {
     pub new_end: usize,
     /// The first old copy that may be met.
     pub next: usize,
-    /// So many records are those of the old run.
+    /// This many records are those of the old run.
     pub base: usize,
-    /// The old steps look back to no more records than so many.
+    /// The old steps look back to no more records than this many.
     pub reach: u32,
 }
 
 /// How a replay ended.
 pub enum End {
-    /// Behind the last step.
+    /// After the last step.
     Last,
     /// At the old copy with this number, from which on the old run went on as the new one would.
     Joined(usize),
@@ -71,7 +69,7 @@ pub enum End {
 enum Arrival {
     /// The old copy that might be met next, and it meets it.
     Met,
-    /// The end: it is behind the last step.
+    /// The end: it is after the last step.
     Behind,
     /// Neither, and the old copy with this number may be met next.
     Between(usize),
@@ -82,7 +80,7 @@ impl Plan {
     ghost use Rattle.std.specs.Option.{option_map};
     ghost use Rattle.stab_replay.specs.Replays.{step_among_new, spacing_of, next_stop};
 
-    /// Where the old copy with a number stands among the new steps, if there is one.
+    /// Where the old copy with a number is among the new steps, if there is one.
     pub(crate) fn place(self, copies: &[Checkpoint], number: usize) -> Option<usize>
         ensures value { result ≡ option_map (step_among_new self) (slice_get copies.now number) }
     {
@@ -174,7 +172,7 @@ impl<'a> Replay<'a> {
         Ok(())
     }
 
-    /// What the replay comes to at its step, where this old copy may be met next.
+    /// What the replay comes to at its step, if this old copy may be met next.
     ///
     /// Refusal `OutOfMemory` alone.
     fn arrive(
@@ -214,7 +212,7 @@ impl<'a> Replay<'a> {
         }
     }
 
-    /// Goes on by a frame where one leads on, and else carries out steps up to the next stop. Tells which
+    /// Goes on by a frame if one leads on, and else carries out steps up to the next stop. Says which
     /// old copy may be met next.
     ///
     /// Refusal `OutOfMemory` alone.
@@ -226,7 +224,6 @@ impl<'a> Replay<'a> {
         copies: &[Checkpoint],
         old: &Outputs,
         strings: &KeptStrings,
-        sections: &[Section],
         plan: Plan,
         next: usize,
         coins: &mut C,
@@ -234,7 +231,6 @@ impl<'a> Replay<'a> {
         requires old { IsOldRun self.old.tableau.qubits (C.sequence coins.old) plan self.old.cursor.all copies.now (output_of old.now) strings.now }
         requires same_circuit { unroll (circuit_items circuit.now) ≡ self.old.cursor.all }
         requires checked { check_of (circuit_items circuit.now) ≡ None }
-        requires sections { All (IsSectionBehind plan.old_end plan.new_end self.old.cursor.all) sections.now }
         requires fits { All (StepFits self.old.tableau.qubits) self.old.cursor.all }
         requires total { plan.total ≡ length self.old.cursor.all }
         requires few { plan.total ≤ most_steps }
@@ -261,9 +257,7 @@ impl<'a> Replay<'a> {
         ensures err { IfErr result (λ r. r ≡ OutOfMemory) }
     {
         let next = self.pass_apart(repeats, plan, copies, old, next, Telling::Coins);
-        let led = self.frame_on(
-            alloc, circuit, repeats, copies, old, strings, sections, plan, next,
-        )?;
+        let led = self.frame_on(alloc, circuit, repeats, copies, old, strings, plan, next)?;
         if !led.there {
             let place = plan.place(copies, led.next);
             let stops = self.stops(repeats, plan, place);
@@ -272,9 +266,9 @@ impl<'a> Replay<'a> {
         Ok(led.next)
     }
 
-    /// Carries out steps until the replay meets an old copy or is behind the last step, and lays
+    /// Carries out steps until the replay meets an old copy or is after the last step, and lays
     /// copies on the way: one for each spacing, and one for each old copy that it passes, at most. In repeats of the
-    /// circuit's steps it gives again what it gave where it stands as it stood rounds before. Sections are of the old run's steps.
+    /// circuit's steps it gives again what it gave if it is as it was rounds before.
     pub fn follow<C: Coins>(
         &mut self,
         alloc: Global,
@@ -283,13 +277,11 @@ impl<'a> Replay<'a> {
         copies: &[Checkpoint],
         old: &Outputs,
         strings: &KeptStrings,
-        sections: &[Section],
         plan: Plan,
         coins: &mut C,
     ) -> Result<End, Refusal>
         requires begun { IsReplay self.old.tableau.qubits (C.sequence coins.old) plan.stride self.old.step self.old.cursor.all self.old }
         requires nothing_laid { self.old.laid.items ≡ [] }
-        requires sections { All (IsSectionBehind plan.old_end plan.new_end self.old.cursor.all) sections.now }
         requires fits { All (StepFits self.old.tableau.qubits) self.old.cursor.all }
         requires total { plan.total ≡ length self.old.cursor.all }
         requires few { plan.total ≤ most_steps }
@@ -320,13 +312,13 @@ impl<'a> Replay<'a> {
         ensures err { IfErr result (λ r. r ≡ OutOfMemory) }
     {
         let mut next = plan.next;
-        // The stabiliser that told the state apart from a copy last, which most likely tells it apart from the next one too.
+        // The stabiliser that distinguished the state from a copy last, which most likely distinguishes it from the next one too.
         let mut telling = 0;
         // What copies are expanded into, so that memory for it is asked for once at most.
         let mut spare: Option<Tableau> = None;
         'following: loop {
             let reached = self.advance(
-                alloc, circuit, repeats, copies, old, strings, sections, plan, next, coins,
+                alloc, circuit, repeats, copies, old, strings, plan, next, coins,
             )?;
             match self.arrive(alloc, copies, old, plan, reached, &mut spare, &mut telling)? {
                 Arrival::Met => return Ok(End::Joined(reached)),

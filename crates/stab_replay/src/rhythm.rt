@@ -5,10 +5,10 @@ ghost use Rattle.stab_circuit.specs.Repeats.{AreRepeats, IsRepeat};
 use crate::replay::{Plan, Replay};
 use stab_circuit::Repeat;
 
-/// Within so many copies at most whole rounds are gone through.
+/// Within this many copies at most whole rounds are gone through.
 const MOST_COPIES: usize = 32;
 
-/// At which places a replay lays copies in a block: so that they stand alike in later rounds.
+/// At which places a replay lays copies in a block: so that they are alike in later rounds.
 #[derive(Clone, Copy)]
 pub(crate) struct Rhythm {
     /// How many steps some whole rounds have.
@@ -24,7 +24,7 @@ pub(crate) struct Stops {
     pub most: usize,
 }
 
-/// The block in which a step lies, if there is one among these, which stand one behind the other.
+/// The block in which a step lies, if there is one among these, which are one after the other.
 pub fn block_at(repeats: &[Repeat], step: usize) -> Option<Repeat>
     ensures found { (from : ℕ) (steps : List Step) → AreRepeats from steps repeats.now → IfSome result (IsRepeat steps) }
 {
@@ -41,7 +41,7 @@ pub fn block_at(repeats: &[Repeat], step: usize) -> Option<Repeat>
     None
 }
 
-/// The step behind the last round of a block.
+/// The step after the last round of a block.
 pub fn end_of(block: Repeat) -> usize
     ensures within { result ≤ block.first + block.rounds * block.length }
 {
@@ -51,8 +51,8 @@ pub fn end_of(block: Repeat) -> usize
         .saturating_add(block.first)
 }
 
-/// The fewest copies on the way through whole rounds of so many steps, if each may stand no less than some and no more than other
-/// steps behind the one before it.
+/// The fewest copies on the way through whole rounds of this many steps, if each may be no less than some and no more than other
+/// steps after the one before it.
 fn rhythm_of(length: usize, least: usize, most: usize) -> Option<Rhythm>
     requires some { 0 < length }
     ensures some { IfSome result (λ r. 0 < r.copies) }
@@ -72,7 +72,7 @@ fn rhythm_of(length: usize, least: usize, most: usize) -> Option<Rhythm>
 impl Plan {
     ghost use Rattle.std.specs.Prelude.{◌<◌, ◌≤◌, IfSome};
 
-    /// At which places copies are laid in a block so that they stand alike in later rounds, if these are not too long for that.
+    /// At which places copies are laid in a block so that they are alike in later rounds, if these are not too long for that.
     pub(crate) fn rhythm(self, block: Repeat) -> Option<Rhythm>
         requires stride { 1 ≤ self.stride }
         ensures some { IfSome result (λ r. 0 < r.copies) }
@@ -89,7 +89,7 @@ impl<'a> Replay<'a> {
     ghost use Rattle.std.specs.Prelude.{◌≡◌, ◌⊎◌, ◌+◌, ◌<◌, ◌≤◌, Some, IfSome};
     ghost use Rattle.stab_replay.specs.Replays.{spacing_of};
 
-    /// Where the next copy stands well in a block: some whole rounds behind another one, if there is one that lies so far back.
+    /// Where the next copy is placed well in a block: some whole rounds after another one, if there is one that lies so far back.
     fn aim(&self, block: Repeat, rhythm: Rhythm) -> usize
         requires some { 0 < rhythm.copies }
     {
@@ -104,7 +104,7 @@ impl<'a> Replay<'a> {
         copy.step.saturating_add(rhythm.period)
     }
 
-    /// The next place of a copy, between two stops, that stands well in the block of the step, if the step lies in one.
+    /// The next place of a copy, between two stops, that is well in the block of the step, if the step lies in one.
     fn aim_between(
         &self,
         repeats: &[Repeat],

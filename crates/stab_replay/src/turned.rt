@@ -27,14 +27,14 @@ use stab_io::Refusal;
 use stab_run::{Addition, Coins, Lengths, Outputs};
 use std::alloc::{AllocError, Global};
 
-/// A frame by which a replay differs from where it stood at the laid copy with a number.
+/// A frame by which a replay differs from where it was at the laid copy with a number.
 #[derive(Drop)]
 struct Turned {
     number: usize,
     walk: FrameWalk,
 }
 
-/// Puts behind a list of bits again what stands in it from one place to another, flipped.
+/// Puts after a list of bits again what is in it from one place to another, flipped.
 fn append_turned(
     alloc: Global,
     list: &mut Vec<bool>,
@@ -48,7 +48,7 @@ fn append_turned(
     append_flipped(list, part.as_slice(), flips)
 }
 
-/// So it does with additions to observables.
+/// The same for additions to observables.
 fn append_turned_additions(
     alloc: Global,
     list: &mut Vec<Addition>,
@@ -62,7 +62,7 @@ fn append_turned_additions(
     append_flipped_additions(list, part.as_slice(), flips)
 }
 
-/// Gives again what was given from some lengths of the lists to others, flipped as a frame says that had gone over so much before.
+/// Gives again what was given from some lengths of the lists to others, flipped as a frame says that had passed this much before.
 fn give_turned(
     alloc: Global,
     outputs: &mut Outputs,
@@ -98,7 +98,7 @@ fn give_turned(
     Ok(())
 }
 
-/// Puts strings behind the others again, from the one with a number up to another's, as far as there may be as many.
+/// Puts strings after the others again, from the one with a number up to another's, as far as there may be as many.
 ///
 /// Refusal `OutOfMemory` alone.
 fn note_again(
@@ -145,7 +145,7 @@ impl<'a> Replay<'a> {
         Some(asked)
     }
 
-    /// Whether the replay stands in a block some whole rounds behind a copy.
+    /// Whether the replay is in a block some whole rounds after a copy.
     pub(crate) fn is_rounds_behind(&self, block: Repeat, copy: &Checkpoint) -> bool
         requires some { 0 < block.length }
         ensures value { IsTrue result → IsRoundsBehind block self.now.step copy.now }
@@ -157,7 +157,7 @@ impl<'a> Replay<'a> {
         steps / block.length * block.length == steps
     }
 
-    /// The frame by which the replay differs from where it stood at the laid copy with a number, if the rows have the same letters.
+    /// The frame by which the replay differs from where it was at the laid copy with a number, if the rows have the same letters.
     ///
     /// Refusal `OutOfMemory` alone.
     fn frame_again(&mut self, alloc: Global, number: usize) -> Result<Option<FrameWalk>, Refusal>
@@ -183,7 +183,7 @@ impl<'a> Replay<'a> {
         )
     }
 
-    /// The newest laid copy in a block, with another one behind it, at which the replay stood as it stands now but for a frame, and
+    /// The newest laid copy in a block, with another one after it, at which the replay stood as it is now except for a frame, and
     /// the frame.
     ///
     /// Refusal `OutOfMemory` alone.
@@ -198,7 +198,7 @@ impl<'a> Replay<'a> {
     {
         let last = self.laid.len().saturating_sub(1);
         'looking: for number in (last.saturating_sub(LOOKED_BACK)..last).rev() {
-            // Where it would stop at once, no frame is looked for.
+            // If it would stop at once, no frame is looked for.
             if self.is_rounds_behind(block, &self.laid[number])
                 && all_recorded(self.laid[number].lengths, self.laid[number + 1].lengths)
             {
@@ -211,7 +211,7 @@ impl<'a> Replay<'a> {
     }
 
     /// Gives again, flipped, what was given from the laid copy with a number to the next one, if these are a spacing apart and that is
-    /// not behind an end, and lays a turned copy. Tells whether it did. The tableau stays as it is.
+    /// not after an end, and lays a turned copy. Says whether it did. The tableau stays as it is.
     ///
     /// Refusal `OutOfMemory` alone.
     fn turn_once<C: Coins>(
@@ -278,7 +278,7 @@ impl<'a> Replay<'a> {
     }
 
     /// Gives again, flipped, from the laid copy with a number on, what was given since, as often as there is room before an end, and
-    /// lays copies. Tells whether it did. The tableau stays as it is.
+    /// lays copies. Says whether it did. The tableau stays as it is.
     ///
     /// Refusal `OutOfMemory` alone.
     fn turn_on<C: Coins>(
@@ -318,8 +318,8 @@ impl<'a> Replay<'a> {
         }
     }
 
-    /// Goes on in a block by what the replay gave before, flipped, where it stands but for a frame as it stood at a copy that it laid
-    /// there: where coins decide in each round the signs of the rows differ, and a frame with the coins' own bits tells what comes.
+    /// Goes on in a block by what the replay gave before, flipped, if it is as it was at a copy that it laid there,
+    /// except for a frame: if coins decide in each round the signs of the rows differ, and a frame with the coins' own bits gives what comes.
     ///
     /// Refusal `OutOfMemory` alone.
     pub(crate) fn come_turned<C: Coins>(

@@ -7,19 +7,19 @@ use Rattle.stab_tables.specs.Texts.{texts_joined}
 pub one_text_joined : (t : List ℕ) → texts_joined (t ∷ []) ≡ t
 one_text_joined t = append-nil t
 
--- a reply behind the number of its lines
+-- a reply after the number of its lines
 pub told_text : (number text : List ℕ) → texts_joined (codes "ok " ∷ number ∷ codes "\n" ∷ text ∷ []) ≡ codes "ok " ++ (number ++ (codes "\n" ++ text))
 told_text number text = ap (λ t. codes "ok " ++ (number ++ (codes "\n" ++ t))) (append-nil text)
 
--- a line of numbers behind the words of the first line
+-- a line of numbers after the words of the first line
 pub greeting_text : (line : List ℕ) → texts_joined (codes "ready 1 " ∷ line ∷ []) ≡ codes "ready 1 " ++ line
 greeting_text line = ap (λ t. codes "ready 1 " ++ t) (append-nil line)
 
--- two numbers and what stands behind them
+-- two numbers and what is after them
 pub two_numbers_text : (first second behind : List ℕ) → texts_joined (first ∷ codes " " ∷ second ∷ behind ∷ []) ≡ first ++ (codes " " ++ (second ++ behind))
 two_numbers_text first second behind = ap (λ t. first ++ (codes " " ++ (second ++ t))) (append-nil behind)
 
--- four texts, one put behind the other
+-- four texts, one put after the other
 pub four_texts : {a b c d e : List ℕ} (first second third last : List ℕ) → a ≡ [] → b ≡ a ++ first → c ≡ b ++ second → d ≡ c ++ third → e ≡ d ++ last
     → e ≡ first ++ (second ++ (third ++ last))
 four_texts first second third last none one two three four =
@@ -28,11 +28,11 @@ four_texts first second third last none one two three four =
     ∙ append_assoc (first ++ second) third last
     ∙ append_assoc first second (third ++ last)
 
--- nothing put behind a text
+-- nothing put after a text
 pub nothing_behind : (text : List ℕ) → text ≡ text ++ []
 nothing_behind text = sym (append-nil text)
 
--- where the line end stands alone there is no entry
+-- if the line end is alone there is no entry
 pub no_entry : (entries : List ℕ) → length (entries ++ 10 ∷ []) ≡ 1 → entries ++ 10 ∷ [] ≡ drop 1 entries ++ 10 ∷ []
 no_entry [] e = refl
 no_entry (b ∷ []) e = absurd (cc)

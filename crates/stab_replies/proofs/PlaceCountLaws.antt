@@ -26,7 +26,7 @@ none_dropped : (k : ℕ) → drop {A = Step} k [] ≡ []
 none_dropped zero = refl
 none_dropped (suc k) = refl
 
--- a cut number of steps is that of all where no more are cut off than there are
+-- a cut number of steps is that of all if no more are cut off than there are
 taken_capped : (n c : ℕ) (xs : List Step) → length xs ≤ c → take (min n c) xs ≡ take n xs
 taken_capped n c [] few = none_taken (min n c) ∙ sym (none_taken n)
 taken_capped zero c (x ∷ xs) few = ap (λ k. take k (x ∷ xs)) {x = min zero c} {y = zero} (omega arith)
@@ -49,7 +49,7 @@ between (suc n) (suc m) (x ∷ xs) = ap (λ k. take k (drop n xs)) {x = suc m - 
 taken_few : (n : ℕ) (xs : List Step) → length (take n xs) ≤ length xs
 taken_few n xs = omega (arith, length-take n xs)
 
--- and the same where the places are cut
+-- and the same if the places are cut
 between_capped : (n m c : ℕ) (xs : List Step) → length xs ≤ c → take (min m c - min n c) (drop (min n c) xs) ≡ drop n (take m xs)
 between_capped n m c xs few =
     between (min n c) (min m c) xs
@@ -90,18 +90,18 @@ counted_own circuit path behind first end all left own checked next at until sam
     ∙ ap counts_of (between_capped n m steps_cap steps (within_cap circuit checked))
     ∙ ap (λ l. counts_of (drop (length (steps_before path l)) (take (length (steps_before (place_behind path) l)) steps))) (sym (entries-listed circuit))
 
--- where there is no item at a place, no line is shown
+-- if there is no item at a place, no line is shown
 pub no_place : (circuit : List OneItem) (place : Path) (r : Refusal) (result : Result ReplyBytes Refusal) → IsErrAnd result (λ x. x ≡ r) → item_at place circuit ≡ Err r
     → GivesText result (place_shown (item_at place circuit) place (listed circuit))
 no_place circuit place r (Ok reply) is found = absurd is
 no_place circuit place r (Err x) is found = inr (ap (λ f. place_shown f place (listed circuit)) found ∙ ap Err (sym is))
 
--- want of memory
+-- lack of memory
 pub place_unshown : (given : Result (List ℕ) Refusal) (r : Refusal) (result : Result ReplyBytes Refusal) → IsErrAnd result (λ x. x ≡ r) → r ≡ OutOfMemory → GivesText result given
 place_unshown given r (Ok reply) is memory = absurd is
 place_unshown given r (Err x) is memory = inl (is ∙ memory)
 
--- where there is one, its line is
+-- if there is one, its line is
 pub place_told : (circuit : List OneItem) (place : Path) (x : OneItem) (before own : StepCounts) (made : Result ReplyBytes Fault) (result : Result ReplyBytes Refusal) → item_at place circuit ≡ Ok x
     → before ≡ counts_of (steps_up_to place (listed circuit)) → own ≡ counts_of (steps_at place (listed circuit)) → IfOk made (λ r. r.written ≡ place_line before own)
     → IfOk result (λ r. made ≡ Ok r) → IfErr result (λ r. r ≡ OutOfMemory) → GivesText result (place_shown (item_at place circuit) place (listed circuit))

@@ -6,7 +6,7 @@ use Rattle.stab_lines.specs.Words.{value}
 use Rattle.stab_circuit.specs.Paths.{numbers}
 use Rattle.stab_replies.specs.ScriptWords.{is_place_number, most_numbers, numbers_behind}
 
--- the numbers, where nothing forbids them and they are not too many
+-- the numbers, if nothing forbids them and they are not too many
 abbrev chosen : Bool → ℕ → List ℕ → Option (List ℕ)
 chosen allowed count numbers = if allowed && nat_le count most_numbers then Some numbers else None
 

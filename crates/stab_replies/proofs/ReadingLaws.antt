@@ -10,7 +10,7 @@ use Rattle.stab_replies.specs.Requests.{opened_in}
 abbrev reading : ScriptReader → List Request → Reading
 reading reader requests = record { reader = reader; requests = requests }
 
--- bytes behind others
+-- bytes after others
 pub read_append : (reader : ScriptReader) (xs ys : List ℕ) → read reader (xs ++ ys) ≡ then_read (read reader xs) (λ after. read after ys)
 unfolding read
 read_append reader [] ys = refl

@@ -1,4 +1,4 @@
--- Laws of requests: what the words behind `show` ask for that are none of those of one word.
+-- Laws of requests: what the words after `show` ask for, if they are none of the requests of one word.
 use Rattle.std.proofs.Common.{◌≡◌, refl, ℕ, false, List, codes}
 use Rattle.std.specs.Prelude.{bytes_eq}
 use Rattle.stab_replies.specs.Scripts.{show_by, show_of}

@@ -58,7 +58,7 @@ within_given n m factors inverted unsigned signed within same marks string sign 
     sign ∙ ap (λ s. with_sign inverted s) (string ∙ ap (λ k. string_of k factors) same) ∙ ap (λ b. with_sign b (string_of n factors)) marks in
     ap (λ b. if b then Ok (with_sign (is_inverted factors) (string_of n factors)) else Err QubitOutOfRange) within ∙ ap Ok (sym whole)
 
--- where all bytes are letters the string is that of letters
+-- if all bytes are letters the string is that of letters
 pub letters_given : (n : ℕ) (word : List ℕ) (result : Result Signed Refusal) → list_all is_letter word ≡ true → Gives result (lettered n word) → Gives result (string_without_sign n word)
 letters_given n word result all gives =
     subst (λ (x : Result Signed Refusal). Gives result x) (sym (ap (λ b. if b then lettered n word else (product_of word >>= λ factors. string_within n factors)) all)) gives

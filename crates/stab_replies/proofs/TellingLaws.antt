@@ -34,7 +34,7 @@ both_nothing a =
     ap (λ l. answer_with a.held l (a.refused || false)) (append-nil a.reply)
     ∙ ap (λ r. answer_with a.held a.reply r) (or_false a.refused)
 
--- answers to first requests and to those behind them
+-- answers to first requests and to those after them
 pub answers_then : (s : Setting) (held : Held) (xs ys : List Request) (a b : Answer)
     → IsAnswerToAll s held xs a → IsAnswerToAll s a.held ys b → IsAnswerToAll s held (xs ++ ys) (both a b)
 answers_then s held [] ys a b p q =
@@ -93,7 +93,7 @@ told_then {a} {b} {c} {o} {p} {q} xs ys first next =
       leaves = next.leaves ∙ ap (λ x. after_answer x next.answer) first.leaves ∙ ap (λ r. sitting_with a.setting next.answer.held r) (or_assoc a.refused first.answer.refused next.answer.refused);
     }
 
--- what is cut off behind some replies
+-- what is cut off after some replies
 cut_behind : {o p q : OutputView} (xs ys : List ℕ) (f : Fault) → Took o p xs → CutOff p q ys f → CutOff o q (xs ++ ys) f
 cut_behind xs ys f before (inl failed) = inl (failed.0, took_and_failed xs ys before failed.1)
 cut_behind xs ys f before (inr some) =
@@ -124,12 +124,12 @@ told_some_within {a} xs ys f some = record {
   cut = some.cut;
 }
 
--- a fault that is handed on
+-- a fault that is passed on
 pub tells_err : {T : Type 0} (old new : Sitting) (requests : List Request) (o o' : OutputView) (f : Fault) (r : Result T Fault) → IsErrAnd r (λ y. y ≡ f) → ToldSome old requests o o' f → AnswersRequests old new requests o o' r
 tells_err old new requests o o' f (Ok x) is some = absurd is
 tells_err old new requests o o' f (Err y) is some = subst (λ g. ToldSome old requests o o' g) (sym is) some
 
--- first some, then a call that tells others
+-- first some, then a call that gives others
 pub tells_behind : {T : Type 0} {a b : Sitting} {o p : OutputView} (c : Sitting) (q : OutputView) (xs ys : List Request) (r : Result T Fault) → Told a b xs o p → AnswersRequests b c ys p q r → AnswersRequests a c (xs ++ ys) o q r
 tells_behind c q xs ys (Ok x) first next = told_then xs ys first next
 tells_behind c q xs ys (Err f) first next = told_some_behind xs ys f first next

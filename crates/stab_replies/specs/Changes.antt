@@ -37,7 +37,7 @@ changes (a ∷ old) (b ∷ new) = (a ⊕ b) ∷ changes old new
 abbrev pub entries_line : Kinds → List Bool → List ℕ
 entries_line kinds bits = drop 1 (flat_map (entry kinds) (one_places bits)) ++ codes "\n"
 
--- where there are more or fewer bits of a name than before, a line of both numbers
+-- if there are more or fewer bits of a name than before, a line of both numbers
 abbrev pub count_line : (name : List ℕ) → (old new : List Bool) → List ℕ
 count_line name old new = if length old == length new then [] else name ++ (codes " " ++ (decimal (length old) ++ (codes " " ++ (decimal (length new) ++ codes "\n"))))
 

@@ -15,6 +15,6 @@ use Rattle.stab_tables.specs.Reasons.{has_bit, number_of_bit, reason_text}
 abbrev pub coins_shown : Items → List ℕ
 coins_shown items = coins_text Lines items (table_of (qubits_of items) items)
 
--- the line of a bit, as `deterministic --explain` writes it, or 12 where there is no such bit
+-- the line of a bit, as `deterministic --explain` writes it, or 12 if there is no such bit
 abbrev pub why_shown : Items → Bit → Result (List ℕ) Refusal
 why_shown items b = if has_bit items b then Ok (reason_text items (table_of (qubits_of items) items) (number_of_bit items b)) else Err PlaceOutOfRange

@@ -44,7 +44,7 @@ abbrev pub AnswersRequests : {T : Type 0} → Sitting → Sitting → List Reque
 AnswersRequests old new requests o o' (Ok x) = Told old new requests o o'
 AnswersRequests old new requests o o' (Err f) = ToldSome old requests o o' f
 
--- the requests were answered and the replies written, and the one flush behind them failed
+-- the requests were answered and the replies written, and the one flush after them failed
 pub record FlushFails (old : Sitting) (requests : List Request) (o o' : OutputView) (f : Fault) : Type 0 where
   pub answer : Answer
   pub answers : IsAnswerToAll old.setting old.held requests answer

@@ -8,8 +8,8 @@ use Rattle.stab_tables.specs.declared.unsure.Bit.TheVariants.{Detector, Observab
 use Rattle.stab_replies.specs.ScriptWords.{first_word, behind_word, is_place_number, place_of}
 
 -- that changes are counted from now on; that a round, counted from 0, is split off the block at a place; or that this is shown: the numbers of
--- the circuit, what changed of detectors and observables, what changed of records, the sign of a Pauli string, the item at a place, where
--- that stands in the unrolled circuit, the table of coins, the coins that decide a detector or an observable
+-- the circuit, what changed of detectors and observables, what changed of records, the sign of a Pauli string, the item at a place,
+-- where it is in the unrolled circuit, the table of coins, the coins that decide a detector or an observable
 pub data FramedRequest : Type 0 where
   mark : FramedRequest
   split : (place : Path) → (round : ℕ) → FramedRequest
@@ -22,25 +22,25 @@ pub data FramedRequest : Type 0 where
   coin_table : FramedRequest
   why : Bit → FramedRequest
 
--- the request, where nothing stands behind its word
+-- the request, if nothing is after its word
 abbrev pub alone : (rest : List ℕ) → FramedRequest → Option FramedRequest
 alone rest request = if length rest == 0 then Some request else None
 
--- the number of a round, where the word is a number as those of a place are
+-- the number of a round, if the word is a number as those of a place are
 abbrev pub round_of : (word : List ℕ) → Option ℕ
 round_of word = if is_place_number word then Some (value word) else None
 
--- that a round is split off the block at a place, where there are both
+-- that a round is split off the block at a place, if both are given
 abbrev pub split_of : Option Path → Option ℕ → (rest : List ℕ) → Option FramedRequest
 split_of None round rest = None
 split_of (Some place) None rest = None
 split_of (Some place) (Some round) rest = alone rest (split place round)
 
--- what the words behind `split` ask for: a place and a round
+-- what the words after `split` ask for: a place and a round
 abbrev pub framed_split : (words : List ℕ) → Option FramedRequest
 framed_split words = split_of (place_of (first_word words)) (round_of (first_word (behind_word words))) (behind_word (behind_word words))
 
--- what the word behind `show changed` asks for
+-- what the word after `show changed` asks for
 abbrev pub changed_of : (rest : List ℕ) → Option FramedRequest
 changed_of rest = if bytes_eq rest (codes "records") then Some changed_records else alone rest changed
 
@@ -48,12 +48,12 @@ changed_of rest = if bytes_eq rest (codes "records") then Some changed_records e
 abbrev pub sign_of : (word rest : List ℕ) → Option FramedRequest
 sign_of word rest = if length word == 0 then None else alone rest (sign word)
 
--- the item at a place, where there is one
+-- the item at a place, if there is one
 abbrev pub item_of : Option Path → (rest : List ℕ) → Option FramedRequest
 item_of None rest = None
 item_of (Some place) rest = alone rest (item place)
 
--- where the item at a place stands, where there is a place
+-- where the item at a place is, if there is a place
 abbrev pub counts_at : Option Path → (rest : List ℕ) → Option FramedRequest
 counts_at None rest = None
 counts_at (Some place) rest = alone rest (counts place)
@@ -68,12 +68,12 @@ abbrev pub bit_of_word : (word : List ℕ) → Option Bit
 bit_of_word [] = None
 bit_of_word (letter ∷ digits) = bit_by letter (round_of digits)
 
--- the coins that decide a bit, where there is one
+-- the coins that decide a bit, if there is one
 abbrev pub why_of : Option Bit → (rest : List ℕ) → Option FramedRequest
 why_of None rest = None
 why_of (Some bit) rest = alone rest (why bit)
 
--- what the first word behind `show`, and the rest behind that, ask for
+-- what the first word after `show`, and the rest after that, ask for
 abbrev pub framed_show : (word rest : List ℕ) → Option FramedRequest
 framed_show word rest =
     if bytes_eq word (codes "numbers") then alone rest numbers

@@ -4,7 +4,7 @@ use Rattle.std.specs.Prelude.{ℕ, Bool, true, false, List, Option, Some, None}
 use Rattle.stab_io.specs.Devices.{InputView}
 use Rattle.stab_replies.specs.Watchers.{Asked}
 
--- an input in memory that is cut into pieces: what is unread, the most that one read gives, and its reads so far, where it keeps them
+-- an input in memory that is cut into pieces: what is unread, the most that one read gives, and its reads so far, if it keeps them
 pub record LoggedBytes : Type 0 where
   pub unread : List ℕ
   pub piece : ℕ
@@ -14,7 +14,7 @@ pub record LoggedBytes : Type 0 where
 abbrev pub logged_input : LoggedBytes → InputView
 logged_input d = record { honest = true; unread = d.unread; failures = 0 }
 
--- the reads so far, where they were kept
+-- the reads so far, if they were kept
 abbrev pub log_of : Bool → List Asked → Option (List Asked)
 log_of true reads = Some reads
 log_of false reads = None

@@ -1,4 +1,4 @@
--- Place counts: where the steps of an item stand in the unrolled circuit, and how many records, detectors and coins are theirs.
+-- Place counts: where the steps of an item are in the unrolled circuit, and how many records, detectors and coins are theirs.
 -- Source: this project's own.
 use Rattle.std.specs.Prelude.{ℕ, ◌+◌, List, ◌++◌, length, take, drop, codes, decimal, Result, Ok, Err}
 use Rattle.stab_io.specs.declared.refusal.Refusal.{Refusal}
@@ -13,7 +13,7 @@ use Rattle.stab_replies.specs.declared.reply.StepCounts.{StepCounts}
 abbrev pub counts_of : List Step → StepCounts
 counts_of xs = record { steps = length xs; records = records_of xs; detectors = detectors_of xs; coins = all_coins_of xs }
 
--- the place behind another in its list
+-- the place after another in its list
 abbrev pub place_behind : Path → Path
 place_behind path = record path { place = path.place + 1 }
 
@@ -25,7 +25,7 @@ steps_up_to path items = take (length (steps_before path (entries items))) (unro
 abbrev pub steps_at : Path → Items → List Step
 steps_at path items = drop (length (steps_before path (entries items))) (steps_up_to (place_behind path) items)
 
--- two numbers with a space between them, and a text behind
+-- two numbers with a space between them, and a text after them
 abbrev pub two_numbers : (first second : ℕ) → (behind : List ℕ) → List ℕ
 two_numbers first second behind = decimal first ++ (codes " " ++ (decimal second ++ behind))
 
@@ -37,7 +37,7 @@ place_line before own =
     ++ (two_numbers before.detectors own.detectors (codes " ")
     ++ two_numbers before.coins own.coins (codes "\n")))
 
--- the line of a place, where there is an item
+-- the line of a place, if there is an item
 abbrev pub place_shown : Result OneItem Refusal → Path → Items → Result (List ℕ) Refusal
 place_shown (Ok x) path items = Ok (place_line (counts_of (steps_up_to path items)) (counts_of (steps_at path items)))
 place_shown (Err r) path items = Err r

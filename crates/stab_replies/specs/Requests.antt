@@ -21,7 +21,7 @@ framed_asked (framed_asks.Place place) = counts place
 framed_asked framed_asks.Coins = coin_table
 framed_asked (framed_asks.Why bit) = why bit
 
--- the same, where there is one
+-- the same, if there is one
 abbrev pub framed_if_any : Option FramedAsked → Option FramedRequest
 framed_if_any None = None
 framed_if_any (Some request) = Some (framed_asked request)
@@ -37,7 +37,7 @@ request_asked asks.Deterministic = deterministic
 request_asked (asks.Distance everywhere most) = distance everywhere most
 request_asked (asks.Refuse r) = refuse r
 
--- the request, where there is one
+-- the request, if there is one
 abbrev pub asked_if_any : Option Asked → List Request
 asked_if_any None = []
 asked_if_any (Some request) = request_asked request ∷ []

@@ -22,7 +22,7 @@ is_place_number word = is_number word && nat_le (length word) 18
 abbrev pub most_numbers : ℕ
 most_numbers = 17
 
--- the numbers of a place whose first numbers are these, where the words are numbers and none is too many
+-- the numbers of a place whose first numbers are these, if the words are numbers and none is too many
 abbrev pub numbers_behind : List ℕ → List (List ℕ) → Option (List ℕ)
 numbers_behind numbers words = if list_all is_place_number words && nat_le (length numbers + length words) most_numbers then Some (numbers ++ map value words) else None
 
@@ -30,7 +30,7 @@ numbers_behind numbers words = if list_all is_place_number words && nat_le (leng
 abbrev pub path_of : List ℕ → Path
 path_of numbers = record { blocks = take (length numbers - 1) numbers; place = slice_index_or numbers (length numbers - 1) 0 }
 
--- the path, where there are numbers
+-- the path, if there are numbers
 abbrev pub path_if_any : Option (List ℕ) → Option Path
 path_if_any None = None
 path_if_any (Some numbers) = Some (path_of numbers)
@@ -39,11 +39,11 @@ path_if_any (Some numbers) = Some (path_of numbers)
 unfoldable pub place_of : List ℕ → Option Path
 place_of word = path_if_any (numbers_behind [] (slice_split (is_byte 47) word))
 
--- a text that is gathered: its bytes, or None where it went over its limit
+-- a text that is gathered: its bytes, or None if it went over its limit
 abbrev pub Gathered : Type 0
 Gathered = Option (List ℕ)
 
--- the text with these bytes behind it, where there is room for them
+-- the text with these bytes after it, if there is room for them
 abbrev pub more : (limit : ℕ) → Gathered → List ℕ → Gathered
 more limit None bytes = None
 more limit (Some text) bytes = if nat_le (length bytes) (limit - length text) then Some (text ++ bytes) else None

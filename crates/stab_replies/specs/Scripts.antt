@@ -43,8 +43,8 @@ use Rattle.stab_replies.specs.declared.request.Show.{Show}
 use Rattle.stab_replies.specs.declared.request.Show.TheVariants.{Measurements, Free, Detectors, Observables, Stabilisers, Circuit}
 
 -- what a script asks for: that it begins; that the item of a text is put in at a place, or that the item at a place is deleted, or that
--- something is shown; what only a framed script asks for, which may be the bits that are the same whatever the coins, or the distance up to
--- so many errors; or nothing, where a line is refused
+-- something is shown; what only a framed script asks for, which may be the bits that are the same for all random bits, or the distance up to
+-- this many errors; or nothing, if a line is refused
 pub data Request : Type 0 where
   begin : Request
   put : ItemEdit → (place : Path) → (text : List ℕ) → Request
@@ -55,22 +55,22 @@ pub data Request : Type 0 where
   distance : (everywhere : Bool) → (most : ℕ) → Request
   refuse : Refusal → Request
 
--- an edit that puts in an item, where there are a place and a text
+-- an edit that puts in an item, if there are a place and a text
 abbrev pub put_at : ItemEdit → Option Path → (text : List ℕ) → Request
 put_at edit None text = refuse BadCommand
 put_at edit (Some place) text = if length text == 0 then refuse BadCommand else put edit place text
 
--- a deletion, where there are a place and nothing behind it
+-- a deletion, if there are a place and nothing after it
 abbrev pub delete_at : Option Path → (text : List ℕ) → Request
 delete_at None text = refuse BadCommand
 delete_at (Some place) text = if length text == 0 then delete place else refuse BadCommand
 
--- what only a framed script asks for, where it asks for anything
+-- what only a framed script asks for, if it asks for anything
 abbrev pub framed_of : Option FramedRequest → Request
 framed_of None = refuse BadCommand
 framed_of (Some request) = ask request
 
--- that changes are counted from now on, where nothing stands behind the word
+-- that changes are counted from now on, if nothing is after the word
 abbrev pub mark_at : (rest : List ℕ) → Request
 mark_at rest = if length rest == 0 then ask mark else refuse BadCommand
 
@@ -79,11 +79,11 @@ abbrev pub distance_of : Option ℕ → (rest : List ℕ) → Request
 distance_of None rest = refuse BadCommand
 distance_of (Some most) rest = if length rest == 0 then distance false most else if bytes_eq rest (codes "everywhere") then distance true most else refuse BadCommand
 
--- what only a framed script may be shown, by the first word behind `show` and the rest behind that
+-- what only a framed script may be shown, by the first word after `show` and the rest after that
 abbrev pub show_by : (word rest : List ℕ) → Request
 show_by word rest = if bytes_eq word (codes "distance") then distance_of (round_of (first_word rest)) (behind_word rest) else framed_of (framed_show word rest)
 
--- what the words behind `show` ask for
+-- what the words after `show` ask for
 abbrev pub show_of : List ℕ → Request
 show_of word =
     if bytes_eq word (codes "measurements") then show Measurements
@@ -95,7 +95,7 @@ show_of word =
     else if bytes_eq word (codes "deterministic") then deterministic
     else show_by (first_word word) (behind_word word)
 
--- what a first word and the rest behind it ask for
+-- what a first word and the rest after it ask for
 abbrev pub request_by : (word rest : List ℕ) → Request
 request_by word rest =
     if bytes_eq word (codes "insert") then put_at Insert (place_of (first_word rest)) (behind_word rest)
@@ -159,29 +159,29 @@ begun (put edit place text) =
     else line_ended None (put edit place text ∷ [])
 begun request = line_ended None (request ∷ [])
 
--- a content that stands alone; a blank one asks for nothing
+-- a content that is alone; a blank one asks for nothing
 abbrev pub content_alone : List ℕ → Reading
 content_alone content = if length content == 0 then line_ended None [] else begun (request_of content)
 
--- a line that stands alone
+-- a line that is alone
 abbrev pub line_alone : Gathered → Reading
 line_alone None = line_ended None (refuse TooLong ∷ [])
 line_alone (Some line) = content_alone (content_of line)
 
--- how many blocks are open behind a content
+-- how many blocks are open after a content
 abbrev pub opened_behind : ℕ → List ℕ → ℕ
 opened_behind opened content = if is_close content then opened - 1 else if ends_with_byte content 123 then opened + 1 else opened
 
--- what is gathered with one more line behind it; a line over its limit neither opens nor closes, and the text is over its limit
+-- what is gathered with one more line after it; a line over its limit neither opens nor closes, and the text is over its limit
 abbrev pub gathered_with : Gathering → Gathered → Gathering
 gathered_with g None = record g { text = None }
 gathered_with g (Some line) = record g { opened = opened_behind g.opened (content_of line); text = more most_bytes (more most_bytes g.text (10 ∷ [])) (content_of line) }
 
--- what is gathered ends where its last block is closed
+-- what is gathered ends if its last block is closed
 abbrev pub line_gathered : Gathering → Reading
 line_gathered g = if g.opened == 0 then gathering_ended g else line_ended (Some g) []
 
--- a line, where this is gathered
+-- a line, if this is gathered
 abbrev pub line_behind : Option Gathering → Gathered → Reading
 line_behind None line = line_alone line
 line_behind (Some g) line = line_gathered (gathered_with g line)
@@ -220,7 +220,7 @@ read_end reader = then_read (read_last reader) (λ after. closed after.gathering
 abbrev pub empty_reader : ScriptReader
 empty_reader = record { gathering = None; line = Some [] }
 
--- what the first bytes of a script ask for: that it begins, and what stands in them
+-- what the first bytes of a script ask for: that it begins, and what is in them
 abbrev pub requests_in : List ℕ → List Request
 requests_in bytes = begin ∷ (read empty_reader bytes).requests
 
@@ -309,12 +309,12 @@ Shows n run items Observables text = text ≡ f01_bytes run.observables
 Shows n run items Stabilisers text = (rows : List Signed) × AreRowsOf n run rows × (text ≡ lines_of rows)
 Shows n run items Circuit text = text ≡ printed items
 
--- the line of the sign of a string in the group after a run, where a word stands for a string
+-- the line of the sign of a string in the group after a run, if a word stands for a string
 abbrev pub sign_shown : State → Result Signed Refusal → Result (List ℕ) Refusal
 sign_shown run (Ok p) = Ok (sign_line (sign_in (member run.trace) p))
 sign_shown run (Err r) = Err r
 
--- the text of an item, where there is one
+-- the text of an item, if there is one
 abbrev pub item_shown : Result OneItem Refusal → Result (List ℕ) Refusal
 item_shown (Ok x) = Ok (printed (before x done))
 item_shown (Err r) = Err r
@@ -337,12 +337,12 @@ framed_shown n run held (framed_asks.counts place) = place_shown (item_at place 
 framed_shown n run held framed_asks.coin_table = Ok (coins_shown held.items)
 framed_shown n run held (framed_asks.why bit) = why_shown held.items bit
 
--- what is held with such a list, or as before where the split was refused
+-- what is held with such a list, or as before if the split was refused
 abbrev pub held_split : Held → Result (List OneItem) Refusal → Held
 held_split held (Ok list) = record held { items = listed list }
 held_split held (Err r) = held
 
--- what is held behind it: `mark` and a split alone change that
+-- what is held after it: `mark` and a split alone change that
 abbrev pub held_behind : State → Held → FramedRequest → Held
 held_behind run held mark = record held { mark = mark_of run }
 held_behind run held (framed_asks.split place round) = held_split held (split place round (entries held.items))
@@ -358,25 +358,25 @@ abbrev pub framed_answer : (framed : Bool) → ℕ → State → Held → Framed
 framed_answer false n run held request = refusing held BadCommand
 framed_answer true n run held request = shown_or_refused true held (held_behind run held request) (framed_shown n run held request)
 
--- the answer to what tells which detectors and observables are the same whatever the coins, as the command `deterministic` does: a framed
+-- the answer to what says which detectors and observables are the same for all random bits, as the command `deterministic` does: a framed
 -- script is shown them, and no other
 abbrev pub IsSureAnswer : (framed : Bool) → Held → Answer → Type 0
 IsSureAnswer false held a = a ≡ refusing held BadCommand
 IsSureAnswer true held a = (text : List ℕ) × IsSureText F01 held.items text × (a ≡ replying held (reply_text true text))
 
--- what a script asks of a distance: all errors, up to so many, where each bit is the same whatever the coins
+-- what a script asks about a distance: all errors, up to this many, if each bit is the same for all random bits
 abbrev pub options_asked : (everywhere : Bool) → (most : ℕ) → DistanceOptions
 options_asked everywhere most = record { everywhere = everywhere; letters = All; graphlike = false; most = Some most; sure_only = false; progress = false }
 
 -- the answer to what asks for a distance, as the command `distance` does: a framed script is shown it, or refused for a bit that is not the
--- same whatever the coins
+-- same for all random bits
 abbrev pub IsDistanceAnswer : (framed : Bool) → Held → DistanceOptions → Answer → Type 0
 IsDistanceAnswer false held options a = a ≡ refusing held BadCommand
 IsDistanceAnswer true held options a =
     ((text : List ℕ) × IsDistanceText options held.items text × (a ≡ replying held (reply_text true text)))
     ⊎ ((u : Unsure) × IsFirstUnsure held.items u × (a ≡ refusing held NotDeterministic))
 
--- the answer to a request, where this is held
+-- the answer to a request, if this is held
 abbrev pub IsAnswer : Setting → Held → Request → Answer → Type 0
 IsAnswer s held begin a = a ≡ replying held (greeting s.framed (session_numbers s.qubits (run_held s held) held.items))
 IsAnswer s held (put how place text) a = IsPut s.framed held (λ item. edited_items s.qubits (edit_of how place item) held.items) text a
@@ -396,6 +396,6 @@ abbrev pub IsAnswerToAll : Setting → Held → List Request → Answer → Type
 IsAnswerToAll s held [] a = a ≡ replying held []
 IsAnswerToAll s held (r ∷ rs) a = (first rest : Answer) × IsAnswer s held r first × IsAnswerToAll s first.held rs rest × (a ≡ both first rest)
 
--- the answer to a whole script, where these are the items at first
+-- the answer to a whole script, if these are the items at first
 abbrev pub IsAnswerToScript : Setting → Items → (script : List ℕ) → Answer → Type 0
 IsAnswerToScript s items script a = IsAnswerToAll s (opened s items) (requests_of script) a

@@ -14,7 +14,7 @@ use Rattle.stab_lines.specs.Products.{product_of}
 use Rattle.stab_circuit.specs.Steps.{is_inverted}
 use Rattle.stab_run.specs.Runs.{string_of}
 
--- the word without its sign, where it has one
+-- the word without its sign, if it has one
 abbrev pub unsigned : List ℕ → List ℕ
 unsigned word = if starts_with_byte word 43 || starts_with_byte word 45 then drop 1 word else word
 
@@ -30,7 +30,7 @@ letter_at b = if b == 88 then letter.X else if b == 89 then letter.Y else if b =
 abbrev pub lettered : (n : ℕ) → List ℕ → Result Signed Refusal
 lettered n word = if length word == n then Ok (record { negative = false; letters = map letter_at word }) else Err BadTarget
 
--- the string of factors, where all are on qubits below n
+-- the string of factors, if all are on qubits below n
 abbrev pub string_within : (n : ℕ) → List Factor → Result Signed Refusal
 string_within n factors = if list_all (λ f. nat_lt f.qubit n) factors then Ok (with_sign (is_inverted factors) (string_of n factors)) else Err QubitOutOfRange
 

@@ -22,7 +22,7 @@ pub struct Answered {
 
 /// What answers requests: it keeps the items of a circuit and the bits at a mark, and edits and shows them.
 pub trait Answer: Drop {
-    // What answers are made by, beside what is held.
+    // What answers are made by, besides what is held.
     ghost setting: { Self → Setting };
 
     // What is held now.
@@ -67,7 +67,7 @@ impl<A: Answer> Editor<A> {
 
     /// Answers a request, and writes the reply in one go.
     ///
-    /// Fault `WriteFault` where the output failed, and `OutOfMemory`.
+    /// Fault `WriteFault` if the output failed, and `OutOfMemory`.
     pub fn tell_request<O: Output>(&mut self, out: &mut O, request: Request) -> Result<(), Fault>
         ensures reader { self.new.reader ≡ self.old.reader }
         ensures tells { AnswersRequests (sitting A.setting A.held self.old) (sitting A.setting A.held self.new) (request_asked request ∷ []) (O.seen out.old) (O.seen out.new) result }
@@ -80,7 +80,7 @@ impl<A: Answer> Editor<A> {
         }
     }
 
-    /// Answers a request, where there is one.
+    /// Answers a request, if there is one.
     fn tell<O: Output>(&mut self, out: &mut O, request: Option<Request>) -> Result<(), Fault>
         ensures reader { self.new.reader ≡ self.old.reader }
         ensures tells { AnswersRequests (sitting A.setting A.held self.old) (sitting A.setting A.held self.new) (asked_if_any request) (O.seen out.old) (O.seen out.new) result }
@@ -103,7 +103,7 @@ impl<A: Answer> Editor<A> {
 
     /// Takes bytes; what they ask for has been answered when this returns.
     ///
-    /// Fault `WriteFault` where the output failed, and `OutOfMemory`.
+    /// Fault `WriteFault` if the output failed, and `OutOfMemory`.
     pub fn take<O: Output>(&mut self, out: &mut O, piece: &[u8]) -> Result<(), Fault>
         requires few { opened_in self.old.reader.gathering + length piece.now < 2 ^ 63 }
         ensures reader { OnOk result (self.new.reader ≡ (read self.old.reader piece.now).reader) }
@@ -129,7 +129,7 @@ impl<A: Answer> Editor<A> {
 
     /// Ends the script and flushes, and says whether a line was refused.
     ///
-    /// Fault `WriteFault` where the output failed, and `OutOfMemory`.
+    /// Fault `WriteFault` if the output failed, and `OutOfMemory`.
     pub fn end<O: Output>(&mut self, out: &mut O) -> Result<bool, Fault>
         requires few { opened_in self.old.reader.gathering < 2 ^ 63 }
         ensures finishes { Finishes (sitting A.setting A.held self.old) (read_end self.old.reader).requests (O.seen out.old) (O.seen out.new) result }

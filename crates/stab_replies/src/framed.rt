@@ -29,7 +29,7 @@ pub enum FramedRequest {
     Sign(Vec<u8>),
     /// The item at a place.
     Item(Path),
-    /// Where that stands in the unrolled circuit.
+    /// Where that is in the unrolled circuit.
     Place(Path),
     /// The table of coins.
     Coins,
@@ -37,7 +37,7 @@ pub enum FramedRequest {
     Why(Bit),
 }
 
-/// The request, where nothing stands behind its word.
+/// The request, if nothing is after its word.
 fn alone(rest: &[u8], request: FramedRequest) -> Option<FramedRequest>
     ensures value { framed_if_any result ≡ alone_of rest.now (framed_asked request) }
 {
@@ -65,7 +65,7 @@ fn read_split_at(place: Path, rest: &[u8]) -> Option<FramedRequest>
     }
 }
 
-/// What the words behind `split` ask for: a place and a round.
+/// What the words after `split` ask for: a place and a round.
 pub(crate) fn read_split(rest: &[u8]) -> Option<FramedRequest>
     ensures value { framed_if_any result ≡ framed_split rest.now }
 {
@@ -76,7 +76,7 @@ pub(crate) fn read_split(rest: &[u8]) -> Option<FramedRequest>
     }
 }
 
-/// What the words behind `show changed` ask for.
+/// What the words after `show changed` ask for.
 fn read_changed(rest: &[u8]) -> Option<FramedRequest>
     ensures value { framed_if_any result ≡ changed_of rest.now }
 {
@@ -110,7 +110,7 @@ fn read_item_at(rest: &[u8]) -> Option<FramedRequest>
     }
 }
 
-/// Where the item at a place stands in the unrolled circuit.
+/// Where the item at a place is in the unrolled circuit.
 fn read_counts_at(rest: &[u8]) -> Option<FramedRequest>
     ensures value { framed_if_any result ≡ counts_at (place_of (first_of rest.now)) (behind_word rest.now) }
 {
@@ -156,7 +156,7 @@ fn read_why(rest: &[u8]) -> Option<FramedRequest>
     }
 }
 
-/// What the first word behind `show`, and the rest behind that, ask for; fault `OutOfMemory` alone.
+/// What the first word after `show`, and the rest after that, ask for; fault `OutOfMemory` alone.
 pub(crate) fn read_framed_show(
     alloc: Global,
     word: &[u8],

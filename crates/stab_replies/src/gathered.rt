@@ -8,7 +8,7 @@ use stab_io::Fault;
 use std::alloc::Global;
 use std::marker::Model;
 
-/// A text that is gathered up to a limit. Contracts see its bytes, or None where it went over; from
+/// A text that is gathered up to a limit. Contracts see its bytes, or None if it went over; from
 /// then on it takes no memory.
 #[derive(Drop)]
 pub(crate) struct Gathered {
@@ -55,7 +55,7 @@ impl Gathered {
         self.over = true;
     }
 
-    /// Puts bytes behind the text, where there is room for them; fault `OutOfMemory` alone.
+    /// Puts bytes after the text, if there is room for them; fault `OutOfMemory` alone.
     pub(crate) fn add(&mut self, limit: usize, bytes: &[u8]) -> Result<(), Fault>
         ensures adds { OnOk result (self.new ≡ more limit self.old bytes.now) }
         ensures err { IfErr result (λ f. f ≡ whole OutOfMemory) }
@@ -70,7 +70,7 @@ impl Gathered {
         Ok(())
     }
 
-    /// The bytes, where they are within the limit.
+    /// The bytes, if they are within the limit.
     pub(crate) fn text(&self) -> Option<&[u8]>
         ensures value { MatchOption result (self.now ≡ None) (λ t. self.now ≡ Some t.now) }
     {
@@ -81,7 +81,7 @@ impl Gathered {
         }
     }
 
-    /// The bytes, where they are within the limit.
+    /// The bytes, if they are within the limit.
     pub(crate) fn into_text(self) -> Option<Vec<u8>>
         ensures value { MatchOption result (self ≡ None) (λ t. self ≡ Some t.items) }
     {

@@ -9,7 +9,7 @@
 //! - `reader`: what is known between two bytes of a script.
 //! - `reply`: replies to requests.
 //! - `changes`: the bits at a mark, and what changed since.
-//! - `place_counts`: where the steps of an item stand in the unrolled circuit.
+//! - `place_counts`: where the steps of an item are in the unrolled circuit.
 //! - `signs`: the Pauli strings of words.
 //! - `editor`: a script as it comes, and each reply written in one go.
 //! - `watcher`: how a script is read beside the output of its replies.
@@ -21,7 +21,7 @@
 //! Source: this project's own.
 //!
 //! Proved: the bytes that an `Editor` takes ask for the requests that `specs/Scripts.antt` gives, and when
-//! the call returns exactly the replies to them stand written, each as `IsAnswer` there says; where the output
+//! the call returns exactly the replies to them are written, each as `IsAnswer` there says; if the output
 //! failed or memory was refused, a first part of these (`specs/Editors.antt`). Replies have the texts
 //! that `FramedReplies`, `Changes`, `PlaceCounts` and `Signs` of `specs/` give. `specs/inner/` has what only
 //! private contracts cite.

@@ -42,7 +42,7 @@ impl<'a> LoggedRead<'a> {
 /// An honest input of bytes in memory that gives them in pieces, never fails, and keeps a log of
 /// the reads that `KeepsLog` makes of it.
 ///
-/// The log is given up where memory is refused, or where a read is made without the output.
+/// The log is given up if memory is refused, or if a read is made without the output.
 #[derive(Drop)]
 pub struct LoggedInput<'a> {
     rest: &'a [u8],
@@ -76,7 +76,7 @@ impl<'a> LoggedInput<'a> {
         }
     }
 
-    /// The reads so far, oldest first, where the log was kept.
+    /// The reads so far, oldest first, if the log was kept.
     pub fn reads(&self) -> Option<&[LoggedRead<'a>]>
         ensures value { IfSome result (λ reads. self.now.log ≡ Some reads.now) }
         ensures none { result ≡ None → self.now.log ≡ None }
@@ -88,7 +88,7 @@ impl<'a> LoggedInput<'a> {
         }
     }
 
-    /// Hands over what fits into a buffer of so many bytes.
+    /// Hands over what fits into a buffer of this many bytes.
     fn next_piece(&mut self, most: usize) -> &'a [u8]
         ensures fits { length result.now ≤ most }
         ensures some { 0 < most → length result.now ≡ 0 → self.old.unread ≡ [] }

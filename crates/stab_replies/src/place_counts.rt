@@ -1,4 +1,4 @@
-//! Where the steps of an item stand in the unrolled circuit, and what they make.
+//! Where the steps of an item are in the unrolled circuit, and what they make.
 ghost use Rattle.std.specs.Prelude.{◌≡◌, ◌≤◌, ◌<◌, ◌+◌, ◌^◌, None, take, drop, IfOk, IfErr, IfSome};
 ghost use Rattle.stab_io.specs.declared.refusal.Refusal.TheVariants.{OutOfMemory};
 ghost use Rattle.stab_circuit.specs.Places.{item_at};
@@ -76,7 +76,7 @@ fn with_step(counts: StepCounts, step: Step) -> StepCounts
     }
 }
 
-/// Counts the next steps, up to so many.
+/// Counts the next steps, up to this many.
 fn count_steps(cursor: &mut Cursor, most: usize) -> StepCounts
     ensures value { result ≡ counts_of (take most cursor.old.left) }
     ensures left { cursor.new.left ≡ drop most cursor.old.left }
@@ -98,7 +98,7 @@ fn count_steps(cursor: &mut Cursor, most: usize) -> StepCounts
     counts
 }
 
-/// The place behind that of a path, where there can be one.
+/// The place after that of a path, if there can be one.
 fn place_behind(path: &Path) -> Option<Path>
     ensures value { IfSome result (λ p. p ≡ behind_of path.now) }
 {
@@ -115,7 +115,7 @@ fn place_behind(path: &Path) -> Option<Path>
 
 /// The counts of the steps before a place, and of those of the item at it.
 ///
-/// Refusal `OutOfMemory` alone: no memory holds a list so long that nothing can stand behind it.
+/// Refusal `OutOfMemory` alone: no memory holds a list so long that nothing can be after it.
 fn place_counts(
     alloc: Global,
     circuit: &Circuit,
@@ -137,7 +137,7 @@ fn place_counts(
     Ok((before, own))
 }
 
-/// The line of where the item at a place stands.
+/// The line of where the item at a place is.
 ///
 /// Refusals: those of `Circuit::item`, and `OutOfMemory`.
 pub fn show_place(alloc: Global, circuit: &Circuit, place: Path) -> Result<Reply, Refusal>

@@ -35,7 +35,7 @@ impl Model for Gathering {
     ghost view = { λ g. record { edit = g.edit; place = g.place; opened = g.opened; text = g.text } };
 }
 
-/// How many blocks are open behind a content.
+/// How many blocks are open after a content.
 fn opened_behind(opened: u64, content: &[u8]) -> u64
     requires few { opened < 2 ^ 63 }
     ensures value { result ≡ opened_of opened content.now }
@@ -51,7 +51,7 @@ fn opened_behind(opened: u64, content: &[u8]) -> u64
 }
 
 impl Gathering {
-    /// Puts one more line behind what is gathered; a line over its limit neither opens nor closes,
+    /// Puts one more line after what is gathered; a line over its limit neither opens nor closes,
     /// and the text is over its limit.
     fn add_line(&mut self, line: &Gathered) -> Result<(), Fault>
         requires few { self.old.opened < 2 ^ 63 }
@@ -117,7 +117,7 @@ impl ScriptReader {
         }
     }
 
-    /// Ends the line so far, which asks for this where no item's text begins with it.
+    /// Ends the line so far, which asks for this if no item's text begins with it.
     fn begin(&mut self, request: Request) -> Option<Request>
         ensures reader { self.new ≡ (begun_of (request_asked request)).reader }
         ensures requests { asked_if_any result ≡ (begun_of (request_asked request)).requests }
@@ -147,7 +147,7 @@ impl ScriptReader {
         }
     }
 
-    /// Ends the line so far, where it stands alone.
+    /// Ends the line so far, if it is alone.
     fn end_alone(&mut self) -> Result<Option<Request>, Fault>
         ensures reader { OnOk result (self.new ≡ (line_alone self.old.line).reader) }
         ensures requests { IfOk result (λ r. asked_if_any r ≡ (line_alone self.old.line).requests) }
@@ -168,7 +168,7 @@ impl ScriptReader {
         Ok(self.begin(request))
     }
 
-    /// Ends the line so far, which is put behind what is gathered.
+    /// Ends the line so far, which is put after what is gathered.
     fn end_gathered(&mut self, mut gathering: Gathering) -> Result<Option<Request>, Fault>
         requires few { gathering.opened < 2 ^ 63 }
         ensures reader { OnOk result (self.new ≡ (line_gathered (gathered_with gathering self.old.line)).reader) }

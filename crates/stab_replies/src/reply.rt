@@ -45,7 +45,7 @@ pub(crate) struct StepCounts {
     pub(crate) coins: usize,
 }
 
-/// A reply while it is gathered: an output in memory that grows, and fails where memory is refused.
+/// A reply while it is gathered: an output in memory that grows, and fails if memory is refused.
 /// Contracts see it as the output that it is.
 ///
 /// A fault of the calls that make one or append to it is `OutOfMemory` alone.
@@ -183,7 +183,7 @@ impl Reply {
         )
     }
 
-    /// Appends two numbers with a space between them, and a text behind.
+    /// Appends two numbers with a space between them, and a text after them.
     #[tactic(auto, using(crate::proofs::FramedReplyLaws::two_numbers_text))]
     fn add_numbers(&mut self, first: usize, second: usize, behind: &[u8]) -> Result<(), Fault>
         ensures written { OnOk result (self.new.written ≡ self.old.written ++ two_numbers first second behind.now) }
@@ -257,7 +257,7 @@ impl Reply {
         ensures err { IfErr result (λ f. f ≡ whole OutOfMemory) }
     {
         let shot = Reply::dets(alloc, kinds, bits)?;
-        // Behind `shot` a space stands before each entry, and a line end alone where there is none.
+        // After `shot`, a space comes before each entry, and a line end alone if there is none.
         let behind = shot.bytes().split_at(4).1;
         if behind.len() == 1 {
             Reply::of(alloc, &[behind])
@@ -266,7 +266,7 @@ impl Reply {
         }
     }
 
-    /// Appends a line of two numbers of bits, where these differ.
+    /// Appends a line of two numbers of bits, if these differ.
     #[tactic(auto, using(crate::proofs::FramedReplyLaws::nothing_behind))]
     pub fn add_count(&mut self, name: &[u8], old: &[bool], new: &[bool]) -> Result<(), Fault>
         ensures written { OnOk result (self.new.written ≡ self.old.written ++ count_line name.now old.now new.now) }
@@ -332,7 +332,7 @@ impl Reply {
         Ok(reply)
     }
 
-    /// Puts a row behind the reply, with its line end.
+    /// Puts a row after the reply, with its line end.
     fn add_row(&mut self, row: &Pauli) -> Result<(), Fault>
         ensures written { OnOk result (self.new.written ≡ self.old.written ++ (pauli_text row.now ++ codes "\n")) }
         ensures err { IfErr result (λ f. f ≡ whole OutOfMemory) }
@@ -351,7 +351,7 @@ impl Reply {
     }
 }
 
-/// A reply that only want of memory refuses; refusal `OutOfMemory` alone.
+/// A reply that only lack of memory refuses; refusal `OutOfMemory` alone.
 pub fn memory(reply: Result<Reply, Fault>) -> Result<Reply, Refusal>
     requires err { IfErr reply (λ f. f ≡ whole OutOfMemory) }
     ensures same { IfOk result (λ r. reply ≡ Ok r) }

@@ -18,7 +18,7 @@ use std::alloc::Global;
 pub enum ItemEdit {
     /// Before the item at a place, or last in its list.
     Insert,
-    /// In the stead of the item at a place.
+    /// In place of the item at a place.
     Replace,
 }
 
@@ -58,7 +58,7 @@ pub enum Request {
     Show(Show),
     /// What only a framed script asks for.
     Framed(FramedRequest),
-    /// Which detectors and observables are the same whatever the coins, for a framed script.
+    /// Which detectors and observables are the same for all random bits, for a framed script.
     Deterministic,
     /// The distance up to a number of errors, for a framed script: of errors everywhere, or where the
     /// circuit marks them.
@@ -105,7 +105,7 @@ fn delete_at(rest: &[u8]) -> Request
     }
 }
 
-/// What only a framed script asks for, where it asks for anything.
+/// What only a framed script asks for, if it asks for anything.
 fn framed_if_some(request: Option<FramedRequest>) -> Request
     ensures value { request_asked result ≡ framed_of (framed_if_any request) }
 {
@@ -115,7 +115,7 @@ fn framed_if_some(request: Option<FramedRequest>) -> Request
     }
 }
 
-/// That changes are counted from now on, where nothing stands behind the word.
+/// That changes are counted from now on, if nothing is after the word.
 fn mark_at(rest: &[u8]) -> Request
     ensures value { request_asked result ≡ mark_of rest.now }
 {
@@ -145,7 +145,7 @@ fn distance_up_to(most: usize, rest: &[u8]) -> Request
     }
 }
 
-/// The distance, by the words behind `show distance`.
+/// The distance, by the words after `show distance`.
 fn read_distance(rest: &[u8]) -> Request
     ensures value { request_asked result ≡ distance_of (round_of (first_of rest.now)) (behind_word rest.now) }
 {
@@ -156,7 +156,7 @@ fn read_distance(rest: &[u8]) -> Request
     }
 }
 
-/// What only a framed script may be shown, by the first word behind `show` and the rest behind that.
+/// What only a framed script may be shown, by the first word after `show` and the rest after that.
 fn read_show_by(alloc: Global, word: &[u8], rest: &[u8]) -> Result<Request, Fault>
     ensures gives { IfOk result (λ r. request_asked r ≡ show_by word.now rest.now) }
     ensures err { IfErr result (λ f. f ≡ whole OutOfMemory) }
@@ -168,7 +168,7 @@ fn read_show_by(alloc: Global, word: &[u8], rest: &[u8]) -> Result<Request, Faul
     Ok(framed_if_some(request))
 }
 
-/// What the words behind `show` ask for.
+/// What the words after `show` ask for.
 fn read_show(alloc: Global, word: &[u8]) -> Result<Request, Fault>
     ensures gives { IfOk result (λ r. request_asked r ≡ show_of word.now) }
     ensures err { IfErr result (λ f. f ≡ whole OutOfMemory) }
@@ -193,7 +193,7 @@ fn read_show(alloc: Global, word: &[u8]) -> Result<Request, Fault>
     }
 }
 
-/// What a first word and the rest behind it ask for.
+/// What a first word and the rest after it ask for.
 fn request_by(alloc: Global, word: &[u8], rest: &[u8]) -> Result<Request, Fault>
     ensures gives { IfOk result (λ r. request_asked r ≡ by_word word.now rest.now) }
     ensures err { IfErr result (λ f. f ≡ whole OutOfMemory) }

@@ -11,7 +11,7 @@ use stab_pauli::{Letter, Pauli};
 use stab_run::write_product;
 use std::alloc::Global;
 
-/// The word without its sign, where it has one.
+/// The word without its sign, if it has one.
 fn unsigned(word: &[u8]) -> &[u8]
     ensures value { result.now ≡ unsigned_of word.now }
 {
@@ -98,7 +98,7 @@ fn string_of_factors_within(alloc: Global, n: usize, factors: &[Factor]) -> Resu
     Ok(string)
 }
 
-/// The string of factors, where all are on qubits below n.
+/// The string of factors, if all are on qubits below n.
 #[tactic(auto, using(crate::proofs::SignLaws::all_within))]
 fn string_of_factors(alloc: Global, n: usize, factors: &[Factor]) -> Result<Pauli, Refusal>
     ensures gives { Gives result (string_within n factors.now) }
@@ -134,7 +134,7 @@ fn read_string_without_sign(alloc: Global, n: usize, word: &[u8]) -> Result<Paul
 /// The string of a word on n qubits: perhaps a sign, and then one letter for each qubit, or a
 /// product as `MPP` has it.
 ///
-/// Refusals: `BadTarget` for another spelling, a qubit that stands twice, or too many or too few
+/// Refusals: `BadTarget` for another spelling, a qubit that occurs twice, or too many or too few
 /// letters; `QubitOutOfRange`; `OutOfMemory`.
 #[tactic(auto, unfolding(crate::specs::Signs::string_of_word))]
 pub fn read_string(alloc: Global, n: usize, word: &[u8]) -> Result<Pauli, Refusal>

@@ -12,7 +12,7 @@ pub record NextOne (start : ℕ) (bits : List Bool) (place : ℕ) (more : List �
   pub more_is : more ≡ one_places_from (place + 1) (drop (suc zeros) bits)
   pub longer : (ending : List Bool) → one_places_from start (bits ++ ending) ≡ place ∷ one_places_from (place + 1) (drop (suc zeros) bits ++ ending)
 
--- where there is a next 1 bit
+-- if there is a next 1 bit
 pub next_one : (start : ℕ) (bits : List Bool) (place : ℕ) (more : List ℕ) → one_places_from start bits ≡ place ∷ more → NextOne start bits place more
 next_one start [] place more e = absurd (cc)
 next_one start (true ∷ bits) place more e =
@@ -32,7 +32,7 @@ next_one start (false ∷ bits) place more e =
       longer = next.longer;
     }
 
--- where there is none, the places of what follows are left
+-- if there is none, the places of what follows are left
 pub no_one : (start : ℕ) (bits ending : List Bool) → one_places_from start bits ≡ [] → one_places_from start (bits ++ ending) ≡ one_places_from (start + length bits) ending
 no_one start [] ending e = let place : start ≡ start + 0 = omega arith in ap (λ n. one_places_from n ending) place
 no_one start (true ∷ bits) ending e = absurd (cc)

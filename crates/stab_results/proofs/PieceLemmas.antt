@@ -1,4 +1,4 @@
--- A list of pieces, cut behind its first piece.
+-- A list of pieces, cut after its first piece.
 use Rattle.std.proofs.Common.{◌≡◌, ◌++◌, ◌∷◌, ℕ, List, ap, ◌∙◌, append_assoc}
 use Rattle.std.specs.List.{flat_map}
 

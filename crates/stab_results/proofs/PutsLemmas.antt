@@ -7,7 +7,7 @@ use Rattle.stab_io.specs.declared.refusal.Refusal.{Refusal}
 use Rattle.stab_io.proofs.DeviceLemmas.{WroteUpTo, wrote_none, took_more, wrote_and_failed}
 use Rattle.stab_results.specs.inner.ByteBuffer.{Puts}
 
--- of some bytes that are put behind those held, a rest is left, no call has failed so far, and others are held now
+-- of some bytes that are put after those held, a rest is left, no call has failed so far, and others are held now
 pub record Underway (old mid : OutputView) (held now bytes left : List ℕ) : Type 0 where
   pub wrote : WroteUpTo old mid (held ++ bytes) (now ++ left)
 
@@ -29,7 +29,7 @@ written_on old mid new total left part next more cut before after = (
 pub begins : (old : OutputView) (held bytes : List ℕ) → Underway old old held held bytes bytes
 begins old held bytes = record { wrote = wrote_none old (held ++ bytes) }
 
--- after a call that put a piece, what was left but for that is left
+-- after a call that put a piece, what was left except that piece is left
 pub goes_on : {old mid new : OutputView} {held now next bytes left piece more : List ℕ} → Underway old mid held now bytes left → Puts mid new now next piece (Ok tt) → left ≡ piece ++ more → Underway old new held next bytes more
 goes_on {old} {mid} {new} {held} {now} {next} {bytes} {left} {piece} {more} before call cut = record {
   wrote = written_on old mid new (held ++ bytes) (now ++ left) (now ++ piece) next more (with_piece now left piece more cut) before.wrote call.whole;

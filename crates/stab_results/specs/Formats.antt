@@ -8,7 +8,7 @@ use Rattle.stab_results.specs.declared.format.Format.TheVariants.{F01, B8, R8, H
 use Rattle.stab_results.specs.declared.format.Kinds.{Kinds}
 use Rattle.stab_results.specs.declared.format.Kinds.TheVariants.{Measurements, Detectors, Whole}
 
--- the places of the 1 bits, ascending, where the first bit has the given place
+-- the places of the 1 bits, ascending, if the first bit has the given place
 abbrev pub one_places_from : ℕ → List Bool → List ℕ
 one_places_from place [] = []
 one_places_from place (false ∷ bits) = one_places_from (place + 1) bits
@@ -39,12 +39,12 @@ b8_bytes [] = []
 b8_bytes (a ∷ b ∷ c ∷ d ∷ e ∷ f ∷ g ∷ h ∷ bits) = number (a ∷ b ∷ c ∷ d ∷ e ∷ f ∷ g ∷ h ∷ []) ∷ b8_bytes bits
 b8_bytes bits = number bits ∷ []
 
--- how many zeros stand before each 1 bit, from a place on, where these are the places of the 1 bits
+-- how many zeros are before each 1 bit, from a place on, if these are the places of the 1 bits
 abbrev pub gaps_from : ℕ → List ℕ → List ℕ
 gaps_from place [] = []
 gaps_from place (one ∷ more) = (one - place) ∷ gaps_from (one + 1) more
 
--- zeros and the 1 behind them: FF for each full 255 zeros, then the number of the rest
+-- zeros and the 1 after them: FF for each full 255 zeros, then the number of the rest
 abbrev pub run_bytes : ℕ → List ℕ
 run_bytes zeros = replicate (zeros / 255) 0xff ++ (zeros % 255) ∷ []
 
@@ -60,7 +60,7 @@ comma = 44
 abbrev pub hits_bytes : List Bool → List ℕ
 hits_bytes bits = join_with_byte comma (map decimal (one_places bits)) ++ codes "\n"
 
--- the entry of a 1 bit among so many detectors and then observables
+-- the entry of a 1 bit among this many detectors and then observables
 abbrev pub detected_entry : (count place : ℕ) → List ℕ
 detected_entry count place = if nat_lt place count then codes " D" ++ decimal place else codes " L" ++ decimal (place - count)
 

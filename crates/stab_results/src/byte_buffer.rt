@@ -11,7 +11,7 @@ const ROOM: usize = 1024;
 
 /// Bytes that are gathered on their way to an output. Contracts see those that it holds.
 ///
-/// What is held goes out where there is no room for more, and by `send` at the end.
+/// What is held goes out if there is no room for more, and by `send` at the end.
 #[derive(Drop)]
 pub(crate) struct ByteBuffer {
     bytes: [u8; ROOM],
@@ -47,7 +47,7 @@ impl ByteBuffer {
         Ok(())
     }
 
-    /// Puts one byte; what is held goes out first where there is no room.
+    /// Puts one byte; what is held goes out first if there is no room.
     pub(crate) fn push<O: Output>(&mut self, out: &mut O, byte: u8) -> Result<(), Refusal>
         ensures puts { Puts (O.seen out.old) (O.seen out.new) self.old self.new (byte ∷ []) result }
     {

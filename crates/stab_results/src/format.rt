@@ -5,7 +5,7 @@ pub enum Format {
     F01,
     /// `b8`: eight bits a byte, the least significant first.
     B8,
-    /// `r8`: one byte for each run of zeros, more where a run is long.
+    /// `r8`: one byte for each run of zeros, more if a run is long.
     R8,
     /// `hits`: the places of the 1 bits in decimal, with commas, then a line end.
     Hits,
@@ -18,8 +18,8 @@ pub enum Format {
 pub enum Kinds {
     /// All bits are measurements.
     Measurements,
-    /// So many bits are detectors, and the rest are observables.
+    /// This many bits are detectors, and the rest are observables.
     Detectors(usize),
-    /// So many bits are measurements, the next so many detectors, and the rest observables.
+    /// The first `records` bits are measurements, the next `detectors` bits are detectors, and the rest are observables.
     Whole { records: usize, detectors: usize },
 }

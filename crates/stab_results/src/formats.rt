@@ -27,7 +27,7 @@ fn number(bits: &[bool]) -> u8
     value
 }
 
-/// The entry of a 1 bit among so many detectors and then observables, in dets.
+/// The entry of a 1 bit among this many detectors and then observables, in dets.
 fn detected_entry(count: usize, place: usize) -> (&'static [u8], usize)
     ensures value { detected_entry count place ≡ result.0.now ++ decimal result.1 }
 {
@@ -101,7 +101,7 @@ impl ByteBuffer {
         self.put_run(out, bits.len() - start)
     }
 
-    /// Puts so many zeros and the 1 behind them, in r8.
+    /// Puts this many zeros and the 1 after them, in r8.
     fn put_run<O: Output>(&mut self, out: &mut O, zeros: usize) -> Result<(), Refusal>
         ensures puts { Puts (O.seen out.old) (O.seen out.new) self.old self.new (run_bytes zeros) result }
     {

@@ -10,7 +10,7 @@
 //! shot.
 //!
 //! Proved: `write_shot`, `write_entries` and `write_ones` write exactly the bytes of `specs/Formats.antt`, or a
-//! prefix of them where the output failed, and never flush.
+//! prefix of them if the output failed, and never flush.
 #![tactic(auto)]
 
 mod byte_buffer;

@@ -27,7 +27,7 @@ fn send_shot<O: Output>(
 /// With `Kinds::Detectors(count)` the first `count` bits, at most as many as there are, are
 /// detectors and the rest are observables, each kind numbered from 0; only `dets` shows the kinds.
 /// The formats are those of Stim's result format reference. Several shots are written one after
-/// another; in `b8` and `r8` nothing stands between them.
+/// another; in `b8` and `r8` nothing is between them.
 ///
 /// It does not flush. Refusal `WriteFault` alone, without a line: a prefix of the shot's bytes was
 /// then written, and nothing more is tried.
@@ -55,7 +55,7 @@ fn send_entries<O: Output>(out: &mut O, kinds: Kinds, places: &[u32]) -> Result<
     byte_buffer.send(out)
 }
 
-/// Writes the entries of the 1 bits at these places as `dets` has them, each behind a space, with
+/// Writes the entries of the 1 bits at these places as `dets` has them, each after a space, with
 /// no line end, and takes no memory.
 ///
 /// With `Kinds::Detectors(count)` the places below `count` are detectors and the others are

@@ -24,7 +24,7 @@ near-next (suc i) m k (y ∷ ks) lt e le lx =
     let no = or_parts (nat_lt m y) (list_any (nat_lt m) (take i ks)) e in
     or_from (nat_lt k y) (list_any (nat_lt k) (take (suc i) ks)) (grind (arith, no.0, le)) (near-next i m k ks (omega arith) no.1 le lx)
 
--- how far back steps look, where they may look further
+-- how far back steps look, if they may look further
 pub within-more : (m k : ℕ) (xs : List Step) → m ≤ k → All (LooksWithin m) xs → All (LooksWithin k) xs
 within-more m k [] le all = All-nil (LooksWithin k)
 within-more m k (x ∷ xs) le all =
@@ -51,7 +51,7 @@ pub near-targets : (reach : ℕ) (m : Measurement) (targets : List MeasureTarget
 near-targets reach m [] = All-nil (LooksWithin reach)
 near-targets reach m (t ∷ targets) = All-cons (LooksWithin reach) (measured m t) (map (measured m) targets) refl (near-targets reach m targets)
 
--- where no step looks further back than to so many records, none looks too far behind as many
+-- if no step looks further back than to this many records, none looks too far after as many
 pub looks-within : (m : ℕ) (xs : List Step) → All (LooksWithin m) xs → looks_too_far m xs ≡ false
 looks-within m [] all = refl
 looks-within m (x ∷ xs) all =

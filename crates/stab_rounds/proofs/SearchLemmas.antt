@@ -1,10 +1,10 @@
--- Repeats one behind the other, up to a step.
+-- Repeats one after the other, up to a step.
 use Rattle.std.proofs.Common.{ℕ, zero, suc, ◌+◌, ◌*◌, ◌<◌, ◌≤◌, List, [], ◌∷◌, ◌++◌, arith}
 use Rattle.stab_circuit.specs.Steps.{Step}
 use Rattle.stab_circuit.specs.Repeats.{IsRepeat, AreRepeats}
 use Rattle.stab_circuit.specs.declared.circuit.repeats.Repeat.{Repeat}
 
--- repeats one behind the other, the first no earlier than at a step, and the last no further than to another
+-- repeats one after the other, the first no earlier than at a step, and the last no further than up to another
 abbrev pub AreRepeatsTo : (from end : ℕ) → List Step → List Repeat → Type 0
 AreRepeatsTo from end steps [] = from ≤ end
 AreRepeatsTo from end steps (r ∷ rs) = (from ≤ r.first) × IsRepeat steps r × AreRepeatsTo (r.first + r.rounds * r.length) end steps rs

@@ -4,7 +4,7 @@ use Rattle.std.proofs.lemmas.List.{drop-drop, take-take, take_all, length-drop, 
 use Rattle.std.proofs.Math.Seq.{take-add, take-append_seam, drop-append_seam}
 use Rattle.stab_circuit.specs.Steps.{Step, rounds}
 
--- what is left behind a part
+-- what is left after a part
 pub goes-behind : {X : Type 0} (n : ℕ) (xs part rest : List X) → drop n xs ≡ part ++ rest → rest ≡ drop (n + length part) xs
 goes-behind n xs part rest e = sym (sym (drop-drop (length part) n xs) ∙ ap (drop (length part)) e ∙ drop-append_seam part rest)
 
@@ -12,11 +12,11 @@ goes-behind n xs part rest e = sym (sym (drop-drop (length part) n xs) ∙ ap (d
 pub goes-before : {X : Type 0} (n : ℕ) (xs part rest : List X) → drop n xs ≡ part ++ rest → take (n + length part) xs ≡ take n xs ++ part
 goes-before n xs part rest e = take-add n (length part) xs ∙ ap (λ l. take n xs ++ l) (ap (take (length part)) e ∙ take-append_seam part rest)
 
--- a part and more behind it are within the list
+-- a part and more after it are within the list
 pub goes-within : {X : Type 0} (n m : ℕ) (xs part rest : List X) → drop n xs ≡ part ++ rest → n ≤ length xs → m ≤ length rest → n + (length part + m) ≤ length xs
 goes-within n m xs part rest e within more = omega (arith, ap length e, length-drop n xs, length-append part rest, within, more)
 
--- the same steps, and more of them behind these
+-- the same steps, and more of them after these
 pub same-more : {X : Type 0} (n m : ℕ) (xs ys near far : List X) → near ≡ drop n xs → far ≡ drop n ys → take n xs ≡ take n ys → take m near ≡ take m far → take (n + m) xs ≡ take (n + m) ys
 same-more n m xs ys near far e f same more =
     take-add n m xs
@@ -26,13 +26,13 @@ same-more n m xs ys near far e f same more =
     ∙ ap (λ l. l ++ take m (drop n ys)) same
     ∙ sym (take-add n m ys)
 
--- where nothing is left, no more can be taken
+-- if nothing is left, no more can be taken
 pub nothing-left : {X : Type 0} (n count : ℕ) (xs : List X) → drop n xs ≡ [] → n ≤ count → take n xs ≡ take count xs
 nothing-left n count xs e le =
     let few : length xs ≤ n = omega (arith, ap length e, length-drop n xs) in
     take_all n xs few ∙ sym (take_all count xs (omega (arith, few, le)))
 
--- a part of a list behind what was taken of it, in front of more
+-- a part of a list after what was taken of it, in front of more
 pub goes-over : {X : Type 0} (n : ℕ) (xs part rest left : List X) → take (length part) (drop n xs) ≡ part → left ≡ part ++ rest
     → take n xs ++ left ≡ take (n + length part) xs ++ rest
 goes-over n xs part rest left same e =

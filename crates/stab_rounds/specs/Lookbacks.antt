@@ -1,4 +1,4 @@
--- Lookbacks: how far back steps look, wherever they stand.
+-- Lookbacks: how far back steps look, wherever they are.
 -- Source: this project's own.
 use Rattle.std.specs.Prelude.{◌≡◌, ℕ, nat_lt, false}
 use Rattle.std.specs.List.{list_any}

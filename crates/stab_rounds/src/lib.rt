@@ -1,18 +1,18 @@
 //! Rounds: where in a circuit the same steps come again, be it in a block or written out line by line.
 //!
-//! - `same`: whether steps that stand together are others.
-//! - `stretch`: how many steps behind two places are the same.
+//! - `same`: whether steps that are given together are the same as others.
+//! - `stretch`: how many steps after two places are the same.
 //! - `reach`: how far back steps look.
-//! - `search`: where rounds that are written out stand.
+//! - `search`: where rounds that are written out are.
 //!
-//! Blocks are told by `stab_circuit`. Rounds that are written out are looked for in circuits without
-//! blocks alone, and only as far as looking for them costs little: a search may find none where there
-//! are some, or begin a round or two behind the first. What it finds it compares, step by step.
+//! `stab_circuit` lists the blocks. Rounds that are written out are looked for only in circuits without
+//! blocks, and only as far as looking for them costs little: a search may find none if there
+//! are some, or begin a round or two after the first. What it finds it compares, step by step.
 //!
 //! Source: this project's own.
 //!
-//! Proved: what is found are rounds of the same steps, one behind the other (`specs/Repeats.antt` of
-//! `stab_circuit`); no step looks further back than is told (`specs/Lookbacks.antt`).
+//! Proved: what is found are rounds of the same steps, one after the other (`specs/Repeats.antt` of
+//! `stab_circuit`); no step looks further back than is reported (`specs/Lookbacks.antt`).
 #![tactic(auto)]
 
 mod reach;

@@ -66,7 +66,7 @@ pub fn furthest_of(least: u32, step: Step) -> u32
     }
 }
 
-/// The greatest of a number and the lookbacks of steps that stand together.
+/// The greatest of a number and the lookbacks of steps that are given together.
 fn furthest_of_steps(least: u32, steps: Steps) -> u32
     ensures more { least ≤ result }
     ensures within { All (LooksWithin result) (steps_shown steps.entry) }
@@ -80,7 +80,7 @@ fn furthest_of_steps(least: u32, steps: Steps) -> u32
     }
 }
 
-/// How far back the next steps look that a cursor has left, so many, or all where there are fewer.
+/// How far back the next steps look that a cursor has left, this many, or all if there are fewer.
 pub(crate) fn reach_of(cursor: &mut Cursor, count: usize) -> u32
     ensures within { All (LooksWithin result) (take count cursor.old.left) }
 {

@@ -1,4 +1,4 @@
-//! Whether steps that stand together are others.
+//! Whether steps that are given together are the same as others.
 ghost use Rattle.std.specs.Prelude.{◌≡◌, ◌+◌, ◌≤◌, ◌∷◌, [], length, take, drop, map};
 ghost use Rattle.std.specs.Bool.{OnTrue};
 ghost use Rattle.stab_circuit.specs.Steps.{one, two, collapse, product, observable, controlled_step, measured};
@@ -141,8 +141,8 @@ fn is_observable(number: u32, lookbacks: &[u32], step: Step) -> bool
     }
 }
 
-/// Whether a step that is given by itself is another one. Steps that are given together otherwise
-/// are never told to be the same.
+/// Whether a step that is given by itself is the same as another one. Steps that are given together in another way
+/// are never said to be the same.
 fn is_step(step: Step, other: Step) -> bool
     ensures same { OnTrue result (step_shown step.entry ≡ step_shown other.entry) }
 {
@@ -171,7 +171,7 @@ fn is_single(step: Step, steps: Steps) -> bool
     }
 }
 
-/// Whether steps that stand together are others that do. Detectors are never told to be.
+/// Whether steps that are given together are the same as others. Detectors are never said to be.
 pub(crate) fn are_same(steps: Steps, others: Steps) -> bool
     ensures same { OnTrue result (steps_shown steps.entry ≡ steps_shown others.entry) }
 {
@@ -184,8 +184,8 @@ pub(crate) fn are_same(steps: Steps, others: Steps) -> bool
     }
 }
 
-/// Whether steps that stand together begin, from a place among them on, with others that do. Of all
-/// but detectors only the whole is compared.
+/// Whether steps that are given together begin, from a place among them on, with others. Of all
+/// except detectors only the whole is compared.
 pub(crate) fn begin_with(steps: Steps, place: usize, others: Steps) -> bool
     requires within { place + length (steps_shown others) ≤ length (steps_shown steps) }
     ensures same { OnTrue result (take (length (steps_shown others.entry)) (drop place (steps_shown steps.entry)) ≡ steps_shown others.entry) }

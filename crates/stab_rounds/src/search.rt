@@ -1,4 +1,4 @@
-//! Where rounds that are written out stand.
+//! Where rounds that are written out are.
 ghost use Rattle.std.specs.Prelude.{◌≡◌, ◌+◌, ◌*◌, ◌<◌, ◌≤◌, ◌++◌, None, length, take, drop, IfOk, IfErr, IfSome, OnOk};
 ghost use Rattle.stab_io.specs.declared.refusal.Refusal.TheVariants.{OutOfMemory};
 ghost use Rattle.stab_circuit.specs.Steps.{unroll, check_of};
@@ -18,13 +18,13 @@ const LEAST_STEPS: usize = 8192;
 
 const LEAST_ROUNDS: usize = 8;
 
-/// How many instructions are passed at most to find one of them again, and no more than one for so many
+/// How many instructions are passed at most to find one of them again, and no more than one for this many
 /// steps of the circuit: so a search in vain costs next to nothing beside a run.
 const MOST_PASSED: usize = 4096;
 
 const STEPS_FOR_ONE: usize = 128;
 
-/// How many of those that are the same are tried: the same instruction may stand more than once in a round.
+/// How many of those that are the same are tried: the same instruction may occur more than once in a round.
 const MOST_TRIED: usize = 4;
 
 /// At how many places in a row rounds are looked for in vain at most. Each is four times further from
@@ -33,7 +33,7 @@ const MOST_PLACES: usize = 9;
 
 const FURTHER: usize = 4;
 
-/// The rounds of so many steps that stand from one on, where they are worth it.
+/// The rounds of this many steps from one on, if they are worth it.
 ///
 /// Refusal `OutOfMemory` alone.
 fn rounds_at(
@@ -61,7 +61,7 @@ fn rounds_at(
     }))
 }
 
-/// The rounds that begin with the instruction at a step, where they are found.
+/// The rounds that begin with the instruction at a step, if they are found.
 ///
 /// Refusal `OutOfMemory` alone.
 fn find_at(alloc: Global, circuit: &Circuit, first: usize) -> Result<Option<Repeat>, Refusal>
@@ -97,7 +97,7 @@ fn find_at(alloc: Global, circuit: &Circuit, first: usize) -> Result<Option<Repe
 }
 
 /// Whether rounds are looked for that begin with these steps: not with detectors, which come in parts, nor
-/// with resets, which stand at the front of a circuit one by one.
+/// with resets, which are at the front of a circuit one by one.
 fn may_begin(steps: Steps) -> bool {
     match steps {
         Steps::Gates(..) | Steps::Pairs(..) | Steps::Measurements(..) => true,
@@ -106,7 +106,7 @@ fn may_begin(steps: Steps) -> bool {
     }
 }
 
-/// The first step, so many steps behind one or further, at which rounds may begin.
+/// The first step, this many steps after one or further, at which rounds may begin.
 ///
 /// Refusal `OutOfMemory` alone.
 fn next_place(
@@ -157,7 +157,7 @@ fn find_from(alloc: Global, circuit: &Circuit, first: usize) -> Result<Option<Re
     Ok(None)
 }
 
-/// Where rounds stand that are written out, in order.
+/// Where rounds are written out, in order.
 ///
 /// Refusal `OutOfMemory` alone.
 fn find_written(alloc: Global, circuit: &Circuit) -> Result<Vec<Repeat>, Refusal>
@@ -175,7 +175,7 @@ fn find_written(alloc: Global, circuit: &Circuit) -> Result<Vec<Repeat>, Refusal
 }
 
 /// Where in a circuit the same steps come again, by its steps, in order: the blocks of its outermost
-/// list that `Circuit::repeats` tells, or, where it has none, rounds that are written out, as far as
+/// list that `Circuit::repeats` gives, or, if it has none, rounds that are written out, as far as
 /// they are found. Of these there are 8 or more, with 8,192 steps or more in all.
 ///
 /// Refusal `OutOfMemory` alone.

@@ -1,4 +1,4 @@
-//! How many steps behind two places of a circuit are the same.
+//! How many steps after two places of a circuit are the same.
 ghost use Rattle.std.specs.Prelude.{◌≡◌, ℕ, ◌+◌, ◌*◌, ◌<◌, ◌≤◌, ◌++◌, None, length, take, drop, IfOk, IfErr};
 ghost use Rattle.std.specs.Bool.{OnTrue};
 ghost use Rattle.stab_io.specs.declared.refusal.Refusal.TheVariants.{OutOfMemory};
@@ -11,8 +11,8 @@ use stab_circuit::{Circuit, Cursor, Steps};
 use stab_io::Refusal;
 use std::alloc::Global;
 
-/// Whether the next steps that a cursor has left are these. It is behind them then; else where it is
-/// is of no account.
+/// Whether the next steps that a cursor has left are these. If so, it is after them then; otherwise its place
+/// has no meaning.
 fn goes_over(cursor: &mut Cursor, steps: Steps) -> bool
     ensures all { cursor.new.all ≡ cursor.old.all }
     ensures same { OnTrue result (cursor.old.left ≡ steps_shown steps.entry ++ cursor.new.left) }
@@ -47,7 +47,7 @@ fn count_same(near: &mut Cursor, far: &mut Cursor) -> usize
     count
 }
 
-/// How many times the steps from one on, so many, come one after another: once at least.
+/// How many times the steps from one on, this many, come one after another: once at least.
 ///
 /// Refusal `OutOfMemory` alone.
 pub(crate) fn count_rounds(

@@ -1,4 +1,4 @@
--- Rounds given again: a run that stands where it stood some rounds ago gives the same again by as many rounds.
+-- Rounds given again: a run that is at the point where it was some rounds ago gives the same again by as many rounds.
 use Rattle.std.proofs.Common.{◌≡◌, ℕ, suc, ◌+◌, ◌-◌, ◌*◌, ◌<◌, ◌≤◌, refl, sym, ◌∙◌, ap, subst, Bool, List, [], ◌∷◌, ◌++◌, append_assoc, length, take, drop, get_or, drop-cons, add-one, arith}
 use Rattle.std.specs.Prelude.{Option, IfSome}
 use Rattle.std.proofs.Math.Seq.{take-add, drop-drop, length-take-le}
@@ -23,15 +23,15 @@ use Rattle.stab_run.specs.inner.Led.{IsLed, behind_rounds, IsEarlier, IsUndecide
 use Rattle.stab_laws.proofs.PointLemmas.{flags-are-coins, records-are-records, rest-joined}
 use Rattle.stab_laws.proofs.RoundLemmas.{rounds-append, rounds-rounds, rounds-within, length-rounds, rounds-again}
 
--- the step behind one more round
+-- the step after one more round
 pub behind-more : (r : Repeat) (k : ℕ) → behind_rounds r k + r.length ≡ behind_rounds r (k + 1)
 behind-more r k = omega (arith, add-mul k 1 r.length)
 
--- it is no later than that behind more rounds
+-- it is no later than that after more rounds
 pub behind-later : (r : Repeat) (j k : ℕ) → j ≤ k → behind_rounds r j ≤ behind_rounds r k
 behind-later r j k le = let more = mul-le-mul_right r.length le in omega arith
 
--- what is kept behind a round
+-- what is kept after a round
 pub kept-earlier : (n : ℕ) (coins : ℕ → Bool) (steps : List Step) (r : Repeat) (done : ℕ) (e : Earlier) (t : TableauState) (o : RunOutput)
     → IsLed n coins (take (behind_rounds r done) steps) (program_state t o) → t.qubits ≡ n
     → (e.tableau ≡ t) × (e.lengths ≡ lengths_of o) × (e.done ≡ done) → IsEarlier n coins steps r done e
@@ -59,7 +59,7 @@ pub repeats-from : (a b : ℕ) (steps : List Step) (rs : List Repeat) → a ≤ 
 repeats-from a b steps [] le are = tt
 repeats-from a b steps (r ∷ rs) le are = (let later = are.0 in omega arith, are.1, are.2)
 
--- the repeats behind one up to the end of which steps were carried out at most
+-- the repeats after one, up to the end of which steps were carried out at most
 pub repeats-behind : (from next : ℕ) (steps : List Step) (rs : List Repeat) (i : ℕ) (d : Repeat) → i < length rs → AreRepeats from steps (drop i rs)
     → next ≤ behind_rounds (get_or rs i d) (get_or rs i d).rounds → AreRepeats next steps (drop (i + 1) rs)
 repeats-behind from next steps rs i d lt are le =
@@ -76,7 +76,7 @@ pub earlier-same : (n m : ℕ) (c d : ℕ → Bool) (steps : List Step) (r : Rep
 earlier-same n m c d steps r done o size same is =
     subst (λ k. IfSome o (λ e. IsEarlier k c steps r done e)) size (subst (λ coins. IfSome o (λ e. IsEarlier m coins steps r done e)) same is)
 
--- the steps behind so many rounds, and those of as many more
+-- the steps after this many rounds, and those of as many more
 
 module _ (steps : List Step) (r : Repeat) (is : IsRepeat steps r) where
   abbrev behind : List Step
@@ -124,7 +124,7 @@ module _ (steps : List Step) (r : Repeat) (is : IsRepeat steps r) where
           ∙ append_assoc (rounds j ys) (rounds m ys ++ rounds k ys) (drop (r.rounds * L) behind)
           ∙ ap (λ l. rounds j ys ++ l) (append_assoc (rounds m ys) (rounds k ys) (drop (r.rounds * L) behind))
 
-  -- where a state has come again, the rounds since then come again
+  -- if a state has come again, the rounds since then come again
 
   module _ (n : ℕ) (coins : ℕ → Bool) (e : Earlier) (done : ℕ) (t : TableauState) (old : RunOutput) (early : IsEarlier n coins steps r done e)
       (led : IsLed n coins (take (behind_rounds r done) steps) (program_state t old)) (within : done ≤ r.rounds) (same : e.tableau ≡ t)

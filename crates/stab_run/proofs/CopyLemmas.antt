@@ -1,4 +1,4 @@
--- Copies: outputs that are given so often, one behind the other.
+-- Copies: outputs that are given this often, one after the other.
 use Rattle.std.proofs.Common.{◌≡◌, ℕ, zero, suc, ◌+◌, ◌*◌, ◌/◌, ◌%◌, sym, ◌∙◌, ap, add-one, arith}
 use Rattle.stab_steps.specs.Points.{RunOutput, joined}
 use Rattle.stab_steps.specs.Records.{ones}
@@ -14,7 +14,7 @@ copies-more k o = before k ∙ ap (λ n. copies n o) (sym (add-one k))
     before zero = sym (joined-nothing o)
     before (suc j) = joined-assoc o (copies j o) o ∙ ap (joined o) (before j)
 
--- copies behind copies
+-- copies after copies
 copies-append : (a b : ℕ) (o : RunOutput) → joined (copies a o) (copies b o) ≡ copies (a + b) o
 copies-append zero b o = ap (λ n. copies n o) {x = b} {y = zero + b} (omega arith)
 copies-append (suc a) b o =
@@ -30,7 +30,7 @@ copies-twice (suc k) o =
     ∙ copies-append 2 (k * 2) o
     ∙ ap (λ n. copies n o) {x = 2 + k * 2} {y = suc k * 2} (omega arith)
 
--- so many copies are half as many of two, and one before them where their number is odd
+-- this many copies are half as many of two, and one before them if their number is odd
 pub copies-halved : (k : ℕ) (old mid more twice : RunOutput) → mid ≡ joined old (copies (k % 2) more) → twice ≡ copies 2 more
     → joined mid (copies (k / 2) twice) ≡ joined old (copies k more)
 copies-halved k old mid more twice odd two =
@@ -38,7 +38,7 @@ copies-halved k old mid more twice odd two =
     ∙ joined-assoc old (copies (k % 2) more) (copies (k / 2) (copies 2 more))
     ∙ ap (joined old) (ap (joined (copies (k % 2) more)) (copies-twice (k / 2) more) ∙ copies-append (k % 2) (k / 2 * 2) more ∙ ap (λ n. copies n more) {x = k % 2 + k / 2 * 2} {y = k} (omega arith))
 
--- no flag is 1 where none was
+-- no flag is 1 if none was
 pub copies-fixed : (k : ℕ) (o : RunOutput) → ones o.free ≡ 0 → ones (copies k o).free ≡ 0
 copies-fixed zero o none = omega arith
 copies-fixed (suc k) o none = omega (arith, none, ones-append o.free (copies k o).free, copies-fixed k o none)

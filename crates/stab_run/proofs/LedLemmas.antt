@@ -1,4 +1,4 @@
--- Led programs: the steps behind those that led a program lead it on.
+-- Led programs: the steps after those that led a program lead it on.
 use Rattle.std.proofs.Common.{◌≡◌, ℕ, ◌+◌, ◌-◌, ◌≤◌, sym, ◌∙◌, ap, subst, Bool, List, ◌++◌, take, drop, arith}
 use Rattle.std.proofs.Math.Seq.{take-add}
 use Rattle.std.proofs.lemmas.List.{take-append-drop}

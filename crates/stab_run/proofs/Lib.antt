@@ -6,5 +6,6 @@ mod NotedLemmas
 pub mod FramedLemmas
 mod OverLemmas
 mod PeriodLemmas
+mod NotedAgainLemmas
 pub mod PeriodStartLemmas
 mod TogetherLemmas

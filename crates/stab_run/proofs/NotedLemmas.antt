@@ -1,5 +1,5 @@
 -- Noted runs: strings that are kept of free outcomes, where a run goes on.
-use Rattle.std.proofs.Common.{◌≡◌, ℕ, ◌+◌, ◌-◌, ◌<◌, ◌≤◌, refl, sym, ◌∙◌, ap, subst, Bool, false, List, ◌++◌, length, take, drop, arith}
+use Rattle.std.proofs.Common.{◌≡◌, ℕ, ◌+◌, ◌-◌, ◌<◌, ◌≤◌, refl, sym, ◌∙◌, ap, subst, Bool, false, List, [], ◌++◌, length, take, drop, arith}
 use Rattle.std.specs.Prelude.{slice_get}
 use Rattle.std.proofs.Math.Seq.{take-add}
 use Rattle.std.proofs.lemmas.List.{take-append-le, get_or_append_left}
@@ -18,7 +18,7 @@ use Rattle.stab_frames.proofs.NoteAtLemmas.{note-equal, note-past}
 use Rattle.stab_frames.proofs.TrueLemmas.{true-append, true-same, true-none}
 use Rattle.stab_frames.specs.declared.noting.RunNotes.{RunNotes}
 use Rattle.stab_run.specs.inner.Led.{IsLed}
-use Rattle.stab_run.specs.inner.Noted.{IsNoted}
+use Rattle.stab_run.specs.inner.Noted.{IsNoted, BeginsNotes}
 
 -- the same number of qubits and the same coins
 pub noted-same : (n m : ℕ) (c d : ℕ → Bool) (xs : List Step) (notes : RunNotes) (free : List Bool) → m ≡ n → d ≡ c → IsNoted m d xs notes free → IsNoted n c xs notes free
@@ -27,12 +27,14 @@ noted-same n m c d xs notes free size same is = subst (λ k. IsNoted k c xs note
 -- a run that goes on, and notes its strings
 pub noted-on : (n : ℕ) (coins : ℕ → Bool) (steps : List Step) (from count : ℕ) (old_notes new_notes : RunNotes) (old new : ProgramState) → IsLed n coins (take from steps) old
     → IsNoted n coins (take from steps) old_notes old.output.free → length new_notes.string.letters ≡ n → new_notes.strings.qubits ≡ n
+    → new_notes.strings.most ≡ old_notes.strings.most
     → KeepsTrue n coins (take count (drop from steps)) old_notes.strings new_notes.strings old new → IsNoted n coins (take (from + count) steps) new_notes new.output.free
-noted-on n coins steps from count old_notes new_notes old new led noted scratch size keeps =
+noted-on n coins steps from count old_notes new_notes old new led noted scratch size most keeps =
     let kept = keeps (take from steps) led.at noted.numbered noted.are_true in
     record {
       scratch = scratch;
       qubits = size;
+      within = omega (arith, most, noted.within);
       numbered = kept.0;
       are_true = subst (λ xs. AreTrue n coins (note_at new_notes.strings.strings new.output.free) xs origin) (sym (take-add from count steps)) kept.1;
     }
@@ -51,6 +53,7 @@ pub noted-closed : (n : ℕ) (coins : ℕ → Bool) (steps : List Step) (from to
 noted-closed n coins steps from to old_notes new_notes old new le led later noted same closed = record {
   scratch = ap (λ (s : Signed). length s.letters) same ∙ noted.scratch;
   qubits = ap (λ (s : StringsState). s.qubits) closed ∙ noted.qubits;
+  within = omega (arith, ap (λ (s : StringsState). s.most) closed, noted.numbered, noted.within);
   numbered = subst (λ s. IsNumbered s new.output.free) (sym closed) (omega (arith, few, ap ones new_free ∙ ones-append old.output.free more));
   are_true =
       subst (λ (s : StringsState). AreTrue n coins (note_at s.strings new.output.free) (take to steps) origin) (sym closed)
@@ -96,8 +99,19 @@ pub noted-fixed : (n : ℕ) (coins : ℕ → Bool) (steps : List Step) (from to 
 noted-fixed n coins steps from to notes old new le led later same noted = record {
   scratch = noted.scratch;
   qubits = noted.qubits;
+  within = noted.within;
   numbered = omega (arith, noted.numbered, same);
   are_true =
       (noted-closed n coins steps from to notes (record notes { strings = record notes.strings { most = length notes.strings.strings } }) old new le led later noted refl
       refl).are_true;
+}
+
+-- before the first step
+pub noted-none : (n : ℕ) (coins : ℕ → Bool) (notes : RunNotes) (free : List Bool) → free ≡ [] → BeginsNotes n notes → IsNoted n coins [] notes free
+noted-none n coins notes free empty begins = record {
+  scratch = begins.scratch;
+  qubits = begins.qubits;
+  within = begins.within;
+  numbered = omega (arith, ap length begins.none, ap ones empty);
+  are_true = tt;
 }

@@ -1,4 +1,4 @@
--- Periods: a frame that goes over a period of rounds tells the next one from it, and goes over that.
+-- Periods: a frame that goes over a period of rounds gives the next one from it, and goes over that.
 use Rattle.std.proofs.Common.{◌≡◌, ℕ, ◌+◌, ◌-◌, ◌*◌, ◌≤◌, refl, sym, ◌∙◌, ap, subst, Bool, false, List, [], ◌++◌, All, length, take, drop, arith}
 use Rattle.std.specs.Prelude.{Option, None}
 use Rattle.std.proofs.Math.Nat.{add-mul}
@@ -35,7 +35,7 @@ use Rattle.stab_frames.specs.AgainLaws.{DiffersBack, AreTurnedOver}
 use Rattle.stab_frames.proofs.FlipLemmas.{length-flipped, flipped-empty}
 use Rattle.stab_run.specs.inner.Led.{IsLed, behind_rounds}
 use Rattle.stab_run.specs.declared.turned.Period.{Period}
-use Rattle.stab_run.specs.inner.Turned.{point_behind, IsPeriod}
+use Rattle.stab_run.specs.inner.Turned.{point_behind, IsPeriod, ComesTurned}
 use Rattle.stab_run.proofs.AgainLemmas.{more-rounds, behind-more, behind-later}
 use Rattle.stab_run.proofs.LedLemmas.{coins-on, coins-more}
 use Rattle.stab_run.proofs.FramedLemmas.{flipped-zeros, flips-free}
@@ -60,7 +60,7 @@ rounds-fit n steps r is j m le fits =
     first : List Step
     first = take (behind_rounds r j) steps
 
--- the end of so many more
+-- the end of this many more
 behind-many : (r : Repeat) (j m : ℕ) → behind_rounds r (j + m) ≡ behind_rounds r j + m * r.length
 behind-many r j m = omega (arith, add-mul j m r.length)
 
@@ -68,7 +68,7 @@ behind-many r j m = omega (arith, add-mul j m r.length)
 pub steps-fit : (n : ℕ) (items : Items) (all : List Step) → check_within n items ≡ None → all ≡ unroll items → All IsApart all → All (StepFits n) (unroll items)
 steps-fit n items all checked is alone = subst (All (StepFits n)) is (check-fits n items all checked is alone)
 
--- the next so many steps are rounds
+-- this many of the next steps are rounds
 pub steps-next : (steps : List Step) (r : Repeat) → IsRepeat steps r → (j m : ℕ) → j + m ≤ r.rounds
     → take (m * r.length) (drop (behind_rounds r j) steps) ≡ rounds m (round_of r steps)
 steps-next steps r is j m le =
@@ -229,6 +229,19 @@ module _ (n : ℕ) (coins : ℕ → Bool) (steps : List Step) (r : Repeat) (stri
 
       pub flags_same : last.free.items ≡ p.last.free.items
       flags_same = ap (λ (q : RunOutput). q.free) is_last ∙ flipped-empty p.last.free.items
+
+      pub comes-turned : ComesTurned n coins steps r p.rounds done last.free.items
+      comes-turned = record {
+        before =
+            flags_same
+            ∙ ap (λ (q : RunOutput). q.free) period.last
+            ∙ ap (λ j. (outputs n coins xs (point_behind n coins steps r j)).free) begun;
+        again = ap (λ (q : RunOutput). q.free) gives;
+        turned = subst (λ j. AreTurnedOver n coins xs (point_behind n coins steps r j) here) begun come.2;
+      }
+        where
+          begun : period.from ≡ done - p.rounds
+          begun = omega (arith, period.span)
 
       pub next-period : (state : TableauState) (w' : WalkState) (new : RunOutput) → state.qubits ≡ n → length w.letters ≡ length p.walk.letters
           → IsTurned n w.letters (stabilises p.state) (stabilises state)

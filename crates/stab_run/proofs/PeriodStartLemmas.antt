@@ -1,4 +1,4 @@
--- Starts of periods: where a state comes again up to the signs of its rows, a frame tells the one point from the other.
+-- Starts of periods: if a state comes again up to the signs of its rows, a frame gives the one point from the other.
 use Rattle.std.proofs.Common.{◌≡◌, ℕ, zero, suc, ◌+◌, ◌-◌, ◌<◌, ◌≤◌, refl, sym, ◌∙◌, ap, subst, Bool, false, List, [], ◌∷◌, ◌++◌, All, length, take, drop, get_or, replicate, arith}
 use Rattle.std.proofs.lemmas.List.{length-append, length-drop, length-take-le, take-append-drop, take_at, drop_at, take_all}
 use Rattle.std.proofs.lemmas.List.Elements.{All-take}
@@ -35,7 +35,7 @@ use Rattle.stab_run.specs.declared.turned.Period.{Period}
 use Rattle.stab_run.specs.inner.Turned.{point_behind, IsPeriod, BeginsFrame, BeginsPeriod}
 use Rattle.stab_run.proofs.AgainLemmas.{more-rounds}
 
--- where two lists are the same at first, nothing differs
+-- if two lists are the same at first, nothing differs
 
 pub same-bit : (a b : Bool) → a ≡ b → false ≡ (b ⊕ a)
 same-bit a b e = grind arith

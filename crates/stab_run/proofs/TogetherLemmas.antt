@@ -1,4 +1,4 @@
--- Rounds taken together: so many rounds of a repeat, taken as one.
+-- Rounds taken together: this many rounds of a repeat, taken as one.
 use Rattle.std.proofs.Common.{◌≡◌, ℕ, zero, suc, ◌+◌, ◌-◌, ◌*◌, ◌<◌, ◌≤◌, sym, ◌∙◌, ap, List, take, drop, arith}
 use Rattle.std.proofs.Math.Seq.{take-take}
 use Rattle.std.proofs.Math.Nat.{mul-le-mul_right}

@@ -10,4 +10,5 @@ pub use Rattle.stab_laws.specs.Laws
 pub use Rattle.stab_laws.specs.RoundLaws
 pub mod Samplers
 pub mod Limits
+pub mod Recorded
 pub mod inner

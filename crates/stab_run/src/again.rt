@@ -12,7 +12,7 @@ use std::alloc::{AllocError, Global};
 /// How long a list is at least that is worth an append of its own. Shorter ones are doubled before.
 const LEAST_APPENDED: usize = 1024;
 
-/// Appends lists so many times.
+/// Appends lists this many times.
 fn append_times(outputs: &mut Outputs, more: &Outputs, times: usize) -> Result<(), AllocError>
     ensures value { OnOk result (output_of outputs.new ≡ joined (output_of outputs.old) (copies times (output_of more.now))) }
 {
@@ -28,7 +28,7 @@ fn append_times(outputs: &mut Outputs, more: &Outputs, times: usize) -> Result<(
     Ok(())
 }
 
-/// Lists twice, one behind the other.
+/// Lists twice, one after the other.
 fn doubled(alloc: Global, outputs: &Outputs) -> Result<Outputs, AllocError>
     ensures value { IfOk result (λ o. output_of o ≡ copies 2 (output_of outputs.now)) }
 {
@@ -46,7 +46,7 @@ fn are_short(outputs: &Outputs) -> bool {
         && lengths.additions < LEAST_APPENDED
 }
 
-/// Gives again, so many times, what was given behind some lengths.
+/// Gives again, this many times, what was given after some lengths.
 pub fn give_again(
     alloc: Global,
     outputs: &mut Outputs,

@@ -1,4 +1,4 @@
-//! What is kept of a run behind a round, and rounds that are given again since it stands there again.
+//! What is kept of a run after a round, and rounds that are given again since the same point is reached again.
 
 ghost use Rattle.std.specs.Prelude.{◌≡◌, ℕ, ◌+◌, ◌*◌, ◌^◌, ◌<◌, ◌≤◌, IsTrue, take, drop, IfOk, IfErr, IfSome};
 ghost use Rattle.stab_io.specs.declared.refusal.Refusal.TheVariants.{OutOfMemory};
@@ -14,7 +14,7 @@ use stab_steps::{Lengths, Outputs, looked_up};
 use stab_tableau::{CompactTableau, Tableau};
 use std::alloc::Global;
 
-/// What is kept of a run behind a round, for later ones to be compared with.
+/// What is kept of a run after a round, for later ones to be compared with.
 #[derive(Drop)]
 pub struct Earlier {
     pub tableau: CompactTableau,
@@ -23,7 +23,7 @@ pub struct Earlier {
     pub done: usize,
 }
 
-/// Whether the newest records are the same as they were when there were so many.
+/// Whether the newest records are the same as they were when there were this many.
 fn same_records(records: &[bool], behind: usize, reach: u32) -> bool
     ensures value { IsTrue result → (k : ℕ) → k ≤ reach → looked_up_of (take behind records.now) k ≡ looked_up_of records.now k }
 {
@@ -39,7 +39,7 @@ fn same_records(records: &[bool], behind: usize, reach: u32) -> bool
     true
 }
 
-/// Whether no coin decided, by the flags behind so many.
+/// Whether no coin decided, by the flags after this many.
 pub fn are_fixed(flags: &[bool], behind: usize) -> bool
     ensures value { IsTrue result → ones (drop behind flags.now) ≡ 0 }
 {
@@ -55,7 +55,7 @@ pub fn are_fixed(flags: &[bool], behind: usize) -> bool
     true
 }
 
-/// Whether a run stands where it stood earlier: the tableau is the same, since then no coin decided, and what the steps of a
+/// Whether a run is at the point where it was earlier: the tableau is the same, since then no coin decided, and what the steps of a
 /// round may look back to is the same.
 pub fn comes_again(earlier: &Earlier, tableau: &Tableau, outputs: &Outputs, reach: u32) -> bool
     ensures tableau { IsTrue result → earlier.now.tableau ≡ tableau.now }
@@ -67,8 +67,8 @@ pub fn comes_again(earlier: &Earlier, tableau: &Tableau, outputs: &Outputs, reac
         && earlier.tableau.is_of(tableau)
 }
 
-/// Gives again what the rounds since an earlier one gave, as often as they fit into the rounds that are left, where a run
-/// stands where it stood then. Tells how many rounds are done so.
+/// Gives again what the rounds since an earlier one gave, as often as they fit into the rounds that are left, if a run
+/// is at the point where it was then. Says how many rounds are done in this way.
 pub fn give_rounds(
     alloc: Global,
     tableau: &Tableau,
@@ -94,7 +94,7 @@ pub fn give_rounds(
     Ok(done + times * period)
 }
 
-/// What is to be kept behind a round for later ones to be compared with, if that is a first, second, fourth, eighth one and
+/// What is to be kept after a round for later ones to be compared with, if that is a first, second, fourth, eighth one and
 /// so on.
 pub fn kept_behind(
     alloc: Global,

@@ -6,16 +6,17 @@
 //! - `again`: what rounds gave, given again.
 //! - `turns`: what a period of rounds gives, flipped by a frame.
 //! - `part`: steps from one on, whose strings of free outcomes are noted or not.
-//! - `earlier`: what is kept of a run behind a round, and rounds that are given again since it stands there again.
+//! - `earlier`: what is kept of a run after a round, and rounds that are given again since the same point is reached again.
 //! - `turned`: rounds that come again up to the signs of the state's rows, which a frame goes over.
 //! - `together`: short rounds, of which some are taken as one.
 //! - `rounds`: rounds, of blocks or written out. They are carried out until a state comes again; from there
 //!   on they give again what they gave, or a frame goes over them.
 //! - `whole`: all steps of a circuit.
+//! - `recorded`: a whole run with a string for each of its free outcomes.
 //! - `sampler`: one circuit made ready for many runs, and one run of it.
 //!
 //! Coins, what steps give, and one step or those of one instruction are `stab_steps`', and the laws of runs
-//! are `stab_laws`', whose names and definitions stand here too.
+//! are `stab_laws`', whose names and definitions can be found here too.
 //!
 //! Sources: Stim's circuit file format, for what the steps of a circuit do to records, detectors and observables;
 //! D. Gottesman, Stabilizer codes and quantum error correction (1997), and S. Aaronson and D. Gottesman, Improved
@@ -32,6 +33,7 @@
 mod again;
 mod earlier;
 mod part;
+mod recorded;
 mod rounds;
 mod run;
 mod sampler;
@@ -40,6 +42,7 @@ mod turned;
 mod turns;
 mod whole;
 
+pub use recorded::{Recorded, run_recorded};
 pub use run::{Shot, run_steps};
 pub use sampler::{Sampler, run_once};
 pub use stab_laws::laws;

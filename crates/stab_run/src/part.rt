@@ -19,7 +19,7 @@ use stab_steps::{Coins, Outputs};
 use stab_tableau::Tableau;
 use std::alloc::Global;
 
-/// Carries out so many steps of a circuit from one on, or all where there are fewer.
+/// Carries out this many steps of a circuit from one on, or all if there are fewer.
 pub fn run_part<C: Coins>(
     alloc: Global,
     circuit: &Circuit,
@@ -56,7 +56,7 @@ pub fn run_part<C: Coins>(
     Ok(())
 }
 
-/// Carries out so many steps of a circuit from one on, or all where there are fewer, and notes the strings of free outcomes.
+/// Carries out this many steps of a circuit from one on, or all if there are fewer, and notes the strings of free outcomes.
 pub fn run_noted_part<C: Coins>(
     alloc: Global,
     circuit: &Circuit,
@@ -80,6 +80,7 @@ pub fn run_noted_part<C: Coins>(
     ensures asks_free { OnOk result (C.asks coins.new + ones outputs.old.free.items ≤ C.asks coins.old + ones outputs.new.free.items) }
     ensures led { OnOk result (IsLed tableau.old.qubits (C.sequence coins.old) (take (from + count) (unroll (circuit_items circuit.now))) (program_state tableau.new (output_of outputs.new))) }
     ensures noted { OnOk result (IsNoted tableau.old.qubits (C.sequence coins.old) (take (from + count) (unroll (circuit_items circuit.now))) notes.new outputs.new.free.items) }
+    ensures most { notes.new.strings.most ≡ notes.old.strings.most }
     ensures err { IfErr result (λ r. r ≡ OutOfMemory) }
 {
     let mut cursor = Cursor::at(alloc, circuit, from)?;

@@ -1,5 +1,5 @@
-//! The rounds of a block. They are carried out until a state comes again; from there on they give again what they gave. Where a state
-//! comes again up to the signs of its rows, as where coins decide in each round, a frame goes over them.
+//! The rounds of a block. They are carried out until a state comes again; from there on they give again what they gave. If a state
+//! comes again up to the signs of its rows, as when coins decide in each round, a frame goes over them.
 
 ghost use Rattle.std.specs.Prelude.{◌≡◌, ◌+◌, ◌*◌, ◌<◌, ◌≤◌, [], None, length, take, IfOk, IfErr, IfSome};
 ghost use Rattle.stab_io.specs.declared.refusal.Refusal.TheVariants.{OutOfMemory};
@@ -10,7 +10,8 @@ ghost use Rattle.stab_steps.specs.Records.{ones};
 ghost use Rattle.stab_steps.specs.Points.{all_coins_of};
 ghost use Rattle.stab_steps.specs.ProgramStates.{program_state, output_of};
 ghost use Rattle.stab_run.specs.inner.Led.{IsLed, behind_rounds, IsEarlier};
-ghost use Rattle.stab_run.specs.inner.Noted.{IsNoted};
+ghost use Rattle.stab_frames.specs.Limits.{most_strings};
+ghost use Rattle.stab_run.specs.inner.Noted.{IsNoted, BeginsNotes};
 
 use crate::earlier::{Earlier, comes_again, give_rounds, kept_behind};
 use crate::part::run_noted_part;
@@ -28,15 +29,15 @@ use std::alloc::Global;
 /// out in one go.
 const MOST_SINGLE: usize = 64;
 
-/// How many steps a block has at least of which the rounds are looked at.
+/// How many steps a block has at least for its rounds to be looked at.
 const LEAST_STEPS: usize = 2048;
 
-/// How many rounds a block has at least of which a frame can go over some: the state behind the first round comes again, up to
-/// signs, behind the second at the earliest, and as many as two periods more are to be left then.
+/// How many rounds a block has at least for a frame to go over some: the state after the first round comes again, up to
+/// signs, after the second at the earliest, and as many as two periods more are to be left then.
 const LEAST_FRAMED: usize = 4;
 
-/// Gives what all rounds behind so many give that give again what earlier ones gave, or that a frame can go over. Tells how many
-/// are done then. No more strings are kept behind rounds that a frame went over.
+/// Gives what those rounds after the ones done give that give again what earlier ones gave, or that a frame can go over. Gives how
+/// many are done then.
 fn pass_rounds<C: Coins>(
     alloc: Global,
     circuit: &Circuit,
@@ -66,6 +67,7 @@ fn pass_rounds<C: Coins>(
     ensures more { IfOk result (λ now. (done ≤ now) × (now ≤ repeat.rounds)) }
     ensures led { IfOk result (λ now. IsLed tableau.old.qubits (C.sequence coins.old) (take (behind_rounds repeat now) (unroll (circuit_items circuit.now))) (program_state tableau.new (output_of outputs.new))) }
     ensures noted { IfOk result (λ now. IsNoted tableau.old.qubits (C.sequence coins.old) (take (behind_rounds repeat now) (unroll (circuit_items circuit.now))) notes.new outputs.new.free.items) }
+    ensures most { notes.new.strings.most ≡ notes.old.strings.most }
     ensures err { IfErr result (λ r. r ≡ OutOfMemory) }
 {
     let Some(kept) = earlier else {
@@ -75,7 +77,7 @@ fn pass_rounds<C: Coins>(
         let again = give_rounds(alloc, tableau, outputs, repeat, kept, done)?;
         return Ok(again);
     }
-    // This tells a proof that the qubits of each pair differ.
+    // This shows a proof that the qubits of each pair differ.
     let _ = circuit.items();
     let strings = &notes.strings;
     let found = period_since(alloc, kept, tableau, string, outputs, repeat, done, strings)?;
@@ -83,13 +85,12 @@ fn pass_rounds<C: Coins>(
         return Ok(done);
     };
     let now = go_over_rounds(
-        alloc, circuit, tableau, coins, outputs, repeat, strings, period, done,
+        alloc, circuit, tableau, coins, outputs, repeat, notes, period, done,
     )?;
-    notes.strings.close();
     Ok(now)
 }
 
-/// Carries out a round of a block behind so many, and gives what all those behind it give that come again. Tells how many are
+/// Carries out a round of a block after this many, and gives what all those after it that come again give. Says how many are
 /// done then.
 fn run_round<C: Coins>(
     alloc: Global,
@@ -120,6 +121,7 @@ fn run_round<C: Coins>(
     ensures led { IfOk result (λ now. IsLed tableau.old.qubits (C.sequence coins.old) (take (behind_rounds repeat now) (unroll (circuit_items circuit.now))) (program_state tableau.new (output_of outputs.new))) }
     ensures earlier { IfOk result (λ now. IfSome earlier.new (λ e. IsEarlier tableau.old.qubits (C.sequence coins.old) (unroll (circuit_items circuit.now)) repeat now e)) }
     ensures noted { IfOk result (λ now. IsNoted tableau.old.qubits (C.sequence coins.old) (take (behind_rounds repeat now) (unroll (circuit_items circuit.now))) notes.new outputs.new.free.items) }
+    ensures most { notes.new.strings.most ≡ notes.old.strings.most }
     ensures err { IfErr result (λ r. r ≡ OutOfMemory) }
 {
     let from = repeat.first + done * repeat.length;
@@ -146,7 +148,7 @@ fn run_round<C: Coins>(
         done + 1,
         notes,
     )?;
-    // A state that is kept here comes again behind one more round at the earliest, and then a round has to be left.
+    // A state that is kept here comes again after one more round at the earliest, and then a round has to be left.
     if repeat.rounds - now < 2 {
         return Ok(now);
     }
@@ -156,7 +158,7 @@ fn run_round<C: Coins>(
     Ok(now)
 }
 
-/// How many rounds of a block are carried out one by one at most, where so many steps are left to be carried out.
+/// How many rounds of a block are carried out one by one at most, if this many steps are left to be carried out.
 fn most_single(repeat: Repeat, left: usize) -> usize
     requires some { 0 < repeat.length }
     ensures within { result ≤ repeat.rounds }
@@ -164,8 +166,8 @@ fn most_single(repeat: Repeat, left: usize) -> usize
     repeat.rounds.min(MOST_SINGLE).min(left / repeat.length)
 }
 
-/// Carries out rounds of a block until a state comes again, and all those behind that give again what earlier ones gave. Tells
-/// how many are done then: fewer than all where `MOST_SINGLE` were carried out, or as many as the steps that are left to be
+/// Carries out rounds of a block until a state comes again, and all those after that give again what earlier ones gave. Says
+/// how many are done then: fewer than all if `MOST_SINGLE` were carried out, or as many as the steps that are left to be
 /// carried out allow. These grow fewer.
 fn run_repeat<C: Coins>(
     alloc: Global,
@@ -193,6 +195,7 @@ fn run_repeat<C: Coins>(
     ensures led { IfOk result (λ done. IsLed tableau.old.qubits (C.sequence coins.old) (take (behind_rounds repeat done) (unroll (circuit_items circuit.now))) (program_state tableau.new (output_of outputs.new))) }
     ensures left { IfOk result (λ done. left.old ≤ left.new + done * repeat.length) }
     ensures noted { IfOk result (λ done. IsNoted tableau.old.qubits (C.sequence coins.old) (take (behind_rounds repeat done) (unroll (circuit_items circuit.now))) notes.new outputs.new.free.items) }
+    ensures most { notes.new.strings.most ≡ notes.old.strings.most }
     ensures err { IfErr result (λ r. r ≡ OutOfMemory) }
 {
     let most = most_single(repeat, *left);
@@ -216,14 +219,14 @@ fn run_repeat<C: Coins>(
     Ok(done)
 }
 
-/// Whether a block has so many steps that it is worth a look whether its rounds come again: each look finds its place in
+/// Whether a block has enough steps that it is worth looking whether its rounds come again: each look finds its place in
 /// the steps anew.
 fn is_long(repeat: Repeat) -> bool {
     repeat.rounds.saturating_mul(repeat.length) >= LEAST_STEPS
 }
 
 /// Carries out the steps from one on up to the last round of a long block that is done one by one or gives again what earlier
-/// ones gave, as far as the steps that are left to be carried out allow. Tells which step comes next.
+/// ones gave, as far as the steps that are left to be carried out allow. Says which step comes next.
 fn run_block<C: Coins>(
     alloc: Global,
     circuit: &Circuit,
@@ -252,6 +255,7 @@ fn run_block<C: Coins>(
     ensures left { IfOk result (λ next. left.old + from ≤ left.new + next) }
     ensures led { IfOk result (λ next. IsLed tableau.old.qubits (C.sequence coins.old) (take next (unroll (circuit_items circuit.now))) (program_state tableau.new (output_of outputs.new))) }
     ensures noted { IfOk result (λ next. IsNoted tableau.old.qubits (C.sequence coins.old) (take next (unroll (circuit_items circuit.now))) notes.new outputs.new.free.items) }
+    ensures most { notes.new.strings.most ≡ notes.old.strings.most }
     ensures err { IfErr result (λ r. r ≡ OutOfMemory) }
 {
     let before = repeat.first - from;
@@ -278,19 +282,26 @@ fn can_have_frame(repeats: &[Repeat]) -> bool {
     false
 }
 
-/// What a run on n qubits notes before its first step. Where no frame can come to go over rounds of a block, no strings will be
-/// kept, since to find them costs up to a seventh of a run.
-fn first_notes(alloc: Global, n: usize, repeats: &[Repeat]) -> Result<RunNotes, Refusal>
-    ensures string { IfOk result (λ notes. length notes.string.letters ≡ n) }
-    ensures qubits { IfOk result (λ notes. notes.strings.qubits ≡ n) }
-    ensures strings { IfOk result (λ notes. notes.strings.strings ≡ []) }
+/// What a run on n qubits has noted before its first step, if it keeps as many strings as it may.
+pub fn notes_of_all(alloc: Global, n: usize) -> Result<RunNotes, Refusal>
+    ensures begins { IfOk result (λ notes. BeginsNotes n notes) }
+    ensures most { IfOk result (λ notes. notes.strings.most ≡ most_strings n) }
     ensures err { IfErr result (λ r. r ≡ OutOfMemory) }
 {
-    let mut notes = RunNotes {
+    Ok(RunNotes {
         strings: KeptStrings::new(alloc, n),
         reach: 0,
         string: Pauli::identity(alloc, n)?,
-    };
+    })
+}
+
+/// What a run on n qubits has noted before its first step, if only its own frames need strings. If no frame can come to go over
+/// rounds of a block, no strings will be kept, since to find them costs up to a seventh of a run.
+pub fn notes_of_frames(alloc: Global, n: usize, repeats: &[Repeat]) -> Result<RunNotes, Refusal>
+    ensures begins { IfOk result (λ notes. BeginsNotes n notes) }
+    ensures err { IfErr result (λ r. r ≡ OutOfMemory) }
+{
+    let mut notes = notes_of_all(alloc, n)?;
     if !can_have_frame(repeats) {
         notes.strings.close();
     }
@@ -298,7 +309,7 @@ fn first_notes(alloc: Global, n: usize, repeats: &[Repeat]) -> Result<RunNotes, 
 }
 
 /// Carries out the steps of a circuit up to the last round of its long blocks that is done one by one or gives again what earlier
-/// ones gave, as far as the steps that are left to be carried out allow. Tells which step comes next.
+/// ones gave, as far as the steps that are left to be carried out allow. Says which step comes next.
 pub fn run_repeats<C: Coins>(
     alloc: Global,
     circuit: &Circuit,
@@ -308,11 +319,13 @@ pub fn run_repeats<C: Coins>(
     outputs: &mut Outputs,
     repeats: &[Repeat],
     left: &mut usize,
+    notes: &mut RunNotes,
 ) -> Result<usize, Refusal>
     requires checked { check_within tableau.old.qubits (circuit_items circuit.now) ≡ None }
     requires same_length { length string.old.letters ≡ tableau.old.qubits }
     requires repeats { AreRepeats 0 (unroll (circuit_items circuit.now)) repeats.now }
     requires led { IsLed tableau.old.qubits (C.sequence coins.old) [] (program_state tableau.old (output_of outputs.old)) }
+    requires noted { IsNoted tableau.old.qubits (C.sequence coins.old) [] notes.old outputs.old.free.items }
     ensures qubits { tableau.new.qubits ≡ tableau.old.qubits }
     ensures string { length string.new.letters ≡ length string.old.letters }
     ensures same_coins { C.sequence coins.new ≡ C.sequence coins.old }
@@ -322,9 +335,10 @@ pub fn run_repeats<C: Coins>(
     ensures in_range { IfOk result (λ from. from ≤ length (unroll (circuit_items circuit.now))) }
     ensures left { IfOk result (λ from. left.old ≤ left.new + from) }
     ensures led { IfOk result (λ from. IsLed tableau.old.qubits (C.sequence coins.old) (take from (unroll (circuit_items circuit.now))) (program_state tableau.new (output_of outputs.new))) }
+    ensures noted { IfOk result (λ from. IsNoted tableau.old.qubits (C.sequence coins.old) (take from (unroll (circuit_items circuit.now))) notes.new outputs.new.free.items) }
+    ensures most { notes.new.strings.most ≡ notes.old.strings.most }
     ensures err { IfErr result (λ r. r ≡ OutOfMemory) }
 {
-    let mut notes = first_notes(alloc, tableau.len(), repeats)?;
     let mut from = 0;
     for repeat in repeats {
         from = run_block(
@@ -337,7 +351,7 @@ pub fn run_repeats<C: Coins>(
             from,
             taken_together(*repeat),
             left,
-            &mut notes,
+            notes,
         )?;
     }
     Ok(from)

@@ -22,7 +22,7 @@ pub struct Shot {
     pub observables: Vec<bool>,
 }
 
-/// Carries out the steps that a cursor has left, up to so many, and counts them. The string is for
+/// Carries out the steps that a cursor has left, up to this many, and counts them. The string is for
 /// products to be written into.
 pub fn run_steps<C: Coins>(
     tableau: &mut Tableau,

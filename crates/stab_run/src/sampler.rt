@@ -35,7 +35,7 @@ pub struct Sampler<'a> {
     observables: usize,
 }
 
-// Written out, so that to a proof a value that is let go is one call, and not one for each of its parts.
+// Written out, so that a proof sees the drop of a value as one call, and not one for each of its parts.
 impl Drop for Sampler<'_> {
     fn drop(self) {
         let Sampler {
@@ -98,7 +98,7 @@ impl<'a> Sampler<'a> {
         let tableau = Tableau::new(alloc, n)?;
         let string = Pauli::identity(alloc, n)?;
         let repeats = find_rounds(alloc, circuit)?;
-        // This tells a proof that the qubits of each pair differ.
+        // This shows a proof that the qubits of each pair differ.
         let _ = circuit.items();
         Ok(Sampler {
             circuit,
@@ -113,9 +113,9 @@ impl<'a> Sampler<'a> {
     /// Runs the circuit once, with all qubits 0 at first, whatever became of earlier shots.
     ///
     /// Rounds, of a block or written out, are carried out until a state comes again; from there on
-    /// they give again what they gave. Where it comes again up to signs, as where coins decide in each
-    /// round, a Pauli frame tells what the others give. Coins are numbered and asked for as by
-    /// `run_once`. Beside its lists, a shot takes memory for places within nested blocks, for copies of
+    /// they give again what they gave. If it comes again up to signs, as when coins decide in each
+    /// round, a Pauli frame gives what the others give. Coins are numbered and asked for as by
+    /// `run_once`. Besides its lists, a shot takes memory for places within nested blocks, for copies of
     /// the tableau and of what rounds gave, and for strings that exchange free outcomes, at most 16 MiB
     /// of them. Refusal `OutOfMemory` alone.
     pub fn shot<C: Coins>(&mut self, alloc: Global, coins: &mut C) -> Result<Shot, Refusal>
@@ -138,7 +138,7 @@ impl<'a> Sampler<'a> {
         }
     }
 
-    /// Runs the circuit once, as `shot` does, unless that would carry out more than so many steps:
+    /// Runs the circuit once, as `shot` does, unless that would carry out more than this many steps:
     /// those of rounds that give again what earlier ones gave, or that a frame goes over, are not
     /// carried out. It is seen on the way whether it would, so some were carried out then.
     ///
@@ -174,7 +174,7 @@ impl<'a> Sampler<'a> {
         )
     }
 
-    /// A law, and no work: whatever the coins, the trace of a shot fits the qubits and is sound.
+    /// A law, and no work: for all random bits, the trace of a shot fits the qubits and is sound.
     pub fn runs_are_sound(&self)
         ensures law { (coins : ℕ → Bool) → IsSoundRun self.now.qubits coins self.now.items }
     {
@@ -185,8 +185,8 @@ impl<'a> Sampler<'a> {
 /// Runs a circuit once on n qubits, at most 1,024, that begin as zeros.
 ///
 /// Each measured target, resets included, uses up the next coin number, counted from 0. The coin
-/// with that number is the outcome where neither sign of what is measured stabilises the state;
-/// any other outcome does not depend on it. A coin is asked for only where it decides. Refused as
+/// with that number is the outcome if neither sign of what is measured stabilises the state;
+/// any other outcome does not depend on it. A coin is asked for only if it decides. Refused as
 /// `Circuit::check` refuses, else `OutOfMemory`, always with line 0.
 pub fn run_once<C: Coins>(
     alloc: Global,

@@ -12,8 +12,8 @@ const LEAST_TOGETHER: usize = 512;
 /// How many such rounds there are at least, so that enough are left for what comes again.
 const LEAST_ROUNDS: usize = 8;
 
-/// The rounds of a repeat, or if they are short, so many of them taken as one that it has some hundred steps. Rounds that are left at
-/// the end are none of it.
+/// The rounds of a repeat, or, if they are short, as many of them taken as one as make some hundred steps. Rounds that are left at
+/// the end are no part of it.
 pub fn taken_together(repeat: Repeat) -> Repeat
     requires some { 0 < repeat.length }
     requires few { repeat.rounds * repeat.length < 2 ^ 63 }

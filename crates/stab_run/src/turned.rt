@@ -9,12 +9,17 @@ ghost use Rattle.stab_steps.specs.Records.{ones};
 ghost use Rattle.stab_steps.specs.Points.{all_coins_of};
 ghost use Rattle.stab_steps.specs.ProgramStates.{program_state, output_of};
 ghost use Rattle.stab_run.specs.inner.Led.{IsLed, behind_rounds};
-ghost use Rattle.stab_run.specs.inner.Turned.{IsPeriod, BeginsFrame, BeginsPeriod};
+ghost use Rattle.stab_run.specs.inner.Noted.{IsNoted};
+ghost use Rattle.stab_run.specs.inner.Turned.{IsPeriod, BeginsFrame, BeginsPeriod, ComesTurned};
+ghost use Rattle.stab_frames.specs.KeptStrings.{kept_with};
+ghost use Rattle.stab_frames.specs.Limits.{most_strings};
 
 use crate::earlier::{Earlier, are_fixed};
 use crate::turns::flipped_by;
 use stab_circuit::{Circuit, Cursor, Repeat};
-use stab_frames::{FrameWalk, KeptStrings, between, count_ones, turn_state, walk_with_coins};
+use stab_frames::{
+    FrameWalk, KeptStrings, RunNotes, between, count_ones, turn_state, walk_with_coins,
+};
 use stab_io::Refusal;
 use stab_pauli::Pauli;
 use stab_steps::{Coins, Lengths, Outputs};
@@ -26,17 +31,17 @@ use std::alloc::{AllocError, Global};
 pub struct Period {
     /// How many they are.
     pub rounds: usize,
-    /// The state behind the last of them.
+    /// The state after the last of them.
     pub state: CompactTableau,
     /// What they gave.
     pub last: Outputs,
     /// The flags of the run up to where the frame began, for which strings are kept.
     pub flags: Vec<bool>,
-    /// The frame by which the point behind them differs from the one before them.
+    /// The frame by which the point after them differs from the one before them.
     pub walk: FrameWalk,
 }
 
-/// For so many rounds a state is awaited that comes again with its signs, if no coin decided: what is given again then costs nothing.
+/// If no coin decided, the run waits this many rounds for a state that comes again with its signs: what is given again then costs nothing.
 const MOST_AWAITED: usize = 8;
 
 /// Whether a frame may go over the rounds since an earlier one: two periods more are left at least, each measurement since made a
@@ -95,7 +100,7 @@ fn frame_of(
     Ok(walk)
 }
 
-/// The rounds since an earlier one as a period for a frame to go over, where the state now and then differ in the signs of their
+/// The rounds since an earlier one as a period for a frame to go over, if the state now and then differ in the signs of their
 /// rows alone, if it may. Strings are kept of the free outcomes.
 pub fn period_since(
     alloc: Global,
@@ -140,6 +145,18 @@ pub fn period_since(
     }))
 }
 
+/// Puts the last strings, this many of them, after all others again, as far as there may be as many.
+fn note_again(alloc: Global, strings: &mut KeptStrings, count: usize) -> Result<(), Refusal>
+    ensures value { OnOk result (strings.new ≡ record strings.old { strings = kept_with strings.old.most strings.old.strings (take (most_strings strings.old.qubits) (drop (length strings.old.strings - count) strings.old.strings)) }) }
+    ensures most { strings.new.most ≡ strings.old.most }
+    ensures err { IfErr result (λ r. r ≡ OutOfMemory) }
+{
+    let from = strings.len().saturating_sub(count);
+    let mut part = strings.front(alloc, 0)?;
+    part.append_rest(strings, from)?;
+    strings.append_rest(&part, 0)
+}
+
 /// Goes over the rounds of one more period.
 fn go_over<C: Coins>(
     alloc: Global,
@@ -162,6 +179,7 @@ fn go_over<C: Coins>(
     ensures asks { C.asks coins.new + all_coins_of (take (behind_rounds repeat done) (unroll (circuit_items circuit.now))) ≤ C.asks coins.old + all_coins_of (take (behind_rounds repeat (done + period.old.rounds)) (unroll (circuit_items circuit.now))) }
     ensures asks_free { OnOk result (C.asks coins.new + ones outputs.old.free.items ≤ C.asks coins.old + ones outputs.new.free.items) }
     ensures period { OnOk result (IsPeriod period.old.state.qubits (C.sequence coins.old) (unroll (circuit_items circuit.now)) repeat strings.now.strings (done + period.old.rounds) (output_of outputs.new) period.new) }
+    ensures turned { OnOk result (ComesTurned period.old.state.qubits (C.sequence coins.old) (unroll (circuit_items circuit.now)) repeat period.old.rounds done period.new.last.free.items) }
     ensures err { IfErr result (λ r. r ≡ OutOfMemory) }
 {
     let coin = period.walk.coin();
@@ -192,7 +210,8 @@ fn go_over<C: Coins>(
     Ok(())
 }
 
-/// Goes over the rounds of a period as often as they fit into those that are left. Tells how many rounds are done so.
+/// Goes over the rounds of a period as often as they fit into those that are left, and notes the strings of their free outcomes.
+/// Gives how many rounds are done then.
 pub fn go_over_rounds<C: Coins>(
     alloc: Global,
     circuit: &Circuit,
@@ -200,15 +219,15 @@ pub fn go_over_rounds<C: Coins>(
     coins: &mut C,
     outputs: &mut Outputs,
     repeat: Repeat,
-    strings: &KeptStrings,
+    notes: &mut RunNotes,
     period: Period,
     done: usize,
 ) -> Result<usize, Refusal>
     requires checked { check_within tableau.old.qubits (circuit_items circuit.now) ≡ None }
     requires repeat { IsRepeat (unroll (circuit_items circuit.now)) repeat }
     requires within { done ≤ repeat.rounds }
-    requires strings { strings.now.qubits ≡ tableau.old.qubits }
-    requires period { IsPeriod tableau.old.qubits (C.sequence coins.old) (unroll (circuit_items circuit.now)) repeat strings.now.strings done (output_of outputs.old) period }
+    requires noted { IsNoted tableau.old.qubits (C.sequence coins.old) (take (behind_rounds repeat done) (unroll (circuit_items circuit.now))) notes.old outputs.old.free.items }
+    requires period { IsPeriod tableau.old.qubits (C.sequence coins.old) (unroll (circuit_items circuit.now)) repeat notes.old.strings.strings done (output_of outputs.old) period }
     ensures qubits { tableau.new.qubits ≡ tableau.old.qubits }
     ensures same_coins { C.sequence coins.new ≡ C.sequence coins.old }
     ensures asks { C.asks coins.new + all_coins_of (take (behind_rounds repeat done) (unroll (circuit_items circuit.now))) ≤ C.asks coins.old + all_coins_of (take (behind_rounds repeat repeat.rounds) (unroll (circuit_items circuit.now))) }
@@ -216,6 +235,8 @@ pub fn go_over_rounds<C: Coins>(
     ensures asks_free { OnOk result (C.asks coins.new + ones outputs.old.free.items ≤ C.asks coins.old + ones outputs.new.free.items) }
     ensures more { IfOk result (λ now. (done ≤ now) × (now ≤ repeat.rounds)) }
     ensures led { IfOk result (λ now. IsLed tableau.old.qubits (C.sequence coins.old) (take (behind_rounds repeat now) (unroll (circuit_items circuit.now))) (program_state tableau.new (output_of outputs.new))) }
+    ensures noted { IfOk result (λ now. IsNoted tableau.old.qubits (C.sequence coins.old) (take (behind_rounds repeat now) (unroll (circuit_items circuit.now))) notes.new outputs.new.free.items) }
+    ensures most { notes.new.strings.most ≡ notes.old.strings.most }
     ensures err { IfErr result (λ r. r ≡ OutOfMemory) }
 {
     let mut period = period;
@@ -227,10 +248,12 @@ pub fn go_over_rounds<C: Coins>(
             coins,
             outputs,
             repeat,
-            strings,
+            &notes.strings,
             &mut period,
             now,
         )?;
+        let count = count_ones(period.last.free.as_slice());
+        note_again(alloc, &mut notes.strings, count)?;
         now += period.rounds;
     }
     period.state.write_into(tableau);

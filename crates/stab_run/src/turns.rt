@@ -8,7 +8,7 @@ use stab_frames::{FrameWalk, append_flipped, append_flipped_additions};
 use stab_steps::Outputs;
 use std::alloc::{AllocError, Global};
 
-/// What steps gave, flipped as a frame says that went over them, and had flipped so many records before.
+/// What steps gave, flipped as a frame says that went over them and had flipped this many records before.
 pub fn flipped_by(
     alloc: Global,
     last: &Outputs,

@@ -12,7 +12,7 @@ ghost use Rattle.stab_steps.specs.Points.{all_coins_of, with_additions};
 ghost use Rattle.stab_run.specs.inner.Shots.{IsShotOf};
 
 use crate::part::run_part;
-use crate::rounds::run_repeats;
+use crate::rounds::{notes_of_frames, run_repeats};
 use crate::run::Shot;
 use stab_circuit::{Circuit, Repeat};
 use stab_io::Refusal;
@@ -21,10 +21,10 @@ use stab_steps::{Coins, Outputs, observables as summed};
 use stab_tableau::Tableau;
 use std::alloc::{AllocError, Global};
 
-/// Carries out all steps of a circuit on qubits that are 0 at first, whatever the tableau was. Rounds,
+/// Carries out all steps of a circuit on qubits that are 0 at first, whatever the tableau was before. Rounds,
 /// of a block or written out, are carried out until a state comes again; from there on they give again
-/// what they gave, or a frame goes over them. Where more than so many steps would be carried out all the same, there is no shot.
-/// There is room for so many records from the beginning, and there are so many observables.
+/// what they gave, or a frame goes over them. If more than this many steps would be carried out nevertheless, there is no shot.
+/// There is room for this many records from the beginning, and there are this many observables.
 ///
 /// Refusal `OutOfMemory` alone.
 pub fn run_whole<C: Coins>(
@@ -53,6 +53,7 @@ pub fn run_whole<C: Coins>(
     tableau.reset();
     let mut outputs = Outputs::with_capacity(alloc, records)?;
     let mut left = most;
+    let mut notes = notes_of_frames(alloc, tableau.len(), repeats)?;
     let from = run_repeats(
         alloc,
         circuit,
@@ -62,6 +63,7 @@ pub fn run_whole<C: Coins>(
         &mut outputs,
         repeats,
         &mut left,
+        &mut notes,
     )?;
     let rest = circuit.steps() - from;
     if rest > left {
@@ -81,8 +83,8 @@ pub fn run_whole<C: Coins>(
     Ok(Some(shot))
 }
 
-/// What a run gives that has so many observables, by what its steps gave.
-fn shot_of(alloc: Global, outputs: Outputs, observables: usize) -> Result<Shot, AllocError>
+/// What a run gives that has this many observables, by what its steps gave.
+pub fn shot_of(alloc: Global, outputs: Outputs, observables: usize) -> Result<Shot, AllocError>
     ensures records { IfOk result (λ s. s.records.items ≡ outputs.records.items) }
     ensures free { IfOk result (λ s. s.free.items ≡ outputs.free.items) }
     ensures detectors { IfOk result (λ s. s.detectors.items ≡ outputs.detectors.items) }

@@ -1,4 +1,4 @@
--- Laws of lines: the characters of the bits of a lane, written one behind another.
+-- Laws of lines: the characters of the bits of a lane, written one after another.
 use Rattle.std.proofs.Common.{◌≡◌, ℕ, zero, suc, refl, sym, ap, subst, ◌∙◌, ◌+◌, ◌<◌, eqb, Bool, true, false, List, [], ◌∷◌, ◌++◌, append-nil, length, get_or, set, take, arith}
 use Rattle.std.specs.Int.{bit_at}
 use Rattle.std.specs.List.{flat_map}

@@ -57,7 +57,7 @@ pub front_breaks_off : {old new : OutputView} (bytes_of : ℕ → List ℕ) (fir
 front_breaks_off {old} {new} bytes_of first n shots f r within none cut is =
     batches_break_off bytes_of first 0 n shots f r (omega (arith, within)) none (subst (λ k. CutOff old new (of_shots bytes_of k n) f) (sym (add-zero first)) cut) is
 
--- the shots behind those that were sent
+-- the shots after those that were sent
 pub rest_sent : (old mid new : OutputView) (bytes_of : ℕ → List ℕ) (first n m shots : ℕ) (r : Result (Unit {0}) Fault) → n + m ≡ shots
     → Took old mid (of_shots bytes_of first n) → SendsUnflushed (of_shots bytes_of (first + n) m) mid new r → SendsUnflushed (of_shots bytes_of first shots) old new r
 rest_sent old mid new bytes_of first n m shots (Ok u) e before sent = subst (λ k. Took old new (of_shots bytes_of first k)) e (sent_batch bytes_of first n m before sent)
@@ -70,7 +70,7 @@ no_wrap first shots l within less = small (first + l) (omega arith)
     small : (n : ℕ) → n < 18446744073709551616 → n % 2 ^ 64 ≡ n
     small n h = grind arith
 
--- lane k of 64 that are copied out is lane k behind those sent
+-- lane k of 64 that are copied out is lane k after those sent
 pub shown_of_part : {W : Type 0} (at : W → ℕ → Bool) (words : List W) (part : List ℕ) (sent lanes first k : ℕ) (shown : Shown) (run : ℕ → State) (kinds : Kinds)
     → sent % 64 ≡ 0 → sent + k < lanes → ((l : ℕ) → l < lanes → IsShown shown (run (first + l)) kinds (lane_bits at l words))
     → lane_bits word_bit k part ≡ lane_bits at (64 * (sent / 64) + k) words → IsShown shown (run (first + sent + k)) kinds (lane_bits word_bit k part)

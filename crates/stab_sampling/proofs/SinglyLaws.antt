@@ -42,7 +42,7 @@ pub rest_refused : (old new : OutputView) (bytes : List ℕ) (f : Fault) (r : Re
 rest_refused old new bytes f (Ok u) is cut = absurd is
 rest_refused old new bytes f (Err y) is cut = subst (λ g. CutOff old new bytes g) (sym is) cut
 
--- and so it is of one shot
+-- the same for one shot
 pub shot_refused : (old new : OutputView) (bytes : List ℕ) (f : Fault) (r : Result Bool Fault) → IsErrAnd r (λ y. y ≡ f) → CutOff old new bytes f → SendsOrLeaves bytes old new r
 shot_refused old new bytes f (Ok u) is cut = absurd is
 shot_refused old new bytes f (Err y) is cut = subst (λ g. CutOff old new bytes g) (sym is) cut

@@ -19,7 +19,7 @@ pub use Rattle.stab_tables.specs.Texts.{texts_from as of_shots}
 abbrev pub sample_of : Format → (first shots : ℕ) → Source → Items → List ℕ
 sample_of format first shots source items = of_shots (λ shot. shot_bytes format Measurements (run_of_shot source items shot).records) first shots
 
--- a run's detectors, and behind them its observables where they are appended
+-- a run's detectors, and after them its observables if they are appended
 abbrev pub detected : Format → (append : Bool) → State → List ℕ
 detected format false run = shot_bytes format (Detectors (length run.detectors)) run.detectors
 detected format true run = shot_bytes format (Detectors (length run.detectors)) (run.detectors ++ run.observables)
@@ -28,18 +28,18 @@ detected format true run = shot_bytes format (Detectors (length run.detectors)) 
 abbrev pub detect_of : Format → (append : Bool) → (first shots : ℕ) → Source → Items → List ℕ
 detect_of format append first shots source items = of_shots (λ shot. detected format append (run_of_shot source items shot)) first shots
 
--- what `sample` writes for some shots, and behind it for those that follow them, is what it writes for all of these
+-- what `sample` writes for some shots, and after it for those that follow them, is what it writes for all of these
 abbrev pub SampledPartsJoin : Type 0
 SampledPartsJoin =
     (format : Format) (first n m : ℕ) (source : Source) (items : Items) →
     sample_of format first n source items ++ sample_of format (first + n) m source items ≡ sample_of format first (n + m) source items
 
--- and so it is of `detect`
+-- the same for `detect`
 abbrev pub DetectedPartsJoin : Type 0
 DetectedPartsJoin =
     (format : Format) (append : Bool) (first n m : ℕ) (source : Source) (items : Items) →
     detect_of format append first n source items ++ detect_of format append (first + n) m source items ≡ detect_of format append first (n + m) source items
 
--- How a call of one of them ends, over an input and an output, where it writes this output for the items of a circuit.
+-- How a call of one of them ends, over an input and an output, if it writes this output for the items of a circuit.
 abbrev pub EndsRun : {T : Type 0} → (Items → List ℕ) → InputView → InputView → OutputView → OutputView → Result T Fault → Type 0
 EndsRun output i i' o o' r = Ends IsFaultOf (o' ≡ o) (SendsOutput output o o') i i' r

@@ -17,7 +17,7 @@ use Rattle.stab_sampling.specs.Outputs.{detected, of_shots}
 use Rattle.stab_tables.specs.Sources.{run_of_shot}
 pub use Rattle.stab_tables.specs.Endings.{SendsUnflushed}
 
--- what kinds of bits are shown of a shot with so many detectors
+-- what kinds of bits are shown of a shot with this many detectors
 abbrev pub shown_kinds : Shown → ℕ → Kinds
 shown_kinds Records detectors = Measurements
 shown_kinds Detectors detectors = Detected detectors

@@ -17,7 +17,7 @@ pub enum Shown {
     Records,
     /// The detectors.
     Detectors,
-    /// The detectors, and behind them the observables.
+    /// The detectors, and after them the observables.
     DetectorsAndObservables,
 }
 
@@ -59,7 +59,7 @@ fn shown_of(
     }
 }
 
-/// Writes bits so many times.
+/// Writes bits this many times.
 fn write_copies<O: Output>(
     out: &mut O,
     format: Format,
@@ -75,7 +75,7 @@ fn write_copies<O: Output>(
     Ok(())
 }
 
-/// Writes what is shown of a shot so many times.
+/// Writes what is shown of a shot this many times.
 pub(crate) fn write_shown<O: Output>(
     out: &mut O,
     format: Format,

@@ -1,4 +1,4 @@
-//! The bits of so many lanes, written one lane after another.
+//! The bits of this many lanes, written one lane after another.
 ghost use Rattle.std.specs.Prelude.{◌≡◌, ℕ, ◌+◌, ◌<◌, ◌≤◌, length};
 ghost use Rattle.stab_results.specs.Formats.{detectors_of};
 ghost use Rattle.stab_run.specs.Runs.{State};
@@ -14,7 +14,7 @@ use stab_results::{Format, Kinds, write_shot};
 use stab_shots::{Word, write_lane, write_part};
 use std::alloc::Global;
 
-/// Writes the bits of so many of 64 lanes, one lane after another, each from a list of its own.
+/// Writes the bits of this many of 64 lanes, one lane after another, each from a list of its own.
 fn write_lanes<O: Output>(
     alloc: Global,
     out: &mut O,
@@ -35,7 +35,7 @@ fn write_lanes<O: Output>(
     Ok(())
 }
 
-/// Writes the bits of so many lanes, one lane after another, each from a list of its own. Each 64 lanes are copied out first,
+/// Writes the bits of this many lanes, one lane after another, each from a list of its own. Each 64 lanes are copied out first,
 /// since each lane goes over all words.
 fn write_parts<O: Output, W: Word>(
     alloc: Global,
@@ -60,7 +60,7 @@ fn write_parts<O: Output, W: Word>(
     Ok(())
 }
 
-/// Writes the bits of so many lanes in a format, one lane after another. In `01` they are packed for eight lanes
+/// Writes the bits of this many lanes in a format, one lane after another. In `01` they are packed for eight lanes
 /// at a time, in `b8` for 64.
 pub fn send_lanes<O: Output, W: Word>(
     alloc: Global,

@@ -44,7 +44,7 @@ fn write_line(column: &[u8], lane: usize, text: &mut [u8])
     text[column.len()] = b'\n';
 }
 
-/// Writes the lines of so many of eight lanes, one after another.
+/// Writes the lines of this many of eight lanes, one after another.
 fn send_lines<O: Output>(
     alloc: Global,
     out: &mut O,
@@ -62,7 +62,7 @@ fn send_lines<O: Output>(
     Ok(())
 }
 
-/// Writes the lines of so many of 64 lanes, one after another, for eight lanes at a time.
+/// Writes the lines of this many of 64 lanes, one after another, for eight lanes at a time.
 fn send_columns<O: Output>(
     alloc: Global,
     out: &mut O,
@@ -83,7 +83,7 @@ fn send_columns<O: Output>(
     Ok(())
 }
 
-/// Writes so many bytes of each of so many lanes of blocks, one lane after another.
+/// Writes this many bytes of each of this many lanes of blocks, one lane after another.
 fn send_rows<O: Output>(
     alloc: Global,
     out: &mut O,
@@ -103,7 +103,7 @@ fn send_rows<O: Output>(
     Ok(())
 }
 
-/// Writes the bits of so many of 64 lanes, eight to a byte, one lane after another.
+/// Writes the bits of this many of 64 lanes, eight to a byte, one lane after another.
 fn send_blocks<O: Output>(
     alloc: Global,
     out: &mut O,
@@ -119,7 +119,7 @@ fn send_blocks<O: Output>(
     send_rows(alloc, out, blocks.as_slice(), count, lanes)
 }
 
-/// Writes the bits of so many of 64 lanes, one lane after another.
+/// Writes the bits of this many of 64 lanes, one lane after another.
 fn send_part<O: Output>(
     alloc: Global,
     out: &mut O,
@@ -136,7 +136,7 @@ fn send_part<O: Output>(
     }
 }
 
-/// Writes the bits of so many of the first 64 lanes, one lane after another.
+/// Writes the bits of this many of the first 64 lanes, one lane after another.
 fn send_first_part<O: Output, W: Word>(
     alloc: Global,
     out: &mut O,
@@ -178,7 +178,7 @@ fn write_two_parts<W: Word>(
     }
 }
 
-/// Writes the bits of so many of 128 lanes, one lane after another: 64 of one list, and behind them those of another.
+/// Writes the bits of this many of 128 lanes, one lane after another: 64 of one list, and after them those of another.
 fn send_two_parts<O: Output>(
     alloc: Global,
     out: &mut O,
@@ -195,7 +195,7 @@ fn send_two_parts<O: Output>(
     send_part(alloc, out, packing, second, lanes - front)
 }
 
-/// Writes the bits of so many lanes, one lane after another, for 128 lanes at a time.
+/// Writes the bits of this many lanes, one lane after another, for 128 lanes at a time.
 fn send_all_parts<O: Output, W: Word>(
     alloc: Global,
     out: &mut O,
@@ -220,7 +220,7 @@ fn send_all_parts<O: Output, W: Word>(
     Ok(())
 }
 
-/// Writes the bits of so many lanes, one lane after another.
+/// Writes the bits of this many lanes, one lane after another.
 pub(crate) fn send_packed<O: Output, W: Word>(
     alloc: Global,
     out: &mut O,

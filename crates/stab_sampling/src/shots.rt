@@ -1,9 +1,8 @@
 //! The shots of a circuit, written one after another.
 //!
 //! All shots of a list of coins are the same run, which is made once. Shots of a seed go one after another as long as that is less
-//! work than lanes are: most of a shot gives again what rounds before gave. Others are run by batches of lanes, led by what is
-//! noted of a run. If there is more than one batch, all are led by the whole of that run, unless its notes take too much
-//! memory; else each batch has a run made for it, which is noted by stretches.
+//! work than lanes are: most of a shot gives again what rounds before gave. Others are run by batches of lanes, all led by one
+//! run and its notes. If these take too much memory, each batch has a run made for it, which is noted by stretches.
 ghost use Rattle.std.specs.Prelude.{◌≡◌, ℕ, ◌+◌, ◌<◌, ◌≤◌, None, IfOk, IfSome, IfErr};
 ghost use Rattle.stab_io.specs.Refusals.{whole};
 ghost use Rattle.stab_io.specs.declared.refusal.Refusal.TheVariants.{OutOfMemory};
@@ -31,7 +30,7 @@ use stab_shots::{
 };
 use std::alloc::Global;
 
-/// Runs a circuit once, and writes what is shown of it so many times.
+/// Runs a circuit once, and writes what is shown of it this many times.
 fn send_copies<O: Output, C: Coins>(
     alloc: Global,
     circuit: &Circuit,
@@ -48,8 +47,8 @@ fn send_copies<O: Output, C: Coins>(
     write_shown(out, format, shown, shot, copies)
 }
 
-/// Runs so many shots, at most as many as there are lanes, with the coins of the lanes, and writes what is shown of each. What
-/// the shots give is put in place of what the lists had.
+/// Runs this many shots, at most as many as there are lanes, with the coins of the lanes, and writes what is shown of each. What
+/// the shots give replaces what the lists had.
 fn send_batch<O: Output, W: Word, C: LaneCoins<W>>(
     alloc: Global,
     circuit: &Circuit,
@@ -87,7 +86,7 @@ fn send_batch<O: Output, W: Word, C: LaneCoins<W>>(
     }
 }
 
-/// Runs so many shots of a seed from a first one on, by batches of so many lanes, and writes what is shown of each.
+/// Runs this many shots of a seed from a first one on, by batches of this many lanes, and writes what is shown of each.
 fn send_batches<O: Output, W: Word, C: LaneCoins<W>>(
     alloc: Global,
     circuit: &Circuit,
@@ -120,7 +119,7 @@ fn send_batches<O: Output, W: Word, C: LaneCoins<W>>(
     Ok(())
 }
 
-/// Runs so many shots of a seed from a first one on, by batches of so many lanes, at most 1,024, and writes what is shown of
+/// Runs this many shots of a seed from a first one on, by batches of this many lanes, at most 1,024, and writes what is shown of
 /// each.
 fn send_wide<O: Output>(
     alloc: Global,
@@ -160,19 +159,16 @@ fn send_wide<O: Output>(
     }
 }
 
-/// The reference of a circuit, where it has one and there is more than one batch to be led by it.
-fn reference_of(alloc: Global, circuit: &Circuit, many: bool) -> Result<Option<Reference>, Fault>
+/// The reference of a circuit, if it has one.
+fn reference_of(alloc: Global, circuit: &Circuit) -> Result<Option<Reference>, Fault>
     requires checked { check_of (circuit_items circuit.now) ≡ None }
     ensures reference { IfOk result (λ found. IfSome found (λ r. IsReference (qubits_of (circuit_items circuit.now)) (circuit_items circuit.now) r)) }
     ensures err { IfErr result (λ f. f ≡ whole OutOfMemory) }
 {
-    if !many {
-        return Ok(None);
-    }
     Reference::of(alloc, circuit, circuit.qubits())
 }
 
-/// Runs so many shots of a seed from a first one on, in so many lanes at once, and writes what is shown of each. Shots that fill
+/// Runs this many shots of a seed from a first one on, in this many lanes at once, and writes what is shown of each. Shots that fill
 /// no batch go in no more lanes than they need.
 fn send_in_lanes<O: Output>(
     alloc: Global,
@@ -192,13 +188,9 @@ fn send_in_lanes<O: Output>(
     requires in_range { first + shots ≤ shots_of_seed }
     ensures sends { SendsUnflushed (of_shots (λ shot. shown_bytes format shown (run_of (qubits_of (circuit_items circuit.now)) (seed_coin seed shot) (circuit_items circuit.now))) first shots) (O.seen out.old) (O.seen out.new) result }
 {
+    let lanes = lanes.min(shots);
     let full = shots - shots % lanes;
-    if full == 0 {
-        return send_wide(
-            alloc, circuit, None, out, format, shown, seed, first, shots, shots,
-        );
-    }
-    let found = reference_of(alloc, circuit, lanes < shots)?;
+    let found = reference_of(alloc, circuit)?;
     let reference = found.as_ref();
     send_wide(
         alloc, circuit, reference, out, format, shown, seed, first, full, lanes,
@@ -213,7 +205,7 @@ fn send_in_lanes<O: Output>(
     )
 }
 
-/// Runs so many shots of a seed from a first one on, and writes what is shown of each: one after another as long as that is
+/// Runs this many shots of a seed from a first one on, and writes what is shown of each: one after another as long as that is
 /// less work than lanes are, and the others in lanes.
 fn send_seeded<O: Output>(
     alloc: Global,
@@ -245,7 +237,7 @@ fn send_seeded<O: Output>(
 /// Runs these shots of a circuit that nothing refuses, and writes what is shown of each, without a flush.
 ///
 /// Shot s has the coins of its own stream under the seed, or the whole list of coins anew. Faults: `WriteFault`
-/// where the output failed, and `OutOfMemory`, both after a prefix of what is to be written.
+/// if the output failed, and `OutOfMemory`, both after a prefix of what is to be written.
 pub fn send_shots<O: Output>(
     alloc: Global,
     circuit: &Circuit,

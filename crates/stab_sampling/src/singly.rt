@@ -16,7 +16,7 @@ use stab_results::Format;
 use stab_run::{Coins, Sampler, SeedCoins};
 use std::alloc::Global;
 
-/// How many steps the next shot may carry out, behind one with these flags: none if more coins decided than its share has.
+/// How many steps the next shot may carry out, after one with these flags: none if more coins decided than its share has.
 fn steps_behind(share: Share, free: &[bool]) -> usize {
     let mut coins: usize = 0;
     for flag in free {
@@ -25,8 +25,8 @@ fn steps_behind(share: Share, free: &[bool]) -> usize {
     if coins > share.coins { 0 } else { share.steps }
 }
 
-/// Runs a shot, if it carries out no more steps than its share, and writes what is shown of it. Tells whether it did. If it cost
-/// more than its share all the same, the next one may carry out none.
+/// Runs a shot, if it carries out no more steps than its share, and writes what is shown of it. Says whether it did. If it cost
+/// more than its share nevertheless, the next one may carry out none.
 fn send_short<O: Output, C: Coins>(
     alloc: Global,
     sampler: &mut Sampler,
@@ -50,8 +50,8 @@ fn send_short<O: Output, C: Coins>(
     }
 }
 
-/// Runs so many shots of a seed from a first one on, one after another, as long as each costs no more than its share, and writes
-/// what is shown of each. Tells how many these are.
+/// Runs this many shots of a seed from a first one on, one after another, as long as each costs no more than its share, and writes
+/// what is shown of each. Says how many these are.
 pub(crate) fn send_singly<O: Output>(
     alloc: Global,
     circuit: &Circuit,

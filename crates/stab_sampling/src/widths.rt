@@ -9,12 +9,12 @@ use stab_circuit::{Circuit, Cursor, Step, Steps};
 use stab_io::{Fault, Refusal};
 use std::alloc::Global;
 
-/// How many bytes the bits of shots that go at once take at most, but for the room that a growing list keeps free. On its way
+/// How many bytes the bits of shots that go at once take at most, besides the room that a growing list keeps free. On its way
 /// out a bit of all of them takes up to 25 bytes more. The run that leads them takes up to three for each of its bits, and 4 MiB
 /// for what is noted of it.
 const MOST_BYTES: usize = 12 * 1024 * 1024;
 
-/// How many steps are passed together at most: as many as stand together.
+/// How many steps are passed together at most: as many as are given together.
 const MOST_TOGETHER: usize = usize::MAX;
 
 /// How many bits a shot has: its records, detectors and observables.
@@ -39,7 +39,7 @@ fn count_detectors(steps: Steps) -> usize {
     }
 }
 
-/// Whether the bits of so many lanes, so many in each, stay within the bytes that they may take.
+/// Whether the bits of this many lanes, this many in each, stay within the bytes that they may take.
 fn fits(bits: usize, lanes: usize) -> bool {
     bits.saturating_mul(lanes / 8) <= MOST_BYTES
 }
@@ -47,7 +47,7 @@ fn fits(bits: usize, lanes: usize) -> bool {
 /// Numbers of lanes, the most first.
 const WIDTHS: [usize; 3] = [1_024, 512, 256];
 
-/// How many shots go at once, of which each has so many bits.
+/// How many shots go at once, of which each has this many bits.
 fn most_lanes(bits: usize) -> usize
     ensures some { 0 < result }
     ensures few { result ≤ 1024 }
@@ -60,20 +60,20 @@ fn most_lanes(bits: usize) -> usize
     64
 }
 
-/// A step that is carried out costs up to so many times what a pass of lanes over it costs, and a coin that decides at least such a
-/// part of that: a frame goes over the rounds in which one does.
+/// A step that is carried out costs up to this many times what a pass of lanes over it costs. A coin that decides costs at least one
+/// part in this many of that pass: a frame goes over the rounds in which one does.
 const SINGLY: usize = 4;
 
 /// What a shot costs at most that is run by itself: its part of a pass of lanes, which goes over all steps.
 #[derive(Clone, Copy)]
 pub(crate) struct Share {
-    /// So many steps are carried out.
+    /// This many steps are carried out.
     pub(crate) steps: usize,
-    /// So many coins decide.
+    /// This many coins decide.
     pub(crate) coins: usize,
 }
 
-/// The share of each of so many shots, which go in so many lanes at once. A shot that is alone may carry out all steps.
+/// The share of each of this many shots, which go in this many lanes at once. A shot that is alone may carry out all steps.
 pub(crate) fn share_of(circuit: &Circuit, shots: usize, lanes: usize) -> Share {
     let steps = circuit.steps();
     let shots = shots.min(lanes).max(1);
@@ -89,7 +89,7 @@ pub(crate) fn share_of(circuit: &Circuit, shots: usize, lanes: usize) -> Share {
     }
 }
 
-/// How many shots go through a circuit at once, where so many are asked for.
+/// How many shots go through a circuit at once, if this many are asked for.
 pub(crate) fn shots_at_once(alloc: Global, circuit: &Circuit, shots: usize) -> Result<usize, Fault>
     requires checked { check_of (circuit_items circuit.now) ≡ None }
     ensures some { IfOk result (λ n. 0 < n) }

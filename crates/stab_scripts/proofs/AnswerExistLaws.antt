@@ -1,5 +1,5 @@
 -- Laws of answers: on items that can be edited each request has one, which leaves such items; so have requests one after another.
-use Rattle.std.proofs.Common.{◌≡◌, ◌≤◌, ℕ, Bool, true, false, nat_lt, List, [], ◌∷◌, length, refl, sym, ap, ◌∙◌, subst, Option, Some, None, Result, Ok, Err, inl, inr, if◌then◌else◌, arith}
+use Rattle.std.proofs.Common.{◌≡◌, ◌≤◌, ◌<◌, ◌^◌, ℕ, Bool, true, false, nat_lt, List, [], ◌∷◌, length, refl, sym, ap, ◌∙◌, subst, Option, Some, None, Result, Ok, Err, inl, inr, if◌then◌else◌, arith}
 use Rattle.std.specs.List.{slice_split}
 use Rattle.std.proofs.lemmas.Bool.{ltb-true, ltb-false}
 use Rattle.stab_io.specs.declared.refusal.Refusal.{Refusal}
@@ -13,22 +13,28 @@ use Rattle.stab_circuit.specs.declared.edit.Edit.{Edit}
 use Rattle.stab_circuit.specs.declared.edit.Edit.TheVariants as circuit_edit
 use Rattle.stab_circuit.specs.Edits.{edited, list_verdict}
 use Rattle.stab_circuit.specs.Splits.{split as split_list}
-use Rattle.stab_circuit.specs.Steps.{looks_too_far, most_steps, named_qubits, qubits_of, check_of, check_within}
+use Rattle.stab_circuit.specs.Steps.{looks_too_far, most_steps, named_qubits, qubits_of, check_of, check_within, unroll}
 use Rattle.stab_circuit.specs.Circuits.{item_fault, StandsForOne}
 use Rattle.stab_circuit.specs.Readings.{IsCircuit}
-use Rattle.stab_circuit.specs.Laws.{AreOfLines, AreAlike, PutsLines, TextsAreLines, ItemTextsAreLines, ItemTextsHaveOneMeaning, EditedItemsAreOfLines, SplitsLeaveTheSteps, SplitItemsAreOfLines, LinesKeepQubitsApart}
+use Rattle.stab_circuit.specs.Laws.{AreOfLines, AreAlike, PutsLines, TextsAreLines, ItemTextsAreLines, ItemTextsHaveOneMeaning, EditedItemsAreOfLines, SplitsLeaveTheSteps, SplitItemsAreOfLines, LinesKeepQubitsApart, StepsHaveOnePath}
 use Rattle.stab_circuit.proofs.EditLemmas.{listed-entries}
 use Rattle.stab_run.specs.Runs.{State, run_of}
 use Rattle.stab_run.specs.Laws.{IsSoundRun, RunsAreSound}
+use Rattle.stab_laws.proofs.FitLemmas.{check-fits, check-whole}
 use Rattle.stab_regions.specs.FaultLaws.{SureParities}
+use Rattle.stab_coins.specs.CoinLaws.{CoinsHaveRows}
+use Rattle.stab_errors.specs.Laws.{CircuitsHaveDistances}
+use Rattle.stab_tables.specs.Reasons.{SureHasNoDecider}
 use Rattle.stab_results.specs.Formats.{f01_bytes}
 use Rattle.stab_circuit.specs.Prints.{printed}
 use Rattle.stab_tables.specs.Rows.{lines_of}
-use Rattle.stab_replies.specs.Scripts.{Setting, Request, begin, put, delete, show, ask, deterministic, distance, refuse, Held, run_held, Answer, IsPut, Shows, IsSureAnswer, IsAnswer, IsAnswerToAll, both, unless, judged, decided, refusing, replying, edit_of, edited_items, framed_shown, held_split, held_behind, shown_or_refused, framed_answer}
+use Rattle.stab_replies.specs.Scripts.{Setting, Request, begin, put, delete, show, ask, deterministic, distance, refuse, Held, run_held, Answer, IsPut, Shows, IsSureAnswer, IsDistanceAnswer, IsAnswer, IsAnswerToAll, options_asked, both, unless, judged, decided, refusing, replying, edit_of, edited_items, framed_shown, held_split, held_behind, shown_or_refused, framed_answer}
 use Rattle.stab_replies.specs.FramedReplies.{reply_text, greeting, session_numbers}
 use Rattle.stab_replies.specs.FramedRequests.{FramedRequest, mark, split, numbers, changed, changed_records, sign, item, counts, coin_table, why}
-use Rattle.stab_scripts.specs.ScriptLaws.{CanBeEdited, asks_distance, NoneAsksDistance}
-use Rattle.stab_scripts.proofs.SureBitLaws.{sure_text}
+use Rattle.stab_scripts.specs.ScriptLaws.{CanBeEdited}
+use Rattle.stab_scripts.proofs.DistanceExistLaws.{distance_answered}
+use Rattle.stab_scripts.proofs.ScriptNumberLaws.{AsksFew, AllAskFew}
+use Rattle.stab_scripts.proofs.SureBitLaws.{checked_on_own, sure_text}
 use Rattle.stab_replies.specs.declared.request.ItemEdit.{ItemEdit}
 use Rattle.stab_replies.specs.declared.request.ItemEdit.TheVariants.{Insert, Replace}
 use Rattle.stab_replies.specs.declared.request.Show.{Show}
@@ -134,7 +140,7 @@ framed_keeps steps lines true n run held r can = by_shown (framed_shown n run he
     by_shown (Ok text) = behind_keeps steps lines n run held r can
     by_shown (Err e) = can
 
--- a request for the bits that are the same whatever the coins has an answer
+-- a request for the bits that are the same for all random bits has an answer
 sure_answered : SureParities → LinesKeepQubitsApart → (s : Setting) (held : Held) → CanBeEdited s.qubits held.items → (a : Answer) × IsSureAnswer s.framed held a × CanBeEdited s.qubits a.held.items
 sure_answered law apart s held can = by_framed s.framed
   where
@@ -142,8 +148,19 @@ sure_answered law apart s held can = by_framed s.framed
     by_framed false = (refusing held BadCommand, refl, can)
     by_framed true = let told = sure_text law apart s.qubits held.items can.0 can.1 in (replying held (reply_text true told.0), (told.0, told.1, refl), can)
 
+-- so has a request for a distance
+distance_asked : CoinsHaveRows → SureHasNoDecider → CircuitsHaveDistances → StepsHaveOnePath → LinesKeepQubitsApart → (s : Setting) (held : Held) (everywhere : Bool) (most : ℕ) → most < 10 ^ 18 → CanBeEdited s.qubits held.items
+    → (a : Answer) × IsDistanceAnswer s.framed held (options_asked everywhere most) a × CanBeEdited s.qubits a.held.items
+distance_asked rows none distances paths apart s held everywhere most few can =
+    let items = held.items in
+    let own : check_within (qubits_of items) items ≡ None = checked_on_own (qubits_of items) items refl (check-whole s.qubits items can.1) in
+    let fits = check-fits (qubits_of items) items (unroll items) own refl (apart can.0.0 items can.0.1) in
+    let found = distance_answered rows none distances paths s.framed everywhere most held fits (omega (arith, few)) in
+    (found.0, found.1, subst (λ (h : Held). CanBeEdited s.qubits h.items) (sym found.2) can)
+
 module _ (meanings : ItemTextsHaveOneMeaning) (lines : ItemTextsAreLines) (edits : EditedItemsAreOfLines) (steps : SplitsLeaveTheSteps)
-    (split_lines : SplitItemsAreOfLines) (sound : RunsAreSound) (some : TracesHaveReducedRows) (one : TracesHaveOneList) (parities : SureParities) (apart : LinesKeepQubitsApart) where
+    (split_lines : SplitItemsAreOfLines) (sound : RunsAreSound) (some : TracesHaveReducedRows) (one : TracesHaveOneList) (parities : SureParities) (rows : CoinsHaveRows) (none : SureHasNoDecider) (distances : CircuitsHaveDistances)
+    (paths : StepsHaveOnePath) (apart : LinesKeepQubitsApart) where
   -- an edit that puts in the item of a text has an answer
   put_answered : (s : Setting) (held : Held) (how : ItemEdit) (place : Path) (text : List ℕ) → CanBeEdited s.qubits held.items
       → (a : Answer) × IsPut s.framed held (λ item. edited_items s.qubits (edit_of how place item) held.items) text a × CanBeEdited s.qubits a.held.items
@@ -160,24 +177,24 @@ module _ (meanings : ItemTextsHaveOneMeaning) (lines : ItemTextsAreLines) (edits
           )
 
   -- a request has an answer
-  request_answered : (s : Setting) (held : Held) (r : Request) → asks_distance r ≡ false → CanBeEdited s.qubits held.items → (a : Answer) × IsAnswer s held r a × CanBeEdited s.qubits a.held.items
-  request_answered s held begin no_distance can = (replying held (greeting s.framed (session_numbers s.qubits (run_held s held) held.items)), refl, can)
-  request_answered s held (put how place text) no_distance can = put_answered s held how place text can
-  request_answered s held (delete place) no_distance can =
+  request_answered : (s : Setting) (held : Held) (r : Request) → AsksFew r → CanBeEdited s.qubits held.items → (a : Answer) × IsAnswer s held r a × CanBeEdited s.qubits a.held.items
+  request_answered s held begin few can = (replying held (greeting s.framed (session_numbers s.qubits (run_held s held) held.items)), refl, can)
+  request_answered s held (put how place text) few can = put_answered s held how place text can
+  request_answered s held (delete place) few can =
       (decided s.framed held (edited_items s.qubits (circuit_edit.Delete place) held.items), refl, edit_keeps edits s.qubits (circuit_edit.Delete place) s.framed held (puts_none place) can)
-  request_answered s held (show what) no_distance can =
+  request_answered s held (show what) few can =
       let shown = text_shown some one s.qubits s.coins held.items (sound s.qubits s.coins can.0.0 held.items can.0.1 can.1) what in
       (replying held (reply_text s.framed shown.0), (shown.0, shown.1, refl), can)
-  request_answered s held (ask r) no_distance can =
+  request_answered s held (ask r) few can =
       (framed_answer s.framed s.qubits (run_held s held) held r, refl, framed_keeps steps split_lines s.framed s.qubits (run_held s held) held r can)
-  request_answered s held deterministic no_distance can = sure_answered parities apart s held can
-  request_answered s held (distance everywhere most) no_distance can = absurd (cc)
-  request_answered s held (refuse r) no_distance can = (refusing held r, refl, can)
+  request_answered s held deterministic few can = sure_answered parities apart s held can
+  request_answered s held (distance everywhere most) few can = distance_asked rows none distances paths apart s held everywhere most few can
+  request_answered s held (refuse r) few can = (refusing held r, refl, can)
 
   -- requests, however many, have an answer
-  pub all_answered : (s : Setting) (held : Held) (rs : List Request) → NoneAsksDistance rs → CanBeEdited s.qubits held.items → (a : Answer) × IsAnswerToAll s held rs a × CanBeEdited s.qubits a.held.items
-  all_answered s held [] none can = (replying held [], refl, can)
-  all_answered s held (r ∷ rs) none can =
-      let first = request_answered s held r none.0 can in
-      let rest = all_answered s first.0.held rs none.1 first.2 in
+  pub all_answered : (s : Setting) (held : Held) (rs : List Request) → AllAskFew rs → CanBeEdited s.qubits held.items → (a : Answer) × IsAnswerToAll s held rs a × CanBeEdited s.qubits a.held.items
+  all_answered s held [] few can = (replying held [], refl, can)
+  all_answered s held (r ∷ rs) few can =
+      let first = request_answered s held r few.0 can in
+      let rest = all_answered s first.0.held rs few.1 first.2 in
       (both first.0 rest.0, (first.0, rest.0, first.1, rest.1, refl), rest.2)

@@ -16,11 +16,11 @@ use Rattle.stab_replies.specs.declared.editor.Answered.{Answered}
 use Rattle.stab_scripts.specs.inner.SessionAnswers.{answered}
 use Rattle.stab_scripts.proofs.SessionAnswerLaws.{same_refusal}
 
--- what is written of an answer tells a distance
+-- what is written of an answer says a distance
 pub distance_shown : (options : DistanceOptions) (items : Items) (d : Distance) (written : List ℕ) → IsDistanceOf options items d → written ≡ answer_text options items d.errors d.answer → IsDistanceText options items written
 distance_shown options items d written is e = (d, is, e)
 
--- a refusal is for a bit that is not sure, or for want of memory
+-- a refusal is for a bit that is not deterministic, or for lack of memory
 pub refusal_shown : (sure_only : Bool) (items : Items) (u : Option Unsure) (f : Fault) → IsRefusedFor sure_only items u f
     → (f.refusal ≡ OutOfMemory) ⊎ ((f.refusal ≡ NotDeterministic) × (v : Unsure) × IsFirstUnsure items v)
 refusal_shown sure_only items (Some u) f is = inr (ap (λ (x : Fault). x.refusal) is.2, u, is.1)
@@ -44,7 +44,7 @@ distance_told framed held options items text reply is same found told =
     subst (λ b. IsDistanceAnswer b held options (answered held reply false)) (sym is)
     (inl (text, subst (λ (x : Items). IsDistanceText options x text) same found, ap (λ l. answered held l false) told))
 
--- or refused for a bit that is not sure
+-- or refused for a bit that is not deterministic
 pub distance_refused : (framed : Bool) (held : Held) (options : DistanceOptions) (items : Items) (r : Refusal) (reply : List ℕ) (refused : Bool) → framed ≡ true → items ≡ held.items
     → (r ≡ OutOfMemory) ⊎ ((r ≡ NotDeterministic) × (u : Unsure) × IsFirstUnsure items u) → r ≢ OutOfMemory → reply ≡ refused_text r → refused ≡ true
     → IsDistanceAnswer framed held options (answered held reply refused)

@@ -1,5 +1,7 @@
 pub mod SureBitLaws
 pub mod DistanceLaws
+pub mod DistanceExistLaws
+pub mod ScriptNumberLaws
 pub mod AnswerLaws
 pub mod AnswerExistLaws
 pub mod ScriptRunLaws

@@ -38,7 +38,7 @@ so_far_none setting items now reader s o o' told e = record {
   told = subst (λ (r : Reading). Told (before_script setting items) now (begin ∷ r.requests) o o') (sym (read_none empty_reader)) told;
 }
 
--- what bytes ask for behind others
+-- what bytes ask for after others
 behind_requests : (bytes piece : List ℕ) → requests_in (bytes ++ piece) ≡ requests_in bytes ++ (read (read empty_reader bytes).reader piece).requests
 behind_requests bytes piece = ap (λ (r : Reading). begin ∷ r.requests) (read_append empty_reader bytes piece)
 
@@ -110,7 +110,7 @@ pub greeting_broke : {setting : Setting} {items : Items} {o o' : OutputView} (s 
 greeting_broke {setting} {items} {o} {o'} s f some =
     script_broke setting items s s o o' f [] [] (gave_none s) (subst (λ (r : Reading). ToldSome (before_script setting items) (begin ∷ r.requests) o o' f) (sym (read_none empty_reader)) some)
 
--- the same, behind what was answered so far
+-- the same, after what was answered so far
 pub broke_behind : {setting : Setting} {items : Items} {now : Sitting} {reader : ScriptReader} {taken : ℕ} {s s' s'' : InputView} {o o' o'' : OutputView} (f : Fault) (part behind : List ℕ)
     → AnsweredSoFar setting items now reader taken s s' o o' → Gave s' s'' (part ++ behind) → ToldSome now (read reader part).requests o' o'' f
     → BreaksOff setting items s s'' o o'' f
@@ -225,7 +225,7 @@ script_ended o'' (Ok refused) before few gave ends = ended_sent refused before f
 script_ended o'' (Err f) before few gave (inl some) = inl (ended_cut f before gave some)
 script_ended o'' (Err f) before few gave (inr failed) = inl (ended_unflushed f before gave failed)
 
--- a fault that is handed on
+-- a fault that is passed on
 pub script_err : {setting : Setting} {items : Items} {s s' : InputView} {o o' : OutputView} (f : Fault) (r : Result Bool Fault) → IsErrAnd r (λ y. y ≡ f) → BreaksOff setting items s s' o o' f
     → EndsScript setting items s s' o o' r
 script_err f (Ok x) is broke = absurd is

@@ -35,7 +35,7 @@ pub logs_none : (setting : Setting) (items : Items) (o : OutputView) (log : Opti
 logs_none setting items o None = inl refl
 logs_none setting items o (Some before) = inr (record { before = before; more = []; had = refl; has = ap Some (sym (append-nil before)); given = refl; in_turn = λ h. tt })
 
--- a log with more reads has them behind the reads that it had
+-- a log with more reads has them after the reads that it had
 log_behind : (before before' more : List Asked) {log' log'' : Option (List Asked)} → log' ≡ Some (before ++ more) → log' ≡ Some before' → (a : Asked) → log'' ≡ Some (before' ++ a ∷ [])
     → log'' ≡ Some (before ++ (more ++ a ∷ []))
 log_behind before before' more has had a now =
@@ -70,7 +70,7 @@ pub reads_in_turn : {setting : Setting} {items : Items} {now : Sitting} {reader 
     → (before : AnsweredInTurn setting items now reader taken s s' o o' log log') → Logs log' log'' (asked o' r buf ∷ []) → LogsSoFar setting items o (before.0.bytes ++ given_by r buf) log log''
 reads_in_turn {setting} {items} {now} {reader} {taken} {s} {s'} {o} {o'} r buf before more = logs_more (asked o' r buf) before.1 more (caught_up before.0.bytes r buf before.0.told)
 
--- where the input stands behind a read more
+-- where the input is after one more read
 handed_over : (s s' s'' : InputView) (bytes buf : List ℕ) (r : Result ℕ DeviceFault) → Gave s s' bytes → Reads s' s'' r buf → IsTrue s.honest → s.unread ≡ (bytes ++ given_by r buf) ++ s''.unread
 handed_over s s' s'' bytes buf (Ok n) before reads h = (gave_more bytes (take n buf) before reads.1).moved h
 handed_over s s' s'' bytes buf (Err f) before reads h = (gave_and_failed bytes before reads).moved h ∙ ap (λ l. l ++ s''.unread) (sym (append-nil bytes))
@@ -80,7 +80,7 @@ takes_turns : {setting : Setting} {items : Items} {o : OutputView} {log log'' : 
 takes_turns s s'' bytes moved (inl gone) = inl gone
 takes_turns s s'' bytes moved (inr p) = inr (bytes, moved, p)
 
--- nothing is read behind a read
+-- a read after which nothing is read
 pub last_in_turn : {setting : Setting} {items : Items} {now : Sitting} {reader : ScriptReader} {taken : ℕ} {s s' : InputView} {o o' : OutputView} {log log' log'' : Option (List Asked)} (s'' : InputView) (r : Result ℕ DeviceFault) (buf : List ℕ)
     → AnsweredInTurn setting items now reader taken s s' o o' log log' → Logs log' log'' (asked o' r buf ∷ []) → Reads s' s'' r buf → TakesTurns setting items s s'' o log log''
 last_in_turn {setting} {items} {now} {reader} {taken} {s} {s'} s'' r buf before more reads = takes_turns s s'' (before.0.bytes ++ given_by r buf) (handed_over s s' s'' before.0.bytes buf r before.0.gave reads) (reads_in_turn r buf before more)

@@ -55,12 +55,12 @@ refused_by : (kept : Bool) (n : ℕ) (r : Result (List OneItem) Refusal) (held :
 refused_by kept n r held f (Some x) e is some = ap (λ (g : Fault). refusing held g.refusal) is ∙ sym (ap (decided kept held) (judged_refused n r x e))
 refused_by kept n r held f None e is some = absurd (some (ap (λ (g : Fault). g.refusal) is))
 
--- an edit that was refused, not for want of memory
+-- an edit that was refused, not for lack of memory
 pub refused_answer : (kept : Bool) (n : ℕ) (r : Result (List OneItem) Refusal) (held : Held) (f : Fault) → IsCallFault (list_verdict n r) f → f.refusal ≢ OutOfMemory
     → refusing held f.refusal ≡ decided kept held (judged n r)
 refused_answer kept n r held f is some = refused_by kept n r held f (list_verdict n r) refl is some
 
--- what is told of an edit that was made
+-- what is said of an edit that was made
 pub told_made : {C : Type 0} (sequence : C → ℕ → Bool) (kept : Bool) (e : Edit) (old new : SessionState C) (m : MarkedBits) (reply : List ℕ) → IsEditedBy sequence e old new → reply ≡ made_text kept
     → answered (held_of new m) reply false ≡ decided kept (held_of old m) (judged old.qubits (edited e (entries old.items)))
 told_made sequence kept e old new m reply is same =
@@ -70,7 +70,7 @@ pub same_refusal : {held others : Held} {reply : List ℕ} {refused : Bool} (r :
 same_refusal {held} {others} {reply} {refused} r e f g =
     ap (λ x. answered x reply refused) e ∙ ap (λ l. answered others l refused) f ∙ ap (λ b. answered others (refused_text r) b) g
 
--- what is told of an edit that was refused
+-- what is said of an edit that was refused
 pub told_refusal : {C : Type 0} (sequence : C → ℕ → Bool) (kept : Bool) (e : Edit) (old new : SessionState C) (m : MarkedBits) (f : Fault) (reply : List ℕ) (refused : Bool) → IsAsBefore sequence old new
     → IsCallFault (verdict old.qubits e (entries old.items)) f → f.refusal ≢ OutOfMemory → reply ≡ refused_text f.refusal → refused ≡ true
     → answered (held_of new m) reply refused ≡ decided kept (held_of old m) (judged old.qubits (edited e (entries old.items)))
@@ -94,14 +94,14 @@ refused_framed run held n r e f = sym (ap (shown_or_refused true held (held_behi
 same_entries : (circuit : List OneItem) (items : Items) → listed circuit ≡ items → entries items ≡ circuit
 same_entries circuit items same = sym (ap entries same) ∙ entries-listed circuit
 
--- where there is no item at a place of the circuit, none is shown
+-- if there is no item at a place of the circuit, none is shown
 pub item_refused : (circuit : List OneItem) (items : Items) (place : Path) (r : Refusal) (result : Result ReplyBytes Refusal) → IsErrAnd result (λ x. x ≡ r) → listed circuit ≡ items
     → item_at place circuit ≡ Err r → GivesText result (item_shown (item_at place (entries items)))
 item_refused circuit items place r (Ok reply) is same found = absurd is
 item_refused circuit items place r (Err x) is same found =
     inr (ap (λ xs. item_shown (item_at place xs)) (same_entries circuit items same) ∙ (ap item_shown found ∙ ap Err (sym is)))
 
--- and where there is one, its text is
+-- and if there is one, its text is
 pub item_told : (circuit : List OneItem) (items : Items) (place : Path) (x : OneItem) (made : Result ReplyBytes Fault) (result : Result ReplyBytes Refusal) → listed circuit ≡ items
     → item_at place circuit ≡ Ok x → IfOk made (λ r. r.written ≡ printed (before x done)) → IfOk result (λ r. made ≡ Ok r) → IfErr result (λ r. r ≡ OutOfMemory)
     → GivesText result (item_shown (item_at place (entries items)))
@@ -110,7 +110,7 @@ item_told circuit items place x made (Ok reply) same found written is err =
     ap (λ xs. item_shown (item_at place xs)) (same_entries circuit items same) ∙ (ap item_shown found ∙ ap Ok (sym text))
 item_told circuit items place x made (Err r) same found written is err = inl err
 
--- the sign of a string is told as the group of the run has it
+-- the sign of a string is reported as the group of the run has it
 pub sign_told : (run : State) (given : Result Signed Refusal) (p : Signed) (sign : Option Bool) (made : Result ReplyBytes Fault) (result : Result ReplyBytes Refusal) → given ≡ Ok p
     → IsSignIn (member run.trace) p sign → IfOk made (λ r. r.written ≡ sign_line sign) → IfOk result (λ r. made ≡ Ok r) → IfErr result (λ r. r ≡ OutOfMemory)
     → GivesText result (sign_shown run given)

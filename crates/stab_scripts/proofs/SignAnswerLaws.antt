@@ -1,4 +1,4 @@
--- Laws of signs that scripts ask for: the sign that the session's call tells is the one of the group.
+-- Laws of signs that scripts ask for: the sign that the session's call reports is the one of the group.
 use Rattle.std.proofs.Common.{◌≡◌, Bool, true, false, not, ◌&&◌, List, refl, ap, ◌∙◌, Option, Some, None}
 use Rattle.std.specs.Prelude.{if◌then◌else◌}
 use Rattle.stab_letters.specs.declared.letter.Letter.{Letter}
@@ -21,7 +21,7 @@ same_sign p = refl
 other_sign : (p : Signed) → with_sign true p ≡ minus p
 other_sign p = ap (λ b. signed_with b p.letters) (turned p.negative)
 
--- the sign that a call tells is the one of the group
+-- the sign that a call reports is the one of the group
 pub told_sign : (group : Signed → Bool) (p : Signed) (sign : Option Bool) → IsSignIn group p sign → sign ≡ sign_in group p
 told_sign group p sign is = by_members (group p) (group (minus p)) refl refl
   where

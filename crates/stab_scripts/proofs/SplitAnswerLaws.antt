@@ -19,14 +19,14 @@ use Rattle.stab_replies.specs.declared.changes.MarkedBits.{MarkedBits}
 abbrev held_with : Items → Mark → Held
 held_with items m = record { items = items; mark = m }
 
--- what is held behind a split has the split items
+-- what is held after a split has the split items
 pub split_held : {C : Type 0} (path : Path) (round : ℕ) (old new : SessionState C) (m : MarkedBits) → IsSplit path round old new
     → held_of new m ≡ held_split (held_of old m) (split path round (entries old.items))
 split_held path round old new m is =
     let marked : Mark = (held_of old m).mark in
     ap (λ (x : Items). held_with x marked) (sym (listed-entries new.items)) ∙ sym (ap (held_split (held_of old m)) is.items)
 
--- and one that was refused tells what refused it
+-- and one that was refused says what refused it
 pub split_refused : (path : Path) (round : ℕ) (xs : List OneItem) (f : Fault) → IsCallFault (split_refusal path round xs) f → GivesText (Err f.refusal) (split_shown (split path round xs))
 split_refused path round xs f is = by_result (split path round xs) is
   where

@@ -1,4 +1,4 @@
--- Laws of bits that are the same whatever the coins: some bits tell of them, no others do, and a framed script is told them.
+-- Laws of bits that are the same for all random bits: some bits name them, no others do, and a framed script gets them.
 use Rattle.std.proofs.Common.{◌≡◌, ℕ, Bool, true, false, List, map, get_or, refl, sym, ap, ◌∙◌, subst, ◌<◌, arith, Some, None, Result, Ok, Err, IfOk, if◌then◌else◌, nat_lt, zero-add, All, ◌↔◌}
 use Rattle.std.specs.List.{range_with_len}
 use Rattle.std.proofs.lemmas.List.{ext_get_or}
@@ -34,7 +34,7 @@ checked_on_own n items is checked = by_test (nat_lt n (qubits_of items)) refl
     by_test false e = checked
     by_test true e = absurd (grind arith)
 
--- so a call that only such a refusal and want of memory fail wanted memory
+-- so a call that only such a refusal and lack of memory fail wanted memory
 pub sure_fault : (n : ℕ) (items : Items) (f : Fault) → n ≡ qubits_of items → check_of items ≡ None → IsCallFault (check_within n items) f → f ≡ whole OutOfMemory
 sure_fault n items f is checked fault = subst (λ v. IsCallFault v f) (checked_on_own n items is checked) fault
 
@@ -57,7 +57,7 @@ sure_text law apart n items lines checked =
     let found = sure_found law (qubits_of items) items (check-fits (qubits_of items) items (unroll items) own refl (apart lines.0 items lines.1)) in
     (f01_bytes found.0, (found.0, found.1, refl))
 
--- no other bits tell of them
+-- no other bits name them
 one_sure : (n : ℕ) (items : Items) (a b : List Bool) → AreSure n items a → AreSure n items b → b ≡ a
 one_sure n items a b p q =
     ext_get_or false b a (q.count ∙ sym p.count)
@@ -85,7 +85,7 @@ pub sure_refusal : (framed : Bool) (held : Held) (result : Result Answered Fault
 sure_refusal framed held (Ok a) is text flag = sure_refused framed held a.reply.written a.refused is text flag
 sure_refusal framed held (Err f) is text flag = tt
 
--- a framed one is told them
+-- a framed one gets them
 pub sure_told : (framed : Bool) (held : Held) (items : Items) (text reply : List ℕ) → framed ≡ true → items ≡ held.items → IsSureText F01 items text → reply ≡ reply_text true text
     → IsSureAnswer framed held (answered held reply false)
 sure_told framed held items text reply is same sure told =

@@ -57,7 +57,7 @@ abbrev pub EndsScript : Setting → Items → InputView → InputView → Output
 EndsScript setting items s s' o o' (Ok refused) = AnswersScript setting items s s' o o' refused
 EndsScript setting items s s' o o' (Err f) = BreaksOff setting items s s' o o' f ⊎ AnswersFront setting items s s' o o' f
 
--- on how many qubits the items are edited: so many as were asked for, or as they name
+-- on how many qubits the items are edited: as many as were asked for, or as they name
 abbrev pub qubits_for : Option ℕ → Items → ℕ
 qubits_for (Some n) items = n
 qubits_for None items = qubits_of items
@@ -66,13 +66,13 @@ qubits_for None items = qubits_of items
 abbrev pub setting_of : (framed : Bool) → Option ℕ → Source → Items → Setting
 setting_of framed qubits source items = record { framed = framed; qubits = qubits_for qubits items; coins = coins_of_shot source 0 }
 
--- the items are refused on so many qubits, or memory was refused, before the script was read
+-- the items are refused on this many qubits, or memory was refused, before the script was read
 pub record NotOpened (n : ℕ) (items : Items) (s s' : InputView) (o o' : OutputView) (f : Fault) : Type 0 where
   pub fault : IsCallFault (check_within n items) f
   pub unread : s' ≡ s
   pub untouched : o' ≡ o
 
--- nothing refuses the items on so many qubits, and the script ended in this way
+-- nothing refuses the items on this many qubits, and the script ended in this way
 pub record Opened (setting : Setting) (items : Items) (s s' : InputView) (o o' : OutputView) (r : Result Bool Fault) : Type 0 where
   pub accepted : check_within setting.qubits items ≡ None
   pub ends : EndsScript setting items s s' o o' r

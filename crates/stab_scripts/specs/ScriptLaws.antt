@@ -1,4 +1,4 @@
--- Laws of scripts: a script that asks for no distance has one answer and no other, and what its first requests are answered begins it.
+-- Laws of scripts: each has an answer; one that asks for no distance has no other, and what its first requests are answered begins it.
 -- Source: this project's own.
 use Rattle.std.specs.Prelude.{◌≡◌, ◌≤◌, List, [], ◌∷◌, ℕ, Bool, true, false, ◌++◌, None}
 use Rattle.stab_circuit.specs.Items.{Items}
@@ -7,13 +7,19 @@ use Rattle.stab_circuit.specs.Readings.{IsCircuit}
 use Rattle.stab_circuit.specs.Laws.{AreOfLines}
 use Rattle.stab_replies.specs.Scripts.{Setting, Request, distance, Held, Answer, IsAnswerToAll, IsAnswerToScript, requests_of}
 
--- items that can be edited on n qubits: some lines stand for them, and nothing refuses them on so many
+-- items that can be edited on n qubits: some lines stand for them, and nothing refuses them on that many
 abbrev pub CanBeEdited : ℕ → Items → Type 0
 CanBeEdited n items = AreOfLines items × (check_within n items ≡ None)
 
 -- the items of each circuit's text can be, on at least as many qubits as they name
 abbrev pub CircuitsCanBeEdited : Type 0
 CircuitsCanBeEdited = (n : ℕ) (text : List ℕ) (items : Items) → IsCircuit text items → qubits_of items ≤ n → CanBeEdited n items
+
+-- on such items a script, however long, has an answer, which leaves such items
+abbrev pub ScriptsHaveAnAnswer : Type 0
+ScriptsHaveAnAnswer =
+    (s : Setting) (items : Items) (script : List ℕ) → CanBeEdited s.qubits items →
+    (a : Answer) × IsAnswerToScript s items script a × CanBeEdited s.qubits a.held.items
 
 -- whether a request asks for a distance: any of its least sets of errors may be the answer
 abbrev pub asks_distance : Request → Bool
@@ -25,19 +31,13 @@ abbrev pub NoneAsksDistance : List Request → Type 0
 NoneAsksDistance [] = Unit {0}
 NoneAsksDistance (r ∷ rs) = (asks_distance r ≡ false) × NoneAsksDistance rs
 
--- on such items a script, however long, has an answer, which leaves such items
-abbrev pub ScriptsHaveAnAnswer : Type 0
-ScriptsHaveAnAnswer =
-    (s : Setting) (items : Items) (script : List ℕ) → NoneAsksDistance (requests_of script) → CanBeEdited s.qubits items →
-    (a : Answer) × IsAnswerToScript s items script a × CanBeEdited s.qubits a.held.items
-
--- on any items it has at most one
+-- on any items such a script has at most one answer
 abbrev pub ScriptsHaveOneAnswer : Type 0
 ScriptsHaveOneAnswer =
     (s : Setting) (items : Items) (script : List ℕ) (a b : Answer) → NoneAsksDistance (requests_of script) →
     IsAnswerToScript s items script a → IsAnswerToScript s items script b → b ≡ a
 
--- what first requests are answered begins what all are answered
+-- the answer to first requests begins the answer to all
 abbrev pub FirstRepliesComeFirst : Type 0
 FirstRepliesComeFirst =
     (s : Setting) (held : Held) (first rest : List Request) (a b : Answer) → NoneAsksDistance first → IsAnswerToAll s held first a → IsAnswerToAll s held (first ++ rest) b →

@@ -1,4 +1,4 @@
--- Script turns: that each reply stands written before more of the script is asked for.
+-- Script turns: each reply is written before more of the script is asked for.
 -- Source: this project's own.
 use Rattle.std.specs.Prelude.{◌≡◌, ℕ, ◌+◌, Bool, IsTrue, List, [], ◌∷◌, ◌++◌, length, ◌⊎◌, Option, Some, None}
 use Rattle.stab_io.specs.Devices.{InputView, OutputView}
@@ -15,11 +15,11 @@ abbrev pub all_given : List Asked → List ℕ
 all_given [] = []
 all_given (a ∷ later) = a.given ++ all_given later
 
--- exactly the replies to these first bytes of a script stood written, in whole lines and behind what stood there at first, when more was asked for
+-- exactly the replies to these first bytes of a script were written, in whole lines and after what was there at first, when more was asked for
 abbrev pub Answered : Setting → Items → (start : ℕ) → (before : List ℕ) → Asked → Type 0
 Answered setting items start before a = (answer : Answer) × IsAnswerToAll setting (opened setting items) (requests_in before) answer × (a.written ≡ start + length answer.reply)
 
--- the same at each read, where these bytes were handed over before the first
+-- the same at each read, if these bytes were handed over before the first
 abbrev pub InTurn : Setting → Items → (start : ℕ) → (before : List ℕ) → List Asked → Type 0
 InTurn setting items start before [] = Unit {0}
 InTurn setting items start before (a ∷ later) = Answered setting items start before a × InTurn setting items start (before ++ a.given) later

@@ -26,9 +26,9 @@ fn options_asked(everywhere: bool, most: usize) -> DistanceOptions
     }
 }
 
-/// The distance up to so many errors, as the command `distance` writes it.
+/// The distance up to this many errors, as the command `distance` writes it.
 ///
-/// Refusal `NotDeterministic` where a detector or observable is not the same whatever the coins, else
+/// Refusal `NotDeterministic` if a detector or observable is not the same for all random bits, else
 /// `OutOfMemory` alone.
 #[tactic(auto, using(crate::proofs::DistanceLaws::distance_shown, crate::proofs::DistanceLaws::refusal_shown))]
 pub(crate) fn show_distance(

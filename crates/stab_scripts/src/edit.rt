@@ -82,10 +82,10 @@ fn open_session<C: Coins>(
 /// Opens a session of a circuit on n qubits, and answers a script on it, each reply before it reads on,
 /// with each read made by a watcher. A framed script is greeted first.
 ///
-/// True where a line was refused. Faults: those of the circuit on so many qubits, with the script
-/// unread and the output untouched; `ReadFault` where the script's input failed and `TooLong` for a script
+/// True if a line was refused. Faults: those of the circuit on this many qubits, with the script
+/// unread and the output untouched; `ReadFault` if the script's input failed and `TooLong` for a script
 /// of more than 67,108,864 bytes, both after exactly the replies to what was read whole; `WriteFault`
-/// where the output failed, and `OutOfMemory`, both after a prefix of all replies.
+/// if the output failed, and `OutOfMemory`, both after a prefix of all replies.
 pub fn edit_circuit<C: Coins, S: Input, O: Output, W: Watcher<S, O>>(
     alloc: Global,
     framed: bool,

@@ -4,11 +4,15 @@ ghost use Rattle.stab_scripts.specs.ScriptLaws.{CircuitsCanBeEdited, FirstReplie
 
 use stab_circuit::laws::{
     edited_items_are_of_lines, item_texts_are_lines, item_texts_have_one_meaning,
-    lines_keep_qubits_apart, split_items_are_of_lines, splits_leave_the_steps, texts_are_lines,
+    lines_keep_qubits_apart, split_items_are_of_lines, splits_leave_the_steps, steps_have_one_path,
+    texts_are_lines,
 };
+use stab_coins::laws::coins_have_rows;
+use stab_errors::laws::circuits_have_distances;
 use stab_regions::fault_laws::sure_parities;
 use stab_run::laws::runs_are_sound;
 use stab_tableau::laws::{traces_have_one_list, traces_have_reduced_rows};
+use stab_tables::laws::sure_has_no_decider;
 
 /// The items of a circuit's text can be edited on at least as many qubits as they name: lines stand
 /// for them, and nothing refuses them.
@@ -18,8 +22,7 @@ pub fn circuits_can_be_edited()
     texts_are_lines();
 }
 
-/// A script that asks for no distance, however long, has an answer on all items that can be edited,
-/// and it leaves items that can be.
+/// A script, however long, has an answer on all items that can be edited, and it leaves items that can be.
 pub fn scripts_have_an_answer()
     ensures law { ScriptsHaveAnAnswer }
 {
@@ -32,6 +35,10 @@ pub fn scripts_have_an_answer()
     traces_have_reduced_rows();
     traces_have_one_list();
     sure_parities();
+    coins_have_rows();
+    sure_has_no_decider();
+    circuits_have_distances();
+    steps_have_one_path();
     lines_keep_qubits_apart();
 }
 
@@ -43,8 +50,8 @@ pub fn scripts_have_one_answer()
     item_texts_have_one_meaning();
 }
 
-/// What the first requests of a script are answered, if none asks for a distance, begins what the whole script is answered. So a
-/// run that was cut off behind some replies wrote a prefix.
+/// What the first requests of a script are answered, if none asks for a distance, begins what the whole script is
+/// answered. So a run that was cut off after some replies wrote a prefix.
 pub fn first_replies_come_first()
     ensures law { FirstRepliesComeFirst }
 {

@@ -167,7 +167,7 @@ impl<C: Coins> SessionAnswers<C> {
         memory(Reply::item(self.alloc, item))
     }
 
-    /// Where the item at a place stands in the unrolled circuit.
+    /// Where the item at a place is in the unrolled circuit.
     #[tactic(auto, using(stab_replies::proofs::PlaceCountLaws::session_checked))]
     fn place(&self, place: Path) -> Result<Reply, Refusal>
         ensures shows { GivesText result (place_shown (item_at place (entries self.now.session.items)) place self.now.session.items) }
@@ -261,7 +261,7 @@ impl<C: Coins> SessionAnswers<C> {
         }
     }
 
-    /// The answer to a request for the bits that are the same whatever the coins, which only a framed
+    /// The answer to a request for the bits that are the same for all random bits, which only a framed
     /// script may make.
     #[tactic(auto, using(stab_replies::proofs::PlaceCountLaws::session_checked))]
     fn answer_sure(&self) -> Result<Answered, Fault>
@@ -298,7 +298,7 @@ impl<C: Coins> SessionAnswers<C> {
         }
     }
 
-    /// The answer to a request that is refused; want of memory is handed on.
+    /// The answer to a request that is refused; lack of memory is passed on.
     fn refuse(&self, refusal: Refusal) -> Result<Answered, Fault>
         ensures reply { IfOk result (λ a. a.reply.written ≡ refused_text refusal) }
         ensures refused { IfOk result (λ a. a.refused ≡ true) }

@@ -1,4 +1,4 @@
-//! Which detectors and observables are the same whatever the coins.
+//! Which detectors and observables are the same for all random bits.
 ghost use Rattle.std.specs.Prelude.{◌≡◌, None, IfOk, IfErr};
 ghost use Rattle.stab_io.specs.Refusals.{whole};
 ghost use Rattle.stab_io.specs.declared.refusal.Refusal.TheVariants.{OutOfMemory};

@@ -38,7 +38,7 @@ session-verdict s e n items is qubits = λ i. verdict (sym qubits i) e (same i)
     same : items ≡ entries s.items
     same = sym (ap entries is ∙ entries-listed items)
 
--- points after so many steps agree, whichever way these are said
+-- points after this many steps agree, whichever way these are said
 same_agree : (n m k : ℕ) (bits others : ℕ → Bool) (xs us ys vs : List Step) (i a j c : ℕ) → m ≡ n → k ≡ n → others ≡ bits → us ≡ xs → vs ≡ ys → a ≡ i → c ≡ j
     → AgreeAt k (point_after m bits (take a us) origin) (point_after k others (take c vs) origin) ≡ AgreeAt n (point_after n bits (take i xs) origin) (point_after n bits (take j ys) origin)
 same_agree n m k bits others xs us ys vs i a j c em ek eb ex ey ei ej =
@@ -81,7 +81,7 @@ module _ {C : Type 0} (sequence : C → ℕ → Bool) (e : Edit) (s : SessionSta
   old_items : entries s.items ≡ old
   old_items = ap entries items ∙ entries-listed old
 
-  -- and asked for no more coins before that than there are steps behind the changed place, and a stride of them
+  -- and asked for no more coins before that than there are steps after the changed place, and a stride of them
   pub refused-asks : (K before after : ℕ) → K ≡ s.stride → after ≤ before + ((length (unroll (listed mid)) - span.first) + K) → after ≤ before + most_refused_asks e s
   refused-asks K before after stride asked =
       let most : most_refused_asks e s ≡ (length (unroll (listed b.new)) - first_changed e old) + s.stride =
@@ -130,7 +130,7 @@ module _ {C : Type 0} (sequence : C → ℕ → Bool) (e : Edit) (s : SessionSta
     first_is : span.first ≡ first_changed e (entries s.items)
     first_is = b.span.first ∙ sym (ap (first_changed e) old_items)
 
-    -- it cost no more steps than stand behind the changed place, and a stride
+    -- it cost no more steps than are after the changed place, and a stride
     pub edited-applied : (applied : ℕ) → applied ≤ (length (unroll (listed mid)) - span.first) + stride → applied ≤ steps_from_change e s (session_of (listed new) stride coins run)
     edited-applied applied h = omega (arith, h, first_is, ap length new_steps)
 
@@ -140,7 +140,7 @@ module _ {C : Type 0} (sequence : C → ℕ → Bool) (e : Edit) (s : SessionSta
     new_end_is : span.new_end ≡ new_end e (entries (listed new))
     new_end_is = b.span.new_end ∙ ap (new_end e) new_items
 
-    -- it agrees with the old run behind what was changed, whichever way this is said
+    -- it agrees with the old run after what was changed, whichever way this is said
     agreement : (far : ℕ) → AgreeBehind sequence e s (session_of (listed new) stride coins run) far
         ≡ AgreeBehindSpan n (sequence s.coins) (unroll (listed old)) (unroll (listed mid)) span far
     agreement far =
@@ -155,7 +155,7 @@ module _ {C : Type 0} (sequence : C → ℕ → Bool) (e : Edit) (s : SessionSta
         (span.old_end + far) (old_end e (entries s.items) + far) (span.new_end + far) (new_end e (entries (listed new)) + far) qubits is.qubits same_coins (ap unroll items)
         (sym new_steps) (ap (λ k. k + far) (sym old_end_is)) (ap (λ k. k + far) (sym new_end_is))
 
-    -- so it cost just so many
+    -- so it cost just this many
     pub edited-counted : (applied : ℕ) (copies : List ℕ) → copies ≡ s.checkpoints
         → IsCounted (AgreeBehindSpan n (sequence s.coins) (unroll (listed old)) (unroll (listed mid)) span)
         (AgreeBackBehindSpan n (sequence s.coins) (unroll (listed old)) (unroll (listed mid)) span) copies span.first span.old_end span.new_end (length (unroll (listed mid))) applied
@@ -163,7 +163,7 @@ module _ {C : Type 0} (sequence : C → ℕ → Bool) (e : Edit) (s : SessionSta
     edited-counted applied copies same h =
         subst (λ t. t) (λ i. IsCounted (λ far. sym (agreement far) i) (λ far. sym (agreement-back far) i) (same i) (first_is i) (old_end_is i) (new_end_is i) (length (new_steps i)) applied) h
 
-    -- where the runs agree so many steps behind what was changed, it cost no more than what was put in, two strides, and as many
+    -- if the runs agree this many steps after what was changed, it cost no more than what was put in, two strides, and as many
 
     put_is : span.new_end ≤ span.first + steps_put e (session_of (listed new) stride coins run)
     put_is =

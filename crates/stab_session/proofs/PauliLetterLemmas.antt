@@ -37,7 +37,7 @@ next-multiplied n l qs i q s t all lt is size fit now left =
     ∙ sym (at_drop_more (λ ks. string_product (letters_on n l ks) s) qs i q lt)
     ∙ left
 
--- behind the last one
+-- after the last one
 pub all-multiplied : (n : ℕ) (l : Letter) (qs : List ℕ) (i : ℕ) (s all : List Letter) → length qs ≤ i → length s ≡ n → string_product (letters_on n l (drop i qs)) s ≡ all → s ≡ all
 all-multiplied n l qs i s all le size left =
     sym (string_product-blank n s size) ∙ sym (at_drop_all (λ ks. string_product (letters_on n l ks) s) qs i le) ∙ left

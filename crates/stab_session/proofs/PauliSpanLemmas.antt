@@ -1,4 +1,4 @@
--- Pauli spans: what stands in the span of a pending edit, in the old steps and in those that there are now.
+-- Pauli spans: what is in the span of a pending edit, in the old steps and in those that there are now.
 use Rattle.std.proofs.Common.{◌≡◌, ℕ, ◌+◌, ◌≤◌, ◌<◌, refl, sym, ◌∙◌, ap, subst, List, [], ◌∷◌, map, length, take, All, arith, Some, Ok}
 use Rattle.std.proofs.lemmas.List.{length-drop, length-map}
 use Rattle.std.specs.Prelude.{slice_get}
@@ -75,7 +75,7 @@ back-edited (Inserted at) now = refl
 back-edited (Replaced at y) now = refl
 back-edited (Deleted at y) now = refl
 
--- the end of what was put in is that of what there is now, which has no steps where nothing was put in
+-- the end of what was put in is that of what there is now, which has no steps if nothing was put in
 new-end-at : (edit : Edit) (p : Pending) (now new : List OneItem) → IsPendingOf edit p → kept p now ≡ Ok new → steps now ≡ steps new → new_end edit new ≡ old_end (back_edit p) now
 new-end-at (Insert at x) p now new is ahead same =
     ap (new_end (Insert at x)) (ok_same new now (sym ahead ∙ ap (λ q. kept q now) is)) ∙ sym (ap (λ q. old_end (back_edit q) now) is)
@@ -123,17 +123,17 @@ module _ (p : Pending) (now old : List OneItem) (back : taken_back p now ≡ Ok 
   pub lead : steps_before at old ≡ steps_before at now
   lead = same_lead (back_edit p) at.blocks now old takes_back
 
-  -- where nothing refuses what there is now, the qubits of what was put in are there
+  -- if nothing refuses what there is now, the qubits of what was put in are there
   pub put-named : qubits_of (listed (x ∷ [])) ≤ qubits_of (listed now)
   put-named = taken_named named_qubits (back_edit p) at.blocks now x there
 
--- and those of what was taken out where nothing refuses what there was
+-- and those of what was taken out if nothing refuses what there was
 taken-named : (p : Pending) (now old : List OneItem) → taken_back p now ≡ Ok old → qubits_of (listed (taken_items p)) ≤ qubits_of (listed old)
 taken-named (Inserted at) now old back = omega arith
 taken-named (Replaced at y) now old back = taken_named named_qubits (Replace at y) at.blocks old y (replace-retaken at y y now old back)
 taken-named (Deleted at y) now old back = taken_named named_qubits (Replace at y) at.blocks old y (replace-retaken at y y now old back)
 
--- a pending edit where nothing refuses what was before and what there is now
+-- a pending edit if nothing refuses what was before and what there is now
 module _ (n : ℕ) (p : Pending) (now : List OneItem) (given : AreAccepted n p now) (at : Path) (is : at ≡ pending_path p) (x : OneItem) (found : item_at at now ≡ Ok x)
     (gaps : List ℕ) (told : AreGaps at now gaps) (l m : Letter) (qs rs : List ℕ) where
   found_there : item_at (pending_path p) now ≡ Ok x

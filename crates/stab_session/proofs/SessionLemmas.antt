@@ -29,7 +29,7 @@ same-sign n u v p sign size same h = (
   ((λ e. sym (same-free n u v p size same) ∙ h.1.0 e), (λ e. h.1.1 (same-free n u v p size same ∙ e))),
 )
 
--- the state behind the run of items
+-- the state after the run of items
 behind_all : (n : ℕ) (bits : ℕ → Bool) (items : Items)
     → run_of n bits items ≡ state_at (point_after n bits (unroll items) origin) (outputs n bits (unroll items) origin) (start (observables_of items))
 unfolding run_of
@@ -55,7 +55,7 @@ module _ {C : Type 0} (sequence : C → ℕ → Bool) (items : Items) (stride : 
         decided = subst (λ flags. DependsOnCoinsAt flags n bits items) (sym free) (run_of-same n bits items);
       }
 
-  -- it is kept, where the run of its items is kept with its coins on its qubits
+  -- it is kept, if the run of its items is kept with its coins on its qubits
   module _ (n : ℕ) (bits : ℕ → Bool) (same : sequence coins ≡ bits) (is : IsKeptRun n bits stride (unroll items) (observables_of items) kept) where
     moved_run : IsKeptRun kept.tableau.qubits (sequence coins) stride (unroll items) (observables_of items) kept
     moved_run =

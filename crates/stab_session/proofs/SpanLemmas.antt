@@ -1,4 +1,4 @@
--- Spans: which steps an edit changes, by what the edit tells, and how many it puts in.
+-- Spans: which steps an edit changes, by what the edit says, and how many it puts in.
 use Rattle.std.proofs.Common.{◌≡◌, ◌≤◌, refl, ap, sym, ◌∙◌, subst, ℕ, ◌+◌, suc, List, [], ◌∷◌, ◌++◌, append_assoc, length, take, drop, arith, Some, Ok}
 use Rattle.std.proofs.lemmas.List.{length-append, length-drop, length-take-le, take_at}
 use Rattle.std.specs.Prelude.{slice_get}
@@ -18,7 +18,7 @@ use Rattle.stab_session.specs.inner.Pendings.{IsSpanNow}
 pub ends-within : (k : ℕ) (xs : List OneItem) → length (unroll (listed (take k xs))) ≤ length (unroll (listed xs))
 ends-within k xs = omega (arith, ap length (steps_split k xs) ∙ length-append (unroll (listed (take k xs))) (unroll (listed (drop k xs))))
 
--- what an edit tells is the span of the steps, where neither list has too many
+-- what an edit says is the span of the steps, if neither list has too many
 pub span-told : (edit : Edit) (old new : List OneItem) (s : Span) → edited edit old ≡ Ok new → IsSpanOf edit old new s
     → length (unroll (listed old)) ≤ 1048576 → length (unroll (listed new)) ≤ 1048576 → IsSpanNow edit old new new s
 span-told edit old new s e t few_old few_new =
@@ -42,7 +42,7 @@ span-told edit old new s e t few_old few_new =
       new_end = new_is;
     }
 
--- of a deletion it is that of putting an item in the other's stead that has no steps
+-- of a deletion it is that of putting an item in the other's place that has no steps
 pub span-deleted : (x : OneItem) (at : Path) (old now new : List OneItem) (s : Span) → edited (Delete at) old ≡ Ok new → unroll (listed now) ≡ unroll (listed new)
     → IsSpanNow (Replace at x) old now now s → IsSpanNow (Delete at) old now new s
 span-deleted x at old now new s e same is =
@@ -69,7 +69,7 @@ get_at : (f : List OneItem) (x : OneItem) (r : List OneItem) → slice_get (f ++
 get_at [] x r = refl
 get_at (y ∷ f) x r = get_at f x r
 
--- the end of what an edit puts in stands no further behind the first changed step than that has steps
+-- the end of what an edit puts in is no further after the first changed step than that has steps
 pub put-within : (edit : Edit) (bs : List ℕ) (old new : List OneItem) → edited_in edit bs old ≡ Ok new
     → length (unroll (listed (take (outermost (behind_put edit) bs) new)))
     ≤ length (steps_in bs (edit_path edit).place old) + steps_of_item (elim bs [ [] ↦ put_item edit | b ∷ cs ↦ slice_get new b ])

@@ -15,7 +15,7 @@ use Rattle.stab_session.specs.Sessions.{SessionState}
 abbrev pub number_of_steps : {C : Type 0} → SessionState C → ℕ
 number_of_steps s = length (unroll s.items)
 
--- at most so many copies are kept: two for each stride of steps, and two more
+-- at most this many copies are kept: two for each stride of steps, and two more
 abbrev pub most_checkpoints : {C : Type 0} → SessionState C → ℕ
 most_checkpoints s = 2 * (number_of_steps s / s.stride) + 2
 
@@ -23,29 +23,29 @@ most_checkpoints s = 2 * (number_of_steps s / s.stride) + 2
 abbrev pub steps_from_change : {C : Type 0} → Edit → SessionState C → SessionState C → ℕ
 steps_from_change e old new = (number_of_steps new - first_changed e (entries old.items)) + new.stride
 
--- the steps of an edited list behind its first so many, and a stride; none where there is no such list
+-- the steps of an edited list after its first ones, as many as this, and a stride; none if there is no such list
 abbrev pub steps_behind : ℕ → ℕ → Result (List OneItem) Refusal → ℕ
 steps_behind first K (Ok items) = (length (unroll (listed items)) - first) + K
 steps_behind first K (Err refusal) = 0
 
--- so many, and none where a verdict refuses
+-- this many, and none if a verdict refuses
 abbrev pub unless_refused : Option Refusal → ℕ → ℕ
 unless_refused None count = count
 unless_refused (Some refusal) count = 0
 
--- a refused edit asks for no more coins: for none where the verdict refuses it; where it is refused memory, for as many as the
--- edited circuit has steps behind the changed place, and a stride of them
+-- a refused edit asks for no more coins: for none if the verdict refuses it; if it is refused memory, for as many as the
+-- edited circuit has steps after the changed place, and a stride of them
 abbrev pub most_refused_asks : {C : Type 0} → Edit → SessionState C → ℕ
 most_refused_asks e s =
     unless_refused (verdict s.qubits e (entries s.items))
     (steps_behind (first_changed e (entries s.items)) s.stride (edited e (entries s.items)))
 
--- how many steps an item has, or none where there is no item
+-- how many steps an item has, or none if there is no item
 abbrev pub steps_of_item : Option OneItem → ℕ
 steps_of_item None = 0
 steps_of_item (Some x) = length (unroll (listed (x ∷ [])))
 
--- how many steps an edit puts in: those of its item, none where it takes one out; inside blocks, those of the outermost block
+-- how many steps an edit puts in: those of its item, none if it takes one out; inside blocks, those of the outermost block
 -- around its place, as the edit leaves it
 abbrev pub steps_put : {C : Type 0} → Edit → SessionState C → ℕ
 steps_put e new = steps_of_item (elim (edit_path e).blocks [ [] ↦ put_item e | b ∷ bs ↦ slice_get (entries new.items) b ])
@@ -55,26 +55,26 @@ steps_put e new = steps_of_item (elim (edit_path e).blocks [ [] ↦ put_item e |
 abbrev pub steps_near_change : {C : Type 0} → Edit → SessionState C → ℕ
 steps_near_change e new = steps_put e new + 2 * new.stride
 
--- where a session's run is after so many steps
+-- where a session's run is after this many steps
 abbrev pub point_at : {C : Type 0} → (C → ℕ → Bool) → SessionState C → ℕ → Point
 point_at sequence s k = point_after s.qubits (sequence s.coins) (take k (unroll s.items)) origin
 
--- so many steps behind what an edit took out and what it put in, the old run and the new one have the same group, number of the next
+-- this many steps after what an edit took out and what it put in, the old run and the new one have the same group, number of the next
 -- coin and records
 abbrev pub AgreeBehind : {C : Type 0} → (C → ℕ → Bool) → Edit → SessionState C → SessionState C → ℕ → Type 0
 AgreeBehind sequence e old new far =
     AgreeAt new.qubits (point_at sequence old (old_end e (entries old.items) + far))
     (point_at sequence new (new_end e (entries new.items) + far))
 
--- so many steps behind they have the same group, number of the next coin unless none decides any more, and records as far back as the
+-- this many steps after they have the same group, number of the next coin unless none decides any more, and records as far back as the
 -- steps from there on look
 abbrev pub AgreeBackBehind : {C : Type 0} → (C → ℕ → Bool) → Edit → SessionState C → SessionState C → ℕ → Type 0
 AgreeBackBehind sequence e old new far =
     AgreeAsFarAsLooked new.qubits (sequence old.coins) (drop (new_end e (entries new.items) + far) (unroll new.items))
     (point_at sequence old (old_end e (entries old.items) + far)) (point_at sequence new (new_end e (entries new.items) + far))
 
--- an edit of a session went past so many steps, carried out or not: from the last old copy at or before the first changed step
--- to one behind the edit at which the runs agree as far back as the steps behind look, or to the end
+-- an edit of a session went past this many steps, carried out or not: from the last old copy at or before the first changed step
+-- to one after the edit at which the runs agree as far back as the steps after look, or to the end
 abbrev pub IsCountOf : {C : Type 0} → (C → ℕ → Bool) → Edit → SessionState C → SessionState C → ℕ → Type 0
 IsCountOf sequence e old new applied =
     IsCounted (AgreeBehind sequence e old new) (AgreeBackBehind sequence e old new) old.checkpoints (first_changed e (entries old.items))

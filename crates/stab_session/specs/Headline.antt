@@ -2,7 +2,7 @@
 --
 -- Its records, flags, detectors and observables, and the signed strings that stabilise its state, are those of the run of its
 -- present items on its n qubits with its coins, from the first step on: nothing of earlier items is left in them. Flag t is 1
--- exactly where neither sign of what was measured with coin t was in the group, and so the coin decided; coins that are the same
+-- if and only if neither sign of what was measured with coin t was in the group, and so the coin decided; coins that are the same
 -- where the flags are 1 make the same run.
 -- Source: this project's own, over the stabiliser groups of Gottesman 1997.
 use Rattle.std.specs.Prelude.{◌≡◌, ℕ, Bool}

@@ -16,7 +16,7 @@ pub record IsEditedBy {C : Type 0} (sequence : C → ℕ → Bool) (e : Edit) (o
   pub stride : new.stride ≡ old.stride
   pub coins : sequence new.coins ≡ sequence old.coins
 
--- the session is as before, but for how often coins were asked for
+-- the session is as before, except for how often coins were asked for
 pub record IsAsBefore {C : Type 0} (sequence : C → ℕ → Bool) (old new : SessionState C) : Type 0 where
   pub items : new.items ≡ old.items
   pub qubits : new.qubits ≡ old.qubits
@@ -29,7 +29,7 @@ pub record IsAsBefore {C : Type 0} (sequence : C → ℕ → Bool) (old new : Se
   pub tableau : new.tableau ≡ old.tableau
   pub checkpoints : new.checkpoints ≡ old.checkpoints
 
--- a round of a block was split off: all but the items is as before
+-- a round of a block was split off: all except the items is as before
 pub record IsSplit {C : Type 0} (path : Path) (round : ℕ) (old new : SessionState C) : Type 0 where
   pub items : split path round (entries old.items) ≡ Ok (entries new.items)
   pub rest : new ≡ record old { items = new.items }

@@ -20,6 +20,6 @@ pub record SessionState (C : Type 0) : Type 0 where
   pub tableau : TableauState
   pub checkpoints : List ℕ
 
--- the sign of a string in a group: the bit with which it is a member, 1 for -, or none where it is a member with neither
+-- the sign of a string in a group: the bit with which it is a member, 1 for -, or none if it is a member with neither
 abbrev pub IsSignIn : (Signed → Bool) → Signed → Option Bool → Type 0
 IsSignIn group p sign = ((b : Bool) → (sign ≡ Some b) ↔ (group (with_sign b p) ≡ true)) × ((sign ≡ None) ↔ (is_free_by group p ≡ true))

@@ -4,20 +4,20 @@
 //!
 //! - `pending`: edits of a circuit that can be taken back.
 //! - `paulis`: the change of Pauli gates that an edit amounts to, in each round of the blocks around its
-//!   place, where it is of such gates alone.
+//!   place, if it is of such gates alone.
 //! - `session`: a circuit with what its run gives, to be read and edited; a round that is split off
 //!   leaves the run.
 //!
 //! The run that a session keeps, with copies of its state, and how it follows an edit, is
-//! `stab_kept`'s. Runs themselves, with their coins and laws, are `stab_run`'s, whose names stand here
+//! `stab_kept`'s. Runs themselves, with their coins and laws, are `stab_run`'s, whose names are here
 //! too.
 //!
 //! Source: sessions, and how a run follows an edit, are this project's own.
 //!
 //! Proved: what a session shows is the run of its items from the first step on, whatever edits it
 //! took and whatever rounds were split off: `specs/Headline.antt` says so. How many steps an edit
-//! carries out, how many coins it may ask for where it is refused, and how many copies of the state a
-//! session keeps, stands in `specs/Bounds.antt`, over `specs/Counts.antt` of `stab_kept`.
+//! carries out, how many coins it may ask for if it is refused, and how many copies of the state a
+//! session keeps, is in `specs/Bounds.antt`, over `specs/Counts.antt` of `stab_kept`.
 //! `specs/inner/` has what only private contracts cite.
 #![tactic(auto)]
 

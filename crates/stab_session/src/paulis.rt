@@ -55,7 +55,7 @@ fn gate_letter(gate: Gate) -> Option<Letter>
     }
 }
 
-/// The gates of an instruction, where it is of Pauli gates.
+/// The gates of an instruction, if it is of Pauli gates.
 fn kind_gates(kind: &Kind) -> Option<PauliGates<'_>>
     ensures some { IfSome result (λ g. kind.now ≡ gates_of_kind (gate_of g.letter) g.qubits.now) }
     ensures none { IfNone result (is_pauli_kind kind.now ≡ false) }
@@ -75,7 +75,7 @@ fn kind_gates(kind: &Kind) -> Option<PauliGates<'_>>
     }
 }
 
-/// The gates of an item, where it makes no step, or is an instruction of Pauli gates.
+/// The gates of an item, if it makes no step, or is an instruction of Pauli gates.
 fn item_gates(item: &Item) -> Option<PauliGates<'_>>
     ensures some { IfSome result (λ g. ArePauliItems g.letter g.qubits.now (item.now ∷ [])) }
     ensures none { IfNone result (IsPauliItem item.now → ⊥) }
@@ -90,7 +90,7 @@ fn item_gates(item: &Item) -> Option<PauliGates<'_>>
     }
 }
 
-/// The gates that an edit took out, where what it took out is of such gates alone.
+/// The gates that an edit took out, if what it took out is of such gates alone.
 fn taken_gates(pending: &Pending) -> Option<PauliGates<'_>>
     ensures some { IfSome result (λ g. ArePauliItems g.letter g.qubits.now (taken_items pending.now)) }
     ensures none { IfNone result (AllByRecursion IsPauliItem (taken_items pending.now) → ⊥) }
@@ -110,7 +110,7 @@ fn place_of(pending: &Pending) -> Path
     }
 }
 
-/// Multiplies a letter at each of some qubits onto a string. Where a qubit is named twice it cancels.
+/// Multiplies a letter at each of some qubits onto a string. If a qubit is named twice it cancels.
 fn multiply_letter(string: &mut Pauli, letter: Letter, qubits: &[Qubit])
     requires fit { All (λ q. q < length string.old.letters) qubits.now }
     ensures length { length string.new.letters ≡ length string.old.letters }
@@ -145,8 +145,8 @@ fn gates_string(
 }
 
 /// The change of Pauli gates by which the old run and the new one differ at an edit that was begun on n
-/// qubits, in each round of the blocks around its place; or `None` where they may differ by more than such
-/// gates, since what it took out or put in makes other steps, or where it makes none and blocks have more
+/// qubits, in each round of the blocks around its place; or `None` if they may differ by more than such
+/// gates, since what it took out or put in makes other steps, or if it makes none and blocks have more
 /// than 1,048,576 rounds of it.
 ///
 /// Refusal `OutOfMemory` alone.

@@ -15,11 +15,11 @@ pub enum Pending {
     Inserted(Path),
     /// With the old item.
     Replaced(Path, Item),
-    /// With the item that is to be deleted, in whose stead there is one that stands for nothing.
+    /// With the item that is to be deleted, in whose place there is one that is for nothing.
     Deleted(Path, Item),
 }
 
-/// Makes an edit that can be taken back, where nothing refuses the edited circuit on n qubits. The
+/// Makes an edit that can be taken back, if nothing refuses the edited circuit on n qubits. The
 /// circuit then has the runs of the edited one.
 pub fn begin(
     alloc: Global,

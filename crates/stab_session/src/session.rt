@@ -14,8 +14,8 @@ use std::marker::Model;
 /// A circuit with what its run gives, to be read and edited.
 ///
 /// Contracts see its items, its number of qubits, its stride, its coins, the four lists of bits, the
-/// state of its qubits, and the steps before which it keeps copies of that state. Of all of these the
-/// statement of `specs/Headline.antt` holds, which each call that gives or takes a session repeats:
+/// state of its qubits, and the steps before which it keeps copies of that state. The
+/// statement of `specs/Headline.antt`, which each call that gives or takes a session repeats, holds for all of these:
 /// they are those of the run of the items from the first step on.
 pub struct Session<C: Coins> {
     alloc: Global,
@@ -27,7 +27,7 @@ pub struct Session<C: Coins> {
     spare: Option<Tableau>,
 }
 
-// Written out, so that to a proof a value that is let go is one call, and not one for each of its parts.
+// Written out, so that a proof sees the drop of a value as one call, and not one for each of its parts.
 impl<C: Coins> Drop for Session<C> {
     fn drop(self) {
         let Session {
@@ -41,7 +41,7 @@ impl<C: Coins> Drop for Session<C> {
     }
 }
 
-/// What a refused opening hands back: the fault, the circuit as it was, and the coins, which stand
+/// What a refused opening hands back: the fault, the circuit as it was, and the coins, which are
 /// for the same sequence.
 #[derive(Drop)]
 pub struct OpenRefused<C: Coins> {
@@ -178,7 +178,7 @@ impl<C: Coins> Session<C> {
         self.kept.tableau.len()
     }
 
-    /// The sign with which a string stabilises the state after the run, true for -, or `None` where
+    /// The sign with which a string stabilises the state after the run, true for -, or `None` if
     /// neither sign does.
     ///
     /// The string's own sign counts: the answer for -P is the other one than that for P.
@@ -206,7 +206,7 @@ impl<C: Coins> Session<C> {
         self.kept.tableau.reduced_rows(alloc)
     }
 
-    /// A law, and no work: whatever the coins, the trace of the run fits the qubits and is sound.
+    /// A law, and no work: for all random bits, the trace of the run fits the qubits and is sound.
     pub fn runs_are_sound(&self)
         ensures law { (coins : ℕ → Bool) → IsSoundRun self.now.qubits coins self.now.items }
     {

@@ -3,7 +3,7 @@ use Rattle.std.proofs.Common.{◌≡◌, ℕ, ◌+◌, ◌%◌, ◌∙◌, ap, B
 use Rattle.stab_run.specs.Coins.{seed_coin}
 use Rattle.stab_shots.specs.Seeds.{shot_coins}
 
--- they are those of the shot so far behind the first of all
+-- they are those of the shot so far after the first of all
 pub lane-coins : (seed first made shots l : ℕ) (coins : ℕ → Bool) → shots ≡ made
     → ((t : ℕ) → coins t ≡ seed_coin seed (((first + made) % 18446744073709551616 + l) % 18446744073709551616) t) → coins ≡ shot_coins seed first (shots + l)
 lane-coins seed first made shots l coins so_far are = λ i t. (are t ∙ ap (λ shot. seed_coin seed shot t) number) i

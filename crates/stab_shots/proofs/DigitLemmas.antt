@@ -25,7 +25,7 @@ doubled : (bits : List Bool) (b : Bool) → 2 * number bits + (if b then 1 else 
 doubled bits true = refl
 doubled bits false = omega arith
 
--- the lowest n bits of a number, where those behind some digits are 0
+-- the lowest n bits of a number, if those after some digits are 0
 pub number-of_bits : (n x : ℕ) (bits : List Bool) → length bits ≤ n → ((k : ℕ) → k < n → word_bit x k ≡ get_or bits k false) → x % 2 ^ n ≡ number bits
 number-of_bits zero x [] le are = omega arith
 number-of_bits zero x (b ∷ bits) le are = absurd (omega (arith, le))
@@ -37,7 +37,7 @@ number-of_bits (suc n) x (b ∷ bits) le are =
     ∙ (λ i. 2 * number-of_bits n (x / 2) bits (omega (arith, le)) (λ k lt. sym (half x k) ∙ are (suc k) (omega (arith, lt))) i + lowest x b (are 0 (omega arith)) i)
     ∙ doubled bits b
 
--- a byte of a word, where its bits are some digits with zeros behind them
+-- a byte of a word, if its bits are some digits with zeros after them
 pub byte-of_bits : (word l : ℕ) (bits : List Bool) → length bits ≤ 8 → ((k : ℕ) → k < 8 → word_bit word (8 * l + k) ≡ get_or bits k false) → byte_at word l ≡ number bits
 byte-of_bits word l bits le are =
     number-of_bits 8 (word / 2 ^ (8 * l)) bits le (λ k lt. word_bit-down word (8 * l) k ∙ ap (word_bit word) (omega arith) ∙ are k lt)

@@ -7,7 +7,7 @@ use Rattle.stab_shots.specs.Blocks.{differing, first_exchanged, second_exchanged
 use Rattle.stab_shots.proofs.WordLemmas.{word_bit-xor}
 use Rattle.stab_shots.proofs.MovedBitLemmas.{word_bit-and, word_bit-down, word_bit-up, word_bit-up_below, word_bit-cut, word_bit-cut_off}
 
--- a mask's bits, so many places higher
+-- a mask's bits, this many places higher
 abbrev pub raised : (mask s : ℕ) → ℕ
 raised mask s = mask * 2 ^ s % 18446744073709551616
 
@@ -81,7 +81,7 @@ module _ (a b mask s : ℕ) where
       ∙ ap (λ x. word_bit b k ⊕ x) (differing-at k)
       ∙ picks (word_bit b k) (word_bit a (k + s)) (word_bit mask k)
 
--- which word a bit of word q comes from, where word p of the first half and word p of the second become words 2 p and 2 p + 1
+-- which word a bit of word q comes from, if word p of the first half and word p of the second become words 2 p and 2 p + 1
 abbrev pub source_word : (mask s q k : ℕ) → ℕ
 source_word mask s q k = if eqb (q % 2) 0 then (if word_bit (raised mask s) k then q / 2 + 32 else q / 2) else (if word_bit mask k then q / 2 else q / 2 + 32)
 

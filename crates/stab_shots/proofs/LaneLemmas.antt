@@ -1,4 +1,4 @@
--- Lanes: the bits of a lane of words that are added up, and put behind others.
+-- Lanes: the bits of a lane of words that are added up, and put after others.
 use Rattle.std.proofs.Common.{◌≡◌, ℕ, zero, suc, ◌+◌, ◌<◌, ◌≤◌, refl, sym, ◌∙◌, ap, Bool, true, false, List, [], ◌∷◌, ◌++◌, append-nil, length, get_or, set, take, drop, map, replicate, arith}
 use Rattle.std.specs.Prelude.{if◌then◌else◌}
 use Rattle.std.proofs.lemmas.List.{get_or-map, map-append, map-set, drop_more, take_all, drop_all}
@@ -30,7 +30,7 @@ added-inside at l ws j b w v lt is are =
     map-set (λ w. at w l) ws j v
     ∙ ap (set (lane_bits at l ws) j) (are ∙ ap (λ x. b ⊕ at x l) is ∙ ap (λ x. b ⊕ x) (sym (get_or-map (λ w. at w l) ws j w false lt)))
 
--- words put behind others
+-- words put after others
 
 pub bits-when : {W : Type 0} (at : W → ℕ → Bool) (l : ℕ) (ws : List W) (test : Bool) (w : W) (b : Bool) → at w l ≡ b
     → lane_bits at l (ws ++ (if test then w ∷ [] else [])) ≡ lane_bits at l ws ++ when test b

@@ -68,7 +68,7 @@ lane-first n coins d blank empty =
       still = refl;
     })
 
--- and behind further steps, of which notes are right
+-- and after further steps, of which notes are right
 module _ (n : ℕ) (coins : ℕ → Bool) (xs ys : List Step) (fits : All (StepFits n) xs) (later : All (StepFits n) ys) (strings : ℕ → Option (List Letter))
     (right : AreRight n zero_coins strings ys (point_after n zero_coins xs origin)) (a b : Difference) (lane : IsLane n coins xs a)
     (led : Follows n (notes_of strings coins) ys a b) where
@@ -123,7 +123,7 @@ length-added [] bits = refl
 length-added (a ∷ more) bits =
     length-added more (set bits a.observable (a.bit ⊕ get_or bits a.observable false)) ∙ length-set bits a.observable (a.bit ⊕ get_or bits a.observable false)
 
--- a lane behind all steps, beside the shot with all coins 0
+-- a lane after all steps, beside the shot with all coins 0
 
 module _ (n : ℕ) (coins : ℕ → Bool) (items : Items) (shot : Shot) (is : IsShot n zero_coins items shot) (count : ℕ) (number : count ≡ observables_of items)
     (d : Difference) (lane : IsLane n coins (unroll items) d) where

@@ -22,11 +22,11 @@ both a b x e ha hb = by_cases (two_cases a ha) (two_cases b hb)
 pub word_bit-and : (a b l : ℕ) → word_bit (bit_and a b) l ≡ word_bit a l && word_bit b l
 word_bit-and a b l = both (bit_at a l) (bit_at b l) (bit_at (bit_and a b) l) (bit_at_and a b l) (bit_at-lt a l) (bit_at-lt b l)
 
--- moved down by so many places
+-- moved down by this many places
 pub word_bit-down : (a s l : ℕ) → word_bit (a / 2 ^ s) l ≡ word_bit a (l + s)
 word_bit-down a s l = ap (λ n. eqb (n % 2) 1) (div-div-eq-div-mul a (2 ^ s) (2 ^ l) ∙ ap (λ p. a / p) (sym (pow-add 2 s l)) ∙ ap (λ k. a / 2 ^ k) (omega arith))
 
--- moved up by so many places
+-- moved up by this many places
 pub word_bit-up : (a s l : ℕ) → s ≤ l → word_bit (a * 2 ^ s) l ≡ word_bit a (l - s)
 word_bit-up a s l le = let e : a * 2 ^ s ≡ a * 2 ^ s + 0 = omega arith in ap (λ n. word_bit n l) e ∙ ap (λ b. eqb b 1) (bit_at_cat_high a s 0 l (pow_pos s) le)
 

@@ -1,4 +1,4 @@
--- Notes: strings that a run noted are right of it where there is one for each free outcome, and what is noted of a coin.
+-- Notes: strings that a run noted are right for it if there is one for each free outcome, and what is noted of a coin.
 use Rattle.std.proofs.Common.{◌≡◌, ℕ, zero, suc, ◌+◌, ◌<◌, refl, sym, ◌∙◌, ap, Bool, true, false, List, [], ◌∷◌, ◌++◌, append_assoc, length, take, drop, get_or, arith}
 use Rattle.std.specs.Prelude.{Option, Some, None, IfSome, slice_get, if◌then◌else◌}
 use Rattle.std.proofs.Math.Seq.{drop-cons}
@@ -54,7 +54,7 @@ noted-some strings free t number all counted e =
     ∙ ap (slice_get strings) (sym counted)
     ∙ slice_get-get_or strings number [] (omega (arith, all, counted, ones-before free t e))
 
--- where there is no note the outcome was fixed
+-- if there is no note the outcome was fixed
 none-fixed : (strings : List (List Letter)) (free : List Bool) (t : ℕ) → length strings ≡ ones free → note_at strings free t ≡ None → get_or free t false ≡ false
 none-fixed strings free t all none = by_flag (get_or free t false) refl
   where
@@ -107,7 +107,7 @@ module _ (n : ℕ) (coins : ℕ → Bool) (strings : List (List Letter)) (free :
       (flags ∙ append_assoc (given n coins x a).free (outputs n coins xs next).free rest) in
       (here.0, right-from xs next is.1 rest here.1)
 
--- the difference of a lane, behind a measurement
+-- the difference of a lane, after a measurement
 
 pub counted-next : (noted : Noted) (number coin : ℕ) (flag : Bool) (more behind : ℕ) → IsCounted noted number coin → get_or noted.free.now coin false ≡ flag
     → more ≡ number + ones (flag ∷ []) → behind ≡ coin + 1 → IsCounted noted more behind

@@ -1,4 +1,4 @@
--- Noted: how many strings are noted at once, and what is so of a reference where it is lent.
+-- Noted: how many strings are noted at once, and what holds for a reference if it is lent.
 use Rattle.std.proofs.Common.{◌≡◌, ℕ, ◌+◌, ◌*◌, ◌/◌, ◌<◌, ◌≤◌, min, sym, subst, true, false, arith}
 use Rattle.std.specs.Prelude.{Option, Some, None, IfSome, nat_le}
 use Rattle.std.specs.Borrow.{Bor}
@@ -31,7 +31,7 @@ some-noted n le =
     let some = le-div 1 4194304 b positive small in
     omega (arith, some)
 
--- where they are few, there is one for each free outcome
+-- if they are few, there is one for each free outcome
 pub all-kept : (n count free : ℕ) → n ≤ 1024 → count ≡ min free (most_strings n) → count ≤ most_noted n → count ≡ free
 all-kept n count free le is few = let h = fewer-noted n le in omega (arith, h, is, few)
 
@@ -45,11 +45,11 @@ are-many n count free is many =
     let beyond : most_noted n < free = omega (arith, is, many) in
     grind (arith, beyond)
 
--- where fewer outcomes are free than strings may be kept, there is one for each
+-- if fewer outcomes are free than strings may be kept, there is one for each
 pub kept-each : (count free most : ℕ) → count ≡ min free most → free < most → count ≡ free
 kept-each count free most is few = omega (arith, is, few)
 
--- what is so of a reference that was found is so of it where it is lent
+-- what holds for a reference that was found holds for it if it is lent
 pub if-copied : {X : Type 0} (P : X → Type 0) (lent : Option (Bor X)) (found : Option X) → option_copied lent ≡ found → IfSome found P → IfSome lent (λ x. P x.now)
 if-copied P None found same is = tt
 if-copied P (Some x) found same is = subst (λ o. IfSome o P) (sym same) is

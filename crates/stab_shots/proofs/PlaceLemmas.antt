@@ -1,7 +1,7 @@
 -- Places: what holds at each of some numbers that are named one by one.
 use Rattle.std.proofs.Common.{◌≡◌, ℕ, zero, suc, ◌+◌, ◌<◌, subst, arith}
 
--- four numbers, and those behind them
+-- four numbers, and those after them
 pub four-and-more : (P : ℕ → Type 0) (i n : ℕ) → P i → P (i + 1) → P (i + 2) → P (i + 3) → ((k : ℕ) → k < n → P (i + 4 + k)) → (k : ℕ) → k < n + 4 → P (i + k)
 four-and-more P i n a b c d more zero lt = let e : i ≡ i + 0 = omega arith in subst P e a
 four-and-more P i n a b c d more (suc zero) lt = b

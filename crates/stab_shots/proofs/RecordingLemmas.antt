@@ -25,7 +25,7 @@ use Rattle.stab_shots.specs.Noted.{zero_coins}
 use Rattle.stab_shots.specs.Shots.{IsShot}
 use Rattle.stab_shots.proofs.NoteLemmas.{right-from}
 
--- where no string is kept there is no note
+-- if no string is kept there is no note
 
 if-none : (b : Bool) (o : Option (List Letter)) → o ≡ None → (if b then o else None) ≡ None
 if-none true o e = e
@@ -93,7 +93,7 @@ module _ (n : ℕ) (xs ys : List Step) (u : Signed → Bool) (o : RunOutput) (ze
       let long = ap length flags-new ∙ length-append zeros more.free in
       omega (arith, parts, none, ones-few more.free, long, led.shows.coin, coins-are n zero_coins ys p, begun.coin, coins-steps ys)
 
-  -- where the strings of other steps were let go
+  -- if the strings of other steps were let go
 
   module _ (kept behind : StringsState) (empty : kept.strings ≡ []) (noted : KeepsTrue n zero_coins ys kept behind mid new) where
     numbered : IsNumbered kept zeros

@@ -22,7 +22,7 @@ all-same zero k d = refl
 all-same (suc m) zero d = refl
 all-same (suc m) (suc k) d = all-same m k d
 
--- zeros behind words change no bit
+-- zeros after words change no bit
 pub padded : (words rest : List ℕ) (n k : ℕ) → ((j : ℕ) → get_or rest j 0 ≡ 0) → get_or (words ++ drop n rest) k 0 ≡ get_or words k 0
 padded [] rest n k none = get_or-drop n rest k 0 ∙ none (n + k)
 padded (w ∷ words) rest n zero none = refl

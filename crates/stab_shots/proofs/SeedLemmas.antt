@@ -61,7 +61,7 @@ pub blank-next : (lane : ℕ) (words new : List ℕ) → ((k j : ℕ) → k < 64
 blank-next lane words new blank others k j small le =
     others k j small (λ e. absurd (omega (arith, e, le))) ∙ blank k j small (omega (arith, le))
 
--- the coins of a part of the lanes are those of the shots behind the first
+-- the coins of a part of the lanes are those of the shots after the first
 pub coins-parts : (seed first group parts t : ℕ) (words : List (List ℕ)) (coins : List ℕ) → AreCoinsOfParts seed first group parts words
     → ((p : ℕ) → p < parts → get_or coins p 0 ≡ get_or (get_or words p []) (t % 64) 0) → group ≡ t / 64 → (l : ℕ) → l < 64 * parts
     → wide_bit coins l ≡ lane_coin (record { seed = seed; first = first }) l t

@@ -1,5 +1,5 @@
 -- Units: words of which one bit is 1, and the lane that a search among ascending numbers finds.
-use Rattle.std.proofs.Common.{◌≡◌, ℕ, ◌+◌, ◌*◌, ◌^◌, ◌<◌, ◌≤◌, ◌/◌, ◌%◌, ◌==◌, refl, sym, ◌∙◌, ap, subst, ◌&&◌, nat_lt, eqb, Bool, true, false, List, length, get_or, set, replicate, Ok, Err, arith, inl, inr}
+use Rattle.std.proofs.Common.{◌≡◌, ℕ, ◌*◌, ◌^◌, ◌<◌, ◌≤◌, ◌/◌, ◌%◌, ◌==◌, refl, sym, ◌∙◌, ap, ◌&&◌, nat_lt, eqb, true, false, List, length, get_or, set, replicate, Ok, Err, arith, inl, inr}
 use Rattle.std.specs.Prelude.{◌⊎◌}
 use Rattle.std.specs.List.Sorted.{IsBinarySearchResult}
 use Rattle.std.specs.Ordering.{nat_cmp}

@@ -1,4 +1,4 @@
--- Wide words: the bits of words that lie one behind another.
+-- Wide words: the bits of words that lie one after another.
 use Rattle.std.proofs.Common.{◌≡◌, ℕ, ◌*◌, ◌<◌, ◌/◌, ◌%◌, ap, ◌∙◌, Bool, List, arith, get_or, replicate}
 use Rattle.std.specs.Prelude.{bit_xor}
 use Rattle.std.proofs.lemmas.List.{get_or-replicate}
@@ -11,7 +11,7 @@ pub wide_bit-all : (n word l : ℕ) (bit : Bool) → l < 64 * n → ((r : ℕ) �
 wide_bit-all n word l bit lt are =
     ap (λ w. word_bit w (l % 64)) (get_or-replicate n (l / 64) word 0 (omega (arith, lt))) ∙ are (l % 64) (omega arith)
 
--- words of which each is where those of two others differ
+-- words each of which says where those of two others differ
 pub wide_bit-xor : (n : ℕ) (zs xs ys : List ℕ) → ((p : ℕ) → p < n → get_or zs p 0 ≡ bit_xor (get_or xs p 0) (get_or ys p 0))
     → (l : ℕ) → l < 64 * n → wide_bit zs l ≡ wide_bit xs l ⊕ wide_bit ys l
 wide_bit-xor n zs xs ys are l lt =

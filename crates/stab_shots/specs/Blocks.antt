@@ -1,15 +1,15 @@
--- Blocks: 64 words, of which word l has 64 bits of lane l, those of each block behind those of the block before.
+-- Blocks: 64 words, of which word l has 64 bits of lane l, those of each block after those of the block before.
 -- Source: H. S. Warren, Hacker's Delight (2nd edition, 2012), section 7-3, for the masked exchanges that transpose a
 -- bit matrix.
 use Rattle.std.specs.Prelude.{ℕ, bit_xor, bit_and, ◌/◌, ◌*◌, ◌%◌, ◌^◌, List, get_or}
 use Rattle.std.specs.List.{flat_map}
 use Rattle.std.specs.Int.{w64, to_le_bytes}
 
--- of the bits of a mask, those that differ between a second word and a first one, there so many places higher
+-- of the bits of a mask, those that differ between a second word and a first one, there this many places higher
 abbrev pub differing : (first second mask places : ℕ) → ℕ
 differing first second mask places = bit_and (bit_xor (first / 2 ^ places) second) mask
 
--- the first word where the two have exchanged these bits
+-- the first word after the two have exchanged these bits
 abbrev pub first_exchanged : (first second mask places : ℕ) → ℕ
 first_exchanged first second mask places = bit_xor first (differing first second mask places * 2 ^ places % 18446744073709551616)
 

@@ -21,7 +21,7 @@ pub record Difference : Type 0 where
   pub letters : List Letter
   pub flips : RunOutput
 
--- the difference of a lane, where lanes keep flips in place of bits
+-- the difference of a lane, if lanes keep flips in place of bits
 abbrev pub lane_difference : {W : Type 0} → (W → ℕ → Bool) → ℕ → Lanes W → Difference
 lane_difference at l lanes = record { letters = lane_letters at l lanes.frames.letters.items; flips = lane_output at l lanes }
 
@@ -45,19 +45,19 @@ pub record IsMeasuredBy (notes : Notes) (measured : Signed) (flip : Bool) (old n
   pub letters : new.letters ≡ letters_measured notes (next_coin old) measured old.letters
   pub flips : new.flips ≡ record old.flips { free = old.flips.free ++ false ∷ [] }
 
--- behind these steps from the first on: they give with the coins of a lane what they give with coins 0, flipped, and lead to points that
+-- after these steps from the first on: they give with the coins of a lane what they give with coins 0, flipped, and lead to points that
 -- differ by its frame; which outcomes are free is flipped nowhere
 pub record IsLane (n : ℕ) (coins : ℕ → Bool) (xs : List Step) (d : Difference) : Type 0 where
   pub fronts : AreFronts n zero_coins (changed zero_coins coins) xs xs (frame_of_difference d) d.flips
   pub still : d.flips.free ≡ replicate (all_coins_of xs) false
 
--- there is a flip for each bit of a shot, of which there are so many observables
+-- there is a flip for each bit of a shot that has this many observables
 pub record IsAsLong (count : ℕ) (shot : Shot) (flips : RunOutput) : Type 0 where
   pub records : length flips.records ≡ length shot.records.items
   pub detectors : length flips.detectors ≡ length shot.detectors.items
   pub observables : count ≡ length shot.observables.items
 
--- what lane l gives is what a shot gives, flipped, with so many observables; which outcomes are free is the same
+-- what lane l gives is what a shot gives, flipped, with this many observables; which outcomes are free is the same
 pub record AreFlipped {W : Type 0} (at : W → ℕ → Bool) (l count : ℕ) (shot : Shot) (flips : RunOutput) (shots : Shots W) : Type 0 where
   pub records : lane_bits at l shots.records.items ≡ flipped shot.records.items flips.records
   pub free : shots.free.items ≡ shot.free.items

@@ -22,7 +22,7 @@ letter_in at l w = letter_of_bits (at w.x l) (at w.z l)
 abbrev pub lane_letters : {W : Type 0} → (W → ℕ → Bool) → ℕ → List (Letters W) → List Letter
 lane_letters at l words = map (letter_in at l) words
 
--- a letter times another, where the bit is 1
+-- a letter times another, if the bit is 1
 abbrev pub letter_times : Bool → Letter → Letter → Letter
 letter_times true more letter = letter_product letter more
 letter_times false more letter = letter

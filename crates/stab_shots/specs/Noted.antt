@@ -17,7 +17,7 @@ zero_coins t = false
 abbrev pub most_noted : ℕ → ℕ
 most_noted n = 4194304 / bytes_of n
 
--- by coin number, the string that exchanges the outcomes, where one is noted
+-- by coin number, the string that exchanges the outcomes, if one is noted
 abbrev pub strings_noted : Noted → ℕ → Option (List Letter)
 strings_noted noted = note_at noted.strings.now.strings noted.free.now
 
@@ -25,10 +25,10 @@ strings_noted noted = note_at noted.strings.now.strings noted.free.now
 abbrev pub lane_notes : Noted → (ℕ → Bool) → Notes
 lane_notes noted drawn = notes_of (strings_noted noted) drawn
 
--- so many strings were those of the outcomes before the coin of a number
+-- this many strings were those of the outcomes before the coin of a number
 abbrev pub IsCounted : Noted → (number coin : ℕ) → Type 0
 IsCounted noted number coin = number ≡ ones (take coin noted.free.now)
 
--- there is a string for each outcome that is told free
+-- there is a string for each outcome that is reported free
 abbrev pub HasAll : Noted → Type 0
 HasAll noted = length noted.strings.now.strings ≡ ones noted.free.now

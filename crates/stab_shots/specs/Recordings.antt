@@ -28,8 +28,8 @@ pub record IsRecording (n : ℕ) (xs : List Step) (r : Recording) : Type 0 where
   pub arrived : IsAt n (program_state r.tableau (output_of r.outputs)) (point_after n zero_coins xs origin)
   pub gave : given_by r ≡ outputs n zero_coins xs origin
 
--- of the steps ys, behind others, the free outcomes are told, and no other; their strings are noted as far as there may be as many,
--- and right where all are
+-- of the steps ys, after others, the free outcomes are reported, and no other; their strings are noted as far as there may be as many,
+-- and right if all are
 pub record IsNoted (n : ℕ) (xs ys : List Step) (r : Recording) : Type 0 where
   pub told : drop (all_coins_of xs) r.outputs.free.items ≡ (outputs n zero_coins ys (point_after n zero_coins xs origin)).free
   pub others : ones (take (all_coins_of xs) r.outputs.free.items) ≡ 0

@@ -51,7 +51,7 @@ fn shot_of_lane<W: Word>(alloc: Global, lists: &Shots<W>, lane: usize) -> Result
     })
 }
 
-/// Puts the shots of the first so many lanes behind others.
+/// Puts the shots of this many lanes, from the first on, after others.
 fn push_lanes<W: Word>(
     alloc: Global,
     lists: &Shots<W>,
@@ -68,25 +68,7 @@ fn push_lanes<W: Word>(
     Ok(())
 }
 
-/// The reference of a circuit that nothing refuses, where it has one and there is more than one batch to be led by it.
-fn reference_of(
-    alloc: Global,
-    circuit: &Circuit,
-    n: usize,
-    many: bool,
-) -> Result<Option<Reference>, Refusal>
-    requires in_range { n ≤ most_qubits }
-    requires checked { check_within n (circuit_items circuit.now) ≡ None }
-    ensures reference { IfOk result (λ found. IfSome found (λ r. IsReference n (circuit_items circuit.now) r)) }
-    ensures err { IfErr result (λ r. r ≡ OutOfMemory) }
-{
-    if !many {
-        return Ok(None);
-    }
-    Reference::of_checked(alloc, circuit, n)
-}
-
-/// Runs so many shots of a seed from a first one on, by batches of so many lanes.
+/// Runs this many shots of a seed from a first one on, by batches of this many lanes.
 fn run_batches<W: Word, C: LaneCoins<W>>(
     alloc: Global,
     circuit: &Circuit,
@@ -106,7 +88,7 @@ fn run_batches<W: Word, C: LaneCoins<W>>(
 {
     let mut shots = Vec::with_capacity(alloc, number)?;
     let mut lists: Shots<W> = Shots::with_room(alloc, circuit.records())?;
-    let found = reference_of(alloc, circuit, n, lanes < number)?;
+    let found = Reference::of_checked(alloc, circuit, n)?;
     let reference = found.as_ref();
     let mut made = 0;
     while made < number {
@@ -119,7 +101,7 @@ fn run_batches<W: Word, C: LaneCoins<W>>(
     Ok(shots)
 }
 
-/// Runs so many shots of a seed from a first one on, 64 at once where there are no more, else 256.
+/// Runs this many shots of a seed from a first one on, 64 at once if there are no more, else 256.
 fn run_by_number(
     alloc: Global,
     circuit: &Circuit,
@@ -141,11 +123,11 @@ fn run_by_number(
     }
 }
 
-/// Runs so many shots of a seed from a first one on, on n qubits, at most 1,024. Numbers of shots go on from 2^64 - 1 with 0.
+/// Runs this many shots of a seed from a first one on, on n qubits, at most 1,024. Numbers of shots go on from 2^64 - 1 with 0.
 ///
 /// Each shot is the run that `stab_run::run_once` makes with `SeedCoins` of its number. The tableau goes through the circuit
-/// once, or once for 256 shots where more of its outcomes are free than a `Reference` notes. Refused as `Circuit::check`
-/// refuses, else `OutOfMemory`, always with line 0.
+/// once, except for rounds that come again; if more of its outcomes are free than a `Reference` notes, it goes through it once
+/// more for each 256 shots. Refused as `Circuit::check` refuses, else `OutOfMemory`, always with line 0.
 pub fn run_shots(
     alloc: Global,
     circuit: &Circuit,

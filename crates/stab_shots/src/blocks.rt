@@ -7,7 +7,7 @@ ghost use Rattle.stab_shots.specs.Blocks.{first_exchanged, second_exchanged, row
 
 use std::alloc::AllocError;
 
-/// Two words that have exchanged bits: the second's at the places of a mask, and the first's so many places higher.
+/// Two words that have exchanged bits: the second's at the places of a mask, and the first's this many places higher.
 fn exchanged(first: u64, second: u64, mask: u64, places: u32) -> (u64, u64)
     requires in_range { places < 64 }
     ensures first { result.0 ≡ first_exchanged first second mask places }
@@ -31,7 +31,7 @@ fn exchange_halves(words: &[u64; 64], after: &mut [u64; 64], mask: u64, places: 
     }
 }
 
-/// At most 64 words, and zeros behind them.
+/// At most 64 words, and zeros after them.
 fn padded(words: &[u64]) -> [u64; 64]
     requires few { length words.now ≤ 64 }
     ensures value { (k : ℕ) → get_or result k 0 ≡ get_or words.now k 0 }
@@ -41,7 +41,7 @@ fn padded(words: &[u64]) -> [u64; 64]
     block
 }
 
-/// The bits of lanes of at most 64 words, as a word for each of 64 lanes. Behind them are zeros.
+/// The bits of lanes of at most 64 words, as a word for each of 64 lanes. After them are zeros.
 fn transposed(words: &[u64]) -> [u64; 64]
     requires few { length words.now ≤ 64 }
     ensures value { (l k : ℕ) → l < 64 → k < 64 → word_bit (get_or result l 0) k ≡ get_or (lane_bits word_bit l words.now) k false }

@@ -22,7 +22,7 @@ fn flip_where<W: Word>(bit: bool, flips: &mut Vec<W>, place: usize)
     }
 }
 
-/// Flips the bits of all lanes where those of one shot are 1: what lanes flip gives their bits, and their bits what they flip.
+/// Flips the bits of all lanes where those of one shot are 1: what lanes flip gives their bits, and their bits give what they flip.
 pub fn flip_bits<W: Word>(bits: &[bool], flips: &mut Vec<W>)
     ensures value { (l : ℕ) → l < W.lanes → length (lane_bits W.at l flips.old.items) ≡ length bits.now → lane_bits W.at l flips.new.items ≡ flipped bits.now (lane_bits W.at l flips.old.items) }
 {
@@ -31,7 +31,7 @@ pub fn flip_bits<W: Word>(bits: &[bool], flips: &mut Vec<W>)
     }
 }
 
-/// What shots give, by lanes that have gone over all steps and the shot with all coins 0, of which there are so many observables.
+/// What shots give, by lanes that have gone over all steps and the shot with all coins 0, which has this many observables.
 pub fn shots_of<W: Word>(
     alloc: Global,
     shot: &Shot,

@@ -15,7 +15,7 @@ use stab_pauli::{Letter, Pauli};
 use stab_tableau::{Gate, PairGate};
 use std::alloc::{AllocError, Global};
 
-/// A Pauli string for each lane, whose sign is of no account: the letters of all lanes at each qubit.
+/// A Pauli string for each lane, whose sign does not matter: the letters of all lanes at each qubit.
 #[derive(Drop)]
 pub struct Frames<W> {
     pub letters: Vec<Letters<W>>,

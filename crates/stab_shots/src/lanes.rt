@@ -55,7 +55,7 @@ impl<W: Word> Lanes<W> {
     }
 }
 
-/// The records `rec[-k]`, or 0 where there are fewer than k.
+/// The records `rec[-k]`, or 0 if there are fewer than k.
 pub fn looked_up<W: Word>(records: &[W], k: u32) -> W
     ensures value { (l : ℕ) → l < W.lanes → W.at result l ≡ looked_up_of (lane_bits W.at l records.now) k }
 {
@@ -87,7 +87,7 @@ fn add<W: Word>(observables: &mut Vec<W>, sum: Sum<W>)
     }
 }
 
-/// So many observables with all that was added to them, all 0 before.
+/// This many observables with all that was added to them, all 0 before.
 pub fn observables<W: Word>(
     alloc: Global,
     count: usize,

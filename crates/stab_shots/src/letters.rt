@@ -8,7 +8,7 @@ use crate::word::Word;
 use stab_pauli::Letter;
 use stab_tableau::{Gate, PairGate};
 
-/// The letters of all lanes at a qubit: X where the X bit alone is 1, Z where the Z bit is, and Y where both are.
+/// The letters of all lanes at a qubit: X if only the X bit is 1, Z if only the Z bit is, and Y if both are.
 #[derive(Clone, Copy)]
 pub struct Letters<W> {
     pub x: W,
@@ -60,7 +60,7 @@ impl<W: Word> Letters<W> {
         }
     }
 
-    /// Multiplies the letters by this one, in the lanes whose bit is 1. It does so where they lie: words of many lanes would
+    /// Multiplies the letters by this one, in the lanes whose bit is 1. It does so in place: words of many lanes would
     /// be copied to and fro.
     #[inline(always)]
     pub fn multiply(&mut self, letter: Letter, lanes: W)

@@ -1,15 +1,15 @@
 //! Many shots of one circuit, as lanes of Pauli frames over one run.
 //!
 //! All shots of a circuit go through the same gates and measure the same strings; their states differ
-//! by signs alone, and so by a Pauli string each. One run, with all coins 0, goes through the circuit on a tableau and is
+//! only by signs, and so by a Pauli string each. One run, with all coins 0, goes through the circuit on a tableau and is
 //! noted: which outcomes were free, and by which strings they are exchanged. A word has a bit for each lane, and each lane
 //! is a shot: all lanes are led over a step of that run by some operations on words.
 //!
 //! In the order in which data flows; each module uses only those before it:
 //!
-//! - `word`, `wide`: so many bits, one for each lane; those of 64 lanes, and of 64 N.
+//! - `word`, `wide`: this many bits, one for each lane; those of 64 lanes, and of 64 N.
 //! - `letters`: the letters of all lanes at a qubit, and what gates make of them.
-//! - `repeated`: lists of so many times the same value.
+//! - `repeated`: lists of this many times the same value.
 //! - `frames`: a Pauli string for each lane.
 //! - `lanes`: what each lane has flipped so far.
 //! - `streams`: the words of a shot's stream, whose lowest bits are its coins.
@@ -19,9 +19,9 @@
 //! - `blocks`: the bits of 64 lanes as bytes, one lane after another.
 //! - `measure`: one measurement, on all lanes: the rule by which they differ from the run.
 //! - `step`, `steps`: one step of the run, and those of one instruction, on all lanes.
-//! - `recording`: the run with all coins 0, and what is noted of the last steps that it went over.
-//! - `reference`: that run and what is noted of all of it, to lead many batches of lanes.
-//! - `shots`, `flips`: what so many shots give, by the run and what the lanes flip.
+//! - `recording`: a run with all coins 0, and what is noted of the last steps that it went over.
+//! - `reference`: such a run and what is noted of all of it, to lead all batches of lanes. It carries out no round that comes again.
+//! - `shots`, `flips`: what this many shots give, by the run and what the lanes flip.
 //! - `run`: all steps of a circuit, noted and led over by turns; or led over by a reference.
 //! - `batches`: shots of a seed, each with lists of its own.
 //!

@@ -32,7 +32,7 @@ fn is_free(free: &[bool], coin: usize) -> bool
 
 /// Leads all lanes over the outcome of the next coin, by the lanes that anticommute with what is measured. Gives which
 /// outcomes are flipped: a fixed one if the lane anticommutes, and a free one as is drawn. If a free outcome is flipped
-/// otherwise than the lane's string has it, the string is multiplied by that noted. The number is that of the next noted string.
+/// otherwise than the lane's string says, the string is multiplied by that noted. The number is that of the next noted string.
 pub fn decide<W: Word, D: Draw<W>>(
     noted: Noted,
     number: &mut usize,

@@ -1,4 +1,4 @@
-//! A run with all coins 0, of whose steps so many are noted at once.
+//! A run with all coins 0, of whose steps this many are noted at once.
 ghost use Rattle.std.specs.Prelude.{◌≡◌, ◌≤◌, ◌+◌, ◌++◌, None, [], false, length, replicate, take, drop, IfOk, OnOk, IfErr};
 ghost use Rattle.stab_io.specs.declared.refusal.Refusal.TheVariants.{OutOfMemory};
 ghost use Rattle.stab_letters.specs.Limits.{most_qubits};
@@ -37,7 +37,7 @@ fn clear_flags(flags: &mut Vec<bool>)
     flags.fill(false);
 }
 
-/// Puts flags from a place on behind others.
+/// Puts flags from a place on after others.
 fn push_rest(flags: &mut Vec<bool>, all: &[bool], from: usize) -> Result<(), AllocError>
     ensures value { OnOk result (flags.new.items ≡ flags.old.items ++ drop from all.now) }
 {
@@ -48,7 +48,7 @@ fn push_rest(flags: &mut Vec<bool>, all: &[bool], from: usize) -> Result<(), All
 impl Recording {
     ghost use Rattle.stab_shots.specs.Recordings.{IsSized, IsRecording, IsNoted};
 
-    /// The run on n qubits before its first step, with room for so many records.
+    /// The run on n qubits before its first step, with room for this many records.
     pub fn new(alloc: Global, n: usize, records: usize) -> Result<Recording, Refusal>
         requires in_range { n ≤ most_qubits }
         ensures sized { IfOk result (λ r. IsSized n r) }
@@ -74,7 +74,7 @@ impl Recording {
         })
     }
 
-    /// Goes over so many steps of a circuit that nothing refuses, from this one on, and notes them in place of what was noted.
+    /// Goes over this many steps of a circuit that nothing refuses, from this one on, and replaces what was noted by what they give.
     pub fn note(
         &mut self,
         alloc: Global,

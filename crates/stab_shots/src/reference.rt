@@ -11,11 +11,10 @@ ghost use Rattle.stab_shots.specs.Noted.{zero_coins, most_noted as most_of};
 ghost use Rattle.stab_shots.specs.References.{IsReference};
 
 use crate::measure::Noted;
-use crate::recording::{Recording, shot_of};
 use stab_circuit::Circuit;
-use stab_frames::{KeptStrings, RunNotes};
+use stab_frames::KeptStrings;
 use stab_io::{Fault, Refusal};
-use stab_run::Shot;
+use stab_run::{ListCoins, Recorded, Shot, run_recorded};
 use std::alloc::Global;
 
 /// The run of a circuit with all coins 0, and a string for each of its free outcomes that exchanges it for the other: by
@@ -41,7 +40,7 @@ pub fn all_steps() -> usize
 }
 
 impl Reference {
-    /// The reference of a circuit on n qubits, at most 1,024; `None` where more of its outcomes are free than strings may be
+    /// The reference of a circuit on n qubits, at most 1,024; `None` if more of its outcomes are free than strings may be
     /// kept, which take 4 MiB at most. On its way it takes up to 16 MiB for them.
     ///
     /// Refused as `Circuit::check` refuses, else `OutOfMemory`, always with line 0.
@@ -75,7 +74,7 @@ impl Reference {
     }
 
     /// Runs a circuit that nothing refuses with all coins 0, and keeps the strings of its free outcomes, as far as a run may
-    /// keep any.
+    /// keep any. Rounds that come again are given again.
     fn run(alloc: Global, circuit: &Circuit, n: usize) -> Result<Reference, Refusal>
         requires in_range { n ≤ most_qubits }
         requires checked { check_within n (circuit_items circuit.now) ≡ None }
@@ -83,21 +82,9 @@ impl Reference {
         ensures reference { IfOk result (λ r. length r.strings.strings ≡ ones (run_of n zero_coins (circuit_items circuit.now)).free → IsReference n (circuit_items circuit.now) r) }
         ensures err { IfErr result (λ r. r ≡ OutOfMemory) }
     {
-        let mut recording = Recording::new(alloc, n, circuit.records())?;
-        recording.note(alloc, circuit, 0, all_steps())?;
-        let Recording {
-            tableau: _,
-            string: _,
-            outputs,
-            notes,
-            free,
-        } = recording;
-        let shot = shot_of(alloc, circuit, outputs, free)?;
-        let RunNotes {
-            strings,
-            reach: _,
-            string: _,
-        } = notes;
+        let mut coins = ListCoins::new(&[]);
+        let recorded = run_recorded(alloc, circuit, n, &mut coins)?;
+        let Recorded { shot, strings } = recorded;
         Ok(Reference { shot, strings })
     }
 

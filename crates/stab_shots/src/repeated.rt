@@ -2,7 +2,7 @@ ghost use Rattle.std.specs.Prelude.{◌≡◌, replicate, IfOk};
 
 use std::alloc::{AllocError, Global};
 
-/// So many times the same value.
+/// The same value, this many times.
 pub fn repeated<T: Copy>(alloc: Global, value: T, count: usize) -> Result<Vec<T>, AllocError>
     ensures value { IfOk result (λ v. v.items ≡ replicate count value) }
 {

@@ -27,7 +27,7 @@ use stab_circuit::{Circuit, Cursor};
 use stab_io::{Fault, Refusal};
 use std::alloc::{AllocError, Global};
 
-/// Leads all lanes over the steps that a cursor has left, up to so many, from the first noted string on.
+/// Leads all lanes over the steps that a cursor has left, up to this many, from the first noted string on.
 fn pass_left<W: Word, D: Draw<W>>(
     noted: Noted,
     draw: &mut D,
@@ -56,7 +56,7 @@ fn pass_left<W: Word, D: Draw<W>>(
     Ok(())
 }
 
-/// Leads all lanes over so many steps of a circuit that nothing refuses, from this one on, from the first noted string on.
+/// Leads all lanes over this many steps of a circuit that nothing refuses, from this one on, from the first noted string on.
 fn pass_part<W: Word, D: Draw<W>>(
     alloc: Global,
     circuit: &Circuit,
@@ -105,7 +105,7 @@ fn run_noted<W: Word, C: Draw<W>>(
     Ok(())
 }
 
-/// Goes over the steps of a circuit that nothing refuses, so many at once: a run with all coins 0 notes them, and leads all lanes
+/// Goes over the steps of a circuit that nothing refuses, this many at once: a run with all coins 0 notes them, and leads all lanes
 /// over them.
 fn pass_recorded<W: Word, D: Draw<W>>(
     alloc: Global,
@@ -169,7 +169,7 @@ fn run_recorded<W: Word, C: Draw<W>>(
     Ok(())
 }
 
-/// Runs a circuit that nothing refuses once in each lane, by a reference of it where there is one.
+/// Runs a circuit that nothing refuses once in each lane, by a reference of it if there is one.
 pub(crate) fn run_checked_batch<W: Word, C: Draw<W>>(
     alloc: Global,
     circuit: &Circuit,

@@ -20,7 +20,7 @@ pub struct SeedLanes {
     words: [u64; 64],
 }
 
-// Written out, so that to a proof a value that is let go is one call, and not one for each of its parts.
+// Written out, so that a proof sees the drop of a value as one call, and not one for each of its parts.
 impl Drop for SeedLanes {
     fn drop(self) {
         let SeedLanes {
@@ -124,7 +124,7 @@ fn put_block(bytes: &mut [u8; 64], block: usize, lane: usize, words: &[u32; 16])
     }
 }
 
-/// A word whose byte at a place, counted from the lowest, is flipped where another has ones.
+/// A word whose byte at a place, counted from the lowest, is flipped if another has ones.
 fn flip_byte(word: u64, place: usize, byte: u8) -> u64
     requires in_range { place < 8 }
     ensures here { (l : ℕ) → l / 8 ≡ place → word_bit word l ≡ false → word_bit result l ≡ word_bit byte (l % 8) }

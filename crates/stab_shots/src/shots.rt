@@ -8,7 +8,7 @@ use crate::word::Word;
 use std::alloc::{AllocError, Global};
 use std::mem;
 
-/// What so many shots give, one in each lane: each list has a word for each bit that a shot gives.
+/// What this many shots give, one in each lane: each list has a word for each bit that a shot gives.
 #[derive(Drop)]
 pub struct Shots<W> {
     /// The records.
@@ -22,7 +22,7 @@ pub struct Shots<W> {
 }
 
 impl<W: Word> Shots<W> {
-    /// Nothing yet, with room for so many records.
+    /// Nothing yet, with room for this many records.
     pub fn with_room(alloc: Global, records: usize) -> Result<Shots<W>, AllocError>
         ensures records { IfOk result (λ s. s.records.items ≡ []) }
         ensures free { IfOk result (λ s. s.free.items ≡ []) }

@@ -20,7 +20,7 @@ use stab_pauli::Letter;
 use stab_run::flip;
 use std::alloc::AllocError;
 
-/// Multiplies the strings of the lanes whose bit is 1 by a letter that flips the outcome, where the measurement resets.
+/// Multiplies the strings of the lanes whose bit is 1 by a letter that flips the outcome, if the measurement resets.
 fn reset_if<W: Word>(frames: &mut Frames<W>, letter: Letter, qubit: usize, resets: bool, flips: W)
     requires in_range { qubit < length frames.old.letters.items }
     ensures size { length frames.new.letters.items ≡ length frames.old.letters.items }
@@ -31,7 +31,7 @@ fn reset_if<W: Word>(frames: &mut Frames<W>, letter: Letter, qubit: usize, reset
     }
 }
 
-/// Appends bits, where there are any.
+/// Appends bits, if there are any.
 fn push_when<W: Word>(words: &mut Vec<W>, test: bool, word: W) -> Result<(), AllocError>
     ensures value { OnOk result (words.new.items ≡ words.old.items ++ (if test then word ∷ [] else [])) }
 {

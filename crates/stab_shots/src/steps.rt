@@ -56,7 +56,7 @@ fn pass_pair<W: Word>(lanes: &mut Lanes<W>, axis: Axis, pair: ControlledPair)
     }
 }
 
-/// Leads all lanes over so much for each of some pairs.
+/// Leads all lanes over that for each of some pairs.
 fn pass_pairs<W: Word>(lanes: &mut Lanes<W>, axis: Axis, pairs: &[ControlledPair])
     requires fits { All (StepFits (length lanes.old.frames.letters.items)) (map (controlled_step axis) pairs.now) }
     ensures free { lanes.new.free.items ≡ lanes.old.free.items }

@@ -25,12 +25,12 @@ impl<const N: usize> UnitWord for Wide<N> {
     }
 }
 
-/// Coins of lanes that all are 0 but one in each lane. Contracts see the numbers of those that are 1, by lane.
+/// Coins of lanes that are all 0 except one in each lane. Contracts see the numbers of those that are 1, by lane.
 pub struct UnitLanes<'a> {
     numbers: &'a [u64],
 }
 
-// Written out, so that to a proof a value that is let go is one call, and not one for each of its parts.
+// Written out, so that a proof sees the drop of a value as one call, and not one for each of its parts.
 impl Drop for UnitLanes<'_> {
     fn drop(self) {
         let UnitLanes { numbers: _ } = self;
@@ -46,7 +46,7 @@ impl<'a> Model for UnitLanes<'a> {
 }
 
 impl<'a> UnitLanes<'a> {
-    /// In lane l the coin is 1 whose number is the one at place l of a list. The numbers ascend. Lanes beyond the list have no
+    /// In lane l the coin that is 1 is the one whose number is at place l of a list. The numbers ascend. Lanes beyond the list have no
     /// such coin.
     pub fn new(numbers: &'a [u64]) -> UnitLanes<'a>
         requires ascending { AreAscending numbers.now }

@@ -20,7 +20,7 @@ pub struct WideSeedLanes<const N: usize> {
     parts: [[u64; 64]; N],
 }
 
-// Written out, so that to a proof a value that is let go is one call, and not one for each of its parts.
+// Written out, so that a proof sees the drop of a value as one call, and not one for each of its parts.
 impl<const N: usize> Drop for WideSeedLanes<N> {
     fn drop(self) {
         let WideSeedLanes {

@@ -3,7 +3,7 @@ ghost use Rattle.stab_letters.specs.Letters.{◌⊕◌};
 ghost use Rattle.stab_shots.specs.Words.{word_bit};
 ghost use Rattle.stab_shots.specs.Bytes.{byte_at};
 
-/// So many bits, one for each lane.
+/// This many bits, one for each lane.
 pub trait Word: Copy {
     // The bit of each lane.
     ghost at: { Self → ℕ → Bool };

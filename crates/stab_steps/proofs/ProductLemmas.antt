@@ -22,7 +22,7 @@ length-string_of n factors = length-with_factors factors _ ∙ length-replicate 
 pub length_identity : (n : ℕ) → length (identity n).letters ≡ n
 length_identity n = length-replicate n I
 
--- where one sign of a string stabilises
+-- if one sign of a string stabilises
 
 minus_stabilises : (x y coin : Bool) → (x ≡ true → y ≡ false) → y ≡ true → (if x then false else (if y then true else coin)) ≡ true
 minus_stabilises true y coin apart e = let f : y ≡ false = apart refl in cc

@@ -72,7 +72,7 @@ IsRun-append n coins xs ys a b c f g = λ p s.
 pub IsRun-same : (n m : ℕ) (c d : ℕ → Bool) (xs : List Step) (a b : ProgramState) → m ≡ n → d ≡ c → IsRun m d xs a b → IsRun n c xs a b
 IsRun-same n m c d xs a b same_size same_coins f = subst (λ k. IsRun k c xs a b) same_size (subst (λ s. IsRun m s xs a b) same_coins f)
 
--- one step: where the group is right, so is all that follows from the output
+-- one step: if the group is right, so is all that follows from the output
 
 one-run : (n : ℕ) (coins : ℕ → Bool) (x : Step) (a b : ProgramState) (p : Point) → IsAt n a p
     → SameGroup n b.stabilised (member (trace_after n coins x p))
@@ -111,7 +111,7 @@ run-detector n coins ks a old new records free detectors additions = λ p s.
       additions = (additions ∙ sym (append-nil old.additions)) i;
     })
 
--- what the program does where it measures a string with some outcome: it projects, applies a letter to a qubit where it resets
+-- what the program does if it measures a string with some outcome: it projects, applies a letter to a qubit if it resets
 -- an outcome 1, and gathers the flag and the record
 pub record IsMeasurement (n : ℕ) (m : Signed) (l : Letter) (q : ℕ) (recorded inverted resets : Bool) (bit : Bool) (a b : ProgramState) : Type 0 where
   pub measured : Signed → Bool

@@ -1,4 +1,4 @@
--- Cuts: what steps gave, in two parts: up to some lengths of its lists, and behind them.
+-- Cuts: what steps gave, in two parts: up to some lengths of its lists, and after them.
 -- Source: this project's own.
 use Rattle.std.specs.Prelude.{length, take, drop}
 use Rattle.stab_steps.specs.declared.records.Lengths.{Lengths}
@@ -17,7 +17,7 @@ front_of l o = record {
   additions = take l.additions o.additions;
 }
 
--- and what stands in them behind these lengths
+-- and what comes in them after these lengths
 abbrev pub rest_of : Lengths → RunOutput → RunOutput
 rest_of l o = record {
   records = drop l.records o.records;

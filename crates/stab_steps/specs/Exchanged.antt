@@ -1,4 +1,4 @@
--- Exchanged: what a step tells of the coin that decides its outcome, and of the string that exchanges its outcomes.
+-- Exchanged: what a step says of the coin that decides its outcome, and of the string that exchanges its outcomes.
 -- Source: this project's own.
 use Rattle.std.specs.Prelude.{◌≡◌, ℕ, Bool, true, false, List, Option, Some, None}
 use Rattle.stab_letters.specs.declared.letter.Letter.{Letter}
@@ -6,7 +6,7 @@ use Rattle.stab_pauli.specs.Paulis.{Signed}
 use Rattle.stab_tableau.specs.Rules.{is_free_by}
 use Rattle.stab_tableau.specs.Exchanges.{Exchanges}
 
--- of what is measured, if anything: whether a coin decides it, and letters that exchange its outcomes where one does
+-- of what is measured, if anything: whether a coin decides it, and letters that exchange its outcomes if one does
 abbrev pub IsExchanged : ℕ → (Signed → Bool) → Option Signed → Bool → List Letter → Type 0
 IsExchanged n member None free letters = free ≡ false
 IsExchanged n member (Some m) free letters = (free ≡ is_free_by member m) × (free ≡ true → Exchanges n member m letters)

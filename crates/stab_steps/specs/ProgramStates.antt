@@ -26,7 +26,7 @@ StepFits n (observable j ks) = Unit {0}
 abbrev pub output_of : Outputs → RunOutput
 output_of o = record { records = o.records.items; free = o.free.items; detectors = o.detectors.items; additions = o.additions.items }
 
--- the strings that stabilise, by those before, where a letter was applied to the qubit if the bit is 1
+-- the strings that stabilise, by those before, if a letter was applied to the qubit if the bit is 1
 abbrev pub applied_by : Bool → Letter → ℕ → (Signed → Bool) → Signed → Bool
 applied_by true l q stabilised p = stabilised (back (gate_of l) q p)
 applied_by false l q stabilised p = stabilised p

@@ -3,7 +3,7 @@
 use Rattle.std.specs.Prelude.{ℕ, ◌+◌, ◌-◌, nat_lt, Bool, true, false, List, [], ◌∷◌, length, slice_index_or, if◌then◌else◌}
 use Rattle.stab_letters.specs.Letters.{◌⊕◌}
 
--- the record rec[-k]: k counts back from the newest, so of m records, numbered from 0, it is record m - k. Where k is more
+-- the record rec[-k]: k counts back from the newest, so of m records, numbered from 0, it is record m - k. If k is more
 -- than m there is no such record, and its bit is 0
 abbrev pub looked_up : List Bool → ℕ → Bool
 looked_up records k = if nat_lt (length records) k then false else slice_index_or records (length records - k) false

@@ -1,7 +1,7 @@
 -- Runs: what the steps of a circuit make of its qubits, records, detectors and observables, for a sequence of coins.
 -- Source: Stim's circuit file format, for what each instruction does, and Aaronson and Gottesman 2004, section III, for
--- measurements. It differs in that coins are given by number, and that a detector is the parity of its records, where Stim's
--- `detect` tells whether that parity differs from a reference run's.
+-- measurements. It differs in that coins are given by number, and that a detector is the parity of its records, while Stim's
+-- `detect` says whether that parity differs from a reference run's.
 use Rattle.std.specs.Prelude.{ℕ, ◌+◌, Bool, true, false, ◌&&◌, List, [], ◌∷◌, ◌++◌, replicate, slice_index_or, slice_set, Option, Some, None}
 use Rattle.stab_letters.specs.declared.letter.Letter.{Letter}
 use Rattle.stab_letters.specs.declared.letter.Letter.TheVariants as letter
@@ -26,11 +26,11 @@ pub record State : Type 0 where
   pub detectors : List Bool
   pub observables : List Bool
 
--- no qubit, coin or record yet, and so many observables, all 0
+-- no qubit, coin or record yet, and this many observables, all 0
 abbrev pub start : ℕ → State
 start observables = record { trace = []; coin = 0; records = []; free = []; detectors = []; observables = replicate observables false }
 
--- the bit, where there is one
+-- the bit, if there is one
 abbrev pub when : Bool → Bool → List Bool
 when true bit = bit ∷ []
 when false bit = []
@@ -68,7 +68,7 @@ flip_of letter.X = letter.Z
 flip_of letter.Y = letter.X
 flip_of letter.Z = letter.X
 
--- a letter applied to the qubit, where the bit is 1
+-- a letter applied to the qubit, if the bit is 1
 abbrev pub applied_where : Bool → Letter → ℕ → List Event → List Event
 applied_where true l q trace = applied (gate_of l) q ∷ trace
 applied_where false l q trace = trace
@@ -77,7 +77,7 @@ applied_where false l q trace = trace
 abbrev pub outcome_at : (ℕ → Bool) → Signed → List Event → ℕ → Bool
 outcome_at coins p trace coin = outcome trace p (coins coin)
 
--- a projection of a letter on an outcome, and a flip where it resets an outcome 1
+-- a projection of a letter on an outcome, and a flip if it resets an outcome 1
 abbrev pub collapsed : ℕ → Letter → ℕ → Bool → Bool → List Event → List Event
 collapsed n l q resets bit trace = applied_where (resets && bit) (flip_of l) q (projected (single n q l) bit ∷ trace)
 

@@ -31,7 +31,7 @@ pub struct ListCoins<'a> {
     asks: u64,
 }
 
-// Written out, so that to a proof a value that is let go is one call, and not one for each of its parts.
+// Written out, so that a proof sees the drop of a value as one call, and not one for each of its parts.
 impl Drop for ListCoins<'_> {
     fn drop(self) {
         let ListCoins { bits: _, asks: _ } = self;
@@ -70,7 +70,7 @@ impl Coins for ListCoins<'_> {
 /// The coins of a seed and a shot. Contracts see both, and the count of asks.
 ///
 /// The seed is the key of ChaCha8, as eight bytes with the least significant first and 24 zeros
-/// behind them, and the shot is its stream. The lowest bit of each 32-bit word is the coin of the
+/// after them, and the shot is its stream. The lowest bit of each 32-bit word is the coin of the
 /// word's number. Coins are made 64 at a time, in four blocks of sixteen words, and the last 64 are
 /// kept; so in ascending order each block is made once.
 pub struct SeedCoins {
@@ -82,7 +82,7 @@ pub struct SeedCoins {
     coins: [bool; 64],
 }
 
-// Written out, so that to a proof a value that is let go is one call, and not one for each of its parts.
+// Written out, so that a proof sees the drop of a value as one call, and not one for each of its parts.
 impl Drop for SeedCoins {
     fn drop(self) {
         let SeedCoins {

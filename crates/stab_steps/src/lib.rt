@@ -4,14 +4,14 @@
 //!
 //! - `coins`: the bits that decide outcomes which nothing else decides.
 //! - `records`: what steps have given so far, and the parity of the records that `rec[-k]` names.
-//! - `measure`: measurements that ask for a coin only where it decides, and strings that exchange their outcomes.
+//! - `measure`: measurements that ask for a coin only if the coin decides, and strings that exchange their outcomes.
 //! - `step`, `step_with_exchange`, `steps`: one step on a tableau, the same with the string that exchanges its
 //!   outcomes, and the steps of one instruction or of detectors.
 //!
 //! `specs/` says which bit each coin is, what the steps of a circuit make of its qubits and records, and
-//! how a program that carries them out follows them. Which steps a circuit has is said by
-//! `stab_circuit`; what a run of them depends on, by `stab_laws`; and runs of some or all of them are `stab_run`'s,
-//! where the names and definitions of this crate stand too.
+//! how a program that carries them out follows them. `stab_circuit` says which steps a circuit
+//! has, and `stab_laws` what a run of them depends on; runs of some or all of them are `stab_run`'s,
+//! in which the names and definitions of this crate can be found too.
 //!
 //! Sources: Stim's circuit file format, for what the steps of a circuit do to records, detectors and observables;
 //! D. Gottesman, Stabilizer codes and quantum error correction (1997), and S. Aaronson and D. Gottesman, Improved

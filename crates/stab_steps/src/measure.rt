@@ -1,4 +1,4 @@
-//! Measurements of a letter or a string, which ask for a coin only where it decides.
+//! Measurements of a letter or a string, which ask for a coin only if the coin decides.
 
 ghost use Rattle.std.specs.Prelude.{◌≡◌, ◌+◌, ◌<◌, ◌≤◌, ◌∷◌, [], true, length, All};
 ghost use Rattle.stab_pauli.specs.Paulis.{Signed, single};
@@ -13,7 +13,7 @@ use stab_circuit::Factor;
 use stab_pauli::{Letter, Pauli};
 use stab_tableau::{Collapse, Tableau};
 
-/// Measures a letter on a qubit, and asks for the coin with this number only where it decides.
+/// Measures a letter on a qubit, and asks for the coin with this number only if the coin decides.
 pub fn measure<C: Coins>(
     tableau: &mut Tableau,
     coins: &mut C,
@@ -38,7 +38,7 @@ pub fn measure<C: Coins>(
     }
 }
 
-/// `measure`, which where the coin decides makes a string the letters of a stabiliser of the state before that exchanges
+/// `measure`, which also, if the coin decides, makes a string the letters of a stabiliser of the state before that exchanges
 /// the outcomes.
 pub fn measure_with_exchange<C: Coins>(
     tableau: &mut Tableau,
@@ -81,7 +81,7 @@ pub fn write_product(string: &mut Pauli, factors: &[Factor])
     }
 }
 
-/// Measures a string, and asks for the coin with this number only where it decides.
+/// Measures a string, and asks for the coin with this number only if the coin decides.
 pub fn measure_string<C: Coins>(
     tableau: &mut Tableau,
     coins: &mut C,
@@ -96,7 +96,7 @@ pub fn measure_string<C: Coins>(
     ensures free { result.free ≡ is_free_by (stabilises tableau.old) string.now }
     ensures members { (p : Signed) → length p.letters ≡ tableau.old.qubits → stabilises tableau.new p ≡ projected_by (stabilises tableau.old) string.now result.outcome p }
 {
-    // That members are a group is what says that a fixed outcome leaves the state as it is.
+    // Since members are a group, a fixed outcome leaves the state as it is.
     tableau.stabilises_a_group();
     match tableau.sign_of(string) {
         Some(outcome) => Collapse {
@@ -107,7 +107,7 @@ pub fn measure_string<C: Coins>(
     }
 }
 
-/// `measure_string`, which where the coin decides makes another string the letters of a stabiliser of the state before
+/// `measure_string`, which also, if the coin decides, makes another string the letters of a stabiliser of the state before
 /// that exchanges the outcomes.
 pub fn measure_string_with_exchange<C: Coins>(
     tableau: &mut Tableau,
@@ -127,7 +127,7 @@ pub fn measure_string_with_exchange<C: Coins>(
     ensures exchange_length { length exchange.new.letters ≡ length exchange.old.letters }
     ensures exchanges { result.free ≡ true → Exchanges tableau.old.qubits (stabilises tableau.old) string.now exchange.new.letters }
 {
-    // That members are a group is what says that a fixed outcome leaves the state as it is.
+    // Since members are a group, a fixed outcome leaves the state as it is.
     tableau.stabilises_a_group();
     match tableau.sign_of(string) {
         Some(outcome) => Collapse {

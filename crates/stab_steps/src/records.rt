@@ -48,7 +48,7 @@ impl Outputs {
         }
     }
 
-    /// Nothing yet, with room for so many records and as many flags.
+    /// Nothing yet, with room for this many records and as many flags.
     pub fn with_capacity(alloc: Global, records: usize) -> Result<Outputs, AllocError>
         ensures value { IfOk result (λ o. output_of o ≡ nothing) }
     {
@@ -84,7 +84,7 @@ impl Outputs {
         })
     }
 
-    /// Appends what stands in other lists behind these lengths.
+    /// Appends what comes in other lists after these lengths.
     pub fn append_rest(&mut self, other: &Outputs, lengths: Lengths) -> Result<(), AllocError>
         ensures value { OnOk result (output_of self.new ≡ joined (output_of self.old) (rest_of lengths (output_of other.now))) }
     {
@@ -103,7 +103,7 @@ impl Outputs {
     }
 }
 
-/// The first elements of a list, up to so many.
+/// The first elements of a list, up to this many.
 fn front<T: Copy>(alloc: Global, items: &[T], len: usize) -> Result<Vec<T>, AllocError>
     ensures value { IfOk result (λ v. v.items ≡ take len items.now) }
 {
@@ -111,7 +111,7 @@ fn front<T: Copy>(alloc: Global, items: &[T], len: usize) -> Result<Vec<T>, Allo
     Vec::from_slice(alloc, front)
 }
 
-/// Appends the elements of a list behind so many.
+/// Appends the elements of a list after this many.
 fn append_rest<T: Copy>(to: &mut Vec<T>, items: &[T], len: usize) -> Result<(), AllocError>
     ensures value { OnOk result (to.new.items ≡ to.old.items ++ drop len items.now) }
 {
@@ -119,7 +119,7 @@ fn append_rest<T: Copy>(to: &mut Vec<T>, items: &[T], len: usize) -> Result<(), 
     to.extend_from_slice(rest)
 }
 
-/// The record `rec[-k]`, or 0 where there are fewer than k.
+/// The record `rec[-k]`, or 0 if there are fewer than k.
 pub fn looked_up(records: &[bool], k: u32) -> bool
     ensures value { result ≡ looked_up_of records.now k }
 {
@@ -140,7 +140,7 @@ pub fn parity(records: &[bool], lookbacks: &[u32]) -> bool
     parity
 }
 
-/// So many observables with additions made, all 0 before.
+/// This many observables with additions made, all 0 before.
 pub fn observables(
     alloc: Global,
     count: usize,

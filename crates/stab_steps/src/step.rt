@@ -40,7 +40,7 @@ pub fn flip(letter: Letter) -> Letter
     }
 }
 
-/// Applies a letter to a qubit, where the bit is 1.
+/// Applies a letter to a qubit, if the bit is 1.
 pub fn apply_where(tableau: &mut Tableau, bit: bool, letter: Letter, qubit: usize)
     requires in_range { qubit < tableau.old.qubits }
     ensures qubits { tableau.new.qubits ≡ tableau.old.qubits }
@@ -51,7 +51,7 @@ pub fn apply_where(tableau: &mut Tableau, bit: bool, letter: Letter, qubit: usiz
     }
 }
 
-/// Flips a qubit that was measured by a letter, where that resets an outcome 1.
+/// Flips a qubit that was measured by a letter, if that resets an outcome 1.
 pub fn reset_if(tableau: &mut Tableau, letter: Letter, qubit: usize, resets: bool, outcome: bool)
     requires in_range { qubit < tableau.old.qubits }
     ensures qubits { tableau.new.qubits ≡ tableau.old.qubits }
@@ -62,7 +62,7 @@ pub fn reset_if(tableau: &mut Tableau, letter: Letter, qubit: usize, resets: boo
     }
 }
 
-/// Appends a bit, where there is one.
+/// Appends a bit, if there is one.
 fn push_when(bits: &mut Vec<bool>, test: bool, bit: bool) -> Result<(), AllocError>
     ensures value { OnOk result (bits.new.items ≡ bits.old.items ++ when test bit) }
 {
@@ -72,7 +72,7 @@ fn push_when(bits: &mut Vec<bool>, test: bool, bit: bool) -> Result<(), AllocErr
     Ok(())
 }
 
-/// Gathers what was measured: whether a coin decided it, and a record, where there is one.
+/// Gathers what was measured: whether a coin decided it, and a record, if there is one.
 pub fn gather(
     outputs: &mut Outputs,
     measured: Collapse,

@@ -18,7 +18,7 @@ use stab_pauli::Pauli;
 use stab_tableau::Tableau;
 use std::alloc::AllocError;
 
-/// Carries out one step as `apply_step` does, and tells whether a coin decided its outcome; if so, another string gets
+/// Carries out one step as `apply_step` does, and says whether a coin decided its outcome; if so, another string gets
 /// the letters of a stabiliser of the state before it that exchanges its outcomes.
 pub fn apply_step_with_exchange<C: Coins>(
     tableau: &mut Tableau,

@@ -82,7 +82,7 @@ fn apply_gates(tableau: &mut Tableau, gate: Gate, qubits: &[Qubit])
     }
 }
 
-/// Applies X, Y or Z under the control of a qubit, or where a record is 1.
+/// Applies X, Y or Z under the control of a qubit, or if a record is 1.
 fn apply_pair(tableau: &mut Tableau, records: &[bool], axis: Axis, pair: ControlledPair)
     requires fits { StepFits tableau.old.qubits (controlled_step axis pair) }
     ensures qubits { tableau.new.qubits ≡ tableau.old.qubits }
@@ -100,7 +100,7 @@ fn apply_pair(tableau: &mut Tableau, records: &[bool], axis: Axis, pair: Control
     }
 }
 
-/// Applies X, Y or Z so for each of some pairs.
+/// Applies X, Y or Z in this way for each of some pairs.
 fn apply_pairs(tableau: &mut Tableau, records: &[bool], axis: Axis, pairs: &[ControlledPair])
     requires fits { All (StepFits tableau.old.qubits) (map (controlled_step axis) pairs.now) }
     ensures qubits { tableau.new.qubits ≡ tableau.old.qubits }

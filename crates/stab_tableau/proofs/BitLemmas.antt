@@ -1,4 +1,4 @@
--- Bits of strings: those of a product, and that they tell a string.
+-- Bits of strings: those of a product, and that they determine a string.
 use Rattle.std.proofs.lemmas.Bool.{lt-ltb, ltb-true, ltb-false}
 use Rattle.std.proofs.lemmas.Bool.Decides.{eqb_tells}
 use Rattle.std.proofs.Common.{◌≡◌, ◌≢◌, subst, ℕ, zero, suc, ◌+◌, ◌-◌, ◌<◌, ◌≤◌, Bool, true, false, nat_lt, ◌⊎◌, inl, inr, refl, sym, ◌∙◌, ap, List, length, arith}
@@ -53,7 +53,7 @@ bit-product n p q k = by_side (nat_lt k n)
     by_side true = at Z k
     by_side false = at X (k - n)
 
--- strings are told by their bits
+-- strings are determined by their bits
 pub bits-tell : (n : ℕ) (p q : List Letter) → length p ≡ n → length q ≡ n → ((k : ℕ) → k < n + n → bit_at n p k ≡ bit_at n q k) → p ≡ q
 bits-tell n p q lp lq same =
     ext_get_or I p q (lp ∙ sym lq)
@@ -85,7 +85,7 @@ up-to P k f e j lt = elim (eqb_tells j k) [
   | inr other ↦ f j (let ne = other.1 in omega arith)
 ]
 
--- the first 1 of a test below a bound, where there is one
+-- the first 1 of a test below a bound, if there is one
 pub record HasFirst (f : ℕ → Bool) (m : ℕ) : Type 0 where
   pub place : ℕ
   pub below : place < m

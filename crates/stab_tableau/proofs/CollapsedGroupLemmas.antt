@@ -1,4 +1,4 @@
--- Collapsed groups: the rows of 32 qubits after a measurement, by the masks that tell which are multiplied and which turned.
+-- Collapsed groups: the rows of 32 qubits after a measurement, by the masks that say which are multiplied and which turned.
 use Rattle.std.proofs.Common.{◌≡◌, ℕ, ◌+◌, ◌-◌, ◌<◌, ◌≤◌, true, false, inl, inr, refl, sym, ◌∙◌, ap, subst, List, length, arith}
 use Rattle.std.specs.Prelude.{◌⊎◌, bit_xor}
 use Rattle.std.proofs.lemmas.Bool.{cases_lt}
@@ -39,7 +39,7 @@ module _ (place : ℕ) (j : Signed) (letters : List Letter) (first with_w with_r
     (told : (q : ℕ) → first ≤ q → q < length old → IsTold place j (letter_at letters q) (rows_at old q))
     (with_w_is : (w : InverseRow) (k : ℕ) → k < 32 → chooses with_w (row_place w k) ≡ has_x (letter_at (row_string w (rows_at old (first + k))).letters place))
     (with_r_is : (w : InverseRow) (k : ℕ) → k < 32 → chooses with_r (row_place w k) ≡ letters_anticommute (row_letter w) (letter_at letters (first + k))) where
-  -- the masks tell which rows anticommute with the multiplier
+  -- the masks say which rows anticommute with the multiplier
   told-row : (w : InverseRow) (k : ℕ) → k < 32 → first + k < length old
       → anticommute (row_string w (rows_at old (first + k))) j ≡ chooses with_w (row_place w k) ⊕ chooses with_r (row_place w k)
   told-row w k lk lt =

@@ -76,7 +76,7 @@ module _ (member : Signed → Bool) (n used : ℕ) (xs : List Signed) (h : HasCo
       ∙ ap (λ b. b ⊕ (residue k a p ⊕ residue k a q)) (and-parity (bit_at n (at n xs a).letters k) (bit_at n p (h.lead a)) (bit_at n q (h.lead a)))
       ∙ parity-mid (bit_at n (at n xs a).letters k && bit_at n p (h.lead a)) (bit_at n (at n xs a).letters k && bit_at n q (h.lead a)) (residue k a p) (residue k a q)
 
-  -- where each row leaves it, it is the bit
+  -- if each row leaves it, it is the bit
   residue-same : (k a : ℕ) (p : List Letter) → ((b : ℕ) → b < a → (bit_at n (at n xs b).letters k && bit_at n p (h.lead b)) ≡ false) → residue k a p ≡ bit_at n p k
   unfolding residue
   residue-same k zero p e = refl

@@ -15,7 +15,7 @@ use Rattle.stab_tableau.specs.inner.Eliminations.{IsLinear, IsBasis, HasCome, Co
 use Rattle.stab_tableau.proofs.BitLemmas.{bit-product, up-to}
 use Rattle.stab_tableau.proofs.ExchangeLemmas.{exchanged-first, exchanged-twice, exchanged-below, exchanged-high, exchanged-low}
 
--- clearing a string by a pivot adds the pivot's answer to a test where the string has 1
+-- clearing a string by a pivot adds the pivot's answer to a test if the string has 1
 cleared-test : (n k : ℕ) (f : List Letter → Bool) → IsLinear f → (pivot p : Signed)
     → f (cleared_with n k pivot p).letters ≡ f p.letters ⊕ (bit_at n p.letters k && f pivot.letters)
 cleared-test n k f linear pivot p = by_bit (bit_at n p.letters k)

@@ -25,7 +25,7 @@ use Rattle.stab_tableau.proofs.DiagonalLemmas.{x-with_Z}
 use Rattle.stab_tableau.proofs.PairedRowsLemmas.{length-paired}
 use Rattle.stab_tableau.proofs.SignFrameLemmas.{length-frame, frame-same, same-frame}
 
--- strings two by two: what is the same of the strings is so of the pairs
+-- strings two by two: what is the same for the strings is the same for the pairs
 
 letters-paired : (xs ys : List Signed) → map (λ (p : Signed). p.letters) xs ≡ map (λ (p : Signed). p.letters) ys → SameLetters (paired xs) (paired ys)
 letters-paired [] [] e = tt

@@ -11,7 +11,7 @@ use Rattle.stab_pauli.proofs.MaskLemmas.{spared, clash}
 use Rattle.stab_pauli.proofs.NextLetterLemmas.{bit_behind}
 use Rattle.stab_tableau.specs.Gates.{letter_at}
 
--- the 32 bits of a mask behind the first s
+-- the 32 bits of a mask after the first s
 abbrev pub half : ℕ → ℕ → ℕ
 half mask s = bit_and (mask / 2 ^ s) (2 ^ 32 - 1)
 

@@ -1,4 +1,4 @@
--- Pairs that a mask chooses: each bit stands for one row of one of 32 qubits.
+-- Pairs that a mask chooses: each bit is for one row of one of 32 qubits.
 use Rattle.std.proofs.Common.{◌≡◌, ℕ, ◌*◌, ◌+◌, ◌/◌, ◌%◌, ◌<◌, ◌≤◌, Bool, true, false, inl, inr, refl, sym, ◌∙◌, ap, subst, List, length, get_or, arith}
 use Rattle.std.specs.Prelude.{◌⊎◌}
 use Rattle.std.proofs.lemmas.Bool.{cases_lt}
@@ -42,7 +42,7 @@ place-of i lt = by_half (two_cases (i % 2) (below_two i))
     by_half (inl e) = record { row = OfX; qubit = i / 2; below = omega arith; place = (let p : i ≡ 2 * (i / 2) = omega arith in p) }
     by_half (inr e) = record { row = OfZ; qubit = i / 2; below = omega arith; place = (let p : i ≡ 2 * (i / 2) + 1 = omega arith in p) }
 
--- both strings of a qubit tell its rows
+-- both strings of a qubit determine its rows
 both : (r s : InverseRows) → ((w : InverseRow) → row_string w r ≡ row_string w s) → r ≡ s
 both r s same = λ i. record { x = same OfX i; z = same OfZ i }
 

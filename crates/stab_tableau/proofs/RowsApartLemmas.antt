@@ -21,7 +21,7 @@ TellsApart mask first k letters = (w : InverseRow) → chooses mask (row_place w
 pub apart-I : (w : InverseRow) (letters : List Letter) (q : ℕ) → letter_at letters q ≡ I → letters_anticommute (row_letter w) (letter_at letters q) ≡ false
 apart-I w letters q e = ap (letters_anticommute (row_letter w)) e ∙ letters_anticommute-I (row_letter w)
 
--- the mask tells of the letters of a group but for those that are left in the rest of another mask
+-- the mask says it for the letters of a group, except those that are left in the rest of another mask
 pub record AreApart (first rest mask : ℕ) (letters : List Letter) : Type 0 where
   pub few : (k : ℕ) → k < 64 → chooses rest k ≡ true → k < 32
   pub inside : (k : ℕ) → k < 64 → chooses rest k ≡ true → first + k < length letters

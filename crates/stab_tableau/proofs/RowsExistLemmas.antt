@@ -1,4 +1,4 @@
--- Reduced rows: a group has a list of them. They are found from the last place down: where a place is a lead, a member with its
+-- Reduced rows: a group has a list of them. They are found from the last place down: if a place is a lead, a member with its
 -- first 1 there is cleared by the rows that are there already.
 use Rattle.std.proofs.lemmas.Bool.Decides.{eqb_tells}
 use Rattle.std.proofs.Common.{◌≡◌, ◌≢◌, eqb, subst, ℕ, zero, suc, ◌+◌, ◌<◌, ◌≤◌, Bool, true, false, ◌⊎◌, inl, inr, refl, ◌∙◌, ap, List, [], ◌∷◌, length, arith}
@@ -68,7 +68,7 @@ record IsCleared (n : ℕ) (member : Signed → Bool) (low : ℕ) (p q : Signed)
   clear : (l : ℕ) → low ≤ l → IsLead n member l → bit_at n q.letters l ≡ false
 
 module _ (n : ℕ) (member : Signed → Bool) (g : IsStabiliserGroup n member) where
-  -- no lead stands from a place up to another, where s has 0: what is cleared behind that is cleared
+  -- there is no lead from a place up to another if s has 0 there: what is cleared after that is cleared
   cleared-on : (low k : ℕ) → low ≤ k → ((j : ℕ) → low ≤ j → j < k → IsLead n member j → ⊥)
       → (p s q : Signed) → ((j : ℕ) → j < low → bit_at n s.letters j ≡ bit_at n p.letters j) → bit_at n s.letters k ≡ false
       → IsCleared n member (suc k) s q → IsCleared n member low p q
@@ -85,7 +85,7 @@ module _ (n : ℕ) (member : Signed → Bool) (g : IsStabiliserGroup n member) w
     ];
   }
 
-  -- a member is cleared by all rows from a place on: multiplied by those where it has 1 at their lead
+  -- a member is cleared by all rows from a place on: multiplied by those at whose lead it has 1 at their lead
   cleared : (low : ℕ) (rows : List Signed) → AreRowsFrom n member low rows → (p : Signed) → length p.letters ≡ n → member p ≡ true
       → (q : Signed) × IsCleared n member low p q
   cleared low [] none p lp mp = (p, record { size = lp; passes = mp; same = λ j lt. refl; clear = λ l le lead. absurd (none l le lead) })
@@ -106,7 +106,7 @@ module _ (n : ℕ) (member : Signed → Bool) (g : IsStabiliserGroup n member) w
 
   -- rows, one place after another
 
-  -- the rows behind a place that is no lead are those from it on
+  -- the rows after a place that is no lead are those from it on
   rows-skip : (low : ℕ) (rows : List Signed) → (IsLead n member low → ⊥) → AreRowsFrom n member (suc low) rows → AreRowsFrom n member low rows
   rows-skip low rows none a = go rows a
     where
@@ -121,7 +121,7 @@ module _ (n : ℕ) (member : Signed → Bool) (g : IsStabiliserGroup n member) w
       go (p ∷ rows) (k, le, between, row, rest) =
           (k, (omega arith), (λ j lj lt lead. not_from (λ j. (j < k) × IsLead n member j) (λ j l w. between j l w.0 w.1) (λ w. none w.1) j lj (lt, lead)), row, rest)
 
-  -- at a lead a member with its first 1 there, cleared by the rows behind it, is the row
+  -- at a lead a member with its first 1 there, cleared by the rows after it, is the row
   rows-more : (low : ℕ) (rows : List Signed) → IsLead n member low → AreRowsFrom n member (suc low) rows → (more : List Signed) × AreRowsFrom n member low more
   rows-more low rows lead a =
       (c.0 ∷ rows, (low, (omega arith), (λ j le lt l. absurd (omega (arith, le, lt))), row, a))

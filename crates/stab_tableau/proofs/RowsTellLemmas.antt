@@ -1,4 +1,4 @@
--- Reduced rows tell their group: each member is a product of rows.
+-- Reduced rows determine their group: each member is a product of rows.
 use Rattle.std.proofs.Common.{◌≡◌, ℕ, suc, ◌+◌, ◌<◌, ◌≤◌, Bool, true, false, inl, inr, refl, sym, ◌∙◌, ap, subst, List, [], ◌∷◌, length, arith}
 use Rattle.std.proofs.lemmas.List.{length-replicate}
 use Rattle.stab_letters.specs.declared.letter.Letter.TheVariants.{I}

@@ -1,4 +1,4 @@
--- Searching strings: where a property can be decided, some string of n letters has it, or none has.
+-- Searching strings: if a property can be decided, some string of n letters has it or none has.
 use Rattle.std.proofs.Common.{◌≡◌, ℕ, zero, suc, ◌⊎◌, inl, inr, refl, ap, List, [], ◌∷◌, length, arith}
 use Rattle.stab_letters.specs.declared.letter.Letter.{Letter}
 use Rattle.stab_letters.specs.declared.letter.Letter.TheVariants.{I, X, Y, Z}
@@ -19,7 +19,7 @@ HasSome n P = (p : List Letter) × (length p ≡ n) × P p
 abbrev behind : Letter → (List Letter → Type 0) → List Letter → Type 0
 behind l P p = P (l ∷ p)
 
--- a string behind a letter is a string
+-- a string after a letter is a string
 longer : (n : ℕ) (P : List Letter → Type 0) (l : Letter) → HasSome n (behind l P) → HasSome (suc n) P
 longer n P l (p, lp, here) = (l ∷ p, ap suc lp, here)
 

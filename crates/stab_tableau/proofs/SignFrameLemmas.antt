@@ -42,7 +42,7 @@ by-Y a b = grind arith
 by-I : (a b : Bool) → letters_anticommute (letter_anticommuting a b) I ≡ false
 by-I a b = grind arith
 
--- a string with the same letters is that with the sign turned where the signs differ
+-- a string with the same letters is that one with the sign turned if the signs differ
 other-sign : (p q : Signed) → p.letters ≡ q.letters → phased q ≡ times_phase (phase_of_sign (p.negative ⊕ q.negative)) (phased p)
 other-sign p q e =
     ap phased (signed_path q (with_sign (p.negative ⊕ q.negative) p) (back p.negative q.negative) (sym e))
@@ -72,7 +72,7 @@ frame-letter n r s ex ez Y =
     ∙ times_phase-comm Quarter (phase_of_sign ((r.x.negative ⊕ s.x.negative) ⊕ (r.z.negative ⊕ s.z.negative))) (phased_product (phased r.x) (phased r.z))
     ∙ ap (λ b. times_phase (phase_of_sign b) (letter_preimage n r Y)) (sym (by-Y (r.x.negative ⊕ s.x.negative) (r.z.negative ⊕ s.z.negative)))
 
--- the preimage of a string takes the other sign where the string anticommutes with the frame
+-- the preimage of a string takes the other sign if the string anticommutes with the frame
 pub frame-preimage : (n : ℕ) (rows others : List InverseRows) → SameLetters rows others → (p : List Letter)
     → string_preimage n others p ≡ times_phase (phase_of_sign (strings_anticommute (sign_frame rows others) p)) (string_preimage n rows p)
 frame-preimage n [] [] s p = refl
@@ -84,7 +84,7 @@ frame-preimage n (r ∷ rows) (t ∷ others) s (l ∷ p) =
     ∙ times_phase_both (letters_anticommute (letter_anticommuting (r.x.negative ⊕ t.x.negative) (r.z.negative ⊕ t.z.negative)) l) (strings_anticommute (sign_frame rows others) p)
     (letter_preimage n r l) (string_preimage n rows p)
 
--- so a string stabilises the one state where it, with the other sign if it anticommutes with the frame, stabilises the other
+-- so a string stabilises the one state if and only if it, with the other sign if it anticommutes with the frame, stabilises the other
 pub frame-stabilises : (n : ℕ) (rows others : List InverseRows) → SameLetters rows others → (p : Signed)
     → stabilises (record { qubits = n; rows = others }) p
     ≡ stabilises (record { qubits = n; rows = rows }) (with_sign (strings_anticommute (sign_frame rows others) p.letters) p)
@@ -98,13 +98,13 @@ frame-stabilises n rows others s p = ap stabilises_zeros whole
         ∙ sym (extend-times_phase (string_preimage n rows) (phase_of_sign (strings_anticommute (sign_frame rows others) p.letters)) (phased p))
         ∙ ap (extend (string_preimage n rows)) (sym (phased-with_sign (strings_anticommute (sign_frame rows others) p.letters) p))
 
--- one group where the frame's preimage has letters I and Z alone
+-- the groups are the same if the frame's preimage has letters I and Z alone
 
 module _ (n : ℕ) (rows others : List InverseRows) (is : IsTable n rows) (onto : IsOnto n rows) (s : SameLetters rows others) where
   length-frame_n : length (sign_frame rows others) ≡ n
   length-frame_n = length-frame rows others s ∙ is.count
 
-  -- the frame and a string anticommute where their preimages do
+  -- the frame and a string anticommute if their preimages do
   frame-kept : (p : List Letter) → length p ≡ n
       → strings_anticommute (string_preimage n rows (sign_frame rows others)).letters (string_preimage n rows p).letters
       ≡ strings_anticommute (sign_frame rows others) p

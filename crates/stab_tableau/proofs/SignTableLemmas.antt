@@ -13,7 +13,7 @@ use Rattle.stab_tableau.specs.inner.Frames.{SameLetters, sign_frame}
 use Rattle.stab_tableau.proofs.HomomorphismLemmas.{extend-times_phase, after-homomorphism, same-homomorphism}
 use Rattle.stab_tableau.proofs.SignFrameLemmas.{frame-preimage, times_phase_both}
 
--- a string with its sign turned where it anticommutes with another
+-- a string with its sign turned if it anticommutes with another
 abbrev turned : List Letter → List Letter → Phased
 turned f p = times_phase (phase_of_sign (strings_anticommute f p)) (plain p)
 

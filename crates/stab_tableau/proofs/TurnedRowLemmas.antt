@@ -86,7 +86,7 @@ pub frame-turns : (n : ℕ) (rows others : List InverseRows) → SameLetters row
     → IsTurned n (sign_frame rows others) (stabilises (record { qubits = n; rows = rows })) (stabilises (record { qubits = n; rows = others }))
 frame-turns n rows others s p lp = frame-stabilises n rows others s p
 
--- so it is of the states that contracts see
+-- the same for the states that contracts see
 pub told-turned : (rows others : List InverseRows) → SameLetters rows others → (t u : TableauState)
     → record { qubits = length rows; rows = rows } ≡ t → record { qubits = length others; rows = others } ≡ u
     → (f : List Letter) → f ≡ sign_frame rows others → IsTurned t.qubits f (stabilises t) (stabilises u)

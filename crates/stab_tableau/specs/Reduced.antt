@@ -59,7 +59,7 @@ GroupsHaveReducedRows = (n : ℕ) (member : Signed → Bool) → IsStabiliserGro
 abbrev pub TracesHaveReducedRows : Type 0
 TracesHaveReducedRows = (n : ℕ) (trace : List Event) → Fits n trace → IsSound trace → (rows : List Signed) × AreReduced n (member trace) rows
 
--- two stabiliser groups are one exactly where their reduced rows are the same
+-- two stabiliser groups are one if and only if their reduced rows are the same
 abbrev pub SameGroupSameRows : Type 0
 SameGroupSameRows =
     (n : ℕ) (s t : Signed → Bool) → IsStabiliserGroup n s → IsStabiliserGroup n t → (a b : List Signed) →

@@ -4,7 +4,7 @@
 use Rattle.std.specs.Prelude.{Bool, true, false, not, ◌&&◌, ◌||◌, if◌then◌else◌}
 use Rattle.stab_pauli.specs.Paulis.{Signed, minus, with_sign, commute, product}
 
--- the outcome of a measurement of p with a coin: 0 where p stabilises, 1 where its negative does, else the coin
+-- the outcome of a measurement of p with a coin: 0 if p stabilises, 1 if its negative does, else the coin
 abbrev pub outcome_by : (Signed → Bool) → Signed → Bool → Bool
 outcome_by stabilised p coin = if stabilised p then false else (if stabilised (minus p) then true else coin)
 

@@ -11,7 +11,7 @@ use stab_pauli::{Letter, PauliRows};
 
 /// Makes rows that generate a stabiliser group its reduced rows.
 ///
-/// At each place in turn the first row with a 1 there that is not yet used is the pivot: it is moved up behind the rows
+/// At each place in turn the first row with a 1 there that is not yet used is the pivot: it is moved up after the rows
 /// that are used, and all other rows with a 1 there are multiplied by it.
 pub fn eliminate(rows: &mut PauliRows)
     requires short { rows.old.qubits ≤ 2 ^ 24 }
@@ -26,7 +26,7 @@ pub fn eliminate(rows: &mut PauliRows)
     }
 }
 
-/// Takes one place: chooses a pivot and clears the other rows by it, where a row that is left has a 1 there. Answers the
+/// Takes one place: chooses a pivot and clears the other rows by it, if a row that is left has a 1 there. Answers the
 /// number of rows that are used.
 fn step(rows: &mut PauliRows, used: usize, place: usize) -> usize
     requires in_range { place < rows.old.qubits + rows.old.qubits }
@@ -62,7 +62,7 @@ fn find_pivot(rows: &PauliRows, from: usize, place: usize) -> Option<usize>
     None
 }
 
-/// Exchanges two rows, which may be one.
+/// Exchanges two rows, which may be the same.
 fn exchange(rows: &mut PauliRows, first: usize, second: usize)
     requires first_in_range { first < length rows.old.rows }
     requires second_in_range { second < length rows.old.rows }
@@ -73,7 +73,7 @@ fn exchange(rows: &mut PauliRows, first: usize, second: usize)
     }
 }
 
-/// Clears all rows but the pivot by it.
+/// Clears all rows except the pivot by it.
 fn clear_others(rows: &mut PauliRows, pivot: usize, place: usize)
     requires in_range { place < rows.old.qubits + rows.old.qubits }
     requires pivot_in_range { pivot < length rows.old.rows }
@@ -87,7 +87,7 @@ fn clear_others(rows: &mut PauliRows, pivot: usize, place: usize)
     }
 }
 
-/// Clears a row by a pivot: multiplies it where it has a 1 at the place.
+/// Clears a row by a pivot: multiplies it if it has a 1 at the place.
 fn clear(rows: &mut PauliRows, row: usize, pivot: usize, place: usize)
     requires in_range { place < rows.old.qubits + rows.old.qubits }
     requires row_in_range { row < length rows.old.rows }

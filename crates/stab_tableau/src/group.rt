@@ -1,4 +1,4 @@
-//! Whether two states have one group: by the signs of their rows where the letters are the same, else by stabilisers.
+//! Whether two states have one group: by the signs of their rows if the letters are the same, else by stabilisers.
 
 ghost use Rattle.std.specs.Prelude.{◌≡◌, ℕ, ◌<◌, ◌↔◌, true, length};
 ghost use Rattle.stab_pauli.specs.Rows.{row_at};
@@ -15,8 +15,8 @@ use stab_pauli::{Pauli, PauliRows};
 
 /// Whether two tables whose rows differ in their signs alone have one group.
 ///
-/// The two states differ by a Pauli string, the frame; it keeps the group exactly where it is up to sign a member, that is
-/// where its preimage has letters I and Z alone.
+/// The two states differ by a Pauli string, the frame; it keeps the group if and only if it is up to sign a member, that is
+/// if its preimage has letters I and Z alone.
 pub fn same_by_signs(table: &Table, others: &Table, preimage: &mut Pauli, frame: &mut Pauli) -> bool
     requires tableau { IsTableau (length table.now) table.now (record { x = preimage.old; z = frame.old }) }
     requires same_letters { SameLetters table.now others.now }
@@ -31,7 +31,7 @@ pub fn same_by_signs(table: &Table, others: &Table, preimage: &mut Pauli, frame:
     }
 }
 
-/// Makes the letters of a string those that tell where the signs of the rows of two tables differ.
+/// Makes the letters of a string those that say where the signs of the rows of two tables differ.
 fn write_frame(table: &Table, others: &Table, out: &mut Pauli)
     requires same_length { length others.now ≡ length table.now }
     requires out_length { length out.old.letters ≡ length table.now }
@@ -46,7 +46,7 @@ fn write_frame(table: &Table, others: &Table, out: &mut Pauli)
     }
 }
 
-/// Makes the letters of a string those that tell where the signs of the rows of a kept table and of another differ,
+/// Makes the letters of a string those that say where the signs of the rows of a kept table and of another differ,
 /// whose letters are the same.
 pub fn write_kept_frame(table: &CompactTable, others: &Table, out: &mut Pauli)
     requires same_letters { SameLetters table.now others.now }

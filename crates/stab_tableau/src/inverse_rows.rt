@@ -124,7 +124,7 @@ pub fn copy_into(table: &Table, qubit: usize, letter: Letter, out: &mut Pauli)
     }
 }
 
-/// The letter that anticommutes with X, and with Z, just where the bits say so.
+/// The letter that anticommutes with X, and with Z, just if the bits say so.
 pub fn letter_where(with_x: bool, with_z: bool) -> Letter
     ensures value { result ≡ letter_anticommuting with_x with_z }
 {

@@ -11,9 +11,9 @@
 //! - `elimination`: rows that generate a group are made its reduced rows.
 //! - `gate_laws`: a gate is undone by its way back, and keeps products and commuting.
 //! - `laws`: the members of a sound trace are a group, outcomes keep it sound, and what is free; a group has one
-//!   list of reduced rows and no other, which tells it.
+//!   list of reduced rows and no other, which identifies it.
 //!
-//! The names of gates are those of `stab_letters`, handed on.
+//! The names of gates are those of `stab_letters`, passed on.
 //!
 //! `specs/` says by the stabiliser rules which signed Pauli strings stabilise a state; `specs/inner/` has what only private
 //! contracts cite.

@@ -7,7 +7,7 @@ use stab_pauli::{Pauli, PauliRows, masks};
 use std::alloc::Global;
 use std::marker::Model;
 
-/// Where more rows of a group than these have X or Y at a place, hardly a place is one where none has.
+/// If more rows of a group than these have X or Y at a place, there is hardly a place where none has.
 const MOST_ROWS: u32 = 16;
 
 /// For each group of 64 rows, at which places its rows may have X or Y.
@@ -23,7 +23,7 @@ pub struct XSupports {
     crowded: bool,
 }
 
-// Written out, so that to a proof supports that are let go are one call, and not one for each of their parts.
+// Written out, so that a proof sees the drop of supports as one call, and not one for each of their parts.
 impl Drop for XSupports {
     fn drop(self) {
         let XSupports {
@@ -54,7 +54,7 @@ impl XSupports {
     ghost use Rattle.stab_pauli.specs.Rows.{Rows, row_at, swapped_rows, product_times_i_if};
     ghost use Rattle.stab_tableau.specs.inner.Supports.{Covers, OthersStay, is_known, has_place};
 
-    /// Of so many rows, of which nothing is known.
+    /// For this many rows, of which nothing is known.
     ///
     /// Refusal `OutOfMemory` alone.
     pub fn new(alloc: Global, rows: usize) -> Result<XSupports, Refusal>
@@ -118,7 +118,7 @@ impl XSupports {
         self.forget(b);
     }
 
-    /// Which of the 64 rows of a group have X or Y at a place, by a mask. The rows are looked at only where one of them may.
+    /// Which of the 64 rows of a group have X or Y at a place, by a mask. The rows are looked at only if one of them may.
     #[inline(always)]
     pub fn rows_with_x(&mut self, rows: &PauliRows, group: usize, place: usize) -> u64
         requires first_in_range { 64 * group < length rows.now.rows }

@@ -138,7 +138,7 @@ impl Table {
         self.supports.forget(row.place(qubit));
     }
 
-    /// Turns the sign of a row where the bit is 1.
+    /// Turns the sign of a row if the bit is 1.
     #[inline(always)]
     pub fn negate_if(&mut self, row: InverseRow, qubit: usize, bit: bool)
         requires in_range { qubit < length self.old }
@@ -255,7 +255,7 @@ impl Table {
         self.rows.is_negative(row.place(qubit))
     }
 
-    /// The sign of a row of letters I and Z alone, which is the outcome of a measurement, or `None` where it has others.
+    /// The sign of a row of letters I and Z alone, which is the outcome of a measurement, or `None` if it has others.
     #[inline(always)]
     pub fn fixed_sign(&self, row: InverseRow, qubit: usize) -> Option<bool>
         requires in_range { qubit < length self.now }

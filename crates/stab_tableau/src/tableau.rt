@@ -20,7 +20,7 @@ use std::marker::Model;
 ///
 /// What contracts see of it is a value that holds the preimages of X and Z on each qubit. What clauses promise of that
 /// value is the number of qubits (`qubits`), which signed Pauli strings stabilise the state (`stabilises`), and its
-/// stabilisers and destabilisers by number. Where a clause calls a tableau unchanged, or a copy equal, the whole values
+/// stabilisers and destabilisers by number. If a clause calls a tableau unchanged, or a copy equal, the whole values
 /// are equal, and so all of this is.
 pub struct Tableau {
     table: Table,
@@ -29,7 +29,7 @@ pub struct Tableau {
     multiplier: Pauli,
 }
 
-// Written out, so that to a proof a state that is let go is one call, and not one for each of its parts.
+// Written out, so that a proof sees the drop of a state as one call, and not one for each of its parts.
 impl Drop for Tableau {
     fn drop(self) {
         let Tableau {
@@ -120,7 +120,7 @@ impl Tableau {
 
     /// Applies a gate to a qubit.
     ///
-    /// A string stabilises the new state where what the gate makes into it stabilised the old one.
+    /// A string stabilises the new state if and only if the string that the gate makes into it stabilised the old one.
     pub fn apply(&mut self, gate: Gate, qubit: usize)
         requires in_range { qubit < self.old.qubits }
         ensures qubits { self.new.qubits ≡ self.old.qubits }
@@ -131,7 +131,7 @@ impl Tableau {
 
     /// Applies a gate to two qubits; of a controlled gate the first is the control.
     ///
-    /// A string stabilises the new state where what the gate makes into it stabilised the old one.
+    /// A string stabilises the new state if and only if the string that the gate makes into it stabilised the old one.
     pub fn apply_pair(&mut self, gate: PairGate, first: usize, second: usize)
         requires first_in_range { first < self.old.qubits }
         requires second_in_range { second < self.old.qubits }
@@ -142,7 +142,7 @@ impl Tableau {
         inverse_rows::apply_pair(&mut self.table, gate, first, second);
     }
 
-    /// The sign with which a string stabilises the state, true for -, or `None` where neither sign does.
+    /// The sign with which a string stabilises the state, true for -, or `None` if neither sign does.
     ///
     /// The string's own sign counts: the answer for -P is the other one than that for P.
     pub fn sign_of(&mut self, pauli: &Pauli) -> Option<bool>
@@ -158,7 +158,7 @@ impl Tableau {
         }
     }
 
-    /// Measures a string, with the outcome of the coin where neither of its signs stabilises the state.
+    /// Measures a string, with the outcome of the coin if neither of its signs stabilises the state.
     ///
     /// The outcome b projects on (-1)^b times the string.
     pub fn collapse(&mut self, pauli: &Pauli, coin: bool) -> Collapse
@@ -200,7 +200,7 @@ impl Tableau {
         )
     }
 
-    /// The outcome of a measurement of one letter on a qubit where it is fixed, or `None` where a coin would decide.
+    /// The outcome of a measurement of one letter on a qubit if it is fixed, or `None` if a coin would decide.
     ///
     /// A measurement with a fixed outcome leaves the state as it is, so after `Some` there is nothing to collapse.
     pub fn fixed_letter(&mut self, letter: Letter, qubit: usize) -> Option<bool>
@@ -220,7 +220,7 @@ impl Tableau {
         }
     }
 
-    /// Stabiliser k of the n stabilisers that stand in the columns of the tableau, k below n.
+    /// Stabiliser k of the n stabilisers that are in the columns of the tableau, k below n.
     ///
     /// They commute and are independent, so the strings that stabilise the state are their products. Refusal
     /// `OutOfMemory` alone.
@@ -262,7 +262,7 @@ impl Tableau {
     }
 
     /// A law, and no work: stabilisers commute, destabilisers commute, and a stabiliser and a destabiliser anticommute
-    /// where they have one number.
+    /// if they have the same number.
     pub fn stabilisers_are_dual(&self)
         ensures law { (j k : ℕ) → j < self.now.qubits → k < self.now.qubits → AreDual self.now j k }
     {
@@ -277,7 +277,7 @@ impl Tableau {
         let _ = &self.table;
     }
 
-    /// Whether two tableaus are equal, row by row. States that are told apart so may still be stabilised by the same strings.
+    /// Whether two tableaus are equal, row by row. States that differ in this way may still be stabilised by the same strings.
     pub fn same(&self, other: &Tableau) -> bool
         ensures value { IsTrue result ↔ (self.now ≡ other.now) }
     {
@@ -286,7 +286,7 @@ impl Tableau {
 
     /// Whether two states on as many qubits are stabilised by the same signed strings; it takes no memory.
     ///
-    /// Cheapest first: equal rows; rows that differ in their signs alone; else each stabiliser of this state, up to the
+    /// Cheapest first: equal rows; rows that differ only in their signs; else each stabiliser of this state, up to the
     /// first that does not stabilise the other.
     pub fn same_group(&mut self, other: &mut Tableau) -> bool
         requires same_length { other.old.qubits ≡ self.old.qubits }

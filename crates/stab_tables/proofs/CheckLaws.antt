@@ -50,7 +50,7 @@ records_few : (ss : List Step) → records_of ss ≤ length ss
 records_few [] = omega arith
 records_few (s ∷ ss) = omega (arith, one_record s, records_few ss)
 
--- the detectors of a step and of those behind it
+-- the detectors of a step and of those after it
 pub detectors_more : (s : Step) (ss : List Step) → detectors_of (s ∷ ss) ≡ detectors_in s + detectors_of ss
 detectors_more s ss = by_kind (is_detector s)
   where

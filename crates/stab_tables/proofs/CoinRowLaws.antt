@@ -10,7 +10,6 @@ use Rattle.stab_regions.specs.Faults.{bits_in}
 use Rattle.stab_run.specs.Runs.{run_of}
 use Rattle.stab_results.specs.Formats.{entry, one_places, detectors_of as kinds_detectors}
 use Rattle.stab_results.specs.declared.format.Kinds.{Kinds}
-use Rattle.stab_shots.specs.Words.{word_bit}
 use Rattle.stab_shots.specs.Lanes.{lane_bits}
 use Rattle.stab_coins.specs.Coins.{ShotBits, flips_of, turned, zero_coins}
 use Rattle.stab_coins.specs.Places.{step_of_coin}
@@ -20,7 +19,7 @@ use Rattle.stab_coins.specs.declared.coin_runs.CoinRuns.{CoinRuns}
 use Rattle.stab_coins.proofs.PlaceLemmas.{flags-of-run, free-step-within}
 use Rattle.stab_jobs.specs.declared.fault_layout.FaultLayout.{FaultLayout}
 use Rattle.stab_tables.specs.CoinTables.{coin_line, coin_text, coins_text, path_of_coin, whole_bits, whole_kinds}
-use Rattle.stab_tables.specs.Reasons.{checked_bits}
+use Rattle.stab_tables.specs.Deciders.{checked_bits}
 use Rattle.stab_tables.specs.Texts.{row_head, texts_from}
 use Rattle.stab_tables.specs.inner.CoinRows.{HaveFlips, flips_at, text_at}
 use Rattle.stab_tables.proofs.CountLaws.{numbers_of_runs}
@@ -87,16 +86,15 @@ module _ {W : Type 0} (at : W → ℕ → Bool) (l n : ℕ) (items : Items) (t :
       let count = sym (length-map words (λ w. at w l)) ∙ ap length e ∙ length-append flips.detectors flips.observables in
       omega (arith, count, detectors_flipped, observables_flipped)
 
--- 64 lanes that are copied out have the bits of the coins behind those sent
-pub part_flips : {W : Type 0} (at : W → ℕ → Bool) (items : Items) (words : List W) (part : List ℕ) (first sent some lanes : ℕ) → sent % 64 ≡ 0 → sent + some ≤ lanes
-    → ((k : ℕ) → k < some → lane_bits word_bit k part ≡ lane_bits at (64 * (sent / 64) + k) words)
-    → HaveFlips at items first lanes words → HaveFlips word_bit items (first + sent) some part
-part_flips at items words part first sent some lanes whole within are have k less =
+-- the 64 lanes of a part have the bits of the coins after those sent
+pub part_flips : {W : Type 0} (at : W → ℕ → Bool) (items : Items) (words : List W) (first sent some lanes : ℕ) → sent % 64 ≡ 0 → sent + some ≤ lanes
+    → HaveFlips at items first lanes words → HaveFlips (λ w k. at w (64 * (sent / 64) + k)) items (first + sent) some words
+part_flips at items words first sent some lanes whole within have k less =
     let place : 64 * (sent / 64) + k ≡ sent + k = omega (arith, whole) in
     let regroup : first + (sent + k) ≡ first + sent + k = omega arith in
-    are k less ∙ ap (λ l. lane_bits at l words) place ∙ have (sent + k) (omega (arith, less, within)) ∙ ap (flips_at items) regroup
+    ap (λ l. lane_bits at l words) place ∙ have (sent + k) (omega (arith, less, within)) ∙ ap (flips_at items) regroup
 
--- so many from nothing
+-- this many from scratch
 pub from_none : (k : ℕ) → k ≡ 0 + k
 from_none k = omega arith
 

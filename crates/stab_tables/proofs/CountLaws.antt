@@ -11,7 +11,7 @@ use Rattle.stab_run.specs.Runs.{State, start, string_of, outcome_at, effect, run
 use Rattle.stab_tables.specs.Checks.{numbers_of, IsCountedBy}
 use Rattle.stab_tables.proofs.CheckLaws.{detectors_more}
 
--- a run has come from another by so many records, detectors and coins more
+-- a run has come from another by this many records, detectors and coins more
 record Grows (before after : State) (r d k : ℕ) : Type 0 where
   pub records : length after.records ≡ length before.records + r
   pub detectors : length after.detectors ≡ length before.detectors + d
@@ -26,7 +26,7 @@ one_more xs x = length-append xs (x ∷ [])
 none_more : (n : ℕ) → n ≡ n + 0
 none_more n = omega arith
 
--- so many from nothing
+-- this many from scratch
 from_none : (n : ℕ) → 0 + n ≡ n
 from_none n = omega arith
 

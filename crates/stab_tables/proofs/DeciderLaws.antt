@@ -1,18 +1,20 @@
 -- Laws of deciders: the lanes of a word, and the lists of the coins that flip each bit.
-use Rattle.std.proofs.Common.{◌≡◌, sym, ap, subst, ◌∙◌, ℕ, suc, ◌+◌, ◌-◌, ◌<◌, ◌≤◌, Bool, false, List, [], ◌∷◌, ◌++◌, length, get_or, set, if◌then◌else◌, ◌⊎◌, inl, inr, arith}
+use Rattle.std.proofs.Common.{◌≡◌, refl, sym, ap, ap₂, subst, ◌∙◌, ℕ, zero, suc, ◌+◌, ◌-◌, ◌*◌, ◌/◌, ◌%◌, ◌<◌, ◌≤◌, Bool, false, List, [], ◌∷◌, ◌++◌, length, get_or, set, if◌then◌else◌, ◌⊎◌, inl, inr, arith}
 use Rattle.std.specs.Global.{Vec}
 use Rattle.std.proofs.lemmas.Bool.{cases_eq}
 use Rattle.std.proofs.lemmas.List.{get_or-map}
 use Rattle.stab_regions.specs.Faults.{numbers_where}
 use Rattle.stab_circuit.specs.Items.{Items}
 use Rattle.stab_circuit.specs.Steps.{qubits_of}
+use Rattle.stab_shots.specs.Words.{word_bit}
 use Rattle.stab_shots.specs.Lanes.{lane_bits}
+use Rattle.stab_shots.proofs.WordLemmas.{word_bit-zero}
 use Rattle.stab_distance.specs.inner.Indexes.{listed}
 use Rattle.stab_distance.proofs.IndexLemmas.{listed-set_here, listed-set_other}
 use Rattle.stab_coins.specs.Coins.{flips_of, zero_coins}
 use Rattle.stab_coins.specs.Runs.{AreBits, free_coins}
 use Rattle.stab_shots.specs.declared.shots.Shots.{Shots}
-use Rattle.stab_tables.specs.Reasons.{checked_bits}
+use Rattle.stab_tables.specs.Deciders.{checked_bits}
 use Rattle.stab_tables.specs.inner.CoinRows.{coin_at, decides}
 use Rattle.stab_tables.specs.inner.Deciders.{ones_at, ones_of}
 use Rattle.stab_tables.proofs.CoinRowLaws.{lanes_checked}
@@ -33,7 +35,34 @@ module _ {W : Type 0} (at : W → ℕ → Bool) (word : W) (first : ℕ) where
       ∙ ap (λ k. numbers_where f first (place - first) ++ (if f k then k ∷ [] else [])) same
       ∙ ap (λ c. numbers_where f first (place - first) ++ (if c then place ∷ [] else [])) is
 
--- so many more are noted
+-- the lanes of a part that is 0
+pub ones-blank : (first end : ℕ) → ones_of word_bit 0 first end ≡ []
+ones-blank first end = none first (end - first)
+  where
+    none : (i k : ℕ) → numbers_where (λ j. word_bit 0 (j - first)) i k ≡ []
+    none i zero = refl
+    none i (suc k) =
+        ap (λ b. if b then i ∷ numbers_where (λ j. word_bit 0 (j - first)) (i + 1) k else numbers_where (λ j. word_bit 0 (j - first)) (i + 1) k) (word_bit-zero (i - first)) ∙ none (i + 1) k
+
+-- those of a part of 64 lanes come after those of the parts before it
+pub ones-part : {W : Type 0} (at : W → ℕ → Bool) (word : W) (first part pushed some : ℕ) → pushed % 64 ≡ 0 → some ≤ 64
+    → ((l : ℕ) → l < 64 → word_bit part l ≡ at word (64 * (pushed / 64) + l))
+    → ones_of at word first (first + pushed) ++ ones_of word_bit part (first + pushed) (first + pushed + some) ≡ ones_of at word first (first + (pushed + some))
+ones-part at word first part pushed some whole few is =
+    let f : ℕ → Bool = λ k. at word (k - first) in
+    let g : ℕ → Bool = λ k. word_bit part (k - (first + pushed)) in
+    let before : ones_of at word first (first + pushed) ≡ numbers_where f first pushed = ap (numbers_where f first) {x = first + pushed - first} {y = pushed} (omega arith) in
+    let here : ones_of word_bit part (first + pushed) (first + pushed + some) ≡ numbers_where f (first + pushed) some =
+    ap (numbers_where g (first + pushed)) {x = first + pushed + some - (first + pushed)} {y = some} (omega arith)
+    ∙ where-same g f (first + pushed) some
+    (λ j above below.
+    is (j - (first + pushed)) (omega (arith, above, below, few))
+    ∙ ap (at word) {x = 64 * (pushed / 64) + (j - (first + pushed))} {y = j - first} (omega (arith, above, whole))) in
+    ap₂ (λ a b. a ++ b) before here
+    ∙ sym (where-join f first pushed some)
+    ∙ ap (numbers_where f first) {x = pushed + some} {y = first + (pushed + some) - first} (omega arith)
+
+-- this many more are noted
 pub noted_more : (f : ℕ → Bool) (noted end : ℕ) → noted ≤ end → numbers_where f 0 noted ++ numbers_where f noted (end - noted) ≡ numbers_where f 0 end
 noted_more f noted end within =
     ap (λ k. numbers_where f 0 noted ++ numbers_where f k (end - noted)) {x = noted} {y = 0 + noted} (omega arith)

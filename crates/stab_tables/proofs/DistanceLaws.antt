@@ -23,7 +23,7 @@ pub least_inside : (graphlike : Bool) (n : ℕ) (items : Items) (errors : List E
 least_inside false n items errors most numbers is = is.0
 least_inside true n items errors most numbers is = is.0
 
--- a bit that is not sure, or want of memory, ends the call before anything is written
+-- a bit that is not deterministic, or lack of memory, ends the call before anything is written
 pub refused_ends : (T : Type 0) (are : List ℕ → Type 0) (sure_only : Bool) (items : Items) (u : Option Unsure) (f : Fault) (old : OutputView) → IsRefusedFor sure_only items u f
     → GoesOn {T = T} are sure_only items u old old (Err f)
 refused_ends T are sure_only items (Some u) f old is = record { asked = is.0; is = is.1; refused = ap Err is.2; untouched = refl }
@@ -35,7 +35,7 @@ refused_handed are sure_only items e (Ok x) old is refused = absurd is
 refused_handed {T} are sure_only items e (Err y) old is refused =
     subst (λ (x : FaultsRefused). GoesOn {T = T} are sure_only items x.unsure old old (Err x.fault)) (sym is) (refused_ends T are sure_only items e.unsure e.fault old refused)
 
--- an answer is sent as bytes like those that tell a distance
+-- an answer is sent as bytes like those that report a distance
 pub answer_sent : {T : Type 0} (options : DistanceOptions) (items : Items) (d : Distance) (old new : OutputView) (r : Result T Fault) → IsDistanceOf options items d
     → SendsAtOnce (answer_text options items d.errors d.answer) old new r → SendsFound (IsDistanceText options items) old new r
 answer_sent options items d old new r is sent = found_at_once (IsDistanceText options items) old new (answer_text options items d.errors d.answer) r (d, is, refl) sent

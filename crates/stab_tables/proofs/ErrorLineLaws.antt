@@ -10,7 +10,6 @@ use Rattle.stab_distance.specs.Tables.{row}
 use Rattle.stab_errors.specs.Errors.{Error, first_fault}
 use Rattle.stab_errors.specs.ErrorTables.{ErrorTableState, IsErrorTable}
 use Rattle.stab_errors.specs.Unseen.{error_at}
-use Rattle.stab_jobs.specs.declared.error_letters.ErrorLetters.{ErrorLetters}
 use Rattle.stab_tables.specs.Deterministic.{kinds_of}
 use Rattle.stab_tables.specs.FaultTables.{path_at}
 use Rattle.stab_tables.specs.Texts.{texts_joined}
@@ -31,7 +30,7 @@ joined-letters f g symbol digits other others is_symbol is_digits is_other is_ot
 pub joined-record : (number : ℕ) (digits : List ℕ) → digits ≡ decimal number → texts_joined (codes "M" ∷ digits ∷ []) ≡ codes "M" ++ decimal number
 joined-record number digits is = rw (is, append-nil (decimal number)) refl
 
--- that there is no set of at most so many errors, by its five parts
+-- that there is no set of at most this many errors, by its five parts
 pub joined-none : (most : ℕ) (graphlike : Bool) (digits errors : List ℕ) → digits ≡ decimal most → errors ≡ if_graphlike graphlike
     → texts_joined (codes "none" ∷ codes " up to " ∷ digits ∷ errors ∷ codes "\n" ∷ []) ≡ none_line (Some most) graphlike
 joined-none most graphlike digits errors is_digits is_errors = rw (is_digits, is_errors) refl
@@ -50,10 +49,10 @@ joined-error items t k before step kinds path e f flipped is_kinds is_error is_f
     let here : path ≡ path_at items (first_fault (error_at t.errors k)).step = sym is_path ∙ ap (path_at items) (is_step ∙ ap (λ (x : FaultPlace). x.step) first) in
     rw (is_kinds, is_error, is_row, front, here) refl
 
--- the error of a number, whatever stands for one beyond the end
+-- the error of a number, whatever is used for one beyond the end
 pub found_error : (errors : List Error) (k : ℕ) (e : Error) → k < length errors → e ≡ get_or errors k e → e ≡ error_at errors k
 found_error errors k e less is = is ∙ get_or_default errors k _ _ less
 
 -- a table has a row for each error
-pub rows_counted : (n : ℕ) (everywhere : Bool) (letters : ErrorLetters) (items : Items) (t : ErrorTableState) → IsErrorTable n everywhere letters items t → length t.table.rows ≡ length t.errors
-rows_counted n everywhere letters items t is = ap length (is.are_flipped (λ _. false)) ∙ length-map t.errors _
+pub rows_counted : (n : ℕ) (items : Items) (t : ErrorTableState) → IsErrorTable n items t → length t.table.rows ≡ length t.errors
+rows_counted n items t is = ap length (is.are_flipped (λ _. false)) ∙ length-map t.errors _

@@ -43,7 +43,7 @@ zeroed [] (suc k) = refl
 zeroed (b ∷ bits) zero = refl
 zeroed (b ∷ bits) (suc k) = zeroed bits k
 
--- bits that are 0 but for some, of which one is set to 0
+-- bits that are 0 except some, of which one is set to 0
 zero_but : (k : ℕ) (ks : List ℕ) (bits : List Bool) → ((i : ℕ) → names i (k ∷ ks) ≡ false → get_or bits i false ≡ false)
     → (i : ℕ) → names i ks ≡ false → get_or (set bits k false) i false ≡ false
 zero_but k ks bits zeros i e = by_test (i == k) refl
@@ -52,7 +52,7 @@ zero_but k ks bits zeros i e = by_test (i == k) refl
     by_test true t = let same : i ≡ k = grind (arith, nat_tests) in rw same (zeroed bits k)
     by_test false t = elsewhere bits i k false t ∙ zeros i (ap (λ b. if b then true else names i ks) t ∙ e)
 
--- bits that are 0 but for some are 0 once those are set to 0
+-- bits that are 0 except some are 0 once those are set to 0
 cleared : (ks : List ℕ) (bits : List Bool) → ((i : ℕ) → names i ks ≡ false → get_or bits i false ≡ false) → (i : ℕ) → get_or (set_all ks false bits) i false ≡ false
 cleared [] bits zeros i = zeros i refl
 cleared (k ∷ ks) bits zeros i = cleared ks (set bits k false) (zero_but k ks bits zeros) i

@@ -14,7 +14,7 @@ use Rattle.stab_circuit.specs.Paths.{Path, path_text}
 use Rattle.stab_circuit.specs.StepPaths.{paths_of, outside}
 use Rattle.stab_results.specs.declared.format.Kinds.{Kinds}
 use Rattle.stab_regions.specs.Faults.{FaultPlace, Site, fault_on, faults_on, faults_from, sites_at}
-use Rattle.stab_tables.specs.FaultLines.{bit_text, fault_line, told_text, unsure_line}
+use Rattle.stab_tables.specs.FaultLines.{bit_text, fault_line, told_text, unsure_bit, unsure_line}
 use Rattle.stab_tables.specs.FaultTables.{fault_text, table_line, table_lines, path_at}
 use Rattle.stab_tables.specs.Texts.{row_head, texts_joined}
 use Rattle.stab_tables.specs.declared.unsure.Unsure.{Unsure}
@@ -25,11 +25,11 @@ pub joined-head : (before number : ℕ) (path : Path) (symbol front back : List 
 joined-head before number path symbol front back is_front is_back =
     rw (is_front, is_back, append-nil (decimal number)) (append_assoc (decimal before) (codes " ") (path_text path ++ (codes " " ++ (symbol ++ decimal number))))
 
--- the line that names a bit, by its three parts
+-- a bit and the path of its item, by the parts that are written
 pub joined-unsure : (u : Unsure) (name number : List ℕ) (n : ℕ) → bit_text u.bit ≡ name ++ decimal n → number ≡ decimal n
-    → texts_joined (codes "stabsim: " ∷ name ∷ number ∷ codes ", item " ∷ []) ++ (path_text u.path ++ codes ", is not the same for all coins\n") ≡ unsure_line u
+    → texts_joined (codes "stabsim: " ∷ name ∷ number ∷ codes ", item " ∷ []) ++ path_text u.path ≡ unsure_bit u
 joined-unsure u name number n is_bit is_number =
-    let rest = path_text u.path ++ codes ", is not the same for all coins\n" in
+    let rest = path_text u.path in
     ap (λ l. codes "stabsim: " ++ l) (
     append_assoc name (number ++ codes ", item ") rest
     ∙ ap (λ l. name ++ l) (append_assoc number (codes ", item ") rest ∙ ap (λ l. l ++ (codes ", item " ++ rest)) is_number)
@@ -44,22 +44,22 @@ pub joined-site : (kinds : Kinds) (path : Path) (step before : ℕ) (s : Site) (
 joined-site kinds path step before s by_x by_z e =
     ap (λ b. (fault_text b path letter.X s.qubit ++ (flat_map (entry kinds) by_x ++ codes "\n")) ++ (fault_text b path letter.Z s.qubit ++ (flat_map (entry kinds) by_z ++ codes "\n"))) e
 
--- three texts, and what is behind them
+-- three texts, and what is after them
 pub joined_three : (a b c rest : List ℕ) → texts_joined (a ∷ b ∷ c ∷ []) ++ rest ≡ a ++ (b ++ (c ++ rest))
 joined_three a b c rest = append_assoc a (b ++ (c ++ [])) rest ∙ ap (λ l. a ++ l) (append_assoc b (c ++ []) rest ∙ ap (λ l. b ++ (l ++ rest)) (append-nil c))
 
--- what is cut off within a fault's line is cut off within what tells the fault
+-- what is cut off within a fault's line is cut off within what says the fault
 pub failed_told : {a b : OutputView} (f : Fault) (u : Option Unsure) → TookAndFailed a b (fault_line f) → TookAndFailed a b (told_text f u)
 failed_told f None failed = failed
 failed_told f (Some u) failed = failed_within (fault_line f) (unsure_line u) failed
 
 -- lists
 
--- the element at a place, and those behind it
+-- the element at a place, and those after it
 pub drop-found : {A : Type 0} (xs : List A) (k : ℕ) (x : A) → slice_get xs k ≡ Some x → drop k xs ≡ x ∷ drop (k + 1) xs
 drop-found xs k x e = rw add-one (drop-cons xs k x (slice_get_within xs k x e) ∙ ap (λ y. y ∷ drop (suc k) xs) (get_or_from_slice_get xs k x x e))
 
--- nothing is behind the last place
+-- nothing is after the last place
 pub drop-missed : {A : Type 0} (xs : List A) (k : ℕ) → slice_get xs k ≡ None → drop k xs ≡ []
 drop-missed [] zero e = refl
 drop-missed [] (suc k) e = refl
@@ -103,7 +103,7 @@ pub stretch_here : {A : Type 0} (xs : List A) (t n : ℕ) (p : A) → 0 < n → 
 stretch_here xs t zero p h e = absurd (omega arith)
 stretch_here xs t (suc n) p h e = let same : t + 0 ≡ t = omega arith in ap (slice_get xs) (sym same) ∙ sym (get-drop xs t 0) ∙ stretch_first (drop t xs) n p e
 
--- the others are behind it
+-- the others are after it
 pub stretch_on : {A : Type 0} (xs : List A) (t n : ℕ) (p : A) → 0 < n → take n (drop t xs) ≡ replicate n p → take (n - 1) (drop (t + 1) xs) ≡ replicate (n - 1) p
 stretch_on xs t zero p h e = absurd (omega arith)
 stretch_on xs t (suc n) p h e =
@@ -121,7 +121,7 @@ pub length-faults : (t : ℕ) (ss : List Site) → length (flat_map (faults_on t
 length-faults t [] = refl
 length-faults t (s ∷ ss) = let more = length-faults t ss in omega (arith, more)
 
--- lines of faults, and of those behind them
+-- lines of faults, and of those after them
 pub lines-append : (kinds : Kinds) (path_of : ℕ → Path) (fs gs : List FaultPlace) (rows : List (List ℕ))
     → table_lines kinds path_of (fs ++ gs) rows ≡ table_lines kinds path_of fs rows ++ table_lines kinds path_of gs (drop (length fs) rows)
 lines-append kinds path_of [] gs rows = refl
@@ -134,7 +134,7 @@ lines-append kinds path_of (f ∷ fs) gs (row ∷ rows) =
     ap (λ l. table_line kinds (path_of f.step) f row ++ l) (lines-append kinds path_of fs gs rows)
     ∙ sym (append_assoc (table_line kinds (path_of f.step) f row) (table_lines kinds path_of fs rows) (table_lines kinds path_of gs (drop (length fs) rows)))
 
--- the two lines at a place, and those behind them
+-- the two lines at a place, and those after them
 pub lines_at_place : (kinds : Kinds) (path_of : ℕ → Path) (t : ℕ) (s : Site) (ss : List Site) (rows : List (List ℕ)) (k : ℕ) → k + 1 < length rows
     → table_lines kinds path_of (flat_map (faults_on t) (s ∷ ss)) (drop k rows)
     ≡ (table_line kinds (path_of t) (fault_on t s letter.X) (get_or rows k []) ++ table_line kinds (path_of t) (fault_on t s letter.Z) (get_or rows (k + 1) []))
@@ -158,7 +158,7 @@ lines_same kinds path_of p t e (s ∷ ss) (a ∷ b ∷ rows) =
     ap (λ q. table_line kinds q (fault_on t s letter.X) a ++ (table_line kinds q (fault_on t s letter.Z) b ++ table_lines kinds path_of (flat_map (faults_on t) ss) rows)) e
     ∙ ap (λ l. table_line kinds p (fault_on t s letter.X) a ++ (table_line kinds p (fault_on t s letter.Z) b ++ l)) (lines_same kinds path_of p t e ss rows)
 
--- the lines at a step, and those behind them
+-- the lines at a step, and those after them
 pub lines_at_step : (kinds : Kinds) (path_of : ℕ → Path) (everywhere : Bool) (p : Path) (t : ℕ) (x : Step) (xs : List Step) (rows : List (List ℕ)) (k : ℕ) → path_of t ≡ p
     → table_lines kinds path_of (faults_from everywhere t (x ∷ xs)) (drop k rows)
     ≡ table_lines kinds (λ _. p) (flat_map (faults_on t) (sites_at everywhere x)) (drop k rows)
@@ -170,14 +170,14 @@ lines_at_step kinds path_of everywhere p t x xs rows k e =
     ∙ ap₂ (λ a b. a ++ b) (lines_same kinds path_of p t e (sites_at everywhere x) (drop k rows))
     (ap (table_lines kinds path_of later) (drop-more rows k (length here) ∙ ap (λ m. drop (k + m) rows) (length-faults t (sites_at everywhere x))))
 
--- how many faults are at a step and behind it
+-- how many faults are at a step and after it
 pub length-from : (everywhere : Bool) (t : ℕ) (x : Step) (xs : List Step)
     → length (faults_from everywhere t (x ∷ xs)) ≡ 2 * length (sites_at everywhere x) + length (faults_from everywhere (t + 1) xs)
 length-from everywhere t x xs =
     length-append (flat_map (faults_on t) (sites_at everywhere x)) (faults_from everywhere (t + 1) xs)
     ∙ ap (λ m. m + length (faults_from everywhere (t + 1) xs)) (length-faults t (sites_at everywhere x))
 
--- the two lines at the place of a number, and those behind them
+-- the two lines at the place of a number, and those after them
 pub lines_here : (kinds : Kinds) (p : Path) (t : ℕ) (sites : List Site) (rows : List (List ℕ)) (place next : ℕ) (s : Site) → slice_get sites place ≡ Some s → next + 1 < length rows
     → table_lines kinds (λ _. p) (flat_map (faults_on t) (drop place sites)) (drop next rows)
     ≡ (table_line kinds p (fault_on t s letter.X) (get_or rows next []) ++ table_line kinds p (fault_on t s letter.Z) (get_or rows (next + 1) []))
@@ -185,7 +185,7 @@ pub lines_here : (kinds : Kinds) (p : Path) (t : ℕ) (sites : List Site) (rows 
 lines_here kinds p t sites rows place next s e h =
     ap (λ ss. table_lines kinds (λ _. p) (flat_map (faults_on t) ss) (drop next rows)) (drop-found sites place s e) ∙ lines_at_place kinds (λ _. p) t s (drop (place + 1) sites) rows next h
 
--- no lines are behind the last place
+-- no lines are after the last place
 pub lines_past : (kinds : Kinds) (p : Path) (t : ℕ) (sites : List Site) (rows : List (List ℕ)) (place next : ℕ) → slice_get sites place ≡ None
     → table_lines kinds (λ _. p) (flat_map (faults_on t) (drop place sites)) (drop next rows) ≡ []
 lines_past kinds p t sites rows place next e = ap (λ ss. table_lines kinds (λ _. p) (flat_map (faults_on t) ss) (drop next rows)) (drop-missed sites place e)

@@ -1,4 +1,4 @@
--- Laws of bytes that are found first: what the calls that write them hand on.
+-- Laws of bytes that are found first: what the calls that write them pass on.
 use Rattle.std.proofs.Common.{◌≡◌, ◌∙◌, ℕ, List, Result, Ok, Err, inl, inr}
 use Rattle.std.specs.Result.{IsErrAnd}
 use Rattle.stab_io.specs.Devices.{OutputView, Took, TookAndFailed}

@@ -13,5 +13,6 @@ pub mod CheckLaws
 pub mod CountLaws
 pub mod LineLaws
 pub mod CoinRowLaws
+pub mod PlacedWordLaws
 pub mod ReasonLaws
 pub mod DeciderLaws

@@ -1,4 +1,4 @@
--- Laws of lines: the lines of strings tell the strings.
+-- Laws of lines: the lines of strings determine the strings.
 use Rattle.std.proofs.Common.{◌≡◌, refl, sym, ap, ap₂, ◌∙◌, ℕ, Bool, true, false, List, [], ◌∷◌, ◌++◌, append_assoc, arith}
 use Rattle.stab_letters.specs.declared.letter.Letter.{Letter}
 use Rattle.stab_letters.specs.declared.letter.Letter.TheVariants.{I, X, Y, Z}
@@ -58,7 +58,7 @@ first_letter X p r = refl
 first_letter Y p r = refl
 first_letter Z p r = refl
 
--- letters up to a line end are told by their text, and so is what follows
+-- letters up to a line end are determined by their text, and so is what follows
 letters_split : (p q : List Letter) (r s : List ℕ) → letters_text p ++ 10 ∷ r ≡ letters_text q ++ 10 ∷ s → (p ≡ q) × (r ≡ s)
 letters_split [] [] r s e = let same : r ≡ s = cc in (refl, same)
 letters_split [] (y ∷ q) r s e =
@@ -79,7 +79,7 @@ line_parts : (n : Bool) (p : List Letter) (r : List ℕ) → line_of (record { n
 line_parts false p r = ap (λ l. 43 ∷ l) (append_assoc (letters_text p) (10 ∷ []) r)
 line_parts true p r = ap (λ l. 45 ∷ l) (append_assoc (letters_text p) (10 ∷ []) r)
 
--- a line tells its string, and what follows
+-- a line says its string, and what follows
 line_split : (a b : Signed) (r s : List ℕ) → line_of a ++ r ≡ line_of b ++ s → (a ≡ b) × (r ≡ s)
 line_split a b r s e =
     let both : sign_character a.negative ∷ (letters_text a.letters ++ 10 ∷ r) ≡ sign_character b.negative ∷ (letters_text b.letters ++ 10 ∷ s) =
@@ -93,7 +93,7 @@ line_split a b r s e =
 no_line : (a : Signed) (r : List ℕ) → line_of a ++ r ≡ [] → ⊥
 no_line a r e = let none : sign_character a.negative ∷ (letters_text a.letters ++ 10 ∷ r) ≡ [] = sym (line_parts a.negative a.letters r) ∙ e in cc
 
--- the lines of strings tell the strings
+-- the lines of strings determine the strings
 pub lines_tell : (a b : List Signed) → lines_of a ≡ lines_of b → a ≡ b
 lines_tell [] [] e = refl
 lines_tell [] (y ∷ b) e = absurd (no_line y (lines_of b) (sym e))

@@ -1,5 +1,5 @@
 -- Laws of reasons: numbers with a property, the coins that flip a bit by their places, and which bits no coin flips.
-use Rattle.std.proofs.Common.{◌≡◌, refl, sym, ap, ap₂, ◌∙◌, ℕ, zero, suc, ◌+◌, ◌<◌, ◌≤◌, ◌==◌, Bool, true, false, List, [], ◌∷◌, ◌++◌, append_assoc, length, map, get_or, codes, if◌then◌else◌, arith}
+use Rattle.std.proofs.Common.{◌≡◌, refl, sym, ap, ap₂, ◌∙◌, ℕ, zero, suc, ◌+◌, ◌<◌, ◌≤◌, ◌==◌, Bool, true, false, List, [], ◌∷◌, ◌++◌, append_assoc, length, drop, map, get_or, codes, if◌then◌else◌, arith}
 use Rattle.std.specs.List.{flat_map}
 use Rattle.std.proofs.lemmas.Bool.Decides.{nat_tests}
 use Rattle.stab_letters.specs.Letters.{◌⊕◌}
@@ -17,7 +17,8 @@ use Rattle.stab_coins.specs.Tables.{CoinRow, row_by, with_rows, IsCoinTable, tab
 use Rattle.stab_coins.specs.declared.coin_runs.CoinRuns.{CoinRuns}
 use Rattle.stab_tables.specs.declared.unsure.Bit.{Bit}
 use Rattle.stab_tables.specs.FaultTables.{bit_of, path_of_bit}
-use Rattle.stab_tables.specs.Reasons.{bit_name, checked_bits, deciders, decider_text, reason_line, reason_text, SureHasNoDecider}
+use Rattle.stab_tables.specs.Deciders.{checked_bits, deciders}
+use Rattle.stab_tables.specs.Reasons.{bit_name, coordinates_at, decider_text, reason_line, reason_text, SureHasNoDecider}
 use Rattle.stab_tables.specs.inner.CoinRows.{coin_at, decides}
 use Rattle.stab_tables.proofs.CountLaws.{numbers_of_runs}
 
@@ -26,7 +27,7 @@ use Rattle.stab_tables.proofs.CountLaws.{numbers_of_runs}
 no_more : (i : ℕ) → i + 0 ≡ i
 no_more i = omega arith
 
--- those of so many and of the next
+-- those of this many and of the next
 pub where-next : (f : ℕ → Bool) (i k : ℕ) → numbers_where f i (suc k) ≡ numbers_where f i k ++ (if f (i + k) then (i + k) ∷ [] else [])
 where-next f i zero = ap (λ j. if f j then j ∷ [] else []) {x = i} {y = i + 0} (omega arith)
 where-next f i (suc k) = by_test (f i) (where-next f (i + 1) k ∙ ap (λ j. numbers_where f (i + 1) k ++ (if f j then j ∷ [] else [])) {x = i + 1 + k} {y = i + suc k} (omega arith))
@@ -37,7 +38,7 @@ where-next f i (suc k) = by_test (f i) (where-next f (i + 1) k ∙ ap (λ j. num
     by_test true later = ap (λ l. i ∷ l) later
     by_test false later = later
 
--- those of so many, and of so many behind them
+-- those of this many, and of this many after them
 pub where-join : (f : ℕ → Bool) (i k m : ℕ) → numbers_where f i (k + m) ≡ numbers_where f i k ++ numbers_where f (i + k) m
 where-join f i zero m = ap (numbers_where f i) {x = 0 + m} {y = m} (omega arith) ∙ ap (λ j. numbers_where f j m) {x = i} {y = i + 0} (omega arith)
 where-join f i (suc k) m = ap (numbers_where f i) {x = suc k + m} {y = suc (k + m)} (omega arith) ∙ by_test (f i) (where-join f (i + 1) k m ∙ ap (λ j. numbers_where f (i + 1) k ++ numbers_where f j m) {x = i + 1 + k} {y = i + suc k} (omega arith))
@@ -55,7 +56,7 @@ where-same f g i (suc k) same =
     ap₂ (λ b l. if b then i ∷ l else l) (same i (omega arith) (omega arith))
     (where-same f g (i + 1) k (λ j above below. same j (omega (arith, above)) (omega (arith, below))))
 
--- those behind the first
+-- those after the first
 where-shift : (f : ℕ → Bool) (i k : ℕ) → numbers_where f (suc i) k ≡ map suc (numbers_where (λ j. f (suc j)) i k)
 where-shift f i zero = refl
 where-shift f i (suc k) = by_test (f (suc i)) (ap (λ j. numbers_where f j k) {x = suc i + 1} {y = suc (i + 1)} (omega arith) ∙ where-shift f (i + 1) k)
@@ -76,7 +77,7 @@ module _ (n : ℕ) (items : Items) (i : ℕ) where
   behind-first x xs [] = refl
   behind-first x xs (p ∷ places) = ap (λ l. get_or xs p 0 ∷ l) (behind-first x xs places)
 
-  -- by the places at which they stand
+  -- by the places at which they are
   pub deciders_by_places : (coins : List ℕ) → deciders i (map (row_by n items zero_coins) coins) ≡ map (λ k. get_or coins k 0) (numbers_where (flips_bit coins) 0 (length coins))
   deciders_by_places [] = refl
   deciders_by_places (x ∷ xs) =
@@ -89,14 +90,19 @@ module _ (n : ℕ) (items : Items) (i : ℕ) where
       by_test true later = ap (λ l. x ∷ l) later
       by_test false later = later
 
+-- the front of a bit's line, by the path of its item
+abbrev pub line_front : Items → Bit → Path → List ℕ
+line_front items b path = (bit_name b ++ (codes " " ++ path_text path)) ++ coordinates_at items path
+
 -- the line of a bit that some coin flips
 pub reason_some : (items : Items) (b : Bit) (coins : List ℕ) → (coins ≡ [] → ⊥)
-    → reason_line items b coins ≡ (bit_name b ++ (codes " " ++ path_text (path_of_bit items b))) ++ (flat_map (decider_text items) coins ++ codes "\n")
+    → reason_line items b coins ≡ line_front items b (path_of_bit items b) ++ (flat_map (decider_text items) coins ++ codes "\n")
 reason_some items b [] some = absurd (some refl)
 reason_some items b (t ∷ ts) some =
-    let path = path_text (path_of_bit items b) in
+    let path = codes " " ++ path_text (path_of_bit items b) in
+    let coordinates = coordinates_at items (path_of_bit items b) in
     let rest = flat_map (decider_text items) (t ∷ ts) ++ codes "\n" in
-    sym (append_assoc (bit_name b) (codes " " ++ path) rest)
+    sym (append_assoc (bit_name b ++ path) coordinates rest ∙ append_assoc (bit_name b) path (coordinates ++ rest))
 
 -- a bit that no coin flips
 
@@ -130,7 +136,7 @@ module _ (n : ℕ) (items : Items) (i : ℕ) where
   observables_alike : (coins others : ℕ → Bool) → length (run_of n coins items).observables ≡ length (run_of n others items).observables
   observables_alike coins others = (numbers_of_runs n coins items).observables ∙ sym (numbers_of_runs n others items).observables
 
-  -- a coin flips no bit that is the same whatever the coins
+  -- a coin flips no bit that is the same for all random bits
   sure-unflipped : IsSure n items i → (coins : ℕ → Bool) (t : ℕ) → get_or (checked_bits (flips_of n items coins t)) i false ≡ false
   sure-unflipped sure coins t =
       let one = run_of n (turned t coins) items in
@@ -205,6 +211,12 @@ module _ (n : ℕ) (items : Items) (i : ℕ) where
 pub sure-has-no-decider : SureHasNoDecider
 sure-has-no-decider items rows i table within = (sure-has-none (qubits_of items) items i rows table, none-has-sure (qubits_of items) items i rows table)
 
+-- the first of the coins that flip a bit
+
+mapped_first : (h : ℕ → ℕ) (xs : List ℕ) → 0 < length xs → map h xs ≡ h (get_or xs 0 0) ∷ map h (drop 1 xs)
+mapped_first h [] some = absurd (omega arith)
+mapped_first h (x ∷ xs) some = refl
+
 -- whether there are places
 
 pub no_places : (xs : List ℕ) → true ≡ (length xs == 0) → xs ≡ []
@@ -241,16 +253,28 @@ module _ (items : Items) (r : CoinRuns) (are : AreCoinRuns (qubits_of items) ite
   pub reason_none : places ≡ [] → reason_text items (table_of (qubits_of items) items) i ≡ []
   reason_none none = ap (reason_line items (bit_of (detectors_of (unroll items)) i)) (found_deciders ∙ ap (map (coin_at items)) none)
 
-  -- a bit that some coin flips is not the same whatever the coins
+  -- a bit that some coin flips is not the same for all random bits
   pub is_unsure : (places ≡ [] → ⊥) → IsSure (qubits_of items) items i → ⊥
   is_unsure some sure = some (none-mapped (coin_at items) places (sym found_deciders ∙ sure-has-none (qubits_of items) items i (table_of (qubits_of items) items) are.table sure))
 
+  -- a bit that is not the same whatever the coins is flipped by some coin
+  pub some_found : (IsSure (qubits_of items) items i → ⊥) → 0 < length places
+  some_found unsure = not_none places (λ none. unsure (none-has-sure (qubits_of items) items i (table_of (qubits_of items) items) are.table (found_deciders ∙ ap (map (coin_at items)) none)))
+    where
+      not_none : (xs : List ℕ) → (xs ≡ [] → ⊥) → 0 < length xs
+      not_none [] some = absurd (some refl)
+      not_none (x ∷ xs) some = omega arith
+
+  -- the first that does
+  pub first_found : 0 < length places → deciders i (table_of (qubits_of items) items) ≡ coin_at items (get_or places 0 0) ∷ map (coin_at items) (drop 1 places)
+  first_found some = found_deciders ∙ mapped_first (coin_at items) places some
+
   -- its line
   pub reason_found : (b : Bit) → b ≡ bit_of (detectors_of (unroll items)) i → (path : Path) → path_of_bit items b ≡ path → (places ≡ [] → ⊥)
-      → (bit_name b ++ (codes " " ++ path_text path)) ++ (flat_map (λ k. decider_text items (coin_at items k)) places ++ codes "\n") ≡ reason_text items (table_of (qubits_of items) items) i
+      → line_front items b path ++ (flat_map (λ k. decider_text items (coin_at items k)) places ++ codes "\n") ≡ reason_text items (table_of (qubits_of items) items) i
   reason_found b is path at some =
-      ap (λ p. (bit_name b ++ (codes " " ++ path_text p)) ++ (flat_map (λ k. decider_text items (coin_at items k)) places ++ codes "\n")) (sym at)
-      ∙ ap (λ l. (bit_name b ++ (codes " " ++ path_text (path_of_bit items b))) ++ (l ++ codes "\n")) (sym (flat-mapped (decider_text items) (coin_at items) places))
+      ap (λ p. line_front items b p ++ (flat_map (λ k. decider_text items (coin_at items k)) places ++ codes "\n")) (sym at)
+      ∙ ap (λ l. line_front items b (path_of_bit items b) ++ (l ++ codes "\n")) (sym (flat-mapped (decider_text items) (coin_at items) places))
       ∙ sym (reason_some items b (map (coin_at items) places) (λ none. some (none-mapped (coin_at items) places none)))
       ∙ ap (reason_line items b) (sym found_deciders)
       ∙ ap (λ c. reason_line items c (deciders i (table_of (qubits_of items) items))) is

@@ -1,4 +1,4 @@
--- Laws of sending: bytes that calls write one after another, and that are flushed behind them.
+-- Laws of sending: bytes that calls write one after another, and that are flushed after them.
 use Rattle.std.proofs.Common.{◌≡◌, refl, sym, ap, ap₂, subst, ◌∙◌, ℕ, ◌+◌, ◌-◌, ◌<◌, ◌≤◌, zero, suc, List, [], ◌++◌, append_assoc, Result, Ok, Err, ◌⊎◌, inl, inr, arith, add-one}
 use Rattle.std.proofs.lemmas.List.{append-nil}
 use Rattle.std.specs.Result.{IsErrAnd}
@@ -67,7 +67,7 @@ sent_shot bytes_of first shot before call = rw add-one (took_more (texts_from by
 cut_place : (xs ys rest front back : List ℕ) → ys ≡ front ++ back → (xs ++ ys) ++ rest ≡ (xs ++ front) ++ (back ++ rest)
 cut_place xs ys rest front back e = ap (λ l. (xs ++ l) ++ rest) e ∙ ap (λ l. l ++ rest) (sym (append_assoc xs front back)) ∙ append_assoc (xs ++ front) back rest
 
--- what is cut off behind some text, and before the rest, is cut off
+-- what is cut off after some text, and before the rest, is cut off
 pub cut_off_behind : {old mid new : OutputView} (xs ys rest : List ℕ) (f : Fault) → Took old mid xs → CutOff mid new ys f → CutOff old new ((xs ++ ys) ++ rest) f
 cut_off_behind xs ys rest f before (inl failed) = inl (failed.0, failed_within (xs ++ ys) rest (took_and_failed xs ys before failed.1))
 cut_off_behind xs ys rest f before (inr some) =
@@ -123,7 +123,7 @@ cut_off_sends : (bytes : List ℕ) (old new : OutputView) (f : Fault) → CutOff
 cut_off_sends bytes old new f (inl failed) = inl (failed.0, inl failed.1)
 cut_off_sends bytes old new f (inr some) = inr some
 
--- the same, where the fault is handed on
+-- the same, if the fault is passed on
 pub sends_cut_off : (bytes : List ℕ) (old new : OutputView) (f : Fault) (r : Result (Unit {0}) Fault) → CutOff old new bytes f → IsErrAnd r (λ y. y ≡ f) → Sends bytes old new r
 sends_cut_off bytes old new f (Ok u) cut is = absurd is
 sends_cut_off bytes old new f (Err y) cut is = cut_off_sends bytes old new y (subst (λ g. CutOff old new bytes g) (sym is) cut)

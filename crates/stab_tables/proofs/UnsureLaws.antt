@@ -1,4 +1,4 @@
--- Laws of bits that are not sure: that some step makes each, and which is the first.
+-- Laws of bits that are not deterministic: that some step makes each, and which is the first.
 use Rattle.std.proofs.Common.{◌≡◌, ◌≢◌, refl, sym, ap, ◌∙◌, subst, ℕ, zero, suc, ◌+◌, ◌-◌, ◌<◌, ◌≤◌, Bool, true, false, ◌==◌, nat_lt, List, [], ◌∷◌, ◌++◌, length, replicate, get_or, if◌then◌else◌, arith}
 use Rattle.std.proofs.lemmas.Bool.{ltb-true, ltb-false}
 use Rattle.std.proofs.lemmas.Bool.Decides.{nat_tests}
@@ -89,7 +89,7 @@ zero_at zero (suc i) = refl
 zero_at (suc n) zero = refl
 zero_at (suc n) (suc i) = zero_at n i
 
--- a bit behind the detectors
+-- a bit after the detectors
 behind_front : (ds os : List Bool) (i d : ℕ) → length ds ≡ d → d ≤ i → get_or (ds ++ os) i false ≡ get_or os (i - d) false
 behind_front [] os i zero e h = let same : i ≡ i - 0 = omega arith in ap (λ k. get_or os k false) same
 behind_front [] os i (suc d) e h = absurd (omega arith)
@@ -106,7 +106,7 @@ unnamed_bit n count coins xs i h e =
     ∙ observable_stays n coins (i - detectors_of xs) xs (start count) e
     ∙ zero_at count (i - detectors_of xs)
 
--- some step makes each bit that is not sure
+-- some step makes each bit that is not deterministic
 pub unsure_within : (n : ℕ) (items : Items) (i : ℕ) (b : Bit) → b ≡ bit_of (detectors_of (unroll items)) i → (IsSure n items i → ⊥) → length (steps_before_bit b (unroll items)) < length (unroll items)
 unsure_within n items i b is unsure = subst (λ c. length (steps_before_bit c (unroll items)) < length (unroll items)) (sym is) (by_kind (nat_lt i (detectors_of (unroll items))) refl)
   where
@@ -120,7 +120,7 @@ unsure_within n items i b is unsure = subst (λ c. length (steps_before_bit c (u
     by_kind true t = detector_within i (unroll items) (ltb-true i (detectors_of (unroll items)) t)
     by_kind false t = by_adding (some_adds (i - detectors_of (unroll items)) (unroll items)) refl (ltb-false i (detectors_of (unroll items)) t)
 
--- which bits are sure, by the first that is not
+-- which bits are deterministic, by the first that is not
 
 pub first_unsure_is : (n : ℕ) (items : Items) (sure : List Bool) (k : ℕ) → AreSure n items sure → k < length sure → get_or sure k false ≡ false → IsSure n items k → ⊥
 first_unsure_is n items sure k are h e is = let yes = (are.exact k (subst (λ m. k < m) are.count h)).1 is in let both : true ≡ false = sym yes ∙ e in cc
@@ -131,7 +131,7 @@ sure_before n items sure k are h front i less = (are.exact i (subst (λ m. i < m
 pub all_sure : (n : ℕ) (items : Items) (sure : List Bool) → AreSure n items sure → ((i : ℕ) → i < length sure → get_or sure i false ≡ true) → (i : ℕ) → i < bits_in items → IsSure n items i
 all_sure n items sure are front i less = (are.exact i less).0 (front i (subst (λ m. i < m) (sym are.count) less))
 
--- no step makes a bit where there are none
+-- no step makes a bit if there are none
 pub none_before : (b : Bit) → length (steps_before_bit b []) ≡ 0
 none_before (Detector d) = refl
 none_before (Observable j) = refl

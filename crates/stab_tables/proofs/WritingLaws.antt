@@ -13,7 +13,7 @@ use Rattle.stab_io.proofs.DeviceLemmas.{WroteUpTo, took_none, took_more, took_an
 pub took_some_none : (old : OutputView) (bytes : List ℕ) → TookSome old old bytes
 took_some_none old bytes = record { front = []; rest = bytes; split = refl; took = took_none old }
 
--- a call that writes behind what was written
+-- a call that writes after what was written
 pub writes_behind : {T : Type 0} {o p : OutputView} (q : OutputView) (xs ys : List ℕ) (r : Result T Refusal) → Took o p xs → WritesAll p q ys r → WritesAll o q (xs ++ ys) r
 writes_behind q xs ys (Ok x) before call = took_more xs ys before call
 writes_behind q xs ys (Err e) before call = (call.0, took_and_failed xs ys before call.1)
@@ -30,7 +30,7 @@ failed_second xs ys zs first failed = took_and_failed xs (ys ++ zs) first (faile
 pub wrote_all : {a b : OutputView} (bytes rest : List ℕ) → rest ≡ [] → WroteUpTo a b bytes rest → Took a b bytes
 wrote_all {a} {b} bytes rest none p = subst (λ l. Took a b l) (sym (p.1 ∙ ap (λ l. p.0 ++ l) none ∙ append-nil p.0)) p.2
 
--- a failed write is handed on as a fault
+-- a failed write is passed on as a fault
 pub failed_as_fault : {T : Type 0} (a b : OutputView) (bytes : List ℕ) (f : Fault) (r : Result T Fault) → IsErrAnd r (λ y. y ≡ f) → f ≡ whole WriteFault → TookAndFailed a b bytes → WritesAllOrFault a b bytes r
 failed_as_fault a b bytes f (Ok x) is fault failed = absurd is
 failed_as_fault a b bytes f (Err y) is fault failed = (is ∙ fault, failed)

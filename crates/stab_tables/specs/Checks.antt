@@ -61,11 +61,11 @@ check_text items = numbers_text (numbers_of items)
 abbrev pub SendsSome : OutputView → OutputView → Type 0
 SendsSome old new = (bytes : List ℕ) × (answer : Result (Unit {0}) Fault) × Sends bytes old new answer
 
--- a text that was read whole was refused, by its own fault or for want of memory, and some bytes were sent
+-- a text that was read whole was refused, by its own fault or for lack of memory, and some bytes were sent
 abbrev pub Explains : OutputView → OutputView → List ℕ → Fault → Type 0
 Explains old new text f = ReadsCircuit text (Err f) × SendsSome old new
 
--- a text was not read whole: the output is untouched, but that some bytes were sent where the text is too long
+-- a text was not read whole: the output is untouched, except that some bytes were sent if the text is too long
 abbrev pub LeavesUnread : InputView → InputView → OutputView → OutputView → Refusal → Type 0
 LeavesUnread i i' o o' r = IsUnread i i' r × ((o' ≡ o) ⊎ ((r ≡ TooLong) × SendsSome o o'))
 

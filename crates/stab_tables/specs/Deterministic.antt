@@ -13,11 +13,11 @@ use Rattle.stab_results.specs.Formats.{shot_bytes}
 use Rattle.stab_regions.specs.Faults.{AreSure}
 use Rattle.stab_tables.specs.Endings.{Ends, SendsFound}
 
--- the bits of a circuit are its detectors, and behind them its observables
+-- the bits of a circuit are its detectors, and after them its observables
 abbrev pub kinds_of : Items → Kinds
 kinds_of items = Detectors (detectors_of (unroll items))
 
--- a shot of the bits that tell of each detector and each observable whether it is the same whatever the coins
+-- a shot of the bits that say for each detector and each observable whether it is the same for all random bits
 abbrev pub IsSureText : Format → Items → List ℕ → Type 0
 IsSureText format items bytes = (sure : List Bool) × AreSure (qubits_of items) items sure × (bytes ≡ shot_bytes format (kinds_of items) sure)
 

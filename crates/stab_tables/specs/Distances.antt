@@ -17,7 +17,8 @@ use Rattle.stab_distance.specs.declared.answer.Answer.{Answer}
 use Rattle.stab_distance.specs.declared.answer.Answer.TheVariants.{Least, NoneWithin, NoneAtAll}
 use Rattle.stab_distance.specs.Tables.{row}
 use Rattle.stab_jobs.specs.declared.distance_options.DistanceOptions.{DistanceOptions}
-use Rattle.stab_errors.specs.Errors.{Error, letter, letters, wrong_record, first_fault}
+use Rattle.stab_errors.specs.Errors.{Error, letter, letters, wrong_record, first_fault, errors_of}
+use Rattle.stab_errors.specs.Parts.{AreSearched}
 use Rattle.stab_errors.specs.ErrorTables.{ErrorTableState, IsErrorTable}
 use Rattle.stab_errors.specs.Unseen.{IsDistance, IsGraphlikeDistance, error_at}
 use Rattle.stab_tables.specs.declared.unsure.Unsure.{Unsure}
@@ -35,7 +36,7 @@ error_name (letter f) = letter_name f
 error_name (letters f g) = letter_name f ++ (codes "*" ++ letter_name g)
 error_name (wrong_record number f back) = codes "M" ++ decimal number
 
--- how many steps are in front, and the path of the item
+-- the number of steps in front, and the path of the item
 abbrev pub where_text : (before : ℕ) → Path → List ℕ
 where_text before path = (decimal before ++ codes " ") ++ (path_text path ++ codes " ")
 
@@ -51,16 +52,16 @@ error_line kinds path e flipped = where_text (first_fault e).before path ++ what
 abbrev pub numbered_line : Items → ErrorTableState → ℕ → List ℕ
 numbered_line items t k = error_line (kinds_of items) (path_at items (first_fault (error_at t.errors k)).step) (error_at t.errors k) (row t.table.rows k)
 
--- of which errors a distance is told
+-- of which errors a distance is
 abbrev pub of_errors : (graphlike : Bool) → List ℕ
 of_errors false = codes " of all errors"
 of_errors true = codes " of graph-like errors"
 
--- the line of so many errors
+-- the line of this number of errors
 abbrev pub distance_line : (count : ℕ) → (graphlike : Bool) → List ℕ
 distance_line count graphlike = codes "distance " ++ (decimal count ++ (of_errors graphlike ++ codes "\n"))
 
--- up to how many errors no set was found, and of which
+-- the number of errors up to which no set was found, and of which errors
 abbrev pub up_to : (most : Option ℕ) → List ℕ
 up_to None = []
 up_to (Some most) = codes " up to " ++ decimal most
@@ -78,15 +79,16 @@ answer_text options items t (Least numbers) = distance_line (length numbers.item
 answer_text options items t NoneWithin = none_line options.most options.graphlike
 answer_text options items t NoneAtAll = none_line None options.graphlike
 
--- what an answer says of a circuit's errors, on n qubits: of all, or of those alone that flip at most two detectors
+-- what an answer says of errors, on n qubits: of all, or of those alone that flip at most two detectors
 abbrev pub IsDistanceBy : (graphlike : Bool) → (n : ℕ) → Items → List Error → (most : Option ℕ) → Answer → Type 0
 IsDistanceBy false n items errors most answer = IsDistance n items errors most answer
 IsDistanceBy true n items errors most answer = IsGraphlikeDistance n items errors most answer
 
--- the errors of a circuit that are asked for, on its own qubits, and an answer about them; and each bit is sure, unless those that are not
--- are left out
+-- the errors of a circuit that are asked for, on its own qubits, split if graph-like ones are, with their table and an answer about them;
+-- and each bit is sure, unless those that are not are left out
 pub record IsDistanceOf (options : DistanceOptions) (items : Items) (d : Distance) : Type 0 where
-  pub table : IsErrorTable (qubits_of items) options.everywhere options.letters items d.errors
+  pub errors : AreSearched options.graphlike (qubits_of items) items (errors_of options.everywhere options.letters items) d.errors.errors
+  pub table : IsErrorTable (qubits_of items) items d.errors
   pub answer : IsDistanceBy options.graphlike (qubits_of items) items d.errors.errors options.most d.answer
   pub all_sure : options.sure_only ≡ false → (i : ℕ) → i < bits_in items → IsSure (qubits_of items) items i
 
@@ -94,7 +96,7 @@ pub record IsDistanceOf (options : DistanceOptions) (items : Items) (d : Distanc
 abbrev pub IsDistanceText : DistanceOptions → Items → List ℕ → Type 0
 IsDistanceText options items bytes = (d : Distance) × IsDistanceOf options items d × (bytes ≡ answer_text options items d.errors d.answer)
 
--- why there is no answer: a bit that is not sure, or memory that was refused
+-- why there is no answer: a bit that is not deterministic, or memory that was refused
 abbrev pub IsRefusedFor : (sure_only : Bool) → Items → Option Unsure → Fault → Type 0
 IsRefusedFor sure_only items (Some u) fault = (sure_only ≡ false) × IsFirstUnsure items u × (fault ≡ whole NotDeterministic)
 IsRefusedFor sure_only items None fault = fault ≡ whole OutOfMemory

@@ -15,7 +15,7 @@ pub record TookAndFlushed (old new : OutputView) (bytes : List ℕ) : Type 0 whe
   pub took : Took old between bytes
   pub flushed : Flushed between new
 
--- the output took these bytes, and the one flush behind them failed
+-- the output took these bytes, and the one flush after them failed
 pub record TookAndFlushFailed (old new : OutputView) (bytes : List ℕ) : Type 0 where
   pub between : OutputView
   pub took : Took old between bytes
@@ -26,7 +26,7 @@ abbrev pub FlushesOrFault : {T : Type 0} → OutputView → OutputView → Resul
 FlushesOrFault old new (Ok x) = Flushed old new
 FlushesOrFault old new (Err f) = (f ≡ whole WriteFault) × FlushFailed old new
 
--- the output failed once: in a write, after some first bytes of these, or in the one flush behind them all
+-- the output failed once: in a write, after some first bytes of these, or in the one flush after them all
 abbrev pub FailsToSend : OutputView → OutputView → List ℕ → Type 0
 FailsToSend old new bytes = TookAndFailed old new bytes ⊎ TookAndFlushFailed old new bytes
 

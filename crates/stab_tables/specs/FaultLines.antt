@@ -1,4 +1,4 @@
--- Fault lines: the line that tells a fault, what is written of a refusal, and the line that names a bit that is not sure.
+-- Fault lines: the line that says a fault, what is written of a refusal, and the line that names a bit that is not sure.
 -- Source: this project's own.
 use Rattle.std.specs.Prelude.{ℕ, List, [], ◌++◌, codes, decimal, ◌==◌, ◌⊎◌, Option, Some, None, if◌then◌else◌}
 use Rattle.stab_io.specs.Devices.{OutputView, Took, TookAndFailed}
@@ -9,6 +9,7 @@ use Rattle.stab_circuit.specs.Paths.{path_text}
 use Rattle.stab_tables.specs.declared.unsure.Bit.{Bit}
 use Rattle.stab_tables.specs.declared.unsure.Bit.TheVariants.{Detector, Observable}
 use Rattle.stab_tables.specs.declared.unsure.Unsure.{Unsure}
+use Rattle.stab_tables.specs.Texts.{placed_coin}
 
 -- where the fault is, as its line says it
 abbrev pub place_text : ℕ → List ℕ
@@ -18,7 +19,7 @@ place_text line = if line == 0 then [] else codes "line " ++ (decimal line ++ co
 abbrev pub refused_text : Refusal → List ℕ
 refused_text r = codes "refused " ++ (decimal (number_of r) ++ (codes " " ++ (name_of r ++ codes "\n")))
 
--- the line that tells a fault
+-- the line that says a fault
 abbrev pub fault_line : Fault → List ℕ
 fault_line f = codes "stabsim: " ++ (place_text f.line ++ refused_text f.refusal)
 
@@ -27,11 +28,15 @@ abbrev pub bit_text : Bit → List ℕ
 bit_text (Detector d) = codes "detector " ++ decimal d
 bit_text (Observable j) = codes "observable " ++ decimal j
 
--- the line that names a bit that is not the same whatever the coins, with the path of its first item
-abbrev pub unsure_line : Unsure → List ℕ
-unsure_line u = codes "stabsim: " ++ (bit_text u.bit ++ (codes ", item " ++ (path_text u.path ++ codes ", is not the same for all coins\n")))
+-- a bit that is not the same whatever the coins, with the path of its first item
+abbrev pub unsure_bit : Unsure → List ℕ
+unsure_bit u = codes "stabsim: " ++ (bit_text u.bit ++ (codes ", item " ++ path_text u.path))
 
--- what tells a fault: its line, and behind it that of the bit that it names, if any
+-- the line that names it, and the first coin that decides it
+abbrev pub unsure_line : Unsure → List ℕ
+unsure_line u = unsure_bit u ++ (codes ", is not the same for all coins: " ++ (placed_coin u.decider.coin u.decider.path ++ codes " decides it\n"))
+
+-- what says a fault: its line, and after it that of the bit that it names, if any
 abbrev pub told_text : Fault → Option Unsure → List ℕ
 told_text f None = fault_line f
 told_text f (Some u) = fault_line f ++ unsure_line u
@@ -40,6 +45,6 @@ told_text f (Some u) = fault_line f ++ unsure_line u
 abbrev pub TookOrFailed : OutputView → OutputView → List ℕ → Type 0
 TookOrFailed old new bytes = Took old new bytes ⊎ TookAndFailed old new bytes
 
--- a fault is told: its line was written, or the output failed once after some first bytes of it
+-- a fault is reported: its line was written, or the output failed once after some first bytes of it
 abbrev pub TellsFault : Fault → OutputView → OutputView → Type 0
 TellsFault f old new = TookOrFailed old new (fault_line f)

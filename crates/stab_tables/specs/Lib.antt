@@ -5,6 +5,7 @@ pub mod FaultLines
 pub mod Rows
 pub mod Checks
 pub mod Deterministic
+pub mod Deciders
 pub mod FaultTables
 pub mod Distances
 pub mod CoinTables

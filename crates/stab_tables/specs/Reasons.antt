@@ -1,33 +1,27 @@
 -- Reasons: which coins decide a detector or an observable, what `deterministic --explain` writes of them, and how a call of it ends.
 -- Source: this project's own.
-use Rattle.std.specs.Prelude.{◌≡◌, ℕ, ◌+◌, ◌<◌, nat_lt, Bool, false, List, [], ◌∷◌, ◌++◌, slice_index_or, codes, decimal, if◌then◌else◌, Result, ◌↔◌}
+use Rattle.std.specs.Prelude.{◌≡◌, ℕ, ◌+◌, ◌<◌, nat_lt, Bool, List, [], ◌∷◌, ◌++◌, codes, decimal, Result, Ok, Err, ◌↔◌}
 use Rattle.std.specs.List.{flat_map}
 use Rattle.stab_io.specs.Devices.{InputView, OutputView}
+use Rattle.stab_io.specs.declared.refusal.Refusal.{Refusal}
 use Rattle.stab_io.specs.declared.refusal.Fault.{Fault}
-use Rattle.stab_circuit.specs.Items.{Items}
+use Rattle.stab_items.specs.Prints.{item_coordinates}
+use Rattle.stab_circuit.specs.Items.{Items, OneItem, entries}
 use Rattle.stab_circuit.specs.Steps.{unroll, qubits_of, detectors_of, observables_of}
-use Rattle.stab_circuit.specs.Paths.{path_text}
+use Rattle.stab_circuit.specs.Paths.{Path, path_text}
+use Rattle.stab_circuit.specs.Places.{item_at}
 use Rattle.stab_circuit.specs.Readings.{IsCircuit, IsFaultOf}
 use Rattle.stab_regions.specs.Faults.{bits_in, IsSure}
-use Rattle.stab_coins.specs.Coins.{ShotBits}
 use Rattle.stab_coins.specs.Tables.{CoinRow, IsCoinTable, table_of}
 use Rattle.stab_tables.specs.declared.unsure.Bit.{Bit}
 use Rattle.stab_tables.specs.declared.unsure.Bit.TheVariants.{Detector, Observable}
 use Rattle.stab_tables.specs.Endings.{Ends, Sends}
 use Rattle.stab_tables.specs.FaultTables.{bit_of, path_of_bit}
 use Rattle.stab_tables.specs.CoinTables.{path_of_coin}
-use Rattle.stab_tables.specs.Texts.{texts_from}
+use Rattle.stab_tables.specs.Deciders.{deciders}
+use Rattle.stab_tables.specs.Texts.{placed_coin, texts_from}
 
--- the detectors of a run, and behind them its observables
-abbrev pub checked_bits : ShotBits → List Bool
-checked_bits b = b.detectors ++ b.observables
-
--- the coins that flip the bit of a number: a column of the table
-abbrev pub deciders : (number : ℕ) → List CoinRow → List ℕ
-deciders i [] = []
-deciders i (row ∷ rows) = if slice_index_or (checked_bits row.flips) i false then row.coin ∷ deciders i rows else deciders i rows
-
--- a bit is the same whatever the coins exactly if no coin flips it
+-- a bit is the same for all random bits if and only if no coin flips it
 abbrev pub SureHasNoDecider : Type 0
 SureHasNoDecider =
     (items : Items) (rows : List CoinRow) (i : ℕ) → IsCoinTable (qubits_of items) items rows → i < bits_in items →
@@ -35,7 +29,7 @@ SureHasNoDecider =
 
 -- a coin, with the path of the item that takes it, as ` c40@66/3`
 abbrev pub decider_text : Items → ℕ → List ℕ
-decider_text items t = codes " c" ++ (decimal t ++ (codes "@" ++ path_text (path_of_coin items t)))
+decider_text items t = codes " " ++ placed_coin t (path_of_coin items t)
 
 -- a bit, as `dets` names it
 abbrev pub bit_name : Bit → List ℕ
@@ -52,10 +46,21 @@ abbrev pub number_of_bit : Items → Bit → ℕ
 number_of_bit items (Detector d) = d
 number_of_bit items (Observable j) = detectors_of (unroll items) + j
 
--- the line of a bit with the path of its first item, by the coins that flip it, as `D37 69 c12@12 c40@66/3`; none if no coin does
+-- the coordinates of a detector that was found, as its line has them, after a space: shifts by SHIFT_COORDS are not added
+abbrev pub found_coordinates : Result OneItem Refusal → List ℕ
+found_coordinates (Ok item) = item_coordinates item
+found_coordinates (Err r) = []
+
+-- those of the item at a path; nothing for any item but a detector
+abbrev pub coordinates_at : Items → Path → List ℕ
+coordinates_at items path = found_coordinates (item_at path (entries items))
+
+-- the line of a bit with the path and the coordinates of its first item, by the coins that flip it, as `D37 69 (1, 3, 2) c12@12 c40@66/3`;
+-- none if no coin does
 abbrev pub reason_line : Items → Bit → (coins : List ℕ) → List ℕ
 reason_line items b [] = []
-reason_line items b (t ∷ ts) = bit_name b ++ (codes " " ++ (path_text (path_of_bit items b) ++ (flat_map (decider_text items) (t ∷ ts) ++ codes "\n")))
+reason_line items b (t ∷ ts) =
+    bit_name b ++ (codes " " ++ (path_text (path_of_bit items b) ++ (coordinates_at items (path_of_bit items b) ++ (flat_map (decider_text items) (t ∷ ts) ++ codes "\n"))))
 
 -- the line of the bit of a number, by the table
 abbrev pub reason_text : Items → List CoinRow → ℕ → List ℕ

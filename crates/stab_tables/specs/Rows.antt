@@ -1,4 +1,4 @@
--- Rows: the lines of strings, and what they tell.
+-- Rows: the lines of strings, and what they show.
 -- Source: this project's own.
 use Rattle.std.specs.Prelude.{◌≡◌, ℕ, Bool, List, ◌++◌, codes, ◌↔◌}
 use Rattle.std.specs.List.{flat_map}
@@ -15,7 +15,7 @@ line_of row = pauli_text row ++ codes "\n"
 abbrev pub lines_of : List Signed → List ℕ
 lines_of rows = flat_map line_of rows
 
--- two stabiliser groups are one exactly where the lines of their reduced rows are the same
+-- two stabiliser groups are one if and only if the lines of their reduced rows are the same
 abbrev pub SameGroupSameLines : Type 0
 SameGroupSameLines =
     (n : ℕ) (s t : Signed → Bool) → IsStabiliserGroup n s → IsStabiliserGroup n t → (a b : List Signed) →

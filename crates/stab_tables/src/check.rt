@@ -32,7 +32,7 @@ pub(crate) struct Numbers {
     pub coins: usize,
 }
 
-/// What of a circuit's numbers only its steps tell.
+/// Those of a circuit's numbers that only its steps show.
 #[derive(Clone, Copy)]
 struct Tally {
     detectors: usize,
@@ -153,7 +153,7 @@ fn send_numbers<O: Output>(alloc: Global, out: &mut O, circuit: &Circuit) -> Res
     finish(out)
 }
 
-/// Writes what is wrong with a text that was refused with this fault, and flushes. It tells nothing
+/// Writes what is wrong with a text that was refused with this fault, and flushes. It reports nothing
 /// of a failure to do so, since the fault of the text is what the call answers.
 fn explain<O: Output>(alloc: Global, out: &mut O, text: &[u8], fault: Fault)
     ensures sends { SendsSome (O.seen out.old) (O.seen out.new) }
@@ -163,8 +163,8 @@ fn explain<O: Output>(alloc: Global, out: &mut O, text: &[u8], fault: Fault)
     }
 }
 
-/// Writes why a text was not read whole, where it is too long. Of failures of the input or of memory
-/// there is nothing to write.
+/// Writes why a text was not read whole, if it is too long. If the input or memory failed,
+/// it writes nothing.
 fn explain_unread<O: Output>(alloc: Global, out: &mut O, refusal: Refusal)
     ensures sends { (O.seen out.new ≡ O.seen out.old) ⊎ ((refusal ≡ TooLong) × SendsSome (O.seen out.old) (O.seen out.new)) }
 {
@@ -176,13 +176,13 @@ fn explain_unread<O: Output>(alloc: Global, out: &mut O, refusal: Refusal)
 /// Reads a circuit, and writes its numbers, a line each: `qubits: N`, then in the same form items,
 /// steps, records, detectors, observables and coins.
 ///
-/// The qubits are as many as a run has: one more than the greatest that is named, or 0; the
-/// observables likewise. The items are those of the outermost list, where a block is one. The steps
+/// The qubits are as many as a run has: one more than the greatest that is named, or 0; and
+/// so are the observables. The items are those of the outermost list, if a block is one. The steps
 /// are those of the unrolled circuit, and so are the records, detectors and coins: a coin for each
 /// measured target or product, and for each reset, whether or not it decides.
 ///
-/// Where the text is refused, an explanation is written and flushed, and the fault is that of the
-/// text, whether or not this failed; what the explanation says is no part of what is proved. Where
+/// If the text is refused, an explanation is written and flushed, and the fault is that of the
+/// text, whether or not this failed; what the explanation says is no part of what is proved. If
 /// the input fails, or memory is refused while it is read, nothing is written. Reading, the flush and
 /// the other faults are those of `run_sample`. Every step is passed once: there are at most 1,048,576.
 pub fn run_check<I: Input, O: Output>(

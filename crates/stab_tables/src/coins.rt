@@ -18,8 +18,8 @@ use stab_jobs::FaultLayout;
 use stab_shots::{Shots, UnitWord, Wide};
 use std::alloc::Global;
 
-/// Writes what is written of so many coins, at most as many as there are lanes, from a place on. What they flip is put in place
-/// of what the lists had.
+/// Writes what is written of this many coins, at most as many as there are lanes, from a place on. What they flip replaces
+/// what the lists had.
 fn send_batch<O: Output, W: UnitWord>(
     alloc: Global,
     circuit: &Circuit,
@@ -46,7 +46,7 @@ fn send_batch<O: Output, W: UnitWord>(
     write_parts(alloc, out, circuit, layout, runs, first, words, coins)
 }
 
-/// Writes what is written of all coins that decide, by batches of so many lanes.
+/// Writes what is written of all coins that decide, by batches of this many lanes.
 fn send_batches<O: Output, W: UnitWord>(
     alloc: Global,
     circuit: &Circuit,
@@ -128,8 +128,8 @@ fn send_coins<O: Output>(
     finish(out)
 }
 
-/// Reads a circuit, and writes of each coin that decides an outcome, in order, which bits of a run it flips: those in which a run
-/// with this coin turned differs from the run without, whatever the other coins, on as many qubits as the circuit names.
+/// Reads a circuit, and writes for each coin that decides an outcome, in order, which bits of a run it flips: those in which a run
+/// with this coin turned differs from the run without, for all values of the other coins, on as many qubits as the circuit names.
 ///
 /// With `FaultLayout::Lines` each has a line, such as `17 3/0 c12 M4 M9 D2 L0`: how many steps are in front of the one that takes
 /// the coin, the path of its item, the number of the coin, and the records, detectors and observables that it flips. With

@@ -5,6 +5,7 @@ ghost use Rattle.stab_io.specs.declared.refusal.Refusal.TheVariants.{OutOfMemory
 ghost use Rattle.stab_circuit.specs.Steps.{check_of, qubits_of};
 ghost use Rattle.stab_circuit.specs.Views.{circuit_items};
 ghost use Rattle.stab_regions.specs.Faults.{bits_in, numbers_where};
+ghost use Rattle.stab_shots.specs.Words.{word_bit};
 ghost use Rattle.stab_coins.specs.Runs.{AreCoinRuns};
 ghost use Rattle.stab_distance.specs.inner.Indexes.{listed};
 ghost use Rattle.stab_tables.specs.inner.CoinRows.{decides};
@@ -16,8 +17,25 @@ use stab_io::Fault;
 use stab_shots::{Shots, UnitWord, Wide, Word};
 use std::alloc::{AllocError, Global};
 
-/// Puts behind others the numbers from `first` up to `end` that are lanes, counted from there, in which a word is 1.
-fn push_ones<W: Word>(
+/// Puts after others the numbers from `first` up to `end` that are lanes, counted from there, in which a word is 1.
+fn push_ones(places: &mut Vec<usize>, word: u64, first: usize, end: usize) -> Result<(), AllocError>
+    requires some { first ≤ end }
+    requires in_range { end ≤ first + 64 }
+    ensures value { OnOk result (places.new.items ≡ places.old.items ++ ones_of word_bit word first end) }
+{
+    if word == 0 {
+        return Ok(());
+    }
+    for place in first..end {
+        if word.bit(place - first) {
+            places.push(place)?;
+        }
+    }
+    Ok(())
+}
+
+/// Puts such numbers after others, of a word of as many lanes as there are.
+fn push_parts<W: Word>(
     places: &mut Vec<usize>,
     word: W,
     first: usize,
@@ -27,15 +45,17 @@ fn push_ones<W: Word>(
     requires in_range { end ≤ first + W.lanes }
     ensures value { OnOk result (places.new.items ≡ places.old.items ++ ones_of W.at word first end) }
 {
-    for place in first..end {
-        if word.bit(place - first) {
-            places.push(place)?;
-        }
+    let mut pushed = 0;
+    while pushed < end - first {
+        let some = (end - first - pushed).min(64);
+        let begin = first + pushed;
+        push_ones(places, word.part(pushed / 64), begin, begin + some)?;
+        pushed += some;
     }
     Ok(())
 }
 
-/// Puts such numbers of each word behind those of a list of its own.
+/// Puts such numbers of each word after those of a list of its own.
 fn push_all<W: Word>(
     lists: &mut Vec<Vec<usize>>,
     words: &[W],
@@ -49,12 +69,12 @@ fn push_all<W: Word>(
     ensures value { OnOk result ((i : ℕ) → i < length words.now → listed lists.new.items i ≡ listed lists.old.items i ++ ones_at W.at words.now i first end) }
 {
     for bit in 0..words.len() {
-        push_ones(&mut lists[bit], words[bit], first, end)?;
+        push_parts(&mut lists[bit], words[bit], first, end)?;
     }
     Ok(())
 }
 
-/// Puts so many empty lists behind others.
+/// Puts this many empty lists after others.
 fn add_lists(alloc: Global, lists: &mut Vec<Vec<usize>>, count: usize) -> Result<(), AllocError>
     ensures size { OnOk result (length lists.new.items ≡ length lists.old.items + count) }
     ensures value { OnOk result ((i : ℕ) → listed lists.new.items i ≡ listed lists.old.items i) }
@@ -93,7 +113,7 @@ fn note_batch<W: UnitWord>(
     Ok(())
 }
 
-/// For each bit the places of the coins that flip it, by batches of so many lanes.
+/// For each bit the places of the coins that flip it, by batches of this many lanes.
 fn note_batches<W: UnitWord>(
     alloc: Global,
     circuit: &Circuit,

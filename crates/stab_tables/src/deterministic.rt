@@ -1,4 +1,4 @@
-//! The command that tells which detectors and observables are the same whatever the coins.
+//! The command that says which detectors and observables are the same for all random bits.
 ghost use Rattle.std.specs.Prelude.{◌≡◌, ◌≤◌, ◌+◌, None, length};
 ghost use Rattle.stab_circuit.specs.Steps.{check_of, qubits_of, unroll, observables_of};
 ghost use Rattle.stab_circuit.specs.Views.{circuit_items};
@@ -13,7 +13,7 @@ use stab_regions::sure;
 use stab_results::{Format, Kinds, write_shot};
 use std::alloc::Global;
 
-/// Of a circuit's bits, of which there are so many, the first are detectors and the rest observables.
+/// Of a circuit's bits, of which there are this many, the first are detectors and the rest observables.
 pub(crate) fn kinds_of(circuit: &Circuit, bits: usize) -> Kinds
     requires all { bits ≡ bits_in (circuit_items circuit.now) }
     ensures value { result ≡ kinds_of (circuit_items circuit.now) }
@@ -21,7 +21,7 @@ pub(crate) fn kinds_of(circuit: &Circuit, bits: usize) -> Kinds
     Kinds::Detectors(bits - circuit.observables())
 }
 
-/// Writes which of a circuit's bits are sure, and flushes.
+/// Writes which of a circuit's bits are deterministic, and flushes.
 fn send_sure<O: Output>(
     alloc: Global,
     circuit: &Circuit,
@@ -38,10 +38,10 @@ fn send_sure<O: Output>(
 }
 
 /// Reads a circuit, and writes a bit for each of its detectors and then for each of its observables,
-/// as one shot in a format: 1 where it is the same whatever the coins of a run on as many qubits as
+/// as one shot in a format: 1 if it is the same for all random bits of a run on as many qubits as
 /// the circuit names.
 ///
-/// Reading, the flush and the faults are those of `run_sample`, but that 20 comes before the first
+/// Reading, the flush and the faults are those of `run_sample`, except that 20 comes before the first
 /// byte.
 pub fn run_deterministic<I: Input, O: Output>(
     alloc: Global,

@@ -1,11 +1,10 @@
-//! The command that tells the least number of errors that flip an observable and no detector.
-ghost use Rattle.std.specs.Prelude.{◌≡◌, ℕ, Bool, None, IfOk, IfErr};
+//! The command that finds the least number of errors that flip an observable and no detector.
+ghost use Rattle.std.specs.Prelude.{◌≡◌, ℕ, None, IfOk, IfErr};
 ghost use Rattle.stab_io.specs.Devices.{WritesAll};
 ghost use Rattle.stab_io.specs.declared.refusal.Refusal.TheVariants.{OutOfMemory};
 ghost use Rattle.stab_circuit.specs.Items.{Items};
 ghost use Rattle.stab_circuit.specs.Steps.{check_of};
 ghost use Rattle.stab_circuit.specs.Views.{circuit_items};
-ghost use Rattle.stab_jobs.specs.declared.error_letters.ErrorLetters.{ErrorLetters};
 ghost use Rattle.stab_errors.specs.ErrorTables.{IsErrorTable, StepsInside};
 ghost use Rattle.stab_tables.specs.FaultTables.{GoesOn, fault_of, unsure_of};
 ghost use Rattle.stab_tables.specs.Distances.{EndsDistance, IsDistanceBy, IsDistanceOf, IsDistanceText, IsRefusedFor, answer_text, distance_line, if_graphlike, none_line, of_errors};
@@ -38,7 +37,7 @@ fn search<P: Progress>(
     options: DistanceOptions,
     progress: &mut P,
 ) -> Result<Answer, Refusal>
-    ensures distance { IfOk result (λ a. (n : ℕ) (everywhere : Bool) (letters : ErrorLetters) (items : Items) → IsErrorTable n everywhere letters items errors.now → IsDistanceBy options.graphlike n items errors.now.errors options.most a) }
+    ensures distance { IfOk result (λ a. (n : ℕ) (items : Items) → IsErrorTable n items errors.now → IsDistanceBy options.graphlike n items errors.now.errors options.most a) }
     ensures err { IfErr result (λ r. r ≡ OutOfMemory) }
 {
     if options.graphlike {
@@ -51,7 +50,7 @@ fn search<P: Progress>(
 /// The least number of a circuit's errors that flip an observable and no detector.
 ///
 /// Refused with `NotDeterministic`, and the first detector or observable that is not the same for all
-/// coins, if there is such a one and `sure_only` doesn't leave it out; else with `OutOfMemory` alone.
+/// random bits, if there is such a one and `sure_only` doesn't leave it out; else with `OutOfMemory` alone.
 pub fn find_distance<P: Progress>(
     alloc: Global,
     circuit: &Circuit,
@@ -64,7 +63,14 @@ pub fn find_distance<P: Progress>(
     ensures refused { IfErr result (λ r. IsRefusedFor options.sure_only (circuit_items circuit.now) r.unsure r.fault) }
 {
     let n = circuit.qubits();
-    let errors = errors(alloc, circuit, n, options.everywhere, options.letters)?;
+    let errors = errors(
+        alloc,
+        circuit,
+        n,
+        options.everywhere,
+        options.letters,
+        options.graphlike,
+    )?;
     match refused_for(alloc, circuit, errors.sure(), options.sure_only) {
         Ok(None) => match search(alloc, &errors, options, progress) {
             Ok(answer) => Ok(Distance { errors, answer }),
@@ -78,7 +84,7 @@ pub fn find_distance<P: Progress>(
     }
 }
 
-/// Of which errors a distance is told.
+/// Of which errors a distance is.
 fn of_errors(graphlike: bool) -> &'static [u8]
     ensures value { result.now ≡ of_errors graphlike }
 {
@@ -96,7 +102,7 @@ fn if_graphlike(graphlike: bool) -> &'static [u8]
     if graphlike { of_errors(true) } else { b"" }
 }
 
-/// Writes the line of so many errors.
+/// Writes the line of this number of errors.
 fn write_count<O: Output>(out: &mut O, count: usize, graphlike: bool) -> Result<(), Refusal>
     ensures writes { WritesAll (O.seen out.old) (O.seen out.new) (distance_line count graphlike) result }
 {
@@ -105,7 +111,7 @@ fn write_count<O: Output>(out: &mut O, count: usize, graphlike: bool) -> Result<
     write_texts(out, &[b"distance ", count, of_errors(graphlike), b"\n"])
 }
 
-/// Writes that there is no set, of at most so many errors if a number is given.
+/// Writes that there is no set, of at most this many errors if a number is given.
 fn write_none<O: Output>(out: &mut O, most: Option<usize>, graphlike: bool) -> Result<(), Refusal>
     ensures writes { WritesAll (O.seen out.old) (O.seen out.new) (none_line most graphlike) result }
 {
@@ -162,7 +168,7 @@ fn send_answer<O: Output>(
     finish(out)
 }
 
-/// Writes the distance of a circuit, and flushes; or names a bit that is not sure.
+/// Writes the distance of a circuit, and flushes; or names a bit that is not deterministic.
 fn send_distance<O: Output, P: Progress>(
     alloc: Global,
     circuit: &Circuit,
@@ -178,24 +184,25 @@ fn send_distance<O: Output, P: Progress>(
 }
 
 /// Reads a circuit, and writes a least set of its errors that are unseen together: with all of them put in,
-/// a run has each detector as it is without them, and an observable not, whatever the coins, on as many
+/// a run has each detector as it is without them, and some observable different, for all random bits, on as many
 /// qubits as the circuit names. No set of fewer of these errors is unseen.
 ///
 /// The errors are those that the circuit marks by the gate `I`: X, Y and Z at each target, or those that
 /// its tag leaves (`X`, `Y`, `Z`, `XZ`), or with the tag `pairs` all products of two letters on each two
-/// targets. With `everywhere` they are those letters behind each gate and reset and in front of what is
-/// measured, all products behind a gate on two qubits, and each record wrong by itself. Letters
-/// `XAndZ` leave out Y, and products that have both kinds.
+/// targets. With `everywhere` they are those letters after each gate and reset and before what is
+/// measured, all products after a gate on two qubits, and each record wrong by itself. Letters
+/// `XAndZ` leave out Y, and products that have both kinds. With `graphlike`, the X and the Z of its letters take
+/// the place of an error that flips more than two detectors, and only errors are taken that flip at most two.
 ///
-/// The first line is `distance W of all errors`. Then each of the W errors has a line, such as
-/// `1207 3/0/2 X17*Z4 D24 L0`: how many steps are in front of it, the path of its item, its letters and
-/// qubits, or `M17` for a wrong record, and what it flips. If no set is unseen, there is one line,
-/// `none`; with `most`, if none of at most so many errors is, `none up to W`. With `graphlike`, errors
-/// are taken that flip at most two detectors, and the first line ends in ` of graph-like errors`.
+/// The first line is `distance W of all errors`, or `distance W of graph-like errors`. Then each of the W errors
+/// has a line, such as `1207 3/0/2 X17*Z4 D24 L0`: the number of steps in front of it, the path of its item, its
+/// letters and qubits, or `M17` for a wrong record, and what it flips. If no set is unseen, there is one line,
+/// `none`; with `most`, if none of at most `most` errors is, `none up to W`. Both end in ` of graph-like errors`
+/// with `graphlike`.
 ///
-/// If a detector or observable is not the same for all coins, refusal `NotDeterministic`, before anything
+/// If a detector or observable is not the same for all random bits, refusal `NotDeterministic`, before anything
 /// is written or searched, names the first; `sure_only` leaves out such ones. Reading, the flush and the
-/// other faults are those of `run_faults`. `progress` hears how many errors there are, and then each number of
+/// other faults are those of `run_faults`. `progress` hears of the number of errors, and then of each number of
 /// them that no unseen set has.
 pub fn run_distance<I: Input, O: Output, P: Progress>(
     alloc: Global,

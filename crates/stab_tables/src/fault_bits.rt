@@ -20,7 +20,7 @@ fn set_all(bits: &mut [bool], places: &[u32], value: bool)
 }
 
 /// Writes the shot of a row, of bits that are 0, and sets them back to 0.
-fn write_row<O: Output>(
+pub(crate) fn write_row<O: Output>(
     out: &mut O,
     format: Format,
     kinds: Kinds,

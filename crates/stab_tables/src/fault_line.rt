@@ -1,10 +1,10 @@
-//! The lines that tell a fault.
-ghost use Rattle.std.specs.Prelude.{◌≡◌, ◌++◌, decimal, map};
+//! The lines that say a fault.
+ghost use Rattle.std.specs.Prelude.{◌≡◌, ◌++◌, codes, decimal, map};
 ghost use Rattle.stab_io.specs.Devices.{WritesAll};
-ghost use Rattle.stab_tables.specs.FaultLines.{bit_text, fault_line, told_text, unsure_line};
-ghost use Rattle.stab_tables.specs.Texts.{texts_joined};
+ghost use Rattle.stab_tables.specs.FaultLines.{bit_text, fault_line, told_text, unsure_bit, unsure_line};
+ghost use Rattle.stab_tables.specs.Texts.{placed_coin, texts_joined};
 
-use crate::unsure::{Bit, FaultsRefused, Unsure};
+use crate::unsure::{Bit, Decider, FaultsRefused, Unsure};
 use stab_circuit::write_path;
 use stab_io::{Fault, Output, Refusal, write_all};
 
@@ -18,8 +18,8 @@ pub fn write_texts<O: Output>(out: &mut O, texts: &[&[u8]]) -> Result<(), Refusa
     Ok(())
 }
 
-/// Writes the line that tells a fault: `stabsim: line L: refused N Name`, without `line L: `
-/// where the fault has no line, and a line feed. It takes no memory.
+/// Writes the line that says a fault: `stabsim: line L: refused N Name`, without `line L: `
+/// if the fault has no line, and a line feed. It takes no memory.
 ///
 /// Refusal `WriteFault` after a prefix of the line.
 pub fn write_fault<O: Output>(out: &mut O, fault: Fault) -> Result<(), Refusal>
@@ -60,21 +60,39 @@ fn bit_name(bit: Bit) -> (&'static [u8], usize)
     }
 }
 
-/// Writes the line that names a detector or observable that is not the same for all coins.
-fn write_unsure<O: Output>(out: &mut O, unsure: &Unsure) -> Result<(), Refusal>
-    ensures writes { WritesAll (O.seen out.old) (O.seen out.new) (unsure_line unsure.now) result }
+/// Writes a coin after a space, with the path of the item that takes it, such as ` c40@66/3`.
+pub(crate) fn write_decider<O: Output>(out: &mut O, decider: &Decider) -> Result<(), Refusal>
+    ensures writes { WritesAll (O.seen out.old) (O.seen out.new) (codes " " ++ placed_coin decider.now.coin decider.now.path) result }
+{
+    let mut digits = itoa::Buffer::new();
+    write_texts(out, &[b" c", digits.format(decider.coin).as_bytes(), b"@"])?;
+    write_path(out, &decider.path)
+}
+
+/// Writes what a detector or observable is called, with the path of its item.
+fn write_unsure_bit<O: Output>(out: &mut O, unsure: &Unsure) -> Result<(), Refusal>
+    ensures writes { WritesAll (O.seen out.old) (O.seen out.new) (unsure_bit unsure.now) result }
 {
     let (name, number) = bit_name(unsure.bit);
     let mut digits = itoa::Buffer::new();
     let digits = digits.format(number).as_bytes();
     write_texts(out, &[b"stabsim: ", name, digits, b", item "])?;
-    write_path(out, &unsure.path)?;
-    write_all(out, b", is not the same for all coins\n")
+    write_path(out, &unsure.path)
 }
 
-/// Writes the line that tells a fault, as `write_fault` does, and behind it, where the fault names a
-/// detector or observable, a line such as `stabsim: detector 3, item 0/2, is not the same for all
-/// coins`. It takes no memory.
+/// Writes the line that names a detector or observable that is not the same for all coins.
+fn write_unsure<O: Output>(out: &mut O, unsure: &Unsure) -> Result<(), Refusal>
+    ensures writes { WritesAll (O.seen out.old) (O.seen out.new) (unsure_line unsure.now) result }
+{
+    write_unsure_bit(out, unsure)?;
+    write_all(out, b", is not the same for all coins:")?;
+    write_decider(out, &unsure.decider)?;
+    write_all(out, b" decides it\n")
+}
+
+/// Writes the line that says a fault, as `write_fault` does, and after it, if the fault names a detector
+/// or observable, a line such as `stabsim: detector 3, item 0/2, is not the same for all coins: c1@0/1
+/// decides it`, with the first coin that decides it. It takes no memory.
 ///
 /// Refusal `WriteFault` after a prefix of the lines.
 pub fn write_refused<O: Output>(out: &mut O, refused: &FaultsRefused) -> Result<(), Refusal>

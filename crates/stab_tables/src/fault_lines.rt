@@ -76,7 +76,7 @@ fn write_site<O: Output>(
 }
 
 /// Writes the lines of the faults at a step, of this number and path, from this row of the table on;
-/// and gives the row behind them.
+/// and gives the row after them.
 fn write_step<O: Output>(
     out: &mut O,
     kinds: Kinds,

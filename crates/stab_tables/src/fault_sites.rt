@@ -9,7 +9,7 @@ ghost use Rattle.stab_tables.specs.inner.FaultSites.{factor_sites, site_found, s
 use stab_circuit::{Factor, Step};
 use stab_tableau::Gate;
 
-/// A place for faults: a qubit, in front of a step or behind it.
+/// A place for faults: a qubit, in front of a step or after it.
 #[derive(Clone, Copy, Debug, PartialEq, Eq)]
 pub(crate) struct Site {
     pub qubit: usize,
@@ -26,7 +26,7 @@ fn in_front(qubit: usize) -> Site
     }
 }
 
-/// A qubit behind a step.
+/// A qubit after a step.
 fn behind(qubit: usize) -> Site
     ensures value { site_shown result ≡ behind qubit }
 {
@@ -36,14 +36,14 @@ fn behind(qubit: usize) -> Site
     }
 }
 
-/// The place of this number, where there is one.
+/// The place of this number, if there is one.
 fn one_site(site: Site, number: usize) -> Option<Site>
     ensures value { site_found result ≡ slice_get (site_shown site ∷ []) number }
 {
     if number == 0 { Some(site) } else { None }
 }
 
-/// The place of this number, where there are two.
+/// The place of this number, if there are two.
 fn two_sites(first: Site, second: Site, number: usize) -> Option<Site>
     ensures value { site_found result ≡ slice_get (site_shown first ∷ site_shown second ∷ []) number }
 {
@@ -54,7 +54,7 @@ fn two_sites(first: Site, second: Site, number: usize) -> Option<Site>
     }
 }
 
-/// The place of this number in front of the factors of a product and behind them.
+/// The place of this number in front of the factors of a product and after them.
 fn factor_site(factors: &[Factor], number: usize) -> Option<Site>
     ensures value { site_found result ≡ slice_get (flat_map factor_sites factors.now) number }
 {
@@ -116,7 +116,7 @@ fn any_site(step: Step, number: usize) -> Option<Site>
     }
 }
 
-/// The place of this number, counted from 0, where faults are asked for at a step: everywhere, or
+/// The place of this number, counted from 0, if faults are asked for at a step: everywhere, or
 /// where it marks them.
 pub(crate) fn site_at(step: Step, everywhere: bool, number: usize) -> Option<Site>
     ensures value { site_found result ≡ slice_get (sites_at everywhere (step_shown step.entry)) number }

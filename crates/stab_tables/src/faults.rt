@@ -1,4 +1,4 @@
-//! The command that tells which detectors and observables each fault flips.
+//! The command that says which detectors and observables each fault flips.
 ghost use Rattle.std.specs.Prelude.{◌≡◌, ◌<◌, ℕ, false, true, None, length, slice_index_or, IfOk, IfErr, IfSome, IfNone};
 ghost use Rattle.stab_io.specs.declared.refusal.Refusal.TheVariants.{OutOfMemory};
 ghost use Rattle.stab_io.specs.Refusals.{whole};
@@ -9,15 +9,18 @@ ghost use Rattle.stab_regions.specs.Faults.{AreSure, IsFaultTable, IsSure, bits_
 ghost use Rattle.stab_tables.specs.Deterministic.{kinds_of};
 ghost use Rattle.stab_tables.specs.declared.unsure.Bit.TheVariants.{Detector, Observable};
 ghost use Rattle.stab_jobs.specs.declared.fault_layout.FaultLayout.TheVariants.{Lines, Shots};
-ghost use Rattle.stab_tables.specs.FaultTables.{EndsFaults, GoesOn, IsFirstUnsure, IsTableText, adds_to, bit_of, fault_of, steps_before_bit, table_text, unsure_of};
+ghost use Rattle.stab_tables.specs.FaultTables.{EndsFaults, GoesOn, IsFirstDecider, IsFirstUnsure, IsTableText, adds_to, bit_of, fault_of, steps_before_bit, table_text, unsure_of};
 ghost use Rattle.stab_tables.specs.inner.Faults.{IsUnsureAt, PassesStep, SendsAtOnce};
 
+use crate::coin_rows::placed_coin;
+use crate::deciders::deciders;
 use crate::deterministic::kinds_of;
 use crate::ending::finish;
 use crate::fault_bits::write_shots;
 use crate::fault_lines::write_lines;
-use crate::unsure::{Bit, FaultsRefused, Unsure};
+use crate::unsure::{Bit, Decider, FaultsRefused, Unsure};
 use stab_circuit::{Circuit, Cursor, Step, read_circuit};
+use stab_coins::CoinRuns;
 use stab_io::{Fault, Input, Output, Refusal};
 use stab_jobs::FaultLayout;
 use stab_regions::{FaultTable, faults};
@@ -37,7 +40,7 @@ fn first_zero(bits: &[bool]) -> Option<usize>
     None
 }
 
-/// The bit of a number, where there are so many detectors.
+/// The bit of a number, if there are this many detectors.
 pub(crate) fn bit_of(detectors: usize, number: usize) -> Bit
     ensures value { result ≡ bit_of detectors number }
 {
@@ -68,7 +71,7 @@ fn adds_to(number: usize, step: Step) -> bool
     }
 }
 
-/// What a detector is called among the steps behind one, or none where that one is it.
+/// What a detector is called among the steps after one, or none if that one is it.
 fn detector_behind(number: usize, step: Step) -> Option<Bit>
     ensures passes { PassesStep (Detector number) (step_shown step.entry) result }
 {
@@ -81,7 +84,7 @@ fn detector_behind(number: usize, step: Step) -> Option<Bit>
     }
 }
 
-/// What an observable is called among the steps behind one, or none where that one adds to it.
+/// What an observable is called among the steps after one, or none if that one adds to it.
 fn observable_behind(number: usize, step: Step) -> Option<Bit>
     ensures passes { PassesStep (Observable number) (step_shown step.entry) result }
 {
@@ -92,7 +95,7 @@ fn observable_behind(number: usize, step: Step) -> Option<Bit>
     }
 }
 
-/// What a bit is called among the steps behind one, or none where that one makes it.
+/// What a bit is called among the steps after one, or none if that one makes it.
 fn bit_behind(bit: Bit, step: Step) -> Option<Bit>
     ensures passes { PassesStep bit (step_shown step.entry) result }
 {
@@ -102,7 +105,7 @@ fn bit_behind(bit: Bit, step: Step) -> Option<Bit>
     }
 }
 
-/// The number of the first step that makes a bit, or of all steps where there is none.
+/// The number of the first step that makes a bit, or of all steps if there is none.
 pub(crate) fn first_step(alloc: Global, circuit: &Circuit, bit: Bit) -> Result<usize, Refusal>
     requires checked { check_of (circuit_items circuit.now) ≡ None }
     ensures value { IfOk result (λ t. t ≡ length (steps_before_bit bit (unroll (circuit_items circuit.now)))) }
@@ -121,7 +124,36 @@ pub(crate) fn first_step(alloc: Global, circuit: &Circuit, bit: Bit) -> Result<u
     Ok(number)
 }
 
-/// The bit of a number that is not sure, with the path of its first item.
+/// The first coin that decides the bit of a number that is not sure, or why it was not found.
+fn find_decider(alloc: Global, circuit: &Circuit, number: usize) -> Result<Decider, Fault>
+    requires checked { check_of (circuit_items circuit.now) ≡ None }
+    requires in_range { number < bits_in (circuit_items circuit.now) }
+    requires not_sure { IsSure (qubits_of (circuit_items circuit.now)) (circuit_items circuit.now) number → ⊥ }
+    ensures value { IfOk result (λ d. IsFirstDecider (circuit_items circuit.now) number d) }
+    ensures err { IfErr result (λ f. f ≡ whole OutOfMemory) }
+{
+    let runs = CoinRuns::of(alloc, circuit, circuit.qubits())?;
+    let lists = deciders(alloc, circuit, &runs)?;
+    let places = lists[number].as_slice();
+    let coin = placed_coin(circuit, &runs, places[0]);
+    Ok(coin.decider())
+}
+
+/// The first coin that decides the bit of a number that is not sure.
+fn first_decider(alloc: Global, circuit: &Circuit, number: usize) -> Result<Decider, Refusal>
+    requires checked { check_of (circuit_items circuit.now) ≡ None }
+    requires in_range { number < bits_in (circuit_items circuit.now) }
+    requires not_sure { IsSure (qubits_of (circuit_items circuit.now)) (circuit_items circuit.now) number → ⊥ }
+    ensures value { IfOk result (λ d. IsFirstDecider (circuit_items circuit.now) number d) }
+    ensures err { IfErr result (λ r. r ≡ OutOfMemory) }
+{
+    match find_decider(alloc, circuit, number) {
+        Ok(decider) => Ok(decider),
+        Err(fault) => Err(fault.refusal),
+    }
+}
+
+/// The bit of a number that is not sure, with the path of its first item and the first coin that decides it.
 fn unsure_at(
     alloc: Global,
     circuit: &Circuit,
@@ -130,6 +162,7 @@ fn unsure_at(
 ) -> Result<Unsure, Refusal>
     requires checked { check_of (circuit_items circuit.now) ≡ None }
     requires detectors { detectors ≡ detectors_of (unroll (circuit_items circuit.now)) }
+    requires in_range { number < bits_in (circuit_items circuit.now) }
     requires not_sure { IsSure (qubits_of (circuit_items circuit.now)) (circuit_items circuit.now) number → ⊥ }
     ensures value { IfOk result (λ u. IsUnsureAt (circuit_items circuit.now) number u) }
     ensures err { IfErr result (λ r. r ≡ OutOfMemory) }
@@ -137,10 +170,11 @@ fn unsure_at(
     let bit = bit_of(detectors, number);
     let step = first_step(alloc, circuit, bit)?;
     let path = circuit.item_of_step(step).path;
-    Ok(Unsure { bit, path })
+    let decider = first_decider(alloc, circuit, number)?;
+    Ok(Unsure { bit, path, decider })
 }
 
-/// The first of a circuit's bits that is not sure.
+/// The first of a circuit's bits that is not deterministic.
 fn first_unsure(alloc: Global, circuit: &Circuit, sure: &[bool]) -> Result<Option<Unsure>, Refusal>
     requires checked { check_of (circuit_items circuit.now) ≡ None }
     requires sure { AreSure (qubits_of (circuit_items circuit.now)) (circuit_items circuit.now) sure.now }
@@ -218,7 +252,7 @@ fn send_table<O: Output>(
     }
 }
 
-/// The bit that a circuit is refused for, if any: the first that is not sure, unless such bits are left out.
+/// The bit that a circuit is refused for, if any: the first that is not deterministic, unless such bits are left out.
 pub(crate) fn refused_for(
     alloc: Global,
     circuit: &Circuit,
@@ -238,7 +272,7 @@ pub(crate) fn refused_for(
     }
 }
 
-/// Writes the table of a circuit's faults, and flushes; or names a bit that is not sure.
+/// Writes the table of a circuit's faults, and flushes; or names a bit that is not deterministic.
 fn send_faults<O: Output>(
     alloc: Global,
     circuit: &Circuit,
@@ -262,20 +296,20 @@ fn send_faults<O: Output>(
 }
 
 /// Reads a circuit, and writes which of its detectors and observables each fault flips: a Pauli X or
-/// Z that is put in at a place between two steps, and flips a bit where the run without it gives the
-/// other one, whatever the coins, on as many qubits as the circuit names.
+/// Z that is put in at a place between two steps, and flips a bit if the run without it gives the
+/// other one, for all random bits, on as many qubits as the circuit names.
 ///
-/// The faults are those at the targets of the gate `I`; or, `everywhere`, those behind each target of
-/// each gate and reset, and in front of each measured qubit and behind it. They come in the order of
+/// The faults are those at the targets of the gate `I`; or, `everywhere`, those after each target of
+/// each gate and reset, and in front of each measured qubit and after it. They come in the order of
 /// the steps, and X before Z. With `FaultLayout::Lines` each has a line, such as `1207 3/0/2 X17 D24 L0`: how
 /// many steps are in front of it, the path of its item, its letter and qubit, and what it flips. With
 /// `FaultLayout::Shots` each has a shot, of all detectors and then all observables. Faults that go wrong
 /// in one run, in whatever order they are listed, flip what an odd number of their lines or shots name.
 ///
-/// Where one of these is not the same for all coins, it has no such bit: refusal `NotDeterministic`,
-/// before anything is written, names the first. Where `sure_only` asks for it, such ones are left
-/// out: no fault flips them. Reading, the flush and the other faults are those of `run_sample`, but
-/// that 20 comes before the first byte.
+/// If one of these is not the same for all coins, it has no such bit: refusal `NotDeterministic`,
+/// before anything is written, names the first, and the first coin that decides it. If `sure_only` asks
+/// for it, such ones are left out: no fault flips them. Reading, the flush and the other faults are
+/// those of `run_sample`, except that 20 comes before the first byte.
 pub fn run_faults<I: Input, O: Output>(
     alloc: Global,
     input: &mut I,

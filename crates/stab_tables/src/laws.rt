@@ -4,20 +4,20 @@ ghost use Rattle.stab_tables.specs.Checks.{NumbersAreOfRuns};
 ghost use Rattle.stab_tables.specs.Reasons.{SureHasNoDecider};
 ghost use Rattle.stab_tables.specs.Rows.{SameGroupSameLines};
 
-/// Two stabiliser groups are one exactly where the lines of their reduced rows are the same: so texts that `stabilisers`
+/// Two stabiliser groups are one if and only if the lines of their reduced rows are the same: so texts that `stabilisers`
 /// wrote can be compared in place of states.
 pub fn same_group_same_lines()
     ensures law { SameGroupSameLines }
 {}
 
-/// The numbers that `check` writes are those of any run of the circuit, whatever its coins: so many
-/// records, detectors and observables, and so many coins that it uses up.
+/// The numbers that `check` writes are those of any run of the circuit, for all random bits: how many
+/// records, detectors and observables it has, and how many coins it uses up.
 pub fn numbers_are_of_runs()
     ensures law { NumbersAreOfRuns }
 {}
 
-/// A detector or observable is the same whatever the coins exactly if none of the coins of a circuit's table flips it: so it is left
-/// out by `run_explain` exactly if `run_deterministic` writes a 1 for it.
+/// A detector or observable is the same for all random bits if and only if none of the coins of a circuit's table flips it: so it is left
+/// out by `run_explain` if and only if `run_deterministic` writes a 1 for it.
 pub fn sure_has_no_decider()
     ensures law { SureHasNoDecider }
 {}

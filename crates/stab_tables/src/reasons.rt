@@ -1,4 +1,4 @@
-//! Why detectors and observables are not the same for all coins: the lines that name the coins which decide each.
+//! Why detectors and observables are not the same for all random bits: the lines that name the coins which decide each.
 ghost use Rattle.std.specs.Prelude.{◌≡◌, ℕ, ◌<◌, ◌++◌, true, None, codes, decimal, length, All, IfOk, IfErr};
 ghost use Rattle.std.specs.List.{flat_map};
 ghost use Rattle.stab_io.specs.Devices.{WritesAll, WritesAllOrFault};
@@ -11,30 +11,21 @@ ghost use Rattle.stab_coins.specs.Runs.{AreCoinRuns};
 ghost use Rattle.stab_coins.specs.Tables.{IsCoinTable, table_of};
 ghost use Rattle.stab_tables.specs.Endings.{Sends, SendsUnflushed};
 ghost use Rattle.stab_tables.specs.FaultTables.{path_of_bit, steps_before_bit};
-ghost use Rattle.stab_tables.specs.Reasons.{EndsExplain, bit_name, decider_text, has_bit, number_of_bit, reason_text, reasons_text};
+ghost use Rattle.stab_tables.specs.Reasons.{EndsExplain, bit_name, coordinates_at, decider_text, has_bit, number_of_bit, reason_text, reasons_text};
 ghost use Rattle.stab_tables.specs.inner.CoinRows.{coin_at, decides};
 ghost use Rattle.stab_distance.specs.inner.Indexes.{listed};
 
 use crate::coin_rows::placed_coin;
 use crate::deciders::deciders;
 use crate::ending::finish;
-use crate::fault_line::write_texts;
+use crate::fault_line::{write_decider, write_texts};
 use crate::faults::{bit_of, first_step};
 use crate::unsure::Bit;
 use itoa::Buffer;
-use stab_circuit::{Circuit, Path, read_circuit, write_path};
+use stab_circuit::{Circuit, Path, read_circuit, write_item_coordinates, write_path};
 use stab_coins::CoinRuns;
 use stab_io::{Fault, Input, Output, Refusal, write_all};
 use std::alloc::Global;
-
-/// Writes a coin, with the path of the item that takes it.
-fn write_decider<O: Output>(out: &mut O, coin: usize, path: &Path) -> Result<(), Refusal>
-    ensures writes { WritesAll (O.seen out.old) (O.seen out.new) (codes " c" ++ (decimal coin ++ (codes "@" ++ path_text path.now))) result }
-{
-    let mut digits = Buffer::new();
-    write_texts(out, &[b" c", digits.format(coin).as_bytes(), b"@"])?;
-    write_path(out, path)
-}
 
 /// Writes the coins at places among those that decide, each with the path of the item that takes it.
 fn write_deciders<O: Output>(
@@ -50,7 +41,7 @@ fn write_deciders<O: Output>(
 {
     for place in places {
         let coin = placed_coin(circuit, runs, *place);
-        write_decider(out, coin.coin, &coin.path)?;
+        write_decider(out, &coin.decider())?;
     }
     Ok(())
 }
@@ -65,7 +56,7 @@ fn bit_name(bit: Bit) -> (&'static [u8], usize)
     }
 }
 
-/// Writes the front of a bit's line: its name, and a path.
+/// Writes a bit's name and a path.
 fn write_bit<O: Output>(out: &mut O, bit: Bit, path: &Path) -> Result<(), Refusal>
     ensures writes { WritesAll (O.seen out.old) (O.seen out.new) (bit_name bit ++ (codes " " ++ path_text path.now)) result }
 {
@@ -73,6 +64,30 @@ fn write_bit<O: Output>(out: &mut O, bit: Bit, path: &Path) -> Result<(), Refusa
     let mut digits = Buffer::new();
     write_texts(out, &[name, digits.format(number).as_bytes(), b" "])?;
     write_path(out, path)
+}
+
+/// Writes the coordinates of the detector at a path after a space, as its line is printed; nothing if there are none.
+fn write_coordinates<O: Output>(out: &mut O, circuit: &Circuit, path: &Path) -> Result<(), Refusal>
+    ensures writes { WritesAll (O.seen out.old) (O.seen out.new) (coordinates_at (circuit_items circuit.now) path.now) result }
+{
+    match circuit.item(*path) {
+        Ok(item) => write_item_coordinates(out, item),
+        // The path is that of an item.
+        Err(_) => Ok(()),
+    }
+}
+
+/// Writes the front of a bit's line: its name, and the path and the coordinates of its first item.
+fn write_front<O: Output>(
+    out: &mut O,
+    circuit: &Circuit,
+    bit: Bit,
+    path: &Path,
+) -> Result<(), Refusal>
+    ensures writes { WritesAll (O.seen out.old) (O.seen out.new) ((bit_name bit ++ (codes " " ++ path_text path.now)) ++ coordinates_at (circuit_items circuit.now) path.now) result }
+{
+    write_bit(out, bit, path)?;
+    write_coordinates(out, circuit, path)
 }
 
 /// Writes a bit's line, by the path of its first item and the places of the coins that decide it.
@@ -87,9 +102,9 @@ fn write_line<O: Output>(
     requires checked { check_of (circuit_items circuit.now) ≡ None }
     requires runs { AreCoinRuns (qubits_of (circuit_items circuit.now)) (circuit_items circuit.now) runs.now }
     requires in_range { All (λ k. k < length runs.now.numbers.items) places.now }
-    ensures writes { WritesAll (O.seen out.old) (O.seen out.new) ((bit_name bit ++ (codes " " ++ path_text path.now)) ++ (flat_map (λ k. decider_text (circuit_items circuit.now) (coin_at (circuit_items circuit.now) k)) places.now ++ codes "\n")) result }
+    ensures writes { WritesAll (O.seen out.old) (O.seen out.new) (((bit_name bit ++ (codes " " ++ path_text path.now)) ++ coordinates_at (circuit_items circuit.now) path.now) ++ (flat_map (λ k. decider_text (circuit_items circuit.now) (coin_at (circuit_items circuit.now) k)) places.now ++ codes "\n")) result }
 {
-    write_bit(out, bit, path)?;
+    write_front(out, circuit, bit, path)?;
     write_deciders(out, circuit, runs, places)?;
     write_all(out, b"\n")
 }
@@ -106,7 +121,7 @@ fn send_line<O: Output>(
     requires checked { check_of (circuit_items circuit.now) ≡ None }
     requires runs { AreCoinRuns (qubits_of (circuit_items circuit.now)) (circuit_items circuit.now) runs.now }
     requires in_range { All (λ k. k < length runs.now.numbers.items) places.now }
-    ensures writes { WritesAllOrFault (O.seen out.old) (O.seen out.new) ((bit_name bit ++ (codes " " ++ path_text path.now)) ++ (flat_map (λ k. decider_text (circuit_items circuit.now) (coin_at (circuit_items circuit.now) k)) places.now ++ codes "\n")) result }
+    ensures writes { WritesAllOrFault (O.seen out.old) (O.seen out.new) (((bit_name bit ++ (codes " " ++ path_text path.now)) ++ coordinates_at (circuit_items circuit.now) path.now) ++ (flat_map (λ k. decider_text (circuit_items circuit.now) (coin_at (circuit_items circuit.now) k)) places.now ++ codes "\n")) result }
 {
     match write_line(out, circuit, runs, bit, path, places) {
         Ok(()) => Ok(()),
@@ -161,7 +176,7 @@ pub fn has_bit(circuit: &Circuit, bit: Bit) -> bool
     }
 }
 
-/// The number of a bit that a circuit has among all its detectors and then all observables, which are so many.
+/// The number of a bit that a circuit has among all its detectors and then all observables, which are this many.
 fn bit_number(circuit: &Circuit, bit: Bit, bits: usize) -> usize
     requires has { has_bit (circuit_items circuit.now) bit ≡ true }
     requires all { bits ≡ bits_in (circuit_items circuit.now) }
@@ -194,7 +209,7 @@ pub fn write_why<O: Output>(
     write_reason(alloc, out, circuit, &runs, number, places)
 }
 
-/// Writes the line of each detector and then each observable that is not the same for all coins.
+/// Writes the line of each detector and then each observable that is not the same for all random bits.
 fn write_reasons<O: Output>(
     alloc: Global,
     out: &mut O,
@@ -230,9 +245,9 @@ fn send_reasons<O: Output>(alloc: Global, circuit: &Circuit, out: &mut O) -> Res
 }
 
 /// Reads a circuit, and writes of each detector and then each observable that is not the same for all coins a line such as `D37 69
-/// c12@12 c40@66/3`: its name, the path of its `DETECTOR` or of the first `OBSERVABLE_INCLUDE` of its number, and the coins that
-/// decide it, ascending, each with the path of the item that takes it. A bit is the same for all coins exactly if none decides it:
-/// `laws::sure_has_no_decider`.
+/// (1, 3, 2) c12@12 c40@66/3`: its name, the path of its `DETECTOR` or of the first `OBSERVABLE_INCLUDE` of its number, the
+/// coordinates of that `DETECTOR` if it has any, without those of `SHIFT_COORDS`, and the coins that decide it, ascending, each with
+/// the path of the item that takes it. A bit is the same for all coins exactly if none decides it: `laws::sure_has_no_decider`.
 ///
 /// Reading, the flush and the faults are those of `run_sample`.
 pub fn run_explain<I: Input, O: Output>(

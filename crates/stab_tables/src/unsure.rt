@@ -10,6 +10,15 @@ pub enum Bit {
     Observable(usize),
 }
 
+/// A coin that decides a detector or observable.
+#[derive(Clone, Copy, Debug, PartialEq, Eq)]
+pub struct Decider {
+    /// Its number.
+    pub coin: usize,
+    /// Where the item is that takes it: a measurement or reset.
+    pub path: Path,
+}
+
 /// A detector or observable that is not the same for all coins.
 #[derive(Clone, Copy, Debug, PartialEq, Eq)]
 pub struct Unsure {
@@ -17,6 +26,8 @@ pub struct Unsure {
     /// Where the item is that makes it: its `DETECTOR`, or the first `OBSERVABLE_INCLUDE` of its
     /// number.
     pub path: Path,
+    /// The first coin that decides it.
+    pub decider: Decider,
 }
 
 /// Why no table of faults, or no distance, was written.
@@ -24,7 +35,7 @@ pub struct Unsure {
 pub struct FaultsRefused {
     pub fault: Fault,
     /// With refusal `NotDeterministic`, the first detector or observable that is not the same for
-    /// all coins, in the order of a shot's bits; with any other none.
+    /// all random bits, in the order of a shot's bits; with any other none.
     pub unsure: Option<Unsure>,
 }
 

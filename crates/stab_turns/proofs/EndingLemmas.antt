@@ -18,12 +18,12 @@ use Rattle.stab_copies.specs.declared.checkpoint.Checkpoint.{Checkpoint}
 use Rattle.stab_copies.specs.Checkpoints.{IsCheckpoint}
 use Rattle.stab_turns.specs.LedFrames.{AreInOrder, IsDropped, Ending, over, gone, dropped}
 
--- a frame turns nothing at a point, where it goes on without letters; from there on it is gone, whoever looks back no further than the reach
+-- a frame turns nothing at a point, if it goes on without letters; from there on it is gone, whoever looks back no further than the reach
 pub record IsEnded (n reach : ℕ) (a : Point) (last new : WalkState) : Type 0 where
   pub quiet : IsTurned n last.letters (member a.trace) (member a.trace)
   pub blank : (base : ℕ) → IsGone n reach (frame_at base new)
 
--- points of a run behind a place of it
+-- points of a run after a place of it
 pub rest-point : (n : ℕ) (coins : ℕ → Bool) (xs back : List Step) (i : ℕ) → drop i xs ≡ back → (m : ℕ)
     → point_after n coins (take (i + m) xs) origin ≡ point_after n coins (take m back) (point_after n coins (take i xs) origin)
 rest-point n coins xs back i behind m =
@@ -31,7 +31,7 @@ rest-point n coins xs back i behind m =
     ∙ after-append n coins (take i xs) (take m (drop i xs)) origin
     ∙ ap (λ zs. point_after n coins (take m zs) (point_after n coins (take i xs) origin)) behind
 
--- copies in order are behind where they begin
+-- copies in order are after where they begin
 pub order-from : (from end : ℕ) (cs : List Checkpoint) (j : ℕ) → AreInOrder from end cs → IfSome (slice_get cs j) (λ c. from ≤ c.step)
 order-from from end [] j order = tt
 order-from from end (c ∷ cs) zero order = order.0
@@ -62,7 +62,7 @@ stabiliser-quiet n coins xs back from steps c reach last new behind fits is le a
     place : c.step ≡ from + steps
     place = omega (arith, le, at)
 
--- it went over all, past all copies, or it ended at a point where it turns nothing
+-- it passed all, past all copies, or it ended at a point where it turns nothing
 pub endings : (n reach : ℕ) (back : List Step) (from steps : ℕ) (kept : List Checkpoint) (turned : List TableauState) (last new : WalkState) (coins : ℕ → Bool) (xs : List Step)
     → drop from xs ≡ back → All (StepFits n) xs → All (IsCheckpoint n coins xs) kept → AreInOrder from (length xs) kept → length last.letters ≡ n
     → Ending n reach back from steps kept turned last new

@@ -1,4 +1,4 @@
--- Flipped lists: bits inverted where they lie, one after another, as far as there are flips.
+-- Flipped lists: bits inverted in place, one after another, as far as there are flips.
 use Rattle.std.proofs.Common.{◌≡◌, ℕ, zero, suc, ◌+◌, ◌<◌, ◌≤◌, min, refl, sym, ◌∙◌, ap, Bool, true, false, not, List, [], ◌∷◌, length, take, set, get_or, arith}
 use Rattle.std.proofs.Math.Bool.{beq}
 use Rattle.stab_letters.specs.Letters.{◌⊕◌}

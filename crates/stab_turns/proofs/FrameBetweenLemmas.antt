@@ -1,4 +1,4 @@
--- A frame between two runs: it goes over steps that both have, past Pauli gates that stand in the one or the other, and turns copies.
+-- A frame between two runs: it passes steps that both have, past Pauli gates that are in the one or the other, and turns copies.
 use Rattle.std.proofs.Common.{◌≡◌, ℕ, ◌+◌, ◌≤◌, refl, sym, ◌∙◌, ap, subst, Bool, false, List, ◌++◌, append-nil, All, length, map, take, drop, replicate, Option, arith}
 use Rattle.std.proofs.lemmas.List.{drop-drop, drop_at, take_at, take-append-drop, length-append, length-drop, replicate-append-replicate}
 use Rattle.std.proofs.lemmas.List.Elements.{All-take, All-drop}
@@ -40,7 +40,7 @@ use Rattle.stab_turns.specs.PassedPlaces.{IsFrameBetween}
 use Rattle.stab_turns.proofs.LeadingLemmas.{flags-counted, rest-flags}
 use Rattle.stab_turns.proofs.SameNotesLemmas.{IsReached, reached-on, notes-apart, flags-apart, gates-free}
 
--- the steps of a run up to a place are some, where so many of those behind another place are
+-- the steps of a run up to a place are some, if this many of those after another place are
 
 steps-on : (i m : ℕ) (xs zs : List Step) → take m (drop i xs) ≡ zs → take (i + m) xs ≡ take i xs ++ zs
 steps-on i m xs zs is = take-add i m xs ∙ ap (λ ws. take i xs ++ ws) is
@@ -57,7 +57,7 @@ module _ {n : ℕ} {coins : ℕ → Bool} {xs ys : List Step} {strings : ℕ →
   reached : IsReached n coins here
   reached = record { steps = take old xs; fit = All-take (StepFits n) old xs b.old_fit; is = refl }
 
-  -- it goes over steps that both have
+  -- it passes steps that both have
   module _ (m : ℕ) (v : WalkState) (shared : take m (drop old xs) ≡ take m (drop new ys)) (old_within : old + m ≤ length xs) (new_within : new + m ≤ length ys)
       (walked : WalksOver n strings (take m (drop new ys)) w v) (enough : AreEnoughBy n strings free (drop new ys) m w) where
     abbrev piece : List Step
@@ -192,7 +192,7 @@ module _ {n : ℕ} {coins : ℕ → Bool} {xs ys : List Step} {strings : ℕ →
         ∙ sym (ap lengths_of b.fronts.given ∙ same-lengths (outputs n coins (take old xs) origin) (joined front w.flips));
   }
 
--- it begins behind steps that both have
+-- it begins after steps that both have
 
 pub between-first : (n : ℕ) (coins : ℕ → Bool) (xs ys : List Step) (strings : ℕ → Option (List Letter)) (free : List Bool) (first number : ℕ) (from : Lengths) (w : WalkState)
     → All (StepFits n) xs → All (StepFits n) ys → first ≤ length xs → first ≤ length ys → take first xs ≡ take first ys → from ≡ lengths_of (outputs n coins (take first xs) origin)

@@ -1,4 +1,4 @@
--- Led frames: a frame that went over some of the steps, over some more, and past the next copy.
+-- Led frames: a frame that passed some of the steps, then some more, and the next copy.
 use Rattle.std.proofs.Common.{◌≡◌, ◌≢◌, ℕ, suc, ◌+◌, ◌-◌, ◌^◌, ◌<◌, ◌≤◌, refl, sym, ◌∙◌, ap, subst, Bool, true, false, List, [], ◌∷◌, ◌++◌, append-nil, length, replicate, take, drop, slice_get, get_or, All, Option, Some, ◌⊎◌, inl, inr, arith}
 use Rattle.std.proofs.Math.Seq.{take-add, take-suc, drop-cons, drop-append_seam}
 use Rattle.std.proofs.lemmas.List.{take-append-drop, length-take, length-drop, length-append, drop-drop}
@@ -48,7 +48,7 @@ order-first at end j cs c is lt order =
 pub next-copy : (j k : ℕ) (cs : List Checkpoint) (c : Checkpoint) → k ≡ length (take j cs) → c ≡ get_or cs j c → j < length cs → slice_get cs k ≡ Some c
 next-copy j k cs c count is lt = ap (slice_get cs) {y = j} (omega (arith, count, length-take j cs, lt)) ∙ slice_get_read cs (length cs) j c refl lt is
 
--- copies behind a step are behind what was gone over before
+-- copies after a step are past what was passed before
 order-behind : (from steps at end : ℕ) (cs : List Checkpoint) → from + steps ≤ at → AreInOrder at end cs → All (λ c. steps ≤ c.step - from) cs
 order-behind from steps at end [] le order = All-nil (λ c. steps ≤ c.step - from)
 order-behind from steps at end (c ∷ more) le order =
@@ -65,7 +65,7 @@ behind-copy from at end j m left cs c is lt le few order =
     first : (at ≤ c.step) × (c.step ≤ end) × AreInOrder c.step end (drop (j + 1) cs)
     first = order-first at end j cs c is lt order
 
--- a walk that is behind what it was to go over is there
+-- a walk that is after what it was to pass is there
 
 pub steps-there : (from at m i reach : ℕ) (left back : List Step) (c : Checkpoint) (new : WalkState) (stop : Stop) → left ≡ drop (at - from) back → from ≤ at → at ≤ c.step
     → c.step ≤ from + length back → IsStop i reach m (length (take (c.step - at) left)) new stop → stop ≡ Behind → (at - from) + m ≡ c.step - from
@@ -164,7 +164,7 @@ apart-before n [] rest (t ∷ ts) apart = absurd apart
 apart-before n (c ∷ cs) rest (t ∷ []) apart = apart
 apart-before n (c ∷ cs) rest (t ∷ u ∷ ts) apart = apart-before n cs rest (u ∷ ts) apart
 
--- a frame went over so many steps, past these copies, which were turned; where there are any, it flips a record, or turns a stabiliser of
+-- a frame passed this many steps, past these copies, which were turned; if there are any, it flips a record, or turns a stabiliser of
 -- the last of them
 pub record IsPast (n : ℕ) (strings : List (List Letter)) (free : List Bool) (back : List Step) (from steps : ℕ) (cs : List Checkpoint) (ts : List TableauState) (old new : WalkState) : Type 0 where
   pub within : steps ≤ length back
@@ -317,7 +317,7 @@ module _ {n : ℕ} {strings : List (List Letter)} {free : List Bool} {back : Lis
           led-there
           (Ending.gone (λ base. subst (λ i. IsGone i reach (frame_at base new)) past.size (subst (IsStop (length now.letters) reach m (length (take most left)) new) is stops base)) refl)
 
-    -- behind the last copy it went over all that is left, or is gone there
+    -- after the last copy it passed all that is left, or is gone there
     pub led-behind : (reach : ℕ) (copies : List Checkpoint) → cs ≡ copies → length left ≤ most → (stop : Stop) → IsStop (length now.letters) reach m (length (take most left)) new stop
         → stop ≢ NoString → IsLedFrame n strings free reach back from copies ts old new
     led-behind reach copies all long stop stops told = by-stop stop refl

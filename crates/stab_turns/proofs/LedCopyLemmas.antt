@@ -107,7 +107,7 @@ module _ (n : ℕ) (coins : ℕ → Bool) (xs ys back : List Step) (i k : ℕ) (
       (length (point_after n coins (take r.first xs) origin).records) old r.led.last new r.led.steps
   here = run-behind n coins xs ys back i k strings free reach copies turned o from old new r
 
-  -- a copy is so many steps behind the place
+  -- a copy is this many steps after the place
   place : (j : ℕ) (c : Checkpoint) → slice_get copies j ≡ Some c → c.step ≡ i + (c.step - i)
   place j c found = omega (arith, subst (λ d. IfSome d (λ e. i ≤ e.step)) found (order-from i (length xs) copies j r.order))
 
@@ -156,7 +156,7 @@ module _ (n : ℕ) (coins : ℕ → Bool) (xs ys back : List Step) (i k : ℕ) (
         (sym (led-lengths here (c.step - i)))
         ∙ sym (ap lengths_of (new_given (c.step - i)))
 
-    -- what was given before the frame began stands before what was given there
+    -- what was given before the frame began is before what was given there
     abbrev since : RunOutput
     since = outputs n coins (take (c.step - r.first) (drop r.first xs)) (point_after n coins (take r.first xs) origin)
 
@@ -188,7 +188,7 @@ module _ (n : ℕ) (coins : ℕ → Bool) (xs ys back : List Step) (i k : ℕ) (
         place : moved i k c.step ≡ k + (c.step - i)
         place = omega (arith, inside, few)
 
-    -- where a stabiliser of the copy is none of the turned one, the runs don't agree
+    -- if a stabiliser of the copy is none of the turned one, the runs don't agree
     apart-here : (p : Signed) → length p.letters ≡ n → stabilises c.tableau p ≡ true → stabilises t p ≡ false
         → AgreeAt n (point_after n coins (take (c.step - i) back) (point_after n coins (take i xs) origin)) (point_after n coins (take (c.step - i) back) (point_after n coins (take k ys) origin)) → ⊥
     apart-here p size was none agree =
@@ -221,7 +221,7 @@ module _ (n : ℕ) (coins : ℕ → Bool) (xs ys back : List Step) (i k : ℕ) (
       fewer (inl same) = inl (omega (arith, same))
       fewer (inr blank) = inr blank
 
-  -- where the last that was turned has another state, the runs agree at none before it, since they would agree there then
+  -- if the last that was turned has another state, the runs agree at none before it, since they would agree there then
   apart-before : (start end : ℕ) (cs : List Checkpoint) (ts : List TableauState) (j : ℕ) (c : Checkpoint) → i ≤ start → AreInOrder start end cs → All (IsCheckpoint n coins xs) cs
       → AreTurnedCopies n strings.strings free back i r.led.steps old cs ts → IsLastApart n cs ts → j < length ts → slice_get cs j ≡ Some c
       → AgreeAt n (point_after n coins (take (c.step - i) back) (point_after n coins (take i xs) origin)) (point_after n coins (take (c.step - i) back) (point_after n coins (take k ys) origin)) → ⊥
@@ -243,7 +243,7 @@ module _ (n : ℕ) (coins : ℕ → Bool) (xs ys back : List Step) (i k : ℕ) (
   apart-before start end (d ∷ e ∷ cs) (t ∷ u ∷ ts) (suc j) c le order are turns apart lt found agree =
       apart-before d.step end (e ∷ cs) (u ∷ ts) j c (omega (arith, le, order.0)) order.1 (All-tail (IsCheckpoint n coins xs) d (e ∷ cs) are) turns.2 apart (omega (arith, lt)) found agree
 
-  -- the copies of the old run behind both places, those that the frame came to turned, are copies of the new one
+  -- the copies of the old run after both places, those that the frame came to turned, are copies of the new one
   pub run-copies : length ys < 2 ^ 64 → All (IsCheckpoint n coins ys) (map (moved_copy meeting) (with_states turned copies))
   run-copies few =
       all-moved i (length xs) copies turned (omega arith) few r.order r.are_copies r.led.copies

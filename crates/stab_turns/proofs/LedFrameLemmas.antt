@@ -1,4 +1,4 @@
--- Led frames: what is so at each point behind, where a frame went over all steps, or over so many and then ended.
+-- Led frames: what is so at each point after, if a frame passed all steps, or some of them and then ended.
 use Rattle.std.proofs.Common.{◌≡◌, ℕ, ◌+◌, ◌-◌, ◌≤◌, sym, ◌∙◌, ap, subst, Bool, false, ◌⊎◌, inl, inr, List, ◌++◌, All, Option, length, take, drop, replicate, arith}
 use Rattle.std.proofs.lemmas.Bool.{cases_lt}
 use Rattle.std.proofs.lemmas.List.{take_all, take-take, replicate-append-replicate}
@@ -37,7 +37,7 @@ use Rattle.stab_replay.proofs.NotedLemmas.{near-enough}
 use Rattle.stab_turns.proofs.EndingLemmas.{IsEnded}
 use Rattle.stab_turns.proofs.FlippedLemmas.{flipped-front}
 
--- points that agree so far back agree less far back
+-- points that agree this far back agree less far back
 nearer : (n m k : ℕ) (a b : Point) → k ≤ m → AgreeBack n m a b → AgreeBack n k a b
 nearer n m k a b le agree = record { group = agree.group; coin = agree.coin; records = λ j near. agree.records j (omega (arith, le, near)) }
 
@@ -57,7 +57,7 @@ given-further n coins back i m le c =
     ∙ ap (λ zs. outputs n coins zs c) (take-add i (m - i) back)
     ∙ outputs-append n coins (take i back) (take (m - i) (drop i back)) c
 
--- where two runs agree, they agree further on
+-- if two runs agree, they agree further on
 pub agree-further : (n : ℕ) (coins : ℕ → Bool) (back : List Step) (a b : Point) (i m : ℕ) → i ≤ m
     → AgreeAt n (point_after n coins (take i back) a) (point_after n coins (take i back) b)
     → AgreeAt n (point_after n coins (take m back) a) (point_after n coins (take m back) b)
@@ -66,7 +66,7 @@ agree-further n coins back a b i m le agree =
     (subst (AgreeAt n (point_after n coins (take (m - i) (drop i back)) (point_after n coins (take i back) a))) (sym (further n coins back i m le b))
     (same-future n coins (take (m - i) (drop i back)) (point_after n coins (take i back) a) (point_after n coins (take i back) b) agree).1)
 
--- a run behind a point differs from another by a frame, which went over so many of the steps that both have there
+-- a run after a point differs from another by a frame, which passed this many of the steps that both have there
 pub record IsLedOver (n : ℕ) (coins : ℕ → Bool) (strings : ℕ → Option (List Letter)) (reach : ℕ) (back : List Step) (a b : Point) (base : ℕ) (old last : WalkState) (steps : ℕ) : Type 0 where
   pub fits : All (StepFits n) back
   pub near : All (LooksWithin reach) back
@@ -79,7 +79,7 @@ pub record IsLedOver (n : ℕ) (coins : ℕ → Bool) (strings : ℕ → Option 
 
 module _ {n : ℕ} {coins : ℕ → Bool} {strings : ℕ → Option (List Letter)} {reach : ℕ} {back : List Step} {a b : Point} {base : ℕ} {old last : WalkState} {steps : ℕ}
     (o : IsLedOver n coins strings reach back a b base old last steps) where
-  -- so many steps on
+  -- after these steps
   on-way : (m : ℕ) → m ≤ steps
       → (outputs n coins (take m back) b ≡ flipped_output (outputs n coins (take m back) a) (flips_over n (same_coins strings) (take m back) a.coin (frame_at base old)))
       × PointsDifferBy n (frame_over n (same_coins strings) (take m back) a.coin (frame_at base old)) (point_after n coins (take m back) a) (point_after n coins (take m back) b)
@@ -88,7 +88,7 @@ module _ {n : ℕ} {coins : ℕ → Bool} {strings : ℕ → Option (List Letter
       (subst (λ zs. AreEnough n coins (same_coins strings) zs (frame_at base old) a) (take-take m steps back le)
       (enough-before n coins (same_coins strings) m (take steps back) (frame_at base old) a o.told)) o.framed
 
-  -- where a walk over them says by which letters
+  -- if a walk over them says by which letters
   pub led-on-way : (m : ℕ) (v : WalkState) → m ≤ steps → WalksOver n strings (take m back) old v
       → IsTurned n v.letters (member (point_after n coins (take m back) a).trace) (member (point_after n coins (take m back) b).trace)
   led-on-way m v le walk =
@@ -109,13 +109,13 @@ module _ {n : ℕ} {coins : ℕ → Bool} {strings : ℕ → Option (List Letter
       (λ i. joined old.flips (flips_over n (same_coins strings) (take steps back) (o.coin i) (frame_at base old)))
       ∙ sym (o.walked.flips base)
 
-  -- where it flips a record in all, the runs agree nowhere on its way
+  -- if it flips a record in all, the runs agree nowhere on its way
   pub led-differ : (m : ℕ) → m ≤ steps → 1 ≤ ones last.flips.records → AgreeAt n (point_after n coins (take m back) a) (point_after n coins (take m back) b) → ⊥
   led-differ m le some agree =
       flips-differ n base last (point_after n coins (take steps back) a) (point_after n coins (take steps back) b) led-there some
       (agree-further n coins back a b m steps le agree).records
 
--- and it went over all of them, or ended there
+-- and it passed all of them, or ended there
 pub record IsLedBehind (n : ℕ) (coins : ℕ → Bool) (strings : ℕ → Option (List Letter)) (reach : ℕ) (back : List Step) (a b : Point) (base : ℕ) (old last new : WalkState) (steps : ℕ) : Type 0 where
   pub led : IsLedOver n coins strings reach back a b base old last steps
   pub flips : new.flips ≡ last.flips
@@ -123,7 +123,7 @@ pub record IsLedBehind (n : ℕ) (coins : ℕ → Bool) (strings : ℕ → Optio
 
 module _ {n : ℕ} {coins : ℕ → Bool} {strings : ℕ → Option (List Letter)} {reach : ℕ} {back : List Step} {a b : Point} {base : ℕ} {old last new : WalkState} {steps : ℕ}
     (h : IsLedBehind n coins strings reach back a b base old last new steps) where
-  -- where it ended, they agree from there on as far back as the steps look
+  -- if it ended, they agree from there on as far back as the steps look
 
   module _ (ended : IsEnded n reach (point_after n coins (take steps back) a) last new) where
     quiet : AgreeBack n reach (point_after n coins (take steps back) a) (point_after n coins (take steps back) b)
@@ -191,7 +191,7 @@ module _ {n : ℕ} {coins : ℕ → Bool} {strings : ℕ → Option (List Letter
         | inr ended ↦ given-ended ended m le
       ]
 
-  -- so many steps on, wherever that is
+  -- some steps later, wherever that is
 
   pub led-lengths : (m : ℕ) → lengths_of (outputs n coins (take m back) b) ≡ lengths_of (outputs n coins (take m back) a)
   led-lengths m =
@@ -204,7 +204,7 @@ module _ {n : ℕ} {coins : ℕ → Bool} {strings : ℕ → Option (List Letter
           → lengths_of (outputs n coins (take m back) b) ≡ lengths_of (outputs n coins (take m back) a)
       flips_by flips is = ap lengths_of is ∙ same-lengths (outputs n coins (take m back) a) flips
 
-  -- behind the last step
+  -- after the last step
 
   whole : take (length back) back ≡ back
   whole = take_all (length back) back (omega arith)
@@ -222,7 +222,7 @@ module _ {n : ℕ} {coins : ℕ → Bool} {strings : ℕ → Option (List Letter
   pub led-flips : joined old.flips (flips_over n (same_coins strings) (take steps back) a.coin (frame_at base old)) ≡ new.flips
   led-flips = flips-are h.led ∙ sym h.flips
 
-  -- no flag is flipped, where none was before
+  -- no flag is flipped, if none was before
   pub led-unflagged : (flagged : ℕ) → old.flips.free ≡ replicate flagged false → new.flips.free ≡ replicate (flagged + all_coins_of (take steps back)) false
   led-unflagged flagged none =
       sym (ap (λ (q : RunOutput). q.free) led-flips)

@@ -29,7 +29,7 @@ use Rattle.stab_turns.specs.PassedPlaces.{IsFrameBetween}
 use Rattle.stab_turns.proofs.EndingLemmas.{IsEnded, ending-flips, endings}
 use Rattle.stab_turns.proofs.LedFrameLemmas.{IsLedOver, IsLedBehind, led-there, led-end, led-given, led-flips, led-unflagged}
 
--- two runs have the same steps behind step i of the one and step k of the other, up to which a frame went between them from a step on
+-- two runs have the same steps after step i of the one and step k of the other, up to which a frame went between them from a step on
 -- before which they are the same; it was led over these steps, past copies of the first run
 pub record IsLedRun (n : ℕ) (coins : ℕ → Bool) (xs ys back : List Step) (i k : ℕ) (strings : StringsState) (free : List Bool) (reach : ℕ) (copies : List Checkpoint)
     (turned : List TableauState) (o : RunOutput) (from : Lengths) (old new : WalkState) : Type 0 where
@@ -132,7 +132,7 @@ module _ (n : ℕ) (coins : ℕ → Bool) (xs ys back : List Step) (i k : ℕ) (
       rest_is : rest_of from o ≡ rest
       rest_is = (λ j. rest_of (r.from_is j) (r.output j)) ∙ rest-output n coins xs r.first
 
-  -- the group behind its last step
+  -- the group after its last step
 
   old_end : point_after n coins xs origin ≡ point_after n coins back (point_after n coins (take i xs) origin)
   old_end =

@@ -1,4 +1,4 @@
--- Lengths: how long lists are with what steps give behind them, the same from whatever point.
+-- Lengths: how long lists are with what steps give after them, the same from whatever point.
 use Rattle.std.proofs.Common.{◌≡◌, ℕ, suc, ◌+◌, ◌-◌, ◌≤◌, refl, sym, ◌∙◌, ap, subst, Bool, true, false, List, [], ◌∷◌, ◌++◌, length, map, take, drop, arith}
 use Rattle.std.proofs.lemmas.List.{length-append}
 use Rattle.std.proofs.Math.Seq.{take-append-add, drop-append-add}
@@ -40,7 +40,7 @@ lengths-joined a b = λ i. record {
   additions = length-append a.additions b.additions i;
 }
 
--- the point is of no account
+-- the point is irrelevant
 
 given-anywhere : (n : ℕ) (coins : ℕ → Bool) (x : Step) (a b : Point) → lengths_of (given n coins x a) ≡ lengths_of (given n coins x b)
 given-anywhere n coins (one g q) a b = refl
@@ -59,7 +59,7 @@ outputs-anywhere n coins (x ∷ xs) a b =
     ∙ (λ i. longer (given-anywhere n coins x a b i) (outputs-anywhere n coins xs (next_point n coins x a) (next_point n coins x b) i))
     ∙ sym (lengths-joined (given n coins x b) (outputs n coins xs (next_point n coins x b)))
 
--- one behind the other
+-- one after the other
 longer-append : (n : ℕ) (coins : ℕ → Bool) (xs ys : List Step) (a : Point) (l : Lengths)
     → longer l (lengths_of (outputs n coins (xs ++ ys) a)) ≡ longer (longer l (lengths_of (outputs n coins xs a))) (lengths_of (outputs n coins ys a))
 longer-append n coins xs ys a l =
@@ -153,7 +153,7 @@ outputs-few n coins (x ∷ xs) a =
       additions = few-append (given n coins x a).additions (outputs n coins xs (next_point n coins x a)).additions xs here.additions later.additions;
     }
 
--- below a limit with all steps that are left, and so with the next of them, and behind these with the others
+-- below a limit with all steps that are left, and so with the next of them, and after these with the others
 
 pub below-next : (limit : ℕ) (xs ys rest : List Step) (l : Lengths) → xs ≡ ys ++ rest → AreBelow limit (length xs) l → AreBelow limit (length ys) l
 below-next limit xs ys rest l is few =
@@ -197,7 +197,7 @@ longer-next n coins most k xs ys rest a l new is count le then =
     ∙ sym (longer-append n coins ys (take (most - k) rest) a l)
     ∙ ap (λ zs. longer l (lengths_of (outputs n coins zs a))) (sym (take-next most k xs ys rest is count le))
 
--- where there are none, or none is to be gone over
+-- if there are none, or none is to be passed
 
 pub longer-none : (n : ℕ) (coins : ℕ → Bool) (xs : List Step) (a : Point) (l : Lengths) → xs ≡ [] → l ≡ longer l (lengths_of (outputs n coins xs a))
 longer-none n coins xs a l none = sym (longer-nothing l) ∙ ap (λ zs. longer l (lengths_of (outputs n coins zs a))) (sym none)

@@ -2,7 +2,6 @@ mod LengthLemmas
 mod FlippedLemmas
 mod TurnSomeLemmas
 mod QuietLemmas
-mod AgainLemmas
 mod LeadingLemmas
 pub mod SameNotesLemmas
 pub mod PauliSpanLemmas

@@ -20,7 +20,7 @@ use Rattle.stab_turns.specs.declared.passing.PauliChange.{PauliChange}
 use Rattle.stab_turns.proofs.FrameBetweenLemmas.{between-steps, between-gates, between-copy}
 use Rattle.stab_turns.proofs.PauliSpanLemmas.{old-left, new-left}
 
--- it went past so many places
+-- it went past this many places
 pub record IsUnderWay (n : ℕ) (coins : ℕ → Bool) (xs ys : List Step) (strings : ℕ → Option (List Letter)) (free : List Bool) (base : ℕ) (front : RunOutput)
     (s : Span) (change : PauliChange) (olds news : List Step) (j old new : ℕ) (left : List Step) (w : WalkState) : Type 0 where
   pub between : IsFrameBetween n coins xs ys strings free base front old new w
@@ -103,7 +103,7 @@ module _ {n : ℕ} {coins : ℕ → Bool} {xs ys : List Step} {strings : ℕ →
       new_there : drop (new + change.new) ys ≡ new_more
       new_there = sym (drop-drop change.new new ys) ∙ ap (drop change.new) new_is ∙ drop_at d.differ.new_gates new_more change.new d.differ.new_counted
 
-      -- the runs have so many steps
+      -- the runs have this many steps
 
       old_long : (old + change.old) + gap ≤ length xs
       old_long =
@@ -161,7 +161,7 @@ module _ {n : ℕ} {coins : ℕ → Bool} {xs ys : List Step} {strings : ℕ →
           few = d.new_few;
         }
 
-        -- and behind the piece there it is before the place behind it
+        -- and after the piece there it is before the place after it
         pub under-way-next : (old_behind new_behind : ℕ) (left_next left_behind : List Step) (v : WalkState) → left_next ≡ drop change.new left → left_behind ≡ drop gap left_next
             → old_behind ≡ min (old_next + gap) 18446744073709551615 → new_behind ≡ min (new_next + gap) 18446744073709551615
             → IsFrameBetween n coins xs ys strings free base front (old_next + gap) (new_next + gap) v
@@ -220,7 +220,7 @@ module _ {n : ℕ} {coins : ℕ → Bool} {xs ys : List Step} {strings : ℕ →
           ∙ ap (take (behind - gone)) (sym (drop-take gone (gap - gone) (drop i zs)))
           ∙ ap (λ m. take (behind - gone) (drop gone (take m (drop i zs)))) {x = gone + (gap - gone)} {y = gap} (omega (arith, from, to))
 
-  -- a copy that stands there is made one of the new run
+  -- a copy that is there is made one of the new run
   pub copy-on : (behind : ℕ) (v : WalkState) → behind ≤ gap → IsFrameBetween n coins xs ys strings free base front (old + behind) (new + behind) v
       → (copies passed after : List Checkpoint) (j : ℕ) (c : Checkpoint) (t : TableauState) (letters : List Letter) (step : ℕ) → c ≡ get_or copies j c → j < length copies
       → old + behind ≡ c.step → step ≡ min (new + behind) 18446744073709551615 → t.qubits ≡ c.tableau.qubits → letters ≡ v.letters

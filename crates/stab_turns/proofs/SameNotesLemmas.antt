@@ -27,7 +27,7 @@ use Rattle.stab_frames.proofs.FlipLemmas.{flipped-empty}
 use Rattle.stab_replay.proofs.SegmentLemmas.{flipped-zeros}
 use Rattle.stab_circuit.specs.Rounds.{interleaved}
 
--- what all of some steps have, those behind the first have
+-- what all of some steps have, those after the first have
 
 pub all-rest : {X : Type 0} (P : X → Type 0) (xs ys : List X) → All P (xs ++ ys) → All P ys
 all-rest P [] ys all = all
@@ -55,7 +55,7 @@ reached-on n coins a xs fits r = record {
   is = ap (point_after n coins xs) r.is ∙ sym (after-append n coins r.steps xs origin);
 }
 
--- behind points that differ by a frame
+-- after points that differ by a frame
 
 module _ (n : ℕ) (coins : ℕ → Bool) (a b : Point) (f : Frame) (zs : List Step) (fits : All (StepFits n) zs) (r : IsReached n coins a) (apart : PointsDifferBy n f a b) where
   noted : (notes : ℕ → Option (List Letter)) × AreRight n coins notes (r.steps ++ zs) origin

@@ -13,7 +13,7 @@ use Rattle.stab_tableau.specs.Turns.{IsTurned}
 use Rattle.stab_tableau.proofs.TestLemmas.{and-left, and-right, not_both}
 use Rattle.stab_turns.specs.LedFrames.{Stabilise, TurnSome}
 
--- of the strings of n letters some passes a test, or none does
+-- some string of n letters passes a test, or none does
 
 abbrev SomePasses : ℕ → (List Letter → Bool) → Type 0
 SomePasses n test = (r : List Letter) × (length r ≡ n) × (test r ≡ true)

@@ -1,4 +1,4 @@
--- Led frames: a frame that went over the steps of a run, past copies of its state, and what it made of these copies.
+-- Led frames: a frame that passed the steps of a run, past copies of its state, and what it made of these copies.
 -- Source: this project's own.
 use Rattle.std.specs.Prelude.{◌≡◌, ◌⊎◌, ℕ, ◌-◌, ◌≤◌, Bool, true, false, List, [], ◌∷◌, All, Some, length, take, replicate, slice_get}
 use Rattle.stab_letters.specs.declared.letter.Letter.{Letter}
@@ -13,20 +13,20 @@ use Rattle.stab_frames.specs.Walks.{WalkState, frame_at, IsGone, WalksOver}
 use Rattle.stab_copies.specs.declared.checkpoint.Checkpoint.{Checkpoint}
 use Rattle.stab_replay.specs.FramedReplays.{AreEnoughBy}
 
--- copies stand in order, from one step on and up to another
+-- copies are in order, from one step on and up to another
 abbrev pub AreInOrder : (from end : ℕ) → List Checkpoint → Type 0
 AreInOrder from end [] = from ≤ end
 AreInOrder from end (c ∷ more) = (from ≤ c.step) × AreInOrder c.step end more
 
--- a state is that of a copy, turned by the letters that a frame has behind so many of some steps
+-- a state is that of a copy, turned by the letters that a frame has after this many of some steps
 pub record IsTurnedBehind (n : ℕ) (strings : List (List Letter)) (free : List Bool) (back : List Step) (steps : ℕ) (old : WalkState) (c t : TableauState) : Type 0 where
   pub walk : WalkState
   pub walked : WalksOver n (note_at strings free) (take steps back) old walk
   pub qubits : t.qubits ≡ c.qubits
   pub turned : IsTurned n walk.letters (stabilises c) (stabilises t)
 
--- of the copies those that the frame came to within its steps were turned, one after another; before the others it had gone over all
--- that it went over
+-- of the copies those that the frame came to within its steps were turned, one after another; before the others it had passed all
+-- that it passed
 abbrev pub AreTurnedCopies : (n : ℕ) (strings : List (List Letter)) (free : List Bool) (back : List Step) (from steps : ℕ) → WalkState → List Checkpoint → List TableauState → Type 0
 AreTurnedCopies n strings free back from steps old copies [] = All (λ c. steps ≤ c.step - from) copies
 AreTurnedCopies n strings free back from steps old [] (t ∷ turned) = ⊥
@@ -49,7 +49,7 @@ abbrev pub TurnSome : List Letter → TableauState → Type 0
 TurnSome letters t =
     (p : Signed) × (length p.letters ≡ t.qubits) × (stabilises t p ≡ true) × (stabilises t (minus p) ≡ false) × (strings_anticommute letters p.letters ≡ true)
 
--- how a frame ends that went over so many steps: it went over all, past all copies, or is gone, or it is dropped at the first copy that
+-- how a frame ends that passed this many steps: it passed all, past all copies, or is gone, or it is dropped at the first copy that
 -- was not turned
 pub data Ending (n : ℕ) (reach : ℕ) (back : List Step) (from steps : ℕ) (kept : List Checkpoint) (turned : List TableauState) (last new : WalkState) : Type 0 where
   over : steps ≡ length back → length turned ≡ length kept → new ≡ last → Ending n reach back from steps kept turned last new
@@ -57,14 +57,14 @@ pub data Ending (n : ℕ) (reach : ℕ) (back : List Step) (from steps : ℕ) (k
   dropped : (c : Checkpoint) → slice_get kept (length turned) ≡ Some c → c.step - from ≡ steps → IsDropped n reach c last new
       → Ending n reach back from steps kept turned last new
 
--- of the last of the copies that were turned some stabiliser is none of what was made of it
+-- some stabiliser of the last of the copies that were turned is none of what was made of it
 abbrev pub IsLastApart : (n : ℕ) → List Checkpoint → List TableauState → Type 0
 IsLastApart n copies [] = ⊥
 IsLastApart n [] (t ∷ turned) = ⊥
 IsLastApart n (c ∷ copies) (t ∷ []) = (p : Signed) × (length p.letters ≡ n) × (stabilises c.tableau p ≡ true) × (stabilises t p ≡ false)
 IsLastApart n (c ∷ copies) (t ∷ u ∷ turned) = IsLastApart n copies (u ∷ turned)
 
--- a frame went over so many steps and ended there; its notes were enough; the copies on its way were turned, and where there are any, it
+-- a frame passed this many steps and ended there; its notes were enough; the copies on its way were turned, and if there are any, it
 -- flips a record, or turns a stabiliser of the last of them
 pub record IsLedFrame (n : ℕ) (strings : List (List Letter)) (free : List Bool) (reach : ℕ) (back : List Step) (from : ℕ) (kept : List Checkpoint)
     (turned : List TableauState) (old new : WalkState) : Type 0 where

@@ -1,4 +1,4 @@
--- Longer lists: how long the lists of a run are once others are put behind them.
+-- Longer lists: how long the lists of a run are once others are put after them.
 -- Source: this project's own.
 use Rattle.std.specs.Prelude.{ℕ, ◌+◌, ◌<◌}
 use Rattle.stab_steps.specs.declared.records.Lengths.{Lengths}
@@ -12,7 +12,7 @@ longer a b = record {
   additions = a.additions + b.additions;
 }
 
--- each of them stays below a limit with so much added
+-- each of them stays below a limit with this much added
 pub record AreBelow (limit more : ℕ) (l : Lengths) : Type 0 where
   pub records : l.records + more < limit
   pub free : l.free + more < limit

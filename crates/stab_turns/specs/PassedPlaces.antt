@@ -1,4 +1,4 @@
--- Passed places: a frame on its way between an old run and a new one, past places at which Pauli gates stand in the one or the other.
+-- Passed places: a frame on its way between an old run and a new one, past places at which Pauli gates are in the one or the other.
 -- Source: this project's own.
 use Rattle.std.specs.Prelude.{◌≡◌, ℕ, ◌+◌, ◌≤◌, Bool, false, List, All, length, take, drop, replicate, Option}
 use Rattle.stab_letters.specs.declared.letter.Letter.{Letter}
@@ -12,7 +12,7 @@ use Rattle.stab_frames.specs.Walks.{WalkState, frame_at}
 use Rattle.stab_turns.specs.PauliSpans.{DifferAtPlaces}
 use Rattle.stab_turns.specs.declared.passing.PauliChange.{PauliChange}
 
--- behind so many steps an old run and a new one differ by a frame that began behind some records, where what both had given differed by
+-- after this many steps an old run and a new one differ by a frame that began after some records, and what both had given differed by
 -- some flips; what was noted of the old run is true of it there with the steps that the new one has left, and so are the flags
 pub record IsFrameBetween (n : ℕ) (coins : ℕ → Bool) (xs ys : List Step) (strings : ℕ → Option (List Letter)) (free : List Bool) (base : ℕ) (front : RunOutput)
     (old new : ℕ) (w : WalkState) : Type 0 where
@@ -27,7 +27,7 @@ pub record IsFrameBetween (n : ℕ) (coins : ℕ → Bool) (xs ys : List Step) (
   pub flagged : ℕ
   pub unflagged : w.flips.free ≡ replicate flagged false
 
--- such a frame is before a piece of so many steps, which both runs have next; these steps are left of the new one
+-- such a frame is before a piece of this many steps, which both runs have next; these steps are left of the new one
 pub record IsBeforePiece (n : ℕ) (coins : ℕ → Bool) (xs ys : List Step) (strings : ℕ → Option (List Letter)) (free : List Bool) (base : ℕ) (front : RunOutput)
     (old new gap : ℕ) (left : List Step) (w : WalkState) : Type 0 where
   pub between : IsFrameBetween n coins xs ys strings free base front old new w

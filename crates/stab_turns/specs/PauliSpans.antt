@@ -15,7 +15,7 @@ pub record ArePaulis (n : ℕ) (letter : Letter) (qubits : List ℕ) (xs : List 
   pub steps : xs ≡ map (one (gate_of letter)) qubits
   pub fit : All (λ q. q < n) qubits
 
--- within a span the steps of the one list and the other are Pauli gates, of one letter on some of n qubits, before each of some pieces, so
+-- within a span the steps of the one list and the other are Pauli gates, of one letter on some of n qubits, before each of some pieces, this
 -- many steps long, which both share; and a string has the letters of both, multiplied
 pub record DifferByPaulis (n : ℕ) (xs ys : List Step) (s : Span) (letters : List Letter) (old_count new_count : ℕ) (gaps : List ℕ) : Type 0 where
   pub old_letter : Letter
@@ -34,7 +34,7 @@ pub record DifferByPaulis (n : ℕ) (xs ys : List Step) (s : Span) (letters : Li
   pub new_counted : length new_gates ≡ new_count
   pub product : letters ≡ string_product (letters_on n old_letter old_qubits) (letters_on n new_letter new_qubits)
 
--- so two lists of steps differ within a span, as a change of Pauli gates says, and behind it not at all
+-- so two lists of steps differ within a span, as a change of Pauli gates says, and after it not at all
 pub record DifferAtPlaces (n : ℕ) (xs ys : List Step) (s : Span) (change : PauliChange) : Type 0 where
   pub old_order : s.first ≤ s.old_end
   pub new_order : s.first ≤ s.new_end

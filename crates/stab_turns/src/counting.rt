@@ -7,8 +7,8 @@ ghost use Rattle.stab_turns.specs.LongerLists.{longer, AreBelow};
 use stab_circuit::{Cursor, Step, Steps};
 use stab_run::Lengths;
 
-/// How long the lists of a run are behind the next steps of a cursor, up to so many, where they are so
-/// long before these. The cursor goes over these steps.
+/// How long the lists of a run are after the next steps of a cursor, at most this many, by their lengths
+/// before these. The cursor passes these steps.
 pub fn lengths_behind(cursor: &mut Cursor, most: usize, before: Lengths) -> Lengths
     requires few { AreBelow (2 ^ 63) (length cursor.old.left) before }
     ensures all { cursor.new.all ≡ cursor.old.all }
@@ -27,7 +27,7 @@ pub fn lengths_behind(cursor: &mut Cursor, most: usize, before: Lengths) -> Leng
     lengths
 }
 
-/// How long the lists are with what some steps give, where they are so long before.
+/// How long the lists are with what some steps give, by their lengths before.
 fn lengths_with(before: Lengths, steps: Steps) -> Lengths
     requires few { AreBelow (2 ^ 63) (length (steps_shown steps)) before }
     ensures value { (n : ℕ) (coins : ℕ → Bool) (a : Point) → result ≡ longer before (lengths_of (outputs n coins (steps_shown steps.entry) a)) }

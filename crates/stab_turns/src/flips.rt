@@ -7,7 +7,7 @@ ghost use Rattle.stab_frames.specs.Flips.{flipped, flipped_additions, flipped_ou
 use stab_frames::FrameWalk;
 use stab_run::{Addition, Lengths, Outputs};
 
-/// Inverts bits where the flips are 1. Where there are no more flips they are as they are.
+/// Inverts bits if the flips are 1. If there are no more flips they are as they are.
 fn flip(bits: &mut [bool], flips: &[bool])
     ensures value { bits.new ≡ flipped bits.old flips.now }
 {
@@ -17,7 +17,7 @@ fn flip(bits: &mut [bool], flips: &[bool])
     }
 }
 
-/// Inverts the bits of additions where those of the flips are 1.
+/// Inverts the bits of additions if those of the flips are 1.
 fn flip_additions(additions: &mut [Addition], flips: &[Addition])
     ensures value { additions.new ≡ flipped_additions additions.old flips.now }
 {
@@ -27,7 +27,7 @@ fn flip_additions(additions: &mut [Addition], flips: &[Addition])
     }
 }
 
-/// Inverts the bits of a list behind so many, where the flips are 1.
+/// Inverts the bits of a list after this many, if the flips are 1.
 fn flip_from(bits: &mut Vec<bool>, from: usize, flips: &[bool])
     ensures value { bits.new.items ≡ take from bits.old.items ++ flipped (drop from bits.old.items) flips.now }
 {
@@ -36,7 +36,7 @@ fn flip_from(bits: &mut Vec<bool>, from: usize, flips: &[bool])
     flip(rest, flips);
 }
 
-/// Inverts the bits of additions behind so many, where those of the flips are 1.
+/// Inverts the bits of additions after this many, if those of the flips are 1.
 fn flip_additions_from(additions: &mut Vec<Addition>, from: usize, flips: &[Addition])
     ensures value { additions.new.items ≡ take from additions.old.items ++ flipped_additions (drop from additions.old.items) flips.now }
 {
@@ -45,7 +45,7 @@ fn flip_additions_from(additions: &mut Vec<Addition>, from: usize, flips: &[Addi
     flip_additions(rest, flips);
 }
 
-/// Flips what a run gave behind these lengths, as a frame says that went over what stands there. The
+/// Flips what a run gave after these lengths, as a frame says that passed what is there. The
 /// flags of coin numbers are as they were. It takes no memory.
 pub fn flip_outputs(outputs: &mut Outputs, from: Lengths, walk: &FrameWalk)
     ensures value { output_of outputs.new ≡ joined (front_of from (output_of outputs.old)) (flipped_output (rest_of from (output_of outputs.old)) (record walk.now.flips { free = [] })) }

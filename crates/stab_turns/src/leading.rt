@@ -6,25 +6,25 @@ ghost use Rattle.stab_run.specs.ProgramStates.{StepFits};
 ghost use Rattle.stab_frames.specs.Walks.{IsPlaced};
 ghost use Rattle.stab_turns.specs.LedFrames.{AreInOrder, Stabilise, TurnSome, IsLedFrame};
 
-use crate::trail::Trail;
+use stab_circuit::Cursor;
 use stab_copies::{Checkpoint, has_one};
-use stab_frames::{FrameWalk, KeptStrings, Stop};
+use stab_frames::{FrameWalk, KeptStrings, Stop, walk_steps};
 use stab_io::Refusal;
 use stab_pauli::{Letter, Pauli};
 use stab_replay::turned_copy;
 use stab_tableau::{CompactTableau, Tableau};
 use std::alloc::Global;
 
-/// How many steps are gone over together at most: as many as are left.
+/// How many steps are passed together at most: as many as are left.
 const MOST_TOGETHER: usize = usize::MAX;
 
-/// Leads a frame over the steps that a trail has left, from the place of one step of a run on, past
-/// copies of that run's state in order, until it is gone or behind the last step. At each copy that it
-/// comes to it makes that copy, turned by the frame. Where it flipped no record that later steps look
+/// Leads a frame over the steps that a cursor has left, from the place of one step of a run on, past
+/// copies of that run's state in order, until it is gone or after the last step. At each copy that it
+/// comes to it makes that copy, turned by the frame. If it flipped no record that later steps look
 /// back to, and its letters stabilise the copy with one of their signs, it turns nothing from there on,
 /// and ends; the copy is looked at in the memory of a spare tableau if there is one.
 ///
-/// False where a string is missing. What it made so far is then of no account.
+/// False if a string is missing. What it made so far is then irrelevant.
 ///
 /// Refusal `OutOfMemory` alone.
 pub fn lead_frame(
@@ -34,25 +34,25 @@ pub fn lead_frame(
     strings: &KeptStrings,
     free: &[bool],
     reach: u32,
-    trail: &mut Trail,
+    cursor: &mut Cursor,
     walk: &mut FrameWalk,
     turned: &mut Vec<CompactTableau>,
     spare: &mut Option<Tableau>,
 ) -> Result<bool, Refusal>
     requires same_length { strings.now.qubits ≡ length walk.old.letters }
-    requires fits { All (StepFits (length walk.old.letters)) trail.old.left }
+    requires fits { All (StepFits (length walk.old.letters)) cursor.old.left }
     requires placed { IsPlaced free.now walk.old }
-    requires few { walk.old.coin + length trail.old.left < 2 ^ 63 }
+    requires few { walk.old.coin + length cursor.old.left < 2 ^ 63 }
     requires same_qubits { All (λ c. c.tableau.qubits ≡ length walk.old.letters) copies.now }
-    requires order { AreInOrder from (from + length trail.old.left) copies.now }
+    requires order { AreInOrder from (from + length cursor.old.left) copies.now }
     requires nothing_turned { turned.old.items ≡ [] }
     ensures length { length walk.new.letters ≡ length walk.old.letters }
-    ensures led { IfOk result (λ led. led ≡ true → IsLedFrame (length walk.old.letters) strings.now.strings free.now reach trail.old.left from copies.now turned.new.items walk.old walk.new) }
+    ensures led { IfOk result (λ led. led ≡ true → IsLedFrame (length walk.old.letters) strings.now.strings free.now reach cursor.old.left from copies.now turned.new.items walk.old walk.new) }
     ensures err { IfErr result (λ r. r ≡ OutOfMemory) }
 {
     let mut at = from;
     for copy in copies {
-        let walked = trail.walk(alloc, walk, strings, free, copy.step - at, reach)?;
+        let walked = walk_steps(walk, strings, free, cursor, copy.step - at, reach, true)?;
         match walked.stop {
             Stop::NoString => return Ok(false),
             Stop::Gone => return Ok(true),
@@ -64,7 +64,7 @@ pub fn lead_frame(
         turned.push(turned_copy(alloc, &copy.tableau, walk.letters())?)?;
         at = copy.step;
     }
-    let walked = trail.walk(alloc, walk, strings, free, MOST_TOGETHER, reach)?;
+    let walked = walk_steps(walk, strings, free, cursor, MOST_TOGETHER, reach, true)?;
     Ok(walked.stop != Stop::NoString)
 }
 
@@ -78,8 +78,8 @@ fn is_quiet(walk: &FrameWalk, reach: u32) -> bool
     !has_one(newest)
 }
 
-/// Makes all letters of a frame I where it flipped none of the newest records, as many as steps look back to, and
-/// its letters stabilise the state of a copy with one of their signs; and tells whether that is so. The copy is looked
+/// Makes all letters of a frame I if it flipped none of the newest records, as many as steps look back to, and
+/// its letters stabilise the state of a copy with one of their signs; and says whether that is so. The copy is looked
 /// at in the memory of a spare tableau if there is one, which is the spare then.
 ///
 /// Refusal `OutOfMemory` alone.

@@ -1,16 +1,14 @@
-//! Runs that a frame turns where they lie.
+//! Runs that a frame turns in place.
 //!
-//! Where two lists of steps differ by Pauli gates alone, the run of the one is that of the other with
+//! If two lists of steps differ by Pauli gates alone, the run of the one is that of the other with
 //! signs turned and bits flipped. So what was kept of it is turned where it lies, and no state is run.
 //!
-//! - `counting`: how long a run's lists are behind some steps.
-//! - `outlining`: outlines of all steps of a circuit, from copy to copy, shared by the rounds of a block.
-//! - `trail`: the steps of a circuit from a place on, by outlines where there are some, and else by a cursor.
-//! - `passing`: a frame led past the places at which Pauli gates stand in the old circuit or the new one, and
-//!   over what stands between them.
+//! - `counting`: how long a run's lists are after some steps.
+//! - `passing`: a frame led past the places at which Pauli gates are in the old circuit or the new one, and
+//!   over what is between them.
 //! - `leading`: a frame led over the copies of a run, with turned copies made on the way.
-//! - `flips`: what a run gave, flipped where it lies.
-//! - `states`: a state, turned where it lies.
+//! - `flips`: what a run gave, flipped in place.
+//! - `states`: a state, turned in place.
 //!
 //! Frames themselves are `stab_frames`', and copies of states `stab_copies`'.
 //!
@@ -20,24 +18,20 @@
 //! Proved: lengths are those of what the steps give at any point (`specs/LongerLists.antt`); a frame that
 //! went past such places is that between the old run and the new one there, and what was made of copies
 //! on its way are copies of the new run (`specs/PassedPlaces.antt`); a frame that was led over copies
-//! went over the steps before each, and what was made there is that copy, turned by the frame; it went on
-//! to the last step, or to where it was gone or its letters stabilised the state; and where it turned
+//! passed the steps before each, and what was made there is that copy, turned by the frame; it went on
+//! to the last step, or to where it was gone or its letters stabilised the state; and if it turned
 //! copies, it flips a record, or the last of them became another state (`specs/LedFrames.antt`); flipped
-//! lists are what they were, inverted where the flips are 1.
+//! lists are what they were, inverted if the flips are 1.
 #![tactic(auto)]
 
 mod counting;
 mod flips;
 mod leading;
-mod outlining;
 mod passing;
 mod states;
-mod trail;
 
 pub use counting::lengths_behind;
 pub use flips::{flip_outputs, sum_additions};
 pub use leading::lead_frame;
-pub use outlining::outline_between;
 pub use passing::{PauliChange, pass_places};
 pub use states::turn_tableau;
-pub use trail::Trail;

@@ -18,7 +18,7 @@ use stab_pauli::Pauli;
 use stab_replay::turned_copy;
 use std::alloc::{AllocError, Global};
 
-/// Pauli gates that stand where others stood, at one place or at several: the same at each.
+/// Pauli gates that are where others stood, at one place or at several: the same at each.
 #[derive(Drop)]
 pub struct PauliChange {
     /// The letters of the old gates at a place and of the new ones, multiplied.
@@ -27,12 +27,12 @@ pub struct PauliChange {
     pub old: usize,
     /// How many steps the new gates take at each place.
     pub new: usize,
-    /// How many steps stand behind each place, up to the next one, and behind the last, up to the end
+    /// How many steps are after each place, up to the next one, and after the last, up to the end
     /// of what the change spans.
     pub gaps: Vec<usize>,
 }
 
-/// Goes over the next so many steps of a cursor. False where fewer are left.
+/// Passes this many steps of a cursor. False if fewer are left.
 fn skip_steps(cursor: &mut Cursor, count: usize) -> bool
     ensures all { cursor.new.all ≡ cursor.old.all }
     ensures within { result ≡ true → count ≤ length cursor.old.left }
@@ -48,7 +48,7 @@ fn skip_steps(cursor: &mut Cursor, count: usize) -> bool
     true
 }
 
-/// Leads a frame over just the next so many steps of a cursor. False where fewer are left, or a string
+/// Leads a frame over exactly this many steps of a cursor. False if fewer are left, or a string
 /// is missing.
 ///
 /// Refusal of memory alone.
@@ -75,7 +75,7 @@ fn walk_exactly(
     Ok(walked.stop != Stop::NoString && walked.steps == count)
 }
 
-/// How far a step is behind a place, where that is no less than one number and no more than another.
+/// How far a step is after a place, if that is no less than one number and no more than another.
 fn behind_place(step: usize, place: usize, least: usize, most: usize) -> Option<usize>
     ensures some { IfSome result (λ behind. (least ≤ behind) × (behind ≤ most) × (place + behind ≡ step)) }
 {
@@ -87,10 +87,10 @@ fn behind_place(step: usize, place: usize, least: usize, most: usize) -> Option<
     }
 }
 
-/// Leads a frame over the next so many steps of a cursor, which stand behind so many old ones and so
-/// many new ones and are the same in both runs, past copies of the old run that stand among them. It
-/// makes each such copy one of the new run, behind others. False where a string is missing, or a copy
-/// stands elsewhere.
+/// Leads a frame over the steps of a gap, which a cursor has next. They come after `old` steps of the old run
+/// and `new` steps of the new one, and are the same in both. It goes past copies of the old run that are among them. It
+/// makes each such copy one of the new run, after others. False if a string is missing, or a copy
+/// is elsewhere.
 ///
 /// Refusal `OutOfMemory` alone.
 fn pass_piece(
@@ -138,7 +138,7 @@ fn pass_piece(
     Ok(walk_exactly(walk, strings, free, cursor, gap - gone)?)
 }
 
-/// The first copies of some, behind so many, that stand before a step or at it.
+/// The first copies of some, after this many, that are before a step or at it.
 fn copies_until(copies: &[Checkpoint], from: usize, step: usize) -> &[Checkpoint]
     requires in_range { from ≤ length copies.now }
     ensures value { (count : ℕ) × (result.now ≡ take count (drop from copies.now)) }
@@ -150,12 +150,12 @@ fn copies_until(copies: &[Checkpoint], from: usize, step: usize) -> &[Checkpoint
 }
 
 /// Leads a frame that begins before a step, which both runs have, past the places of a change of Pauli
-/// gates, the first of which stands at that step, and over what stands between them and behind the
+/// gates, the first of which is at that step, and over what is between them and after the
 /// last. A cursor is at that step of the new run. At each place the frame is multiplied by the string
-/// of the change. Copies of the old run that stand there are made copies of the new one, in order.
+/// of the change. Copies of the old run that are there are made copies of the new one, in order.
 ///
-/// False where a string is missing, or a copy stands among the gates of a place, or behind all. What it
-/// made so far is then of no account.
+/// False if a string is missing, or a copy is among the gates of a place, or after all. What it
+/// made so far is then irrelevant.
 ///
 /// Refusal `OutOfMemory` alone.
 pub fn pass_places(

@@ -9,7 +9,7 @@ use stab_tableau::{Gate, Tableau};
 
 /// Applies letters, one a qubit, to a state: signs are turned. It takes no memory.
 ///
-/// A string stabilises the new state where it stabilised the old one with its sign turned, if it
+/// A string stabilises the new state if it stabilised the old one with its sign turned, if it
 /// anticommutes with the letters.
 pub fn turn_tableau(tableau: &mut Tableau, letters: &[Letter])
     requires same_length { length letters.now ≡ tableau.old.qubits }

@@ -44,6 +44,6 @@ pub ends_with_error : (app : App) (words : List Text) (error : Error) (usage : U
 ends_with_error app words error usage (inl memory) is told = inl (is memory)
 ends_with_error app words error usage (inr among) is told = inr (inl (kind_of error, among, told))
 
--- an end for want of memory
+-- an end for lack of memory
 pub ends_without_memory : (app : App) (words : List Text) (result : Result Job Usage) → result ≡ Err Memory → EndsBy app words result
 ends_without_memory app words result e = subst (λ r. EndsBy app words r) (sym e) (inl refl)

@@ -133,7 +133,7 @@ coin_fault = codes "stabsim: coins are 0 and 1\n"
 abbrev pub twice_fault : Text
 twice_fault = codes "stabsim: coins are given by --coins or by --coins_in, and not by both\n"
 
--- coins are refused for want of memory, if they are given twice, or if their text is not that of coins
+-- coins are refused for lack of memory, if they are given twice, or if their text is not that of coins
 abbrev pub RefusesCoins : (coins path : Option Text) → Usage → Type 0
 RefusesCoins coins path Memory = ⊤
 RefusesCoins (Some coins) (Some path) (Fault line) = string_bytes line ≡ twice_fault
@@ -144,7 +144,7 @@ RefusesCoins coins path usage = ⊥
 abbrev pub beyond_fault : Text
 beyond_fault = codes "stabsim: the last shot of a seed is shot 18446744073709551615\n"
 
--- shots are refused for want of memory, or if they go beyond the last of a seed
+-- shots are refused for lack of memory, or if they go beyond the last of a seed
 abbrev pub RefusesShots : List Row → Usage → Type 0
 RefusesShots options Memory = ⊤
 RefusesShots options (Fault line) = (string_bytes line ≡ beyond_fault) × (shots : ShotRange) × AreShots options shots × (shots_of_seed < shots.first + shots.number)
@@ -154,7 +154,7 @@ RefusesShots options usage = ⊥
 abbrev pub beside_fault : Text
 beside_fault = codes "stabsim: --first_shot is of a seed, and not beside --coins or --coins_in\n"
 
--- a first shot is refused for want of memory, or beside coins
+-- a first shot is refused for lack of memory, or beside coins
 abbrev pub RefusesFirst : List Row → Usage → Type 0
 RefusesFirst options Memory = ⊤
 RefusesFirst options (Fault line) = (string_bytes line ≡ beside_fault) × (first_beside_coins options ≡ true)

@@ -10,7 +10,7 @@ use Rattle.stab_letters.specs.Limits.{most_qubits}
 use Rattle.stab_run.specs.Limits.{most_stride}
 use Rattle.stab_jobs.specs.Limits.{last_shot, most_shots}
 
--- names where the reader keeps them
+-- names if the reader keeps them
 abbrev pub Kept : Type 0
 Kept = Bor (List (Bor Text))
 
@@ -22,7 +22,7 @@ format_names = codes "01" ∷ codes "b8" ∷ codes "r8" ∷ codes "hits" ∷ cod
 abbrev pub letter_names : List Text
 letter_names = codes "all" ∷ codes "XZ" ∷ []
 
--- the names that options take, where the reader keeps them: of formats, and of letters
+-- the names that options take, if the reader keeps them: of formats, and of letters
 pub record KeptNames : Type 0 where
   pub formats : Kept
   pub letters : Kept
@@ -51,7 +51,7 @@ named id names default = record (one_name id names) { defaults = default ∷ [] 
 abbrev pub flag : Text → Rule
 flag id = record (new_rule id) { long = Some id; action = Some SetTrue }
 
--- the flag that leaves out what is not the same for all coins, which has another name
+-- the flag that leaves out what is not the same for all random bits, which has another name
 abbrev pub deterministic_only : Rule
 deterministic_only = record (flag (codes "deterministic_only")) { aliases = codes "sure_only" ∷ [] }
 

@@ -7,7 +7,7 @@ use stab_circuit::read_text;
 use stab_io::{Input, Refusal};
 use std::alloc::{AllocError, Global};
 
-/// What is said of coins that are no coins.
+/// What is said about coins that are no coins.
 pub const NO_COINS: &str = "stabsim: coins are 0 and 1\n";
 
 /// Why a file gave no coins.
@@ -15,7 +15,7 @@ pub const NO_COINS: &str = "stabsim: coins are 0 and 1\n";
 pub enum CoinsFault {
     /// It was not read whole, by `TooLong` or `ReadFault`, or memory was refused.
     Unread(Refusal),
-    /// It has something else than characters 0 and 1 and a line end after them.
+    /// It has something other than characters 0 and 1 and a line end after them.
     Wrong,
 }
 

@@ -1,7 +1,7 @@
 //! The words of a command line.
 //!
 //! - `help`: what the help says.
-//! - `app`: the commands and their options, as the command line reader is told of them.
+//! - `app`: the commands and their options, as the command line reader is given them.
 //! - `options`: what the words say to each option.
 ghost use Rattle.std.specs.Prelude.{◌≡◌, map};
 ghost use Rattle.clap.specs.Words.{kind_of};
@@ -57,10 +57,10 @@ fn usage_of(alloc: Global, error: &Error) -> Usage
 
 /// Reads the words of a command line, the program's name first.
 ///
-/// No job comes of words that ask for help or the version (`Usage::Help`), of words that the command
+/// No job comes from words that ask for help or the version (`Usage::Help`), of words that the command
 /// line reader doesn't take, whose shots go beyond the last of a seed or have a first beside coins, or
 /// whose coins are not characters 0 and 1 (`Usage::Fault`), or if memory was refused
-/// (`Usage::Memory`). A first shot beside coins is looked for first of these, and the coins last.
+/// (`Usage::Memory`). Of these, a first shot beside coins is looked for first, and the coins last.
 pub fn parse_words(alloc: Global, words: &[&str]) -> Result<Job, Usage>
     ensures ends { EndsReading (map (λ w. w.now) words.now) result }
 {

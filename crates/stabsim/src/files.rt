@@ -1,6 +1,6 @@
 //! The files and streams that a run reads and writes.
 //!
-//! A file that is written keeps what it held until there is something to put in its stead, so a run that
+//! A file that is written keeps what it held until there is something to replace it, so a run that
 //! is refused leaves it as it was.
 use stab_pauli::Refusal;
 use std::fs::{File, Metadata, OpenFile, OpenOptions};
@@ -12,9 +12,9 @@ use std::{fs, io};
 /// By which path the standard input is found among the files.
 pub(crate) const STANDARD_INPUT: &str = "/dev/stdin";
 
-/// A file that is written from its beginning, in the stead of what it held.
+/// A file that is written from its beginning, in place of what it held.
 ///
-/// It is cut at the first byte that is written to it, or at a flush, which comes behind a run without a
+/// It is cut at the first byte that is written to it, or at a flush, which comes after a run without a
 /// fault. What is no regular file, such as a pipe or a terminal, is never cut.
 #[derive(Drop)]
 pub(crate) struct Replaced {
@@ -23,7 +23,7 @@ pub(crate) struct Replaced {
 }
 
 impl Replaced {
-    /// Opens a file to be written, and makes it where there is none.
+    /// Opens a file to be written, and makes it if there is none.
     pub(crate) fn open<R: Files<File = File>>(files: &R, path: &str) -> io::Result<Replaced> {
         let file = OpenOptions::new()
             .write(true)
@@ -79,7 +79,7 @@ impl Reader {
 impl Read for Reader {
     ghost use Rattle.stabsim.specs.Readers.{bytes_left};
 
-    // So a device round no bytes is an honest one, as the empty circuit of `edit` is.
+    // So a device around no bytes is an honest one, as the empty circuit of `edit` is.
     ghost remaining = { bytes_left };
 
     fn read(&mut self, buf: &mut [u8]) -> io::Result<usize> {
@@ -235,7 +235,7 @@ impl<W> FirstLine<W> {
         }
     }
 
-    /// Whether the first line tells that a circuit was refused for what it says.
+    /// Whether the first line says that a circuit was refused for what it contains.
     pub(crate) fn refuses_circuit(&self) -> bool {
         let line = self.line.split_at(self.length.min(MOST_KEPT)).0;
         self.is_ended

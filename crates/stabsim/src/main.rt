@@ -69,7 +69,7 @@ fn words<R: Env + AllocGlobal>(rt: &R) -> Result<Vec<String>, Usage> {
     }
 }
 
-/// Runs a job. If it refuses a circuit on a terminal, one more line says which command tells more.
+/// Runs a job. If it refuses a circuit on a terminal, one more line says which command explains it.
 fn run_hinted(rt: &HostRuntime, job: Job) -> u8 {
     let is_check = matches!(job.command, Command::Check);
     let mut line = FirstLine::new(rt.stderr());
@@ -99,7 +99,7 @@ fn run_with_coins<E: Output>(rt: &HostRuntime, mut job: Job, err: &mut E) -> u8 
     run_opened(rt, &job, err)
 }
 
-/// The coins of a file; or the status of the program, once it is reported why there are none.
+/// The coins of a file; or the status of the program, once the reason why there are none is reported.
 fn coins_of_file<E: Output>(rt: &HostRuntime, path: &str, err: &mut E) -> Result<Vec<bool>, u8> {
     let mut file = match ReadFile::open(rt, path) {
         Ok(file) => file,
@@ -115,7 +115,7 @@ fn coins_of_file<E: Output>(rt: &HostRuntime, path: &str, err: &mut E) -> Result
     }
 }
 
-/// What is said of a job that would write a file that it reads.
+/// What is said about a job that would write a file that it reads.
 fn shared_file(rt: &HostRuntime, job: &Job) -> Option<&'static str> {
     let out = job.out_path.as_ref()?;
     let reads_input = job.in_path.is_none() || job.reads_script();
@@ -224,7 +224,7 @@ fn shows_progress(command: Command) -> bool {
     }
 }
 
-/// Whether a command looks at marked places alone, and shows if there are none: `distance` by a search over no
+/// Whether a command looks at marked places alone, and shows whether there are none: `distance` by a search over no
 /// errors, and `faults` by no byte, except in the format b8, in which a fault may be of no byte.
 fn is_on_marks(command: Command) -> bool {
     match command {
@@ -264,7 +264,7 @@ fn tell_path<E: Output>(
     status
 }
 
-/// Writes a file's name and what the system said, if it said anything, if memory suffices.
+/// If memory suffices, writes a file's name and what the system said, if it said anything.
 fn name_file<E: Output>(rt: &HostRuntime, path: &str, error: Option<&io::Error>, err: &mut E) {
     let line = match error {
         Some(error) => format!(in rt.alloc(); "stabsim: {path}: {error}\n"),

@@ -24,13 +24,13 @@ pub(crate) fn path_of(numbers: &[usize]) -> Path {
     }
 }
 
-/// How many steps stand before a path, and its first number.
+/// How many steps are before a path, and its first number.
 fn steps_to(circuit: &Circuit, numbers: &[usize]) -> (usize, usize) {
     let path = path_of(numbers);
     (circuit.steps_before(path), path.first())
 }
 
-// Paths, and how many steps stand before their places; past the end of a list all its steps do.
+// Paths, and how many steps are before their places; past the end of a list all its steps are.
 const STEPS_BEFORE: &[(&[usize], usize, usize)] = &[
     (&[0], 0, 0),
     (&[1], 2, 1),
@@ -61,7 +61,7 @@ fn told(answer: Result<(Span, Option<Item>), Refused>) -> (u8, bool, [usize; 3])
     }
 }
 
-/// What an edit on so many qubits answers.
+/// What an edit on this many qubits answers.
 fn judged(
     alloc: Global,
     circuit: &mut Circuit,

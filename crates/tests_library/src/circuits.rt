@@ -26,7 +26,7 @@ pub(crate) fn prints(alloc: Global, circuit: &Circuit, text: &str) -> Result<boo
     Ok(written.is_ok() && out.bytes() == text.as_bytes())
 }
 
-/// The number and line of a refusal, where its item came back.
+/// The number and line of a refusal, if its item came back.
 fn fault_with_item(refused: Refused) -> (u8, u64) {
     let Refused { fault, item } = refused;
     if is_there(item) {

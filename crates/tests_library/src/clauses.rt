@@ -1,6 +1,6 @@
-//! Callers that ensure what a public call does, where no other caller asks for it.
+//! Callers that ensure what a public call does, if no other caller asks for it.
 //!
-//! They are proved, and never run: where a clause came to say less than it does, the proof of its
+//! They are proved, and never run: if a clause came to say less than it does, the proof of its
 //! caller here would fail.
 
 ghost use Rattle.std.specs.Prelude.{◌≡◌, ℕ, ◌+◌, ◌<◌, ◌≤◌, [], length, take, min, slice_get, nat_le, is_some, Some, None, Ok, true, IfOk, IfSome, IfErr, OnOk, OnErr};
@@ -45,7 +45,7 @@ fn phase_of_letters(letter: Letter, other: Letter) -> Phase
     letter.product_phase(other)
 }
 
-/// Strings are told to commute where they do.
+/// Strings are said to commute if they do.
 fn told_to_commute(string: &Pauli, other: &Pauli) -> bool
     requires same_length { length string.now.letters ≡ length other.now.letters }
     ensures value { result ≡ commute string.now other.now }
@@ -81,7 +81,7 @@ fn written_at_once(output: &mut MemoryOutput, bytes: &[u8]) -> Result<usize, Dev
     output.write(bytes)
 }
 
-/// An output in memory fails a flush where it is set to, and nowhere else.
+/// An output in memory fails a flush if it is set to, and nowhere else.
 fn flushed_as_set(output: &mut MemoryOutput) -> Result<(), DeviceFault>
     ensures exact { FlushesAsSet output.old output.new result }
 {
@@ -146,7 +146,7 @@ fn steps_counted(circuit: &Circuit, path: Path) -> usize
     circuit.steps_before(path)
 }
 
-/// Of the item of a step so many steps are left in the same round.
+/// This many steps of a step's item are left in the same round.
 fn steps_left_of_item(circuit: &Circuit, step: usize) -> usize
     requires checked { check_of (circuit_items circuit.now) ≡ None }
     requires in_range { step < length (unroll (circuit_items circuit.now)) }
@@ -201,7 +201,7 @@ fn runs_at_once(
     run_shots(alloc, circuit, n, seed, first, number)
 }
 
-/// A reference is the run with all coins 0, and there is one just where no more outcomes are free than may be noted.
+/// A reference is the run with all coins 0, and there is one if and only if no more outcomes are free than may be noted.
 fn noted_reference(
     alloc: Global,
     circuit: &Circuit,
@@ -231,7 +231,7 @@ fn opened<C: Coins>(
     Session::open(alloc, circuit, n, stride, coins)
 }
 
-/// A session tells the sign with which a string stabilises the state after the run.
+/// A session says the sign with which a string stabilises the state after the run.
 fn sign_after_run<C: Coins>(session: &mut Session<C>, pauli: &Pauli) -> Option<bool>
     requires same_length { length pauli.now.letters ≡ session.old.qubits }
     ensures sign { IsSignIn (member (run_of session.old.qubits (C.sequence session.old.coins) session.old.items).trace) pauli.now result }
@@ -239,7 +239,7 @@ fn sign_after_run<C: Coins>(session: &mut Session<C>, pauli: &Pauli) -> Option<b
     session.sign_of(pauli)
 }
 
-/// A report bounds and counts the steps that an edit carried out and those that it went past otherwise. An edit asks for no more coins
+/// A report bounds and counts the steps that an edit carried out and those that it went past in another way. An edit asks for no more coins
 /// than it carried out steps, and a refused one for few. The report says how many copies of the state are kept, and these are few.
 fn edited_with_counts<C: Coins>(session: &mut Session<C>, edit: Edit) -> Result<Report, Refused>
     ensures framed { IfOk result (λ r. r.applied + r.framed ≤ steps_from_change edit session.old session.new) }

@@ -4,7 +4,7 @@ use stab_pauli::{MemoryInput, Refusal};
 use std::alloc::Global;
 use std::test::Fail;
 
-/// Puts what a cursor gives behind a text, a line each.
+/// Puts what a cursor gives after a text, a line each.
 fn show(
     alloc: Global,
     text: &mut String,
@@ -18,8 +18,8 @@ fn show(
     Ok(())
 }
 
-/// What a cursor at a step of a circuit gives, so many lines; or twice what it gives from the first
-/// step on, where it is started again each time.
+/// What a cursor at a step of a circuit gives, this many lines; or twice what it gives from the first
+/// step on, if it is started again each time.
 fn shown(
     alloc: Global,
     circuit: &str,

@@ -1,11 +1,11 @@
-//! Devices round readers and writers that fail.
+//! Devices around readers and writers that fail.
 
 use stab_pauli::{Device, DeviceFault, Input, Output, Refusal, write_all};
 use std::alloc::Global;
 use std::io;
 use std::io::{Read, Write};
 
-// Gives two bytes a call. The call numbered so, counted from 1, fails.
+// Gives two bytes a call. The call with this number, counted from 1, fails.
 #[derive(Drop)]
 struct FailingReader {
     bytes: &'static [u8],
@@ -24,8 +24,8 @@ impl Read for FailingReader {
     }
 }
 
-// Takes two bytes a call, and counts the calls. The one numbered so fails with an error of this kind,
-// or, where it is a write and there is none, takes no bytes.
+// Takes two bytes a call, and counts the calls. The one with this number fails with an error of this kind,
+// or, if it is a write and there is none, takes no bytes.
 #[derive(Drop)]
 struct FailingWriter<'a> {
     written: &'a mut Vec<u8>,
@@ -85,7 +85,7 @@ fn a_failed_read_is_told(rt: HostRuntime) {
     }
 }
 
-// What the writing of two texts, one behind the other, answers where a call fails; whether the writer then
+// What the writing of two texts, one after the other, answers if a call fails; whether the writer then
 // has these bytes; and how many calls were made.
 fn writes(
     alloc: Global,

@@ -1,10 +1,10 @@
-//! The steps that stand behind each occurrence of an item in blocks.
+//! The steps that are after each occurrence of an item in blocks.
 use crate::circuit_edits::path_of;
 use crate::circuits::read;
 use std::alloc::Global;
 use std::test::Fail;
 
-/// Whether these are the gaps behind the item at a path, or there are none and none are wanted.
+/// Whether these are the gaps after the item at a path, or there are none and none are wanted.
 fn are_gaps(
     alloc: Global,
     text: &str,
@@ -35,7 +35,7 @@ const DEEP: &str =
 
 const TOO_MANY: &str = "REPEAT 1048577 {\nTICK\n}";
 
-// Texts, the numbers of a path, and how many steps stand behind the item there, time after time.
+// Texts, the numbers of a path, and how many steps are after the item there, time after time.
 const CASES: &[(&str, &[usize], Option<&[usize]>)] = &[
     (NESTED, &[0], Some(&[0])),
     (NESTED, &[2], Some(&[0])),

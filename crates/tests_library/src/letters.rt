@@ -60,7 +60,7 @@ fn product(a: Matrix, b: Matrix) -> Matrix {
 }
 
 // Whether the product of two letters, with its power of i, is that of their matrices, and is turned by an
-// exchange of the two where they anticommute.
+// exchange of the two if they anticommute.
 fn multiply(a: Letter, b: Letter) -> bool {
     let found = scaled(number(a.product_phase(b)), matrix(a.times(b)));
     let sign = if a.anticommutes(b) { (-1, 0) } else { (1, 0) };

@@ -1,8 +1,8 @@
 //! Tests of the public calls of each layer that no command makes, with ample memory, as tables of worked
 //! examples.
 //!
-//! They stand here, and not in the layers, because a crate with tests is proved twice: once for
-//! those who use it, and once more with its tests. Beside them stand callers, in `clauses`, that
+//! They are here, and not in the layers, because a crate with tests is proved twice: once for
+//! those who use it, and once more with its tests. Beside them are callers, in `clauses`, that
 //! are proved for what they ensure.
 #![tactic(auto)]
 

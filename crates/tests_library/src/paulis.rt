@@ -18,7 +18,7 @@ enum StringChange {
     Copy,
     // One letter takes the place of all.
     Single(usize, Letter),
-    // The product with the string of a text, times i where the two anticommute.
+    // The product with the string of a text, times i if the two anticommute.
     Times(&'static str),
     // The letters of that product, with the sign as it was.
     TimesLetters(&'static str),
@@ -51,7 +51,7 @@ fn times_letters(alloc: Global, pauli: &mut Pauli, text: &str) -> Result<bool, R
     Ok(multiply_letters(pauli, &other))
 }
 
-// Makes a change, and tells whether it can be made.
+// Makes a change, and says whether it can be made.
 fn make(alloc: Global, pauli: &mut Pauli, change: StringChange) -> Result<bool, Refusal> {
     match change {
         StringChange::Set(qubit, letter) => set(pauli, qubit, letter),
@@ -99,7 +99,7 @@ const CHANGES: &[(&str, StringChange, &str, Option<usize>)] = &[
     ("-_YX", NegateIf(true), "+_YX", Some(1)),
     ("+_YX", Negate, "-_YX", Some(1)),
     ("-_YX", Clear, "+___", None),
-    // A letter stands at the end of a word, and behind it.
+    // A letter is at the end of a word, and after it.
     (
         LONG,
         Set(63, Letter::X),
@@ -161,7 +161,7 @@ fn a_pauli_is_changed(rt: HostRuntime) -> Result<(), Fail> {
     Ok(())
 }
 
-// Whether a string's text is cut at so many bytes by an output that has no more room, and told.
+// Whether a string's text is cut at this many bytes by an output that has no more room, and this is reported.
 fn is_cut(alloc: Global, pauli: &Pauli, text: &str, room: usize) -> Result<bool, Refusal> {
     let mut out = MemoryOutput::new(alloc, room)?;
     let failed = pauli.write_text(&mut out) == Err(Refusal::WriteFault);
@@ -205,7 +205,7 @@ fn is_repeated(pauli: &Pauli, letter: Letter) -> bool {
     all
 }
 
-// Whether n letters X and n letters Z commute; and whether the product, times i where they don't, is
+// Whether n letters X and n letters Z commute; and whether the product, times i if they don't, is
 // negative and has letters Y alone.
 fn x_times_z(alloc: Global, n: usize) -> Result<(bool, bool, bool), Refusal> {
     let mut pauli = repeated(alloc, n, Letter::X)?;

@@ -9,7 +9,7 @@ const M: Kinds = Kinds::Measurements;
 
 const D: Kinds = Kinds::Detectors(2);
 
-// How many outputs, with room for each number of the bytes up to all, answer and have what they should where
+// How many outputs, with room for each number of the bytes up to all, answer and have what they should if
 // the entries of some places are written.
 fn right_entries(
     alloc: Global,

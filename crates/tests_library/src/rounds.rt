@@ -1,4 +1,4 @@
-//! Blocks whose rounds come again: what runs and sessions give of them, and where they stand in the steps.
+//! Blocks whose rounds come again: what runs and sessions give of them, and where they are in the steps.
 ghost use Rattle.std.specs.Prelude.{◌≤◌};
 ghost use Rattle.stab_run.specs.Limits.{most_stride};
 
@@ -8,8 +8,8 @@ use stab_session::{SeedCoins, Session, Shot, run_once};
 use std::alloc::Global;
 use std::test::Fail;
 
-/// The lines before a block, its first line, how many rounds that says, the lines in it, and those behind it, on twelve qubits.
-/// All blocks but one are long enough to be looked at.
+/// The lines before a block, its first line, how many rounds that says, the lines in it, and those after it, on twelve qubits.
+/// All blocks except one are long enough to be looked at.
 type Case = (
     &'static str,
     &'static str,
@@ -40,7 +40,7 @@ DETECTOR rec[-6] rec[-4] rec[-2] rec[-18] rec[-16] rec[-14]
 OBSERVABLE_INCLUDE(0) rec[-1]
 ";
 
-/// Free outcomes of all axes, inverted ones, pairs that a reset parts, and gates under a record.
+/// Free outcomes of all axes, inverted ones, pairs that a reset separates, and gates under a record.
 const MIXED: &str = "H 0 2
 CX 0 1 2 3
 MR !1 3
@@ -135,7 +135,7 @@ const CASES: [Case; 22] = [
         "MX 1\nREPEAT 3 {\nM 0\nX 0\n}\nM 1\n",
         "",
     ),
-    // So they do, and leave a state that is as it was but for signs; a frame tells all further rounds.
+    // So they do, and leave a state that is as it was up to signs; a frame gives all further rounds.
     (
         "R 0\nMPP X0*X1 X1*X2 X3*X4 X4*X5 X6*X7 X7*X8\nMPP Z0*Z3 Z3*Z6 Z1*Z4 Z4*Z7 Z2*Z5 Z5*Z8\n",
         "REPEAT 190 {\n",
@@ -186,7 +186,7 @@ const CASES: [Case; 22] = [
         "SWAP 1 2 2 3\nCX 3 4\nMX 4\nM 4\n",
         "M 1 2 3 4\n",
     ),
-    // A record decides which gate is applied, and one of long before what a detector says.
+    // A record decides which gate is applied, and a record of long before decides what a detector says.
     (
         "X 0\nM 0\n",
         "REPEAT 599 {\n",
@@ -222,10 +222,10 @@ fn in_a_block(alloc: Global, case: Case) -> Result<Vec<u8>, Fail> {
 }
 
 /// A block that does nothing. In a circuit with a block no written rounds are looked for, so each
-/// step of the lines behind is carried out.
+/// step of the lines after is carried out.
 const STILL_BLOCK: &str = "REPEAT 2 {\nI 0\n}\n";
 
-/// The lines of a case, with the block written out, where each step is carried out.
+/// The lines of a case, with the block written out, if each step is carried out.
 fn written_out(alloc: Global, case: Case) -> Result<Vec<u8>, Fail> {
     let (before, _, rounds, body, behind) = case;
     let mut text = Vec::from_slice(alloc, STILL_BLOCK.as_bytes())?;
@@ -251,7 +251,7 @@ pub(crate) fn are_same(one: &Shot, other: &Shot) -> bool {
         && one.observables.as_slice() == other.observables.as_slice()
 }
 
-/// Whether a block gives what it gives written out, where no round comes again, with some coins.
+/// Whether a block gives what it gives written out, if no round comes again, with some coins.
 fn agrees(alloc: Global, case: Case, number: u64) -> Result<bool, Fail> {
     let block = in_a_block(alloc, case)?;
     let lines = written_out(alloc, case)?;
@@ -317,7 +317,7 @@ fn sessions_on_blocks_give_what_runs_give_written_out(rt: HostRuntime) -> Result
     Ok(())
 }
 
-/// Behind a step, a block of two steps; one without a step, one of one round and a step alone; and at step 9 one of three steps,
+/// After a step, a block of two steps; one without a step, one of one round and a step alone; and at step 9 one of three steps,
 /// of which the last looks back to three records before the round.
 const BLOCKS: &str = "H 0
 REPEAT 3 {

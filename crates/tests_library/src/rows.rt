@@ -4,7 +4,7 @@ use stab_pauli::{CompactRows, Letter, Pauli, PauliRows, Refusal};
 use std::alloc::Global;
 use std::test::Fail;
 
-// Sets a row, where there is one of that length.
+// Sets a row, if there is one of that length.
 fn set_row(rows: &mut PauliRows, a: usize, pauli: &Pauli) {
     if a < rows.len() && pauli.len() == rows.qubits() {
         rows.set_row(a, pauli);
@@ -190,7 +190,7 @@ fn again(alloc: Global, rows: &PauliRows) -> Result<PauliRows, Refusal> {
 }
 
 // Rows with two letters, of which the second is negated; between them lie 791 words 0, more than one gap can
-// tell, and behind them 403.
+// hold, and after them 403.
 fn far_apart(alloc: Global) -> Result<PauliRows, Refusal> {
     let mut rows = PauliRows::new(alloc, 150, 2)?;
     make(&mut rows, RowChange::Set(0, 0, Letter::X));
@@ -218,14 +218,14 @@ fn far_apart_come_back(alloc: Global) -> Result<bool, Refusal> {
     }
 }
 
-// Whether rows are told, from little memory, from those with one letter more behind them.
+// Whether rows are distinguished, by little memory, from those with one letter more after them.
 fn are_told_from(compact: &CompactRows, rows: &mut PauliRows) -> bool {
     let same = compact.qubits() == 2 && compact.are(rows);
     make(rows, RowChange::Set(149, 1, Letter::Z));
     same && !compact.are(rows)
 }
 
-// Whether rows with letters far apart are told from rows with one letter more behind them.
+// Whether rows with letters far apart are distinguished from rows with one letter more after them.
 fn are_told(alloc: Global) -> Result<bool, Refusal> {
     let mut rows = far_apart(alloc)?;
     match rows.compact(alloc) {
@@ -242,7 +242,7 @@ fn letters_far_apart_come_back_from_little_memory(rt: HostRuntime) -> Result<(),
     Ok(())
 }
 
-// Rows of so many letters, and whether they are those of the test, with their signs and without.
+// Rows of this many letters, and whether they are those of the test, with their signs and without.
 const OTHERS: &[(usize, &[&str], bool, bool)] = &[
     (3, &["+X_Z", "-_YZ"], true, true),
     (3, &["+X_Z", "+_YZ"], false, true),

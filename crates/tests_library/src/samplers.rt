@@ -72,7 +72,7 @@ fn shots_are_runs_of_their_own(rt: HostRuntime) -> Result<(), Fail> {
     Ok(())
 }
 
-/// Whether shots at once are so many, and each is a run of its own.
+/// Whether shots at once are this many, and each is a run of its own.
 fn agree_at_once(
     alloc: Global,
     circuit: &Circuit,
@@ -88,7 +88,7 @@ fn agree_at_once(
 }
 
 /// Numbers of first shots, and how many shots: none, one, and such as fill a batch of lanes, or not quite, or go on in
-/// the next; at last such as go on behind the greatest number with 0.
+/// the next; at last such as go on after the greatest number with 0.
 const RANGES: [(u64, usize); 7] = [
     (9, 0),
     (0, 1),
@@ -111,9 +111,9 @@ fn shots_at_once_are_runs_of_their_own(rt: HostRuntime) -> Result<(), Fail> {
 }
 
 /// Circuits on four qubits whose shots make more than one batch: one with entangled qubits, of which each basis is measured and
-/// reset, products of four letters, feedback by all letters, and the same in blocks; one with nothing free; and one whose
-/// outcomes are free in turn.
-const BATCHED: [&str; 3] = [
+/// reset, products of four letters, feedback by all letters, and the same in blocks; one with nothing free; one whose outcomes are
+/// free in turn; and one with enough rounds that they are given again, with the strings of their free outcomes.
+const BATCHED: [&str; 4] = [
     "H 0 2
 CX 0 1 2 3
 S 1
@@ -154,6 +154,19 @@ OBSERVABLE_INCLUDE(1) rec[-2]
 }
 DETECTOR rec[-1] rec[-200]
 ",
+    "H 3
+M 3 3
+REPEAT 400 {
+    H 0 1
+    M 0 !1
+    CX rec[-1] 2 rec[-4] 3
+    MX 3
+    MR 2
+    DETECTOR rec[-1] rec[-3]
+    OBSERVABLE_INCLUDE(0) rec[-2]
+}
+M 3
+",
 ];
 
 #[test]
@@ -167,7 +180,7 @@ fn shots_of_many_batches_are_runs_of_their_own(rt: HostRuntime) -> Result<(), Fa
     Ok(())
 }
 
-/// What refuses a run on one qubit, shots, and shots at once, where something does.
+/// What refuses a run on one qubit, shots, and shots at once, if something does.
 fn refusals(alloc: Global, text: &str) -> Result<[Option<Fault>; 3], Fault> {
     let circuit = read(alloc, text)?;
     let run = run_once(alloc, &circuit, 1, &mut ListCoins::new(&[])).err();

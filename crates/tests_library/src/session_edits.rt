@@ -54,7 +54,7 @@ fn put<C: Coins>(
     }
 }
 
-/// Puts an item in at a place, where there is one, and tells what that cost, or nothing.
+/// Puts an item in at a place, if there is one, and says what that cost, or nothing.
 fn put_where<C: Coins>(
     alloc: Global,
     session: &mut Session<C>,
@@ -101,7 +101,7 @@ fn cost(
     Ok((report, asks))
 }
 
-/// How many coins an opening asks for; and the same of an edit behind it.
+/// How many coins an opening asks for; and the same of an edit after it.
 fn costs(
     alloc: Global,
     circuit: &str,
@@ -121,17 +121,17 @@ fn path(block: Option<usize>, place: usize) -> Path {
     }
 }
 
-/// In which block, or in none, what is put in where.
+/// What is put in, and where: in which block, or in none.
 type Item = (Option<usize>, usize, &'static str);
 
 // An edit whose flips die is followed as far as steps look back. The X flips the first record, and the reset
-// behind that ends the flip. Then come 38 measurements, and copies before the steps 9, 18, 27 and 36, behind 8,
-// 17, 26 and 35 records. So where nothing looks back both runs agree at the first copy, before step 10 of the new
-// ones; where a detector looks back to 15 records they do at the second one, behind whose first record 16 more
-// stand; and where it looks back to all, at none. A frame passes all of that, and no step is carried out.
+// after that ends the flip. Then come 38 measurements, and copies before the steps 9, 18, 27 and 36, after 8,
+// 17, 26 and 35 records. So if nothing looks back both runs agree at the first copy, before step 10 of the new
+// ones; if a detector looks back to 15 records they do at the second one, after whose first record 16 more
+// follow; and if it looks back to all, at none. A frame passes all of that, and no step is carried out.
 //
 // Two square roots of X do the same, and are no Pauli gates: steps are carried out up to the first copy, before
-// step 11; from there on a frame leads, up to the last copy, and the five steps behind that are carried out.
+// step 11; from there on a frame leads, up to the last copy, and the five steps after that are carried out.
 const DIES: &str = "M 0\nR 0\nREPEAT 38 {\nM 0\n}";
 
 const DIES_NEAR: &str = "M 0\nR 0\nREPEAT 38 {\nM 0\n}\nDETECTOR rec[-15]";
@@ -141,9 +141,9 @@ const DIES_FAR: &str = "M 0\nR 0\nREPEAT 38 {\nM 0\n}\nDETECTOR rec[-39]";
 const ROOTS: &str = "SQRT_X 0 0";
 
 // A frame ends at a copy too whose state its letters stabilise, with one of both signs, if it flipped no record that
-// later steps look back to. The X flips the first record, and behind the first measurement of X it stabilises. Copies
-// stand as above: the first one tells it where nothing looks back, the second one behind a detector that looks back to
-// 15 records, and none where a detector looks back to all. Z stabilises a qubit that X gates alone act on; X stabilises
+// later steps look back to. The X flips the first record, and after the first measurement of X it stabilises. Copies
+// are placed as above: the first one shows it if nothing looks back, the second one after a detector that looks back to
+// 15 records, and none if a detector looks back to all. Z stabilises a qubit that X gates alone act on; X stabilises
 // it nowhere, so its frame leads up to the end, though it flips nothing.
 const SETTLES: &str = "M 0\nREPEAT 39 {\nMX 0\n}";
 
@@ -153,11 +153,11 @@ const SETTLES_FAR: &str = "M 0\nREPEAT 39 {\nMX 0\n}\nDETECTOR rec[-40]";
 
 const STILL: &str = "REPEAT 100 {\nX 0\n}";
 
-// A measurement or reset that is put in gives all later records or coins other numbers. Where no coin decides behind a copy,
-// the old run is kept all the same: from the first copy on, before step 10 of the new ones, where nothing looks back; from the
-// second one on behind a detector that looks back to 15 records, since both runs have as many there for the first time; and
-// from none where a detector looks back to all. A reset turns a 1 into a 0, so that all records behind it flip: from the first
-// copy on a frame leads, up to the last copy, and the four steps behind that are carried out. Where a coin decides behind each
+// A measurement or reset that is put in gives all later records or coins other numbers. If no coin decides after a copy,
+// the old run is kept nevertheless: from the first copy on, before step 10 of the new ones, if nothing looks back; from the
+// second one on after a detector that looks back to 15 records, since both runs have as many there for the first time; and
+// from none if a detector looks back to all. A reset turns a 1 into a 0, so that all records after it flip: from the first
+// copy on a frame leads, up to the last copy, and the four steps after that are carried out. If a coin decides after each
 // copy, all 2,001 steps are.
 const ONES: &str = "X 0\nREPEAT 39 {\nM 0\n}";
 
@@ -167,13 +167,13 @@ const TWO_BLOCKS: &str = "REPEAT 10 {\nX 0\nX 0\n}\nREPEAT 1000 {\nX 0\n}";
 
 const FREE: &str = "REPEAT 1000 {\nMX 0\nM 0\n}";
 
-// Circuits on one qubit, with copies at most ten steps apart, and where what is put in. Then how many steps the edit carries out, how
+// Circuits on one qubit, with copies at most ten steps apart, and what is put in where. Then how many steps the edit carries out, how
 // many others it goes past, and the most copies that are kept, two for each ten steps and two more; how many coins the opening asks
 // for, and how many the edit.
 //
 // An I changes nothing: from the copy before it on its frame, which has no letter, goes past the steps up to the next copy, or to the
-// end. Copies stand nine steps apart. In the first block of two that is not so: with an I in each of its ten rounds its copies would
-// stand too far apart. So the rounds are carried out; after the 18th step the state is that after the 9th, three rounds before, so the
+// end. Copies are nine steps apart. In the first block of two that is not so: with an I in each of its ten rounds its copies would
+// be too far apart. So the rounds are carried out; after the 18th step the state is that after the 9th, three rounds before, so the
 // next nine steps are given again, and ten more lead to the old copy after step 27, which has become step 37.
 const COSTS: &[(&str, Item, [usize; 2], usize, (u64, u64))] = &[
     (STILL, (None, 1, "I 0"), [0, 2], 22, (0, 0)),

@@ -1,8 +1,8 @@
 //! Stabiliser states: groups that are the same, also of copies and of states that are reset, and the rows of a
 //! Bell pair.
 //!
-//! What gates, measurements and resets make of states is tried by `tools/fuzz.py --states`, which runs the
-//! program; here stand the calls that no command makes, or whose answers none shows.
+//! `tools/fuzz.py --states` tries what gates, measurements and resets make of states, and runs the
+//! program; here are the calls that no command makes, or whose answers none shows.
 mod calls;
 mod kept;
 
@@ -15,7 +15,7 @@ use stab_tableau::{Collapse, Gate, PairGate, Tableau};
 use std::alloc::Global;
 use std::test::Fail;
 
-// Sizes round those at which words and blocks of words end.
+// Sizes around those at which words and blocks of words end.
 const SIZES: [usize; 12] = [2, 63, 64, 65, 127, 128, 129, 255, 256, 257, 1023, 1024];
 
 // A Bell pair of the first and the last qubit.
@@ -56,12 +56,12 @@ fn same_after(
 // A Bell pair whose half was measured with the coin 1.
 const HALF: &[Call] = &[TURN, ENTANGLE, Measure("+Z_", true)];
 
-// The same, where every qubit was turned, entangled and measured, and the state then reset.
+// The same, if every qubit was turned, entangled and measured, and the state then reset.
 const HALF_AFTER_RESET: &[Call] = &[Wear, Reset, TURN, ENTANGLE, Measure("+Z_", true)];
 
 const GROUPS: &[(usize, &[Call], &[Call], bool)] = &[
     (2, BELL, BELL, true),
-    // Signs alone tell groups apart where they are the signs of members.
+    // Signs alone distinguish groups if they are the signs of members.
     (1, &[], &[One(Gate::Z, First)], true),
     (1, &[], &[One(Gate::Z, First), One(Gate::X, First)], false),
     // A phase flip on a qubit that is zero keeps the group.
@@ -197,7 +197,7 @@ fn letter_i_is_fixed(tableau: &mut Tableau, coin: bool, string: &mut Pauli) -> b
         && is_first_x(string)
 }
 
-// Whether the same is so of the string without a letter.
+// Whether the same holds for the string without a letter.
 fn identity_is_fixed(
     tableau: &mut Tableau,
     identity: &Pauli,
@@ -213,7 +213,7 @@ fn identity_is_fixed(
         && is_first_x(string)
 }
 
-// Whether both are so of a Bell pair of n qubits.
+// Whether both hold for a Bell pair of n qubits.
 fn identities_are_fixed(alloc: Global, n: usize, coin: bool) -> Result<bool, Refusal> {
     let mut tableau = state(alloc, n, BELL)?;
     let identity = Pauli::identity(alloc, tableau.len())?;

@@ -23,7 +23,7 @@ fn found(
 }
 
 // Steps 0 and 1 are of item 0. Then come three rounds of five steps, one of item 0 and four of item 2 of the
-// block; then two steps of item 3, and one of item 4. Items without steps stand between.
+// block; then two steps of item 3, and one of item 4. Items without steps are between.
 const NESTED: &str =
     "H 0 1\nTICK\nREPEAT 3 {\nX 0\nREPEAT 2 {\nTICK\n}\nREPEAT 2 {\nM 0 1\n}\n}\nCX 0 1 2 3\nDETECTOR rec[-1]";
 

@@ -9,7 +9,7 @@ pub(crate) fn read(alloc: Global, text: &str) -> Result<Pauli, Refusal> {
     for (place, byte) in text.as_bytes().iter().enumerate() {
         match *byte {
             b'-' => pauli.negate(),
-            // Letters stand behind the sign.
+            // Letters are after the sign.
             b'X' => set(&mut pauli, place.wrapping_sub(1), Letter::X),
             b'Y' => set(&mut pauli, place.wrapping_sub(1), Letter::Y),
             b'Z' => set(&mut pauli, place.wrapping_sub(1), Letter::Z),
@@ -19,14 +19,14 @@ pub(crate) fn read(alloc: Global, text: &str) -> Result<Pauli, Refusal> {
     Ok(pauli)
 }
 
-/// Sets a letter, where there is that qubit.
+/// Sets a letter, if there is that qubit.
 pub(crate) fn set(pauli: &mut Pauli, qubit: usize, letter: Letter) {
     if qubit < pauli.len() {
         pauli.set(qubit, letter);
     }
 }
 
-/// The string with one letter, at a qubit among n; without a letter where there is no such qubit.
+/// The string with one letter, at a qubit among n; without a letter if there is no such qubit.
 pub(crate) fn single(
     alloc: Global,
     n: usize,
@@ -45,8 +45,8 @@ pub(crate) fn commute(pauli: &Pauli, other: &Pauli) -> bool {
     pauli.len() == other.len() && pauli.commutes(other)
 }
 
-/// Multiplies a string by one that commutes with it, or by one that anticommutes with it and by i, where
-/// they have one length.
+/// Multiplies a string by one that commutes with it, or by one that anticommutes with it and by i, if
+/// they have the same length.
 pub(crate) fn multiply(pauli: &mut Pauli, other: &Pauli) -> bool {
     let allowed = pauli.len() == other.len();
     if allowed {
@@ -59,7 +59,7 @@ pub(crate) fn multiply(pauli: &mut Pauli, other: &Pauli) -> bool {
     allowed
 }
 
-/// Multiplies the letters of a string by those of another, where they have one length.
+/// Multiplies the letters of a string by those of another, if they have the same length.
 pub(crate) fn multiply_letters(pauli: &mut Pauli, other: &Pauli) -> bool {
     let allowed = pauli.len() == other.len();
     if allowed {
@@ -75,7 +75,7 @@ pub(crate) fn prints(alloc: Global, pauli: &Pauli, text: &str) -> Result<bool, R
     Ok(out.bytes() == text.as_bytes())
 }
 
-/// Whether both hold, where both can be told.
+/// Whether both hold, if both are known.
 pub(crate) fn both(
     first: Result<bool, Refusal>,
     second: Result<bool, Refusal>,

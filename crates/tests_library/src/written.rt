@@ -1,4 +1,4 @@
-//! Rounds that are written out: where they are found, and what runs and sessions give of them. Where a circuit has a block, none are
+//! Rounds that are written out: where they are found, and what runs and sessions give of them. If a circuit has a block, none are
 //! looked for, so each line is carried out.
 ghost use Rattle.std.specs.Prelude.{◌≤◌};
 ghost use Rattle.stab_run.specs.Limits.{most_stride};
@@ -10,7 +10,7 @@ use stab_rounds::find_rounds;
 use std::alloc::Global;
 use std::test::Fail;
 
-/// The lines before rounds, those of a round, how many rounds there are, and the lines behind them, on twelve qubits.
+/// The lines before rounds, those of a round, how many rounds there are, and the lines after them, on twelve qubits.
 type Case = (&'static str, &'static str, usize, &'static str);
 
 /// A block that changes nothing.
@@ -20,7 +20,7 @@ I 11
 ";
 
 const CASES: [Case; 6] = [
-    // A repetition code, behind a first round in which coins decide.
+    // A repetition code, after a first round in which coins decide.
     (
         "H 0 2 4\nM 1 3\n",
         "CX 0 1 2 1 2 3 4 3\nMR 1 3\nDETECTOR rec[-1] rec[-3]\nDETECTOR rec[-2] rec[-4]\nOBSERVABLE_INCLUDE(0) rec[-1]\n",
@@ -34,7 +34,7 @@ const CASES: [Case; 6] = [
         700,
         "M 0 1 2 3 4 5\n",
     ),
-    // Coins decide in each round, or in none; the same instruction stands twice in a round.
+    // Coins decide in each round, or in none; the same instruction occurs twice in a round.
     ("", "H 0\nM 0\nH 0\n", 3000, "M 0\n"),
     (
         "H 0\nCX 0 1\n",
@@ -49,7 +49,7 @@ const CASES: [Case; 6] = [
         2100,
         "M 1\n",
     ),
-    // Resets and observables stand alone; the first round is another one.
+    // Resets and observables are alone; the first round is another one.
     (
         "R 0 1 2\nX 0\nM 0\nDETECTOR rec[-1]\n",
         "R 2\nCX 0 2 1 2\nM 2 !1\nDETECTOR rec[-1] rec[-3]\nOBSERVABLE_INCLUDE(1) rec[-2]\n",
@@ -58,7 +58,7 @@ const CASES: [Case; 6] = [
     ),
 ];
 
-/// The lines of a case, with others behind them.
+/// The lines of a case, with others after them.
 fn text_of(alloc: Global, case: Case, last: &str) -> Result<Vec<u8>, Fail> {
     let (before, round, count, behind) = case;
     let mut text = Vec::from_slice(alloc, before.as_bytes())?;
@@ -115,8 +115,8 @@ fn sessions_on_written_rounds_give_what_their_steps_give(rt: HostRuntime) -> Res
     Ok(())
 }
 
-/// Where rounds of three steps are found, of which the first is another one: the place at step 0 comes never again, that at
-/// step 1 not as a round, and the next one that is tried is four steps further or behind that, at step 6.
+/// Where rounds of three steps are found, of which the first is another one: the place at step 0 never comes again, that at
+/// step 1 not as a round, and the next one that is tried is four steps further or after that, at step 6.
 #[test]
 fn written_rounds_stand_in_the_steps(rt: HostRuntime) -> Result<(), Fail> {
     let alloc = rt.alloc();

@@ -1,6 +1,6 @@
 //! Several shots of blocks whose rounds come again. They go one after another, and give again what rounds before gave; those of
 //! the same lines written out go at once, and carry out each line.
-use stab_commands::{Source, run_detect, run_sample};
+use stab_cli::{Source, run_detect, run_sample};
 use stab_pauli::{MemoryInput, MemoryOutput};
 use stab_results::Format;
 use std::alloc::Global;
@@ -12,7 +12,7 @@ const SHOTS: usize = 3;
 /// More bytes than they are written in.
 const ROOM: usize = 65_536;
 
-/// The lines before a block, its first line, how many rounds that says, the lines in it, and those behind it.
+/// The lines before a block, its first line, how many rounds that says, the lines in it, and those after it.
 type Case = (
     &'static str,
     &'static str,
@@ -22,7 +22,7 @@ type Case = (
 );
 
 const CASES: [Case; 4] = [
-    // A repetition code, behind a first round in which coins decide.
+    // A repetition code, after a first round in which coins decide.
     (
         "H 0 2 4\nM 1 3\n",
         "REPEAT 1000 {\n",
@@ -38,7 +38,7 @@ const CASES: [Case; 4] = [
         "CX rec[-1] 1\nM 0\nDETECTOR rec[-1]\n",
         "M 1\n",
     ),
-    // Where a coin decides in each round, and where too few rounds come again, a shot is given up on its way.
+    // If a coin decides in each round, or too few rounds come again, a shot is given up on its way.
     ("", "REPEAT 1100 {\n", 1100, "H 0\nM 0\n", "M 0\n"),
     (
         "H 0\nM 0\nREPEAT 3 {\nX 0\nM 0\n}\n",
@@ -71,7 +71,7 @@ fn written_out(alloc: Global, case: Case) -> Result<Vec<u8>, Fail> {
     Ok(text)
 }
 
-/// What `sample` writes for the shots of a text, and behind it what `detect` does.
+/// What `sample` writes for the shots of a text, and after it what `detect` does.
 fn shown_of(alloc: Global, text: &[u8]) -> Result<MemoryOutput, Fail> {
     let source = Source::Seed(3);
     let mut out = MemoryOutput::new(alloc, ROOM)?;

@@ -4,18 +4,16 @@
 //! caller here would fail.
 
 ghost use Rattle.std.specs.Prelude.{◌≡◌, true};
-ghost use Rattle.stab_commands.specs.Jobs.{EndsJob, reads_script};
-ghost use Rattle.stab_commands.specs.Outputs.{EndsRun, detect_of, sample_of};
-ghost use Rattle.stab_commands.specs.Jobs.{CommandInTurn};
+ghost use Rattle.stab_cli.specs.Jobs.{EndsJob, reads_script};
+ghost use Rattle.stab_cli.specs.Outputs.{EndsRun, detect_of, sample_of};
+ghost use Rattle.stab_cli.specs.Jobs.{CommandInTurn};
 
-use stab_commands::{
-    Job, Progress, Source, Watcher, run_detect, run_job, run_job_watched, run_sample,
-};
+use stab_cli::{Job, Progress, Source, Watcher, run_detect, run_job, run_job_watched, run_sample};
 use stab_pauli::{Fault, Input, Output};
 use stab_results::Format;
 use std::alloc::Global;
 
-/// A job is told to read a script if its command does.
+/// A job is said to read a script if its command does.
 fn told_to_read_a_script(job: &Job) -> bool
     ensures value { result ≡ reads_script job.now.command }
 {
@@ -49,7 +47,7 @@ fn sample_seven<I: Input, O: Output>(
     run_sample(alloc, input, out, format, 7, source)
 }
 
-/// And so it is of `detect`.
+/// The same for `detect`.
 fn detect_seven<I: Input, O: Output>(
     alloc: Global,
     input: &mut I,

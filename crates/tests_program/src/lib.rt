@@ -1,6 +1,6 @@
 //! Tests of the command line that no run of the program shows: the fields of a job, an output that can't be
-//! flushed, reads in turn with what stands written, and shots of blocks beside those of the same lines written out.
-//! Worked examples of runs stand as rows in `crates/rows`.
+//! flushed, reads in turn with what is written, and shots of blocks beside those of the same lines written out.
+//! Worked examples of runs are rows in `crates/rows`.
 #![tactic(auto)]
 
 #[cfg(test)]

@@ -5,7 +5,7 @@ use stab_pauli::MemoryOutput;
 use std::alloc::Global;
 use std::test::Fail;
 
-/// The job that a line asks for. One space parts its words, so that one may be empty.
+/// The job that a line asks for. One space separates its words, so that one may be empty.
 fn job_of_line(alloc: Global, line: &str) -> Result<Job, Fail> {
     let words: Vec<&str> = line.split(' ').collect(alloc)?;
     job_of(alloc, words.as_slice())

@@ -139,7 +139,7 @@ fn is_same_step(made: &mut Cursor, other: &mut Cursor) -> bool {
     made.next() == other.next()
 }
 
-/// Writes for so many steps and the end whether two cursors come to the same.
+/// Writes for this many steps and the end whether two cursors come to the same.
 fn show_steps(
     out: &mut MemoryOutput,
     made: &mut Cursor,

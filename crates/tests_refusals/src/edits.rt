@@ -12,7 +12,7 @@ use std::alloc::Global;
 use std::io;
 
 /// An edit of the nested circuit, in its outermost list, or at a path of three numbers; or of the circuit
-/// with a Pauli gate, in whose stead there is another, or one that does the same to that state; or of Pauli gates
+/// with a Pauli gate, which is replaced by another, or one that does the same to that state; or of Pauli gates
 /// that are put in at such a path.
 #[derive(Clone, Copy)]
 enum NestedEdit {
@@ -48,7 +48,7 @@ impl NestedEdit {
         }
     }
 
-    /// The text of the item that is put in; none where there is no item.
+    /// The text of the item that is put in; none if there is no item.
     fn text(self) -> &'static [u8] {
         match self {
             NestedEdit::Insert => b"MX 1",
@@ -80,7 +80,7 @@ struct Applied {
     item: ItemSlot,
 }
 
-// Written out, so that to a proof an edit that is let go is one call.
+// Written out, so that a proof sees the drop of an edit as one call.
 impl Drop for Applied {
     fn drop(self) {
         let Applied {

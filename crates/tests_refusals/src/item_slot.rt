@@ -10,7 +10,7 @@ pub struct ItemSlot {
     item: OneDrop<Option<Item>>,
 }
 
-// Written out, so that to a proof a slot that is let go is one call.
+// Written out, so that a proof sees the drop of a slot as one call.
 impl Drop for ItemSlot {
     fn drop(self) {
         let ItemSlot { item: _ } = self;
@@ -46,7 +46,7 @@ impl ItemSlot {
         self.item = OneDrop(Some(item));
     }
 
-    /// Puts the item of a refused edit, and tells its fault.
+    /// Puts the item of a refused edit, and says its fault.
     pub fn put_back(&mut self, refused: Refused) -> Stop {
         let Refused { fault, item } = refused;
         self.item = OneDrop(item);

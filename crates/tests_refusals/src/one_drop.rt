@@ -1,4 +1,4 @@
-/// A value that is let go by one call: so to a proof each early end of a function costs one call, and
+/// A value that is dropped by one call: so for a proof each early end of a function costs one call, and
 /// not one for each part of the value.
 pub struct OneDrop<T>(pub T);
 

@@ -83,7 +83,7 @@ impl Trial for Opening {
 
     fn call(&mut self, alloc: Global) -> Result<(), Stop> {
         let circuit = mem::replace(&mut self.circuit, OneDrop(Circuit::new(alloc))).value();
-        // Coins of another seed, so that it shows where they are not handed back.
+        // Coins of another seed, so that it shows if they are not handed back.
         let coins = mem::replace(&mut self.coins, SeedCoins::new(2, 0));
         match Session::open(alloc, circuit, QUBITS, STRIDE, coins) {
             Ok(session) => {

@@ -81,7 +81,7 @@ pub fn show_signs<S: State>(
     Ok(())
 }
 
-/// Writes the sign of a letter on a qubit, or 0 where it has none.
+/// Writes the sign of a letter on a qubit, or 0 if it has none.
 fn show_sign<S: State>(
     alloc: Global,
     out: &mut MemoryOutput,

@@ -11,7 +11,7 @@ use stab_session::{SeedCoins, Session};
 use std::alloc::Global;
 use std::io;
 
-/// The round that is split off. Of the outer block of `NESTED` it is the last one, of the inner one
+/// The round that is split off. In the outer block of `NESTED` it is the last one, in the inner one
 /// it is in the middle.
 const ROUND: u64 = 1;
 

@@ -1,4 +1,4 @@
-//! The calls of a tableau that want memory.
+//! The calls of a tableau that take memory.
 use crate::one_drop::OneDrop;
 use crate::sheet::{State, show_signs, show_string, show_strings};
 use crate::stop::Stop;
@@ -73,7 +73,7 @@ impl Trial for TableauCall {
     fn new(alloc: Global, call: Call) -> Result<TableauCall, Stop> {
         let tableau = joined(alloc)?;
         let state = Tableau::new(alloc, 0)?;
-        // What is to be gone back to has to be there before the call.
+        // The state to go back to must be there before the call.
         let compact = match call {
             Call::Tableau => tableau.compact(alloc)?,
             _ => state.compact(alloc)?,

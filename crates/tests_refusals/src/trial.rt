@@ -26,7 +26,7 @@ pub trait Trial: Drop {
     }
 }
 
-/// How a call ended whose requests for memory may be refused.
+/// How a call whose requests for memory may be refused ended.
 #[derive(Clone, Copy)]
 pub enum Ending {
     /// It gave what it gives.
@@ -38,7 +38,7 @@ pub enum Ending {
 }
 
 impl Ending {
-    /// This ending where all is right.
+    /// This ending if all is right.
     pub fn if_right(self, right: bool) -> Ending {
         if right { self } else { Ending::Wrong }
     }
@@ -69,7 +69,7 @@ fn shows<T: Trial>(alloc: Global, trial: &mut T, bytes: &[u8]) -> Result<bool, S
     Ok(now.bytes() == bytes)
 }
 
-/// Makes the call of a trial, where its requests may be refused.
+/// Makes the call of a trial, if its requests may be refused.
 fn call_refused<T: Trial>(alloc: Global, trial: &mut T) -> Result<(), Stop> {
     window::open(alloc);
     let answer = trial.call(alloc);
@@ -77,7 +77,7 @@ fn call_refused<T: Trial>(alloc: Global, trial: &mut T) -> Result<(), Stop> {
     answer
 }
 
-/// Makes the call of a trial that shows these bytes, and makes it again where it was refused and left
+/// Makes the call of a trial that shows these bytes, and makes it again if it was refused and left
 /// all as before.
 fn call_again<T: Trial>(alloc: Global, trial: &mut T, before: &[u8]) -> Result<Ending, Stop> {
     let Err(stop) = call_refused(alloc, trial) else {
@@ -108,7 +108,7 @@ pub fn try_call<T: Trial>(alloc: Global, call: T::Call) -> Result<Ending, Stop> 
     compare::<T>(alloc, call, wanted.bytes())
 }
 
-/// Prints how a call ended; of values that could not be made, which fault came up.
+/// Prints how a call ended; for values that could not be made, which fault came up.
 pub fn print_ending<R: Print>(rt: &R, name: &str, ended: Result<Ending, Stop>) -> io::Result<()> {
     match ended {
         Ok(ending) => println!(rt; "{name}: {}", ending.text()),

@@ -3,10 +3,10 @@
 use stab_pauli::MemoryOutput;
 use std::alloc::Global;
 
-/// So many bytes are asked for where requests may be refused from now on.
+/// This many bytes are asked for to say that requests may be refused from now on.
 const OPENS: usize = 999_979;
 
-/// So many bytes are asked for where requests are granted from now on.
+/// This many bytes are asked for to say that requests are granted from now on.
 const CLOSES: usize = 999_983;
 
 /// Lets requests for memory be refused.

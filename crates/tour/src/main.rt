@@ -50,7 +50,7 @@ fn edit(rt: &HostRuntime, circuit: Circuit) -> Result<(), Failure> {
         println!(rt; "stabilised by {}", ShownRow(&row))?;
     }
 
-    // An error on qubit 1 before the measurements: which detectors tell of it?
+    // An error on qubit 1 before the measurements: which detectors show it?
     let edit = Edit::Insert {
         place: Path::new(&[2]),
         item: read_item(alloc, b"X 1")?,

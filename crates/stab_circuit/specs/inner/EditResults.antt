@@ -26,7 +26,7 @@ PutsApart s = All IsApart (unroll (listed s.put))
 abbrev pub AreApart : List OneItem → Type 0
 AreApart xs = All IsApart (unroll (listed xs))
 
--- what a list comes to, by the summaries of the items before those that leave it, of these, and of those behind them
+-- what a list comes to, by the summaries of the items before those that leave it, of these, and of those after them
 abbrev pub edit_result_by : Judgement → Summary → Summary → Summary → EditResult
 edit_result_by j front gone back = record {
   total = followed_by front (followed_by j.put back);

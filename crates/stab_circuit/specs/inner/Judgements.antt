@@ -17,7 +17,7 @@ abbrev pub summed : Result (List OneItem) Refusal → Result Summary Refusal
 summed (Ok ys) = Ok (summary_of (listed ys))
 summed (Err r) = Err r
 
--- a splice with the summary of what is put in, and with so many steps before the place within the first item, unless it is refused
+-- a splice with the summary of what is put in, and with this many steps before the place within the first item, unless it is refused
 abbrev pub judgement_of : ℕ → Result Splice Refusal → Result Judgement Refusal
 judgement_of within (Ok s) = Ok (record { first = s.first; behind = s.behind; put = summary_of (listed s.put); within = within })
 judgement_of within (Err r) = Err r
@@ -33,7 +33,7 @@ block_refusal None = Some PlaceOutOfRange
 block_refusal (Some (operation op)) = Some NotABlock
 block_refusal (Some (repeat count tag body)) = None
 
--- the call gave the block's count and items, or told why there is no block
+-- the call gave the block's count and items, or said why there is no block
 abbrev pub IsBlockAt : Option OneItem → Result Block Refusal → Type 0
 IsBlockAt x (Ok found) = (tag : List ℕ) × (x ≡ Some (repeat found.count tag (listed found.body.now)))
 IsBlockAt x (Err r) = block_refusal x ≡ Some r

@@ -10,7 +10,7 @@ use Rattle.stab_circuit.specs.Paths.{Path}
 abbrev pub path_of : Inside → Path
 path_of p = record { blocks = take p.depth p.blocks; place = p.place }
 
--- there are at most 16 blocks, and zeros behind them
+-- there are at most 16 blocks, and zeros after them
 pub record IsPadded (p : Inside) : Type 0 where
   pub room : length p.blocks ≡ 16
   pub few : p.depth ≤ 16

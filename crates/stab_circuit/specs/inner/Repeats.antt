@@ -12,7 +12,7 @@ first_with_steps done = None
 first_with_steps (next op rest) = first_with_steps rest
 first_with_steps (block count tag body rest) = if nat_lt 0 (length (unroll body)) then Some (count, body) else first_with_steps rest
 
--- so many rounds of steps, or of those of a block in them, where they are its rounds and no more
+-- this many rounds of steps, or of those of a block in them, if they are its rounds and no more
 abbrev pub finer_by : ℕ → List Step → Option (ℕ × Items) → ℕ × List Step
 finer_by count steps None = (count, steps)
 finer_by count steps (Some b) = if nat_eq (b.0 * length (unroll b.1)) (length steps) then (count * b.0, unroll b.1) else (count, steps)
@@ -20,16 +20,16 @@ finer_by count steps (Some b) = if nat_eq (b.0 * length (unroll b.1)) (length st
 abbrev pub finer : ℕ → Items → ℕ × List Step
 finer count body = finer_by count (unroll body) (first_with_steps body)
 
--- so many rounds of steps, before which so many others stand
+-- this many rounds of steps, after this many others
 abbrev pub repeat_as : ℕ → ℕ × List Step → Repeat
 repeat_as first r = record { first = first; length = length r.1; rounds = r.0; reach = reach r.1 }
 
--- the repeat that an item is, before which so many steps stand: one or none
+-- the repeat that an item is, after this many steps: one or none
 abbrev pub repeat_in : ℕ → OneItem → List Repeat
 repeat_in first (operation op) = []
 repeat_in first (repeat count tag body) = if nat_lt 0 (length (unroll body)) && nat_lt 1 count then repeat_as first (finer count body) ∷ [] else []
 
--- the repeats of a list, before which so many steps stand
+-- the repeats of a list, after this many steps
 abbrev pub repeats_in : ℕ → List OneItem → List Repeat
 repeats_in first [] = []
 repeats_in first (x ∷ xs) = repeat_in first x ++ repeats_in (first + length (unroll (before x done))) xs

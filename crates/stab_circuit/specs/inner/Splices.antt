@@ -8,13 +8,13 @@ use Rattle.stab_circuit.specs.declared.edit.Edit.TheVariants.{Insert, Replace, D
 use Rattle.stab_items.specs.Items.{OneItem}
 use Rattle.stab_circuit.specs.Edits.{edited_inside, edited_in}
 
--- some items are put into a list in the stead of those from one place up to another
+-- some items are put into a list in place of those from one place up to another
 pub record Splice : Type 0 where
   pub first : ℕ
   pub behind : ℕ
   pub put : List OneItem
 
--- the splice of an edit in the innermost list around its place, of so many items
+-- the splice of an edit in the innermost list around its place, of this many items
 abbrev pub splice_at : Edit → ℕ → Result Splice Refusal
 splice_at (Insert place x) n = if nat_le place.place n then Ok (record { first = place.place; behind = place.place; put = x ∷ [] }) else Err PlaceOutOfRange
 splice_at (Replace place x) n = if nat_lt place.place n then Ok (record { first = place.place; behind = place.place + 1; put = x ∷ [] }) else Err PlaceOutOfRange

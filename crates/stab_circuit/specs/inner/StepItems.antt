@@ -6,7 +6,7 @@ use Rattle.stab_items.specs.Items.{OneItem, listed}
 use Rattle.stab_items.specs.Steps.{unroll}
 use Rattle.stab_circuit.specs.StepPaths.{paths_from, item_steps_left}
 
--- the item is the one that a step of the items from a place on is of: so many of its steps come before the step, those of the items behind do not, and the
+-- the item is the one that a step of the items from a place on is of: this many of its steps come before the step, those of the items after do not, and the
 -- paths from the step on and the number of its item's steps left are the same
 pub record IsFoundItem (xs : List OneItem) (place step : ℕ) (f : FoundItem) : Type 0 where
   pub in_range : f.place < length xs

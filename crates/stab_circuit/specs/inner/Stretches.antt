@@ -1,4 +1,4 @@
--- Stretches: the summaries of parts of a list, one behind the other.
+-- Stretches: the summaries of parts of a list, one after the other.
 -- Source: this project's own.
 use Rattle.std.specs.Prelude.{◌≡◌, ◌≤◌, ℕ, ◌+◌, List, [], ◌∷◌, length, take, drop, Ok}
 use Rattle.stab_circuit.specs.declared.circuit.stretches.Stretch.{Stretch}
@@ -6,7 +6,7 @@ use Rattle.stab_items.specs.Items.{OneItem, listed}
 use Rattle.stab_items.specs.inner.Summaries.{IsSumOf}
 use Rattle.stab_circuit.specs.inner.Splices.{Splice, spliced, IsWithin}
 
--- each stretch has so many items of the list, and their summary; the items behind the last are of none
+-- each stretch has this many items of the list, and their summary; the items after the last are of none
 abbrev pub AreStretches : List Stretch → List OneItem → Type 0
 AreStretches [] xs = Unit {0}
 AreStretches (s ∷ ss) xs = (s.items ≤ length xs) × IsSumOf (listed (take s.items xs)) s.summary × AreStretches ss (drop s.items xs)
@@ -16,7 +16,7 @@ abbrev pub items_in : List Stretch → ℕ
 items_in [] = 0
 items_in (s ∷ ss) = s.items + items_in ss
 
--- these are stretches of a list of so many items, of which another is left where items are put in at a place, and at most the one there is taken out
+-- these are stretches of a list of this many items, of which another is left if items are put in at a place, and at most the one there is taken out
 pub record WereStretches (ss : List Stretch) (place len : ℕ) (new : List OneItem) : Type 0 where
   pub old : List OneItem
   pub are : AreStretches ss old

@@ -20,7 +20,7 @@ abbrev pub kind_steps : Option (Bor Kind) → List Step
 kind_steps None = []
 kind_steps (Some kind) = steps_of kind.now
 
--- the steps of a list of items from a place on, and of so many rounds of the list after them
+-- the steps of a list of items from a place on, and of this many rounds of the list after them
 abbrev pub left_at : List OneItem → ℕ → ℕ → List Step
 left_at xs place more = unroll (listed (drop place xs)) ++ rounds more (unroll (listed xs))
 
@@ -33,7 +33,7 @@ abbrev pub levels_left : List Step → List Level → List Step
 levels_left others [] = others
 levels_left others (l ∷ ls) = levels_left (level_left l ++ others) ls
 
--- the blocks of levels, of which the first lies within so many, are nested at most 16 deep
+-- the blocks of levels, of which the first lies within this many, are nested at most 16 deep
 abbrev pub IsNested : ℕ → List Level → Type 0
 IsNested n [] = Unit {0}
 IsNested n (l ∷ ls) = (depth (listed l.items.now) + n ≤ 16) × IsNested (n + 1) ls
@@ -44,7 +44,7 @@ weight done = 0
 weight (next op rest) = 1 + weight rest
 weight (block count tag body rest) = 1 + count * (1 + weight body) + weight rest
 
--- how much of a list there is from a place on, with so many rounds of the list after it
+-- how much of a list there is from a place on, with this many rounds of the list after it
 abbrev pub weight_at : List OneItem → ℕ → ℕ → ℕ
 weight_at xs place more = weight (listed (drop place xs)) + more * (1 + weight (listed xs)) + 1
 
@@ -90,12 +90,12 @@ abbrev pub Takes : Walk → Walk → Option (Bor OneItem) → Type 0
 Takes old new None = (ahead new ≡ ahead old) × (walk_weight new ≡ walk_weight old) × (length new.top.items.now ≤ new.top.place)
 Takes old new (Some x) = (ahead old ≡ unroll (before x.now done) ++ ahead new) × (walk_weight old ≡ weight (before x.now done) + walk_weight new) × (depth_of x.now + length new.around.items ≤ 16)
 
--- the walk went on with the same steps left, and has less to walk over; or it stands at the end
+-- the walk went on with the same steps left, and has less to walk over; or it is at the end
 abbrev pub GoesOn : List Step → List Step → Walk → Walk → Bool → Type 0
 GoesOn before after old new true = (after ≡ before) × (walk_weight new < walk_weight old)
 GoesOn before after old new false = (before ≡ []) × (after ≡ [])
 
--- of the steps that were to be left out so many are still to be, and there is less to walk over; or the walk stands at the end
+-- of the steps that were to be left out this many are still to be, and there is less to walk over; or the walk is at the end
 abbrev pub Passes : ℕ → Walk → Walk → Option ℕ → Type 0
 Passes count old new None = (walk_left old ≡ []) × (walk_left new ≡ [])
 Passes count old new (Some rest) = (drop rest (walk_left new) ≡ drop count (walk_left old)) × (rest ≤ count) × (0 < rest → new.kind ≡ None) × (walk_weight new < walk_weight old)

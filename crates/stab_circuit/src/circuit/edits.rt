@@ -32,8 +32,8 @@ impl Circuit {
     ghost use Rattle.stab_circuit.specs.Editings.{IsSpanOf};
     ghost use Rattle.stab_circuit.specs.inner.EditResults.{IsEditResult};
 
-    /// How many steps stand before the place of a path, in the first round of each block around it,
-    /// or 1,048,577 where there are more.
+    /// How many steps are before the place of a path, in the first round of each block around it,
+    /// or 1,048,577 if there are more.
     pub fn steps_before(&self, path: Path) -> usize
         ensures value { result ≡ min (length (steps_before path self.now)) steps_cap }
     {
@@ -88,7 +88,7 @@ impl Circuit {
         }
     }
 
-    /// Makes an edit, whatever the circuit that it leaves, and gives the item that it takes out.
+    /// Makes an edit, without a check of the circuit that it leaves, and gives the item that it takes out.
     #[tactic(auto, using(crate::proofs::EditingLemmas::call_fault, crate::proofs::EditingLemmas::want_fault, crate::proofs::EditingLemmas::no_want))]
     fn edit_alone(&mut self, edit: Edit) -> Result<Option<Item>, Refused>
         ensures ok { OnOk result (edited edit self.old ≡ Ok self.new) }
@@ -106,7 +106,7 @@ impl Circuit {
 
     /// Puts an item in before the one at a path.
     ///
-    /// Refused without a line: 12 and 17 along the path, 10 where blocks would be nested over 16
+    /// Refused without a line: 12 and 17 along the path, 10 if blocks would be nested over 16
     /// deep, 20. The item then comes back, and the circuit is as before.
     pub fn insert(&mut self, path: Path, item: Item) -> Result<(), Refused>
         ensures ok { OnOk result (edited (inserting path item) self.old ≡ Ok self.new) }
@@ -118,9 +118,9 @@ impl Circuit {
         Ok(())
     }
 
-    /// Puts an item in the stead of the one at a path, and gives the old one. It takes no memory.
+    /// Puts an item in place of the one at a path, and gives the old one. It takes no memory.
     ///
-    /// Refused without a line: 12 and 17 along the path, 10 where blocks would be nested over 16
+    /// Refused without a line: 12 and 17 along the path, 10 if blocks would be nested over 16
     /// deep. The new item then comes back, and the circuit is as before.
     pub fn replace(&mut self, path: Path, item: Item) -> Result<Item, Refused>
         ensures ok { OnOk result (edited (replacing path item) self.old ≡ Ok self.new) }
@@ -154,10 +154,10 @@ impl Circuit {
         }
     }
 
-    /// Makes an edit, where nothing refuses the circuit on n qubits that it leaves, and tells which
+    /// Makes an edit, if nothing refuses the circuit on n qubits that it leaves, and says which
     /// steps it changed, with the item that it took out.
     ///
-    /// Refused without a line: 12 and 17 along the path, 10 where blocks would be nested over 16
+    /// Refused without a line: 12 and 17 along the path, 10 if blocks would be nested over 16
     /// deep, then what `check` refuses the edited circuit for, and 20 for an insertion alone. The
     /// item then comes back, and the circuit is as before.
     #[tactic(auto, using(crate::proofs::EditingLemmas::refused_on, crate::proofs::EditingLemmas::no_want_on))]

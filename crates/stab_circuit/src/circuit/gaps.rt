@@ -14,7 +14,7 @@ use stab_io::Refusal;
 use stab_items::{Item, items_summary};
 use std::alloc::Global;
 
-/// The most gaps that are told: as many as a circuit may have steps.
+/// The most gaps that are reported: as many as a circuit may have steps.
 const MOST_GAPS: u64 = 1_048_576;
 
 /// The item at a place of a list, if there is one.
@@ -24,7 +24,7 @@ fn item_in_list(items: &[Item], place: usize) -> Option<&Item>
     items.get(place)
 }
 
-/// How many steps the items behind the one at a place make, or 1,048,577 where they make more.
+/// How many steps the items after the one at a place make, or 1,048,577 if they make more.
 fn steps_behind(items: &[Item], place: usize) -> u32
     ensures value { result ≡ min (length (unroll (listed (drop (place + 1) items.now)))) steps_cap }
 {
@@ -49,7 +49,7 @@ fn with_more(mut numbers: Vec<usize>, more: usize) -> Result<Vec<usize>, Refusal
     Ok(numbers)
 }
 
-/// Numbers so often one after another.
+/// Numbers, repeated this often.
 fn copies(alloc: Global, numbers: &[usize], count: u64) -> Result<Vec<usize>, Refusal>
     requires few { count * length numbers.now ≤ most_steps }
     ensures ok { IfOk result (λ all. all.items ≡ copies_of count numbers.now) }
@@ -62,7 +62,7 @@ fn copies(alloc: Global, numbers: &[usize], count: u64) -> Result<Vec<usize>, Re
     Ok(all)
 }
 
-/// Whether there are few enough gaps in so many rounds.
+/// Whether there are few enough gaps in this many rounds.
 fn are_few(count: u64, len: usize) -> bool
     ensures value { result ≡ nat_le (count * len) most_steps }
 {
@@ -72,8 +72,8 @@ fn are_few(count: u64, len: usize) -> bool
     }
 }
 
-/// The gaps of all rounds of a block, by those of one, with so many steps before the place in a
-/// round; or `None` where there are too many.
+/// The gaps of all rounds of a block, by those of one, with this many steps before the place in a
+/// round; or `None` if there are too many.
 fn gaps_of_rounds(
     alloc: Global,
     mut round: Vec<usize>,
@@ -100,8 +100,8 @@ fn gaps_of_rounds(
     Ok(Some(gaps))
 }
 
-/// The gaps behind the item at a place in nested blocks of a list, the last up to the end of the list;
-/// or `None` where no block stands on the way, or there are too many gaps.
+/// The gaps after the item at a place in nested blocks of a list, the last up to the end of the list;
+/// or `None` if no block is on the way, or there are too many gaps.
 #[cycle(gaps)]
 fn gaps_in(
     alloc: Global,
@@ -128,8 +128,8 @@ fn gaps_in(
     }
 }
 
-/// The gaps behind the item at a place in a block and the blocks in it, the last up to the end of the
-/// block; or `None` where no block stands on the way, or there are too many gaps.
+/// The gaps after the item at a place in a block and the blocks in it, the last up to the end of the
+/// block; or `None` if no block is on the way, or there are too many gaps.
 #[cycle(gaps)]
 fn gaps_inside(
     alloc: Global,
@@ -164,12 +164,12 @@ impl Circuit {
     ghost use Rattle.stab_circuit.specs.Places.{item_at as item_of_path};
     ghost use Rattle.stab_circuit.specs.Rounds.{pieces, AreGaps};
 
-    /// How many steps stand behind the item at a path each time that it is carried out, in order: up
+    /// How many steps are after the item at a path each time that it is carried out, in order: up
     /// to the next time, and the last time up to the end of the outermost block around it. Of an item
     /// in the outermost list this is one 0. It looks at no step.
     ///
-    /// `None` where the path leads through no block, or there are more than 1,048,576 of them, which is
-    /// so only where the item makes no step. Refusal `OutOfMemory` alone.
+    /// `None` if the path leads through no block, or there are more than 1,048,576 of them, which is
+    /// possible only if the item makes no step. Refusal `OutOfMemory` alone.
     ///
     /// Asks that the circuit has no more steps than a circuit may have (`steps`).
     pub fn gaps(&self, alloc: Global, path: Path) -> Result<Option<Vec<usize>>, Refusal>

@@ -12,7 +12,7 @@ use stab_io::Refusal;
 use stab_items::{Item, Part, Summary};
 use std::alloc::Global;
 
-/// Rounds of the same steps, one behind the other, by the steps of the unrolled circuit: a block of the
+/// Rounds of the same steps, one after the other, by the steps of the unrolled circuit: a block of the
 /// outermost list, a block in it that has all of its steps, or rounds that are written out (`stab_rounds`).
 #[derive(Clone, Copy, Debug, PartialEq, Eq)]
 pub struct Repeat {
@@ -40,7 +40,7 @@ fn first_block(items: &[Item]) -> Option<(u64, Summary)>
     None
 }
 
-/// So many rounds of these items, which have this summary and before which so many steps stand; or where all their steps are those of
+/// This many rounds of these items, which have this summary and come after this many steps; or, if all their steps are those of
 /// one block among them, as many of its rounds.
 fn repeat_of(first: usize, rounds: usize, kept: Summary, items: &[Item]) -> Repeat
     requires kept { kept ≡ summary_of (listed items.now) }
@@ -69,7 +69,7 @@ fn repeat_of(first: usize, rounds: usize, kept: Summary, items: &[Item]) -> Repe
     }
 }
 
-/// Adds the repeat that an item is, before which so many steps stand: if it is a block with a step
+/// Adds the repeat that an item is, after this many steps, if it is a block with a step
 /// and more than one round.
 fn add_repeat(repeats: &mut Vec<Repeat>, first: usize, item: &Item) -> Result<(), Refusal>
     requires few { length (unroll (before item.now done)) ≤ most_steps }
@@ -93,7 +93,7 @@ fn add_repeat(repeats: &mut Vec<Repeat>, first: usize, item: &Item) -> Result<()
     Ok(())
 }
 
-/// Adds the repeats that stand in a list of items, before which so many steps stand.
+/// Adds the repeats that are in a list of items after this many steps.
 fn add_repeats(repeats: &mut Vec<Repeat>, mut first: usize, items: &[Item]) -> Result<(), Refusal>
     requires few { first + length (unroll (listed items.now)) ≤ most_steps }
     ensures ok { OnOk result (repeats.new.items ≡ repeats.old.items ++ repeats_in first items.now) }
@@ -114,8 +114,8 @@ impl Circuit {
     ghost use Rattle.stab_circuit.specs.Repeats.{AreRepeats, repeated_blocks};
 
     /// The blocks of the outermost list that have a step and more than one round, by their steps, in
-    /// order: by the rounds of a block in such a block, where that has all of its steps. It looks at no
-    /// step, and at no item where there is no block.
+    /// order: by the rounds of a block in such a block, if that has all of its steps. It looks at no
+    /// step, and at no item if there is no block.
     ///
     /// Refusal `OutOfMemory` alone.
     ///

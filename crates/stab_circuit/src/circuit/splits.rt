@@ -10,7 +10,7 @@ use stab_items::{Item, Part, copied_item};
 use stab_lines::Count;
 use std::alloc::{AllocError, Global};
 
-/// Puts a copy of a block with so many rounds behind others, where there are any.
+/// Puts a copy of a block with this many rounds after others, if there are any.
 fn push_rounds(
     alloc: Global,
     parts: &mut Vec<Item>,
@@ -29,7 +29,7 @@ fn push_rounds(
     Ok(())
 }
 
-/// Copies of a block with the rounds before a round, with that round, and with those behind it.
+/// Copies of a block with the rounds before a round, with that round, and with those after it.
 fn copied_parts(
     alloc: Global,
     item: &Item,
@@ -47,7 +47,7 @@ fn copied_parts(
     Ok(parts)
 }
 
-/// What an item becomes where a round is split off.
+/// What an item becomes if a round is split off.
 fn parts_of_item(alloc: Global, item: &Item, round: u64) -> Result<Vec<Item>, Fault>
     ensures ok { IfOk result (λ v. parts_of round (Some item.now) ≡ Ok v.items) }
     ensures fault { IfErr result (λ f. IsCallFault (refused_by (parts_of round (Some item.now))) f) }
@@ -76,7 +76,7 @@ impl Circuit {
     ghost use Rattle.stab_circuit.specs.Splits.{split as after_split, split_refusal};
     ghost use Rattle.stab_circuit.specs.inner.Changes.{with_parts_at, AreAsDeep, AreBefore};
 
-    /// Puts an item in before the one at a path, where nothing refuses that but want of memory.
+    /// Puts an item in before the one at a path, if nothing but lack of memory refuses that.
     fn put_one(&mut self, path: Path, item: Item) -> Result<(), Fault>
         requires allowed { edit_refusal (inserting path item) self.old ≡ None }
         ensures ok { OnOk result (edited (inserting path item) self.old ≡ Ok self.new) }
@@ -89,7 +89,7 @@ impl Circuit {
         }
     }
 
-    /// Takes the item at a path out, where nothing refuses that. It takes no memory.
+    /// Takes the item at a path out, if nothing refuses that. It takes no memory.
     fn take_one(&mut self, path: Path)
         requires allowed { edit_refusal (deleting path) self.old ≡ None }
         ensures value { edited (deleting path) self.old ≡ Ok self.new }
@@ -100,7 +100,7 @@ impl Circuit {
         }
     }
 
-    /// Puts an item in the stead of the one at a path, where nothing refuses that, and gives the old
+    /// Puts an item in place of the one at a path, if nothing refuses that, and gives the old
     /// one. It takes no memory.
     fn exchange(&mut self, path: Path, item: Item) -> Item
         requires allowed { edit_refusal (replacing path item) self.old ≡ None }
@@ -135,7 +135,7 @@ impl Circuit {
         }
     }
 
-    /// Puts parts in the stead of the item at a path.
+    /// Puts parts in place of the item at a path.
     fn put_parts(&mut self, path: Path, mut parts: Vec<Item>) -> Result<(), Fault>
         requires some { 0 < length parts.items }
         requires deep { AreAsDeep path parts.items self.old }
@@ -159,10 +159,10 @@ impl Circuit {
     }
 
     /// Splits a round off the block at a path, counted from 0: the rounds before it become a block,
-    /// that round becomes one by itself, and so do the rounds behind it; an empty part is left out.
+    /// that round becomes one by itself, and so do the rounds after it; an empty part is left out.
     ///
-    /// Refused without a line: 12 where the path leads past a list or the block has no such round, 17
-    /// where it leads into or to an item that is no block, 20. The circuit is then as before.
+    /// Refused without a line: 12 if the path leads past a list or the block has no such round, 17
+    /// if it leads into or to an item that is no block, 20. The circuit is then as before.
     pub fn split(&mut self, path: Path, round: u64) -> Result<(), Fault>
         ensures ok { OnOk result (after_split path round self.old ≡ Ok self.new) }
         ensures unchanged { OnErr result (self.new ≡ self.old) }

@@ -10,7 +10,7 @@ use std::alloc::{AllocError, Global};
 /// How many items a stretch of a circuit that was read has.
 const LENGTH: usize = 512;
 
-/// Items that stand one behind the other in a list: how many, and their summary.
+/// Items one after the other in a list: how many, and their summary.
 #[derive(Clone, Copy)]
 pub(crate) struct Stretch {
     pub(crate) items: usize,
@@ -35,7 +35,7 @@ fn stretch_of(items: &[Item]) -> Stretch
     }
 }
 
-/// The stretches of a list, of so many items each. The items behind the last are of none.
+/// The stretches of a list, of this many items each. The items after the last are of none.
 pub(super) fn stretches_of(alloc: Global, items: &[Item]) -> Result<Vec<Stretch>, AllocError>
     ensures ok { IfOk result (λ v. AreStretches v.items items.now) }
 {
@@ -71,7 +71,7 @@ fn items_from(items: &[Item], place: usize) -> &[Item]
     items.split_at(place.min(items.len())).1
 }
 
-/// The summary of those items of a stretch, which begins at a place of a list, that stand in a front
+/// The summary of those items of a stretch, which begins at a place of a list, that are in a front
 /// of the list and from another place on.
 fn summary_within(stretch: Stretch, place: usize, front: &[Item], first: usize) -> Summary
     requires room { place + stretch.items < 2 ^ 64 }
@@ -106,9 +106,9 @@ pub(crate) fn summary_between(
     all.then(items_summary(items_from(front, first.max(place))))
 }
 
-/// Renews the stretch in which a list that had so many items was edited at a place, if there is one:
-/// behind the last stretch, none. It takes no memory: the stretch has what was put in too, without a
-/// limit, and stays where its last item was taken out.
+/// Renews the stretch in which a list that had this many items was edited at a place, if there is one;
+/// after the last stretch there is none. It takes no memory: the stretch has what was put in too, without a
+/// limit, and is kept even if its last item was taken out.
 pub(super) fn renew_stretch(stretches: &mut Vec<Stretch>, place: usize, len: usize, items: &[Item])
     requires were { WereStretches stretches.old.items place len items.now }
     ensures are { AreStretches stretches.new.items items.now }
@@ -131,7 +131,7 @@ impl Circuit {
     ghost use Rattle.stab_items.specs.Items.{listed};
     ghost use Rattle.stab_items.specs.Steps.{unroll, most_steps};
 
-    /// The last place that is known before a step, and how many steps stand between.
+    /// The last place that is known before a step, and how many steps are between.
     pub(crate) fn place_before(&self, step: u32) -> StepPlace
         requires few { step ≤ most_steps }
         ensures within { result.place ≤ length self.now }

@@ -37,7 +37,7 @@ impl<'a> Walk<'a> {
         }
     }
 
-    /// Goes past so many items of the innermost block.
+    /// Goes past this many items of the innermost block.
     fn pass_items(&mut self, count: usize)
         requires walks { IsWalk self.old }
         requires given { drop self.old.within (kind_steps self.old.kind) ≡ [] }
@@ -49,7 +49,7 @@ impl<'a> Walk<'a> {
     }
 
     /// Goes past the items that come next in the innermost blocks of two walks, as far as they have the
-    /// same steps, and says how many steps each has passed. Neither moves where either has given only
+    /// same steps, and says how many steps each has passed. Neither moves if either has given only
     /// some steps of an instruction.
     pub fn pass_same(&mut self, other: &mut Walk) -> usize
         requires walks { IsWalk self.old }

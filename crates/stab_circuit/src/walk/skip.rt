@@ -52,8 +52,8 @@ impl<'a> Walk<'a> {
         rest
     }
 
-    /// Leaves out steps of what comes next, of which so many are to be left out; and says how many
-    /// still are, or that the walk stands at the end.
+    /// Leaves out steps of what comes next, of which this many are to be left out; and says how many
+    /// still are, or that the walk is at the end.
     fn pass(&mut self, count: u32) -> Option<u32>
         requires walks { IsWalk self.old }
         requires free { self.old.kind ≡ None }
@@ -77,7 +77,7 @@ impl<'a> Walk<'a> {
         Some(rest)
     }
 
-    /// Leaves out so many steps from the first item on.
+    /// Leaves out this many steps from the first item on.
     #[tactic(auto, using(crate::proofs::SkipLemmas::skipped, crate::proofs::SkipLemmas::skipped_all))]
     pub fn skip(&mut self, count: u32)
         requires walks { IsWalk self.old }
@@ -96,7 +96,7 @@ impl<'a> Walk<'a> {
     }
 }
 
-/// How many of so many rounds are within a number of steps, and how many steps are left then.
+/// How many of this many rounds are within a number of steps, and how many steps are left then.
 fn jump(count: u32, steps: u32, rounds: u64) -> (u64, u32)
     ensures within { result.0 ≤ rounds }
     ensures rest { count ≡ result.0 * steps + result.1 }

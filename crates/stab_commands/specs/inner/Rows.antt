@@ -9,7 +9,7 @@ use Rattle.stab_pauli.specs.Paulis.{Signed}
 use Rattle.stab_tables.specs.Endings.{FailsToSend, TookAndFlushed}
 use Rattle.stab_tables.specs.Rows.{lines_of}
 
--- the lines of these strings were sent: all of them, with a flush behind them; or the output failed
+-- the lines of these strings were sent: all of them, with a flush after them; or the output failed
 abbrev pub SendsLines : {T : Type 0} → List Signed → OutputView → OutputView → Result T Fault → Type 0
 SendsLines rows old new (Ok x) = TookAndFlushed old new (lines_of rows)
 SendsLines rows old new (Err f) = (f ≡ whole WriteFault) × FailsToSend old new (lines_of rows)

@@ -25,12 +25,12 @@ pub record AreBits (rows : List (List ℕ)) (o : ℕ) (bits : List Bool) : Type 
   pub count : length bits ≡ length rows
   pub each : (r : ℕ) → r < length rows → slice_index_or bits r false ≡ odd o (row rows r)
 
--- errors that flip no detector and this observable are at least so many
+-- errors that flip no detector and this observable are at least this many
 abbrev pub HasAtLeast : ErrorTable → (o bound : ℕ) → Type 0
 HasAtLeast t o bound =
     (errors : List ℕ) → All (λ r. r < length t.rows) errors → ((d : ℕ) → d < t.detectors → flips t.rows errors d ≡ false) → flips t.rows errors o ≡ true → bound ≤ length errors
 
--- each logical error has at least so many errors
+-- each logical error has at least this many errors
 abbrev pub HasBound : ErrorTable → (bound : ℕ) → Type 0
 HasBound t bound = (errors : List ℕ) → IsLogicalError t errors → bound ≤ length errors
 

@@ -19,7 +19,7 @@ AreNear x y = (x ≤ y + 1) × (y ≤ x + 1)
 abbrev pub AreNearAlong : Labels → Edge → Bool → Type 0
 AreNearAlong l e flips = (p : Bool) → AreNear (label l e.first p) (label l e.second (p ⊕ flips))
 
--- labels from a source, which show that an odd cycle through it has at least so many edges
+-- labels from a source, which show that an odd cycle through it has at least this many edges
 pub record AreLabels (edges : List Edge) (bits : List Bool) (source bound : ℕ) (l : Labels) : Type 0 where
   pub begin : label l source false ≡ 0
   pub far : bound ≤ label l source true

@@ -1,4 +1,4 @@
--- Adding errors: where the rows of values are in a table of faults, and errors put behind others.
+-- Adding errors: where the rows of values are in a table of faults, and errors put after others.
 -- Source: this project's own.
 use Rattle.std.specs.Prelude.{◌≡◌, ℕ, List, ◌∷◌, ◌++◌, map, drop, All, Some, None}
 use Rattle.stab_letters.specs.declared.letter.Letter.TheVariants as letter
@@ -20,7 +20,7 @@ ErrorStands faults (error.Letters f g) = Stands f.place faults × Stands g.place
 ErrorStands faults (error.Record number flip None) = Stands flip.place faults
 ErrorStands faults (error.Record number flip (Some back)) = Stands flip.place faults × Stands back.place faults
 
--- errors are put behind others; and all stand in a list of faults, if the others do and it is so of the list
+-- errors are put after others; and all are in a list of faults, if the others are and this holds for the list
 pub record Adds (Is : List FaultPlace → Type 0) (given : List Error) (old new : List ErrorValue) : Type 0 where
   pub errors : map error_shown new ≡ map error_shown old ++ given
   pub stand : (faults : List FaultPlace) → Is faults → All (ErrorStands faults) old → All (ErrorStands faults) new
@@ -29,7 +29,7 @@ pub record Adds (Is : List FaultPlace → Type 0) (given : List Error) (old new 
 abbrev pub HasFrom : ℕ → List FaultPlace → List FaultPlace → Type 0
 HasFrom row mine faults = (rest : List FaultPlace) × (drop row faults ≡ mine ++ rest)
 
--- some of these errors were put behind others, and the rest is still to come, whose rows begin here
+-- some of these errors were put after others, and the rest is still to come, whose rows begin here
 pub record IsUnderWay (Is : List FaultPlace → Type 0) (all rest : List Error) (row : ℕ) (faults_left : List FaultPlace) (old now : List ErrorValue) : Type 0 where
   pub given : List Error
   pub adds : Adds Is given old now

@@ -14,7 +14,7 @@ abbrev pub back_of : (resets : Bool) → FaultPlace → List FaultPlace
 back_of true f = []
 back_of false f = f ∷ []
 
--- the errors behind a reset
+-- the errors after a reset
 abbrev pub reset_errors : List Letter → (behind : Letter → FaultPlace) → (resets : Bool) → List Error
 reset_errors letters behind true = each_letter letters behind
 reset_errors letters behind false = []

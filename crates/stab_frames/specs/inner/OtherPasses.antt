@@ -20,16 +20,16 @@ is_inverted (product factors inverted) = inverted
 is_inverted (detector ks) = false
 is_inverted (observable j ks) = false
 
--- the record of a coin number, where they are those of the coins from a number on, one for each
+-- the record of a coin number, if they are those of the coins from a number on, one for each
 abbrev pub record_of : List Bool → ℕ → ℕ → Bool
 record_of records start t = slice_index_or records (t - start) false
 
--- where an outcome was free, whether its coin differs is told by the record that it had and the coin that it has
+-- if an outcome was free, whether its coin differs follows from the record that it had and the coin that it has
 abbrev pub IsChangeOf : List Bool → (olds others changes : ℕ → Bool) → Bool → ℕ → Type 0
 IsChangeOf free olds others changes inverted coin =
     slice_index_or free coin false ≡ true → changes coin ≡ (olds coin ⊕ inverted) ⊕ others coin
 
--- so it is at steps
+-- the same at steps
 abbrev pub AreChanges : List Bool → (olds others changes : ℕ → Bool) → List Step → ℕ → Type 0
 AreChanges free olds others changes [] coin = Unit {0}
 AreChanges free olds others changes (x ∷ xs) coin =
@@ -40,7 +40,7 @@ abbrev pub IsPassedToOther : List (List Letter) → List Bool → (olds others :
 IsPassedToOther strings free olds others inverted apart flip old new =
     (changes : ℕ → Bool) → IsChangeOf free olds others changes inverted old.coin → IsPassedWith (notes_of (note_at strings free) changes) apart flip old new
 
--- a frame of n letters went over steps, whatever coins the one run had that gave these records
+-- a frame of n letters passed steps, whatever coins the one run had that gave these records
 pub record GoesToOther (n : ℕ) (strings : List (List Letter)) (free : List Bool) (olds others : ℕ → Bool) (xs : List Step) (old new : WalkState) : Type 0 where
   pub over : (changes : ℕ → Bool) → AreChanges free olds others changes xs old.coin → WalksWith n (notes_of (note_at strings free) changes) xs old new
   pub coin : new.coin ≡ old.coin + all_coins_of xs

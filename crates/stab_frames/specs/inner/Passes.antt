@@ -17,7 +17,7 @@ use Rattle.stab_frames.specs.FrameSteps.{letters_after, flips_given, frame_after
 use Rattle.stab_frames.specs.KeptStrings.{note_at}
 use Rattle.stab_frames.specs.Walks.{WalkState, frame_at, IsPlaced, WalksOver}
 
--- the letter, or I where the bit is 0
+-- the letter, or I if the bit is 0
 abbrev pub letter_where : Bool → Letter → Letter
 letter_where true l = l
 letter_where false l = I
@@ -32,7 +32,7 @@ abbrev pub flip_by : Option (List Letter) → Bool → Bool → Bool
 flip_by None change apart = apart
 flip_by (Some s) change apart = change
 
--- and the frame's letters behind it
+-- and the frame's letters after it
 abbrev pub letters_for : Option (List Letter) → Bool → Bool → List Letter → List Letter
 letters_for None change apart f = f
 letters_for (Some s) change apart f = times_where (change ⊕ apart) s f
@@ -44,10 +44,6 @@ one_coin = record nothing { free = false ∷ [] }
 -- what is flipped by measurements whose records are not flipped
 abbrev pub none_flipped : ℕ → RunOutput
 none_flipped k = record nothing { records = replicate k false; free = replicate k false }
-
--- what is flipped by detectors that are not
-abbrev pub no_detectors : ℕ → RunOutput
-no_detectors k = record nothing { detectors = replicate k false }
 
 -- over the outcome of something with which the frame anticommutes or not, which is flipped or not
 pub record IsPassedWith (notes : Notes) (apart flip : Bool) (old new : WalkState) : Type 0 where
@@ -68,11 +64,11 @@ pub record PassesWith (n : ℕ) (notes : Notes) (x : Step) (old new : WalkState)
 abbrev pub Passes : ℕ → (ℕ → Option (List Letter)) → Step → WalkState → WalkState → Type 0
 Passes n strings x old new = PassesWith n (same_coins strings) x old new
 
--- where the frame anticommutes with what is measured, its string was kept, or its outcome was fixed
+-- if the frame anticommutes with what is measured, its string was kept, or its outcome was fixed
 abbrev pub IsToldBy : List (List Letter) → List Bool → ℕ → Bool → Type 0
 IsToldBy strings free coin apart = apart ≡ true → note_at strings free coin ≡ None → slice_index_or free coin false ≡ false
 
--- so it is at a step
+-- the same at a step
 abbrev pub IsTold : ℕ → List (List Letter) → List Bool → Step → ℕ → List Letter → Type 0
 IsTold n strings free x coin f = IfSome (measured_by n x) (λ m. IsToldBy strings free coin (strings_anticommute f m.letters))
 
@@ -83,7 +79,7 @@ AreTold n strings free (x ∷ xs) coin f =
     IsTold n strings free x coin f.letters
     × AreTold n strings free xs (coin + coins_of x) (frame_after n (same_coins (note_at strings free)) x coin f)
 
--- a frame of n letters went over steps, and what it had to know of their measurements was kept
+-- a frame of n letters passed steps, and what it had to know of their measurements was kept
 pub record GoesOver (n : ℕ) (strings : List (List Letter)) (free : List Bool) (xs : List Step) (old new : WalkState) : Type 0 where
   pub over : WalksOver n (note_at strings free) xs old new
   pub told : (base : ℕ) → AreTold n strings free xs old.coin (frame_at base old)

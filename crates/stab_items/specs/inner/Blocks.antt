@@ -3,12 +3,12 @@
 use Rattle.std.specs.Prelude.{ℕ, List}
 use Rattle.stab_items.specs.Items.{OneItem, operation, repeat, listed}
 
--- an item with so many rounds, where it is a block
+-- an item with this many rounds, if it is a block
 abbrev pub with_rounds : (count : ℕ) → OneItem → OneItem
 with_rounds count (operation op) = operation op
 with_rounds count (repeat old tag body) = repeat count tag body
 
--- an item with these items in it, where it is a block
+-- an item with these items in it, if it is a block
 abbrev pub with_body : List OneItem → OneItem → OneItem
 with_body xs (operation op) = operation op
 with_body xs (repeat count tag body) = repeat count tag (listed xs)

@@ -28,7 +28,7 @@ without_tag kind = record { kind = kind; tag = [] }
 abbrev pub Means : List ℕ → Operation → Type 0
 Means bytes op = meaning_of (content_of bytes) ≡ Ok (line.Operation op)
 
--- the line means the instruction, where it is one
+-- the line means the instruction, if it is one
 abbrev pub IsMeant : Line → List ℕ → Type 0
 IsMeant (line.Operation op) bytes = Means bytes op
 IsMeant line.Blank bytes = Unit {0}

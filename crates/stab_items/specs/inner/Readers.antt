@@ -32,21 +32,21 @@ pub record Progress : Type 0 where
   pub open_blocks : List OpenBlock
   pub now : Items
 
--- an open block without pointers, where these items stand before those that it keeps
+-- an open block without pointers, if these items are before those that it keeps
 abbrev pub open_block_of : List OneItem → StoredBlock → OpenBlock
 open_block_of xs f = record { line = f.line; count = f.count; tag = f.tag; before = listed (xs ++ f.before.items) }
 
--- the same of open blocks, the outermost first: these items stand before those that the outermost keeps
+-- the same of open blocks, the outermost first: these items are before those that the outermost keeps
 abbrev pub open_blocks_of : List OneItem → List StoredBlock → List OpenBlock
 open_blocks_of xs [] = []
 open_blocks_of xs (f ∷ fs) = open_block_of xs f ∷ map (open_block_of []) fs
 
--- which of these items stand in the innermost open block: all where no block is open
+-- which of these items are in the innermost open block: all if no block is open
 abbrev pub outermost : List OneItem → List StoredBlock → List OneItem
 outermost xs [] = xs
 outermost xs (f ∷ fs) = []
 
--- what is kept by items of the outermost list, by open blocks, the outermost first, and by the items behind
+-- what is kept by items of the outermost list, by open blocks, the outermost first, and by the items after
 abbrev pub kept_progress : List OneItem → List StoredBlock → List OneItem → Progress
 kept_progress xs fs ys = record { open_blocks = reverse (open_blocks_of xs fs); now = listed (outermost xs fs ++ ys) }
 
@@ -54,7 +54,7 @@ kept_progress xs fs ys = record { open_blocks = reverse (open_blocks_of xs fs); 
 abbrev pub progress_of : CircuitReader → Progress
 progress_of r = kept_progress r.outer.items r.open_blocks.items r.items.items
 
--- blocks are nested at most 16 deep in what stands before open blocks, the innermost of them first, with those around it
+-- blocks are nested at most 16 deep in what is before open blocks, the innermost of them first, with those around it
 abbrev pub AreShallow : List OpenBlock → Type 0
 AreShallow [] = Unit {0}
 AreShallow (f ∷ fs) = (depth f.before + length fs ≤ 16) × AreShallow fs
@@ -98,12 +98,12 @@ stepped n (Ok Close) s = closing s
 stepped n (Ok (Open count tag)) s = opening n count tag s
 stepped n (Ok (line.Operation op)) s = Ok (record { open_blocks = s.open_blocks; now = join s.now (next op done) })
 
--- the fault of a refusal at a line, where want of memory has none
+-- the fault of a refusal at a line; lack of memory has no line
 abbrev pub line_fault : ℕ → Refusal → Fault
 line_fault n OutOfMemory = whole OutOfMemory
 line_fault n r = at_line n r
 
--- what is read where no block is open
+-- what is read if no block is open
 abbrev pub finished : Progress → Result Items Fault
 finished s = elim s.open_blocks [ [] ↦ Ok s.now | f ∷ fs ↦ Err (at_line f.line BadBlock) ]
 
@@ -121,7 +121,7 @@ is_some_items items = true
 abbrev pub is_whole : Progress → Bool
 is_whole s = elim s.open_blocks [ [] ↦ is_some_items s.now | f ∷ fs ↦ false ]
 
--- what a content means where perhaps one item alone is read
+-- what a content means if perhaps only one item is read
 abbrev pub meaning_at : Bool → Progress → List ℕ → Meaning
 meaning_at true s content = if is_whole s then meaning_after content else meaning_of content
 meaning_at false s content = meaning_of content
@@ -135,23 +135,23 @@ pending false s cs = map meaning_of cs
 abbrev pub reading : Bool → List ℕ → Result Items Fault
 reading single text = read_on 1 before_reading (pending single before_reading (contents text))
 
--- the call left what the definition gives, or failed as it does, or for want of memory
+-- the call left what the definition gives, or failed as it does, or for lack of memory
 abbrev pub TakesLine : {T : Type 0} → Progress → Result T Refusal → Result Progress Refusal → Type 0
 TakesLine new (Ok x) given = given ≡ Ok new
 TakesLine new (Err r) given = (r ≡ OutOfMemory) ⊎ (given ≡ Err r)
 
--- these are the lines behind the first, where the call did not fail
+-- these are the lines after the first, if the call did not fail
 abbrev pub AreBehind : List (List ℕ) → Result (Option (Bor (List ℕ))) Refusal → Type 0
 AreBehind more (Ok after) = more ≡ pieces_after 10 (option_copied after)
 AreBehind more (Err r) = Unit {0}
 
--- the call took the first line of a text, whose number is n, and gave those behind it
+-- the call took the first line of a text, whose number is n, and gave those after it
 abbrev pub TakesFirst : Bool → ℕ → List ℕ → Progress → Progress → Result (Option (Bor (List ℕ))) Refusal → Type 0
 TakesFirst single n text old new result =
     (first : List ℕ) × (more : List (List ℕ)) × (slice_split (is_byte 10) text ≡ first ∷ more) × AreBehind more result
     × TakesLine new result (stepped n (meaning_at single old (content_of first)) old)
 
--- the call read the items, or failed as the definition does, or for want of memory, which has no line
+-- the call read the items, or failed as the definition does, or for lack of memory, which has no line
 abbrev pub ReadsItems : Result (Vec OneItem) Fault → Result Items Fault → Type 0
 ReadsItems (Ok v) given = given ≡ Ok (listed v.items)
 ReadsItems (Err f) given = (f ≡ whole OutOfMemory) ⊎ (given ≡ Err f)

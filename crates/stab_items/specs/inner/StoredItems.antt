@@ -63,7 +63,7 @@ item_one_to_one (repeat count tag body) (repeat c t inner) p =
     let bodies : body ≡ inner = one_to_one body inner (ap (λ g. second (second g)) p) in
     λ i. repeat (heads i).0 (heads i).1 (bodies i)
 
--- by this a proof tells items apart
+-- by this a proof distinguishes items
 abbrev pub items_code : Coded Items
 items_code = record { code = tree; inj = one_to_one }
 

@@ -1,4 +1,4 @@
--- Stretches: lines, one behind the other, whose items stand one behind the other in a list.
+-- Stretches: lines, one after the other, whose items come one after the other in a list.
 -- Source: this project's own.
 use Rattle.std.specs.Prelude.{◌≡◌, ◌<◌, ◌≤◌, ℕ, ◌+◌, Bool, List, [], ◌∷◌, ◌++◌, All, length, take, drop, map, Option, Some, Result, Ok, Err, MatchOption, ◌⊎◌}
 use Rattle.std.specs.List.{slice_split}
@@ -16,20 +16,20 @@ use Rattle.stab_items.specs.Items.{Items, OneItem, join, listed, depth}
 use Rattle.stab_items.specs.Circuits.{Meaning, line_meanings, at_line}
 use Rattle.stab_items.specs.inner.Readers.{Progress, read_on, pending}
 
--- what is read where no block is open
+-- what is read if no block is open
 abbrev pub outside : Items → Progress
 outside now = record { open_blocks = []; now = now }
 
--- read where no block is open, the lines put these items behind the others, of which none is a block
+-- read if no block is open, the lines put these items after the others, of which none is a block
 pub record Reads (lines : List (List ℕ)) (items : Items) : Type 0 where
   pub on : (n : ℕ) (now : Items) (ms : List Meaning) → read_on n (outside now) (line_meanings lines ++ ms) ≡ read_on (n + length lines) (outside (join now items)) ms
   pub flat : depth items ≡ 0
 
--- the items of a stretch, in the list in which they stand
+-- the items of a stretch, in the list in which they are
 abbrev pub items_of : Stretch → List OneItem → List OneItem
 items_of s xs = drop s.first (take s.behind xs)
 
--- what is known of a stretch: it is so many lines, which put its items behind the others
+-- what is known of a stretch: it is this many lines, which put its items after the others
 pub record IsStretch (xs : List OneItem) (s : Stretch) : Type 0 where
   pub order : s.first ≤ s.behind
   pub within : s.behind ≤ length xs
@@ -40,7 +40,7 @@ pub record IsStretch (xs : List OneItem) (s : Stretch) : Type 0 where
 abbrev pub AreStretches : List OneItem → Stretches → Type 0
 AreStretches xs known = All (IsStretch xs) known.all.items
 
--- what is known of a stretch stays so
+-- what is known of a stretch stays true
 abbrev pub KeepsStretches : List OneItem → List OneItem → Type 0
 KeepsStretches old new = (s : Stretch) → IsStretch old s → IsStretch new s
 
@@ -49,7 +49,7 @@ abbrev pub Ran : List ℕ → List (List ℕ) → List ℕ → Type 0
 Ran front [] rest = front ≡ rest
 Ran front (l ∷ ls) rest = (bytes : List ℕ) × (front ≡ bytes ++ 10 ∷ rest) × (slice_split (is_byte 10) bytes ≡ l ∷ ls)
 
--- a run: its lines, which end before line n with which the rest begins, put the items behind these
+-- a run: its lines, which end before line n, with which the rest begins, put the items after these
 pub record IsRunOf (xs : List OneItem) (s : Progress) (n : ℕ) (rest : List ℕ) (run : Run) : Type 0 where
   pub lines : List (List ℕ)
   pub items : Items
@@ -58,7 +58,7 @@ pub record IsRunOf (xs : List OneItem) (s : Progress) (n : ℕ) (rest : List ℕ
   pub reads : Reads lines items
   pub read : s ≡ outside (join (listed xs) items)
 
--- the same where there is a run
+-- the same if there is a run
 abbrev pub IsRun : List OneItem → Progress → ℕ → List ℕ → Option Run → Type 0
 IsRun xs s n rest run = MatchOption run (Unit {0}) (IsRunOf xs s n rest)
 
@@ -70,19 +70,19 @@ pub record IsEnded (xs : List OneItem) (first n : ℕ) (rest : List ℕ) (run : 
   pub count : run.from + length lines ≡ n
   pub reads : Reads lines (listed (drop first xs))
 
--- what is read from line n on, where these lines are still to be read
+-- what is read from line n on, if these lines are still to be read
 abbrev pub reading_on : Bool → ℕ → Progress → Option (List ℕ) → Result Items Fault
 reading_on single n s rest = read_on n s (pending single s (map content_of (pieces_after 10 rest)))
 
--- the call took lines of a text, of which the first has number n, and gave those behind them
+-- the call took lines of a text, of which the first has number n, and gave those after them
 abbrev pub TakesLines : Bool → ℕ → List ℕ → Progress → Progress → Result Taken Refusal → Type 0
 TakesLines single n text old new (Ok taken) = reading_on single n old (Some text) ≡ reading_on single (n + taken.lines) new (option_copied taken.after)
 TakesLines single n text old new (Err r) = (r ≡ OutOfMemory) ⊎ (reading_on single n old (Some text) ≡ Err (at_line n r))
 
--- the lines behind those that were taken are so many less
+-- the lines after those that were taken are this many fewer
 abbrev pub IsShorter : List ℕ → Taken → Type 0
 IsShorter text taken = MatchOption (option_copied taken.after) (Unit {0}) (λ rest. (length rest < length text) × (length rest + taken.lines ≤ length text))
 
--- the run goes on at the lines behind those that were taken, if there are any
+-- the run goes on at the lines after those that were taken, if there are any
 abbrev pub RunsOn : List OneItem → Progress → ℕ → Option (List ℕ) → Option Run → Type 0
 RunsOn xs s n after run = MatchOption after (Unit {0}) (λ rest. IsRun xs s n rest run)

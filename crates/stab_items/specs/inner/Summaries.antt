@@ -29,12 +29,12 @@ abbrev pub furthest : List ControlledPair → ℕ
 furthest [] = 0
 furthest (p ∷ ps) = max (looks_back p) (furthest ps)
 
--- how many records have to stand before the steps
+-- how many records have to be before the steps
 abbrev pub reach : List Step → ℕ
 reach [] = 0
 reach (s ∷ ss) = max (greatest (lookbacks s)) (reach ss - makes s)
 
--- the summary of steps that name so many qubits and observables, in so many blocks: up to 1,048,577 steps, 16,777,215 records and as many
+-- the summary of steps that name this many qubits and observables, in this many blocks: up to 1,048,577 steps, 16,777,215 records and as many
 -- detectors, and 17 blocks
 abbrev pub steps_summary : List Step → ℕ → ℕ → ℕ → Summary
 steps_summary steps qubits observables deep = record {
@@ -95,7 +95,7 @@ followed_by s t = record {
   depth = max s.depth t.depth;
 }
 
--- the summary of so many rounds, of which the first reaches furthest
+-- the summary of this many rounds, of which the first reaches furthest
 abbrev pub repeated : ℕ → Summary → Summary
 repeated count s = record s { steps = min (count * s.steps) steps_cap; records = min (count * s.records) most_lookback; detectors = min (count * s.detectors) most_lookback; depth = min (s.depth + 1) 17 }
 

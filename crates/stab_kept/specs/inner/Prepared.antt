@@ -2,8 +2,7 @@
 -- Source: this project's own.
 use Rattle.std.specs.Prelude.{◌≡◌, ℕ, ◌+◌, ◌<◌, ◌≤◌, false, List, [], All, IfSome, length, take, drop, map, reverse, replicate, slice_get, vec_capacity}
 use Rattle.stab_tableau.specs.Tableaus.{TableauState}
-use Rattle.stab_circuit.specs.Steps.{Step, most_steps}
-use Rattle.stab_circuit.specs.declared.edit.Span.{Span}
+use Rattle.stab_circuit.specs.Steps.{Step}
 use Rattle.stab_circuit.specs.Cursors.{IsApart}
 use Rattle.stab_copies.specs.declared.checkpoint.Checkpoint.{Checkpoint}
 use Rattle.stab_copies.specs.declared.checkpoint.Meeting.{Meeting}
@@ -21,9 +20,8 @@ use Rattle.stab_run.specs.Cuts.{lengths_of, front_of, rest_of}
 use Rattle.stab_frames.specs.KeptStrings.{StringsState, front_kept}
 use Rattle.stab_replay.specs.NotedStrings.{IsSpliced}
 use Rattle.stab_copies.specs.LaidCopies.{moved_copy, all_laid}
-use Rattle.stab_replay.specs.Sections.{IsSection, IsMoved}
 
--- so many of the first copies are before a step
+-- this many of the first copies are before a step
 pub record IsCount (step : ℕ) (copies : List Checkpoint) (m : ℕ) : Type 0 where
   pub within : m ≤ length copies
   pub before : All (λ c. c.step < step) (take m copies)
@@ -45,12 +43,12 @@ pub record Begins (ys : List Step) (kept : KeptRun) (c : Checkpoint) (r : Replay
   pub framed : r.framed ≡ 0
   pub laid : r.laid.items ≡ []
 
--- there is a copy where a replay met one
+-- there is a copy if a replay met one
 abbrev pub HasCopy : List Checkpoint → End → Type 0
 HasCopy copies Last = Unit {0}
 HasCopy copies (Joined number) = number < length copies
 
--- the tableau behind the last step, and the old copies that are still copies of the run, moved
+-- the tableau after the last step, and the old copies that are still copies of the run, moved
 abbrev pub tableau_behind : Rest → TableauState → TableauState
 tableau_behind (Nothing tableau) old = tableau
 tableau_behind (Old number meeting room) old = old
@@ -68,29 +66,29 @@ HasRoom (Old number meeting room) copies = (room.items ≡ []) × (length copies
 abbrev pub meeting_of : RunOutput → ℕ → Checkpoint → Meeting
 meeting_of o step c = record { old_step = c.step; new_step = step; old_lengths = c.lengths; new_lengths = lengths_of o }
 
--- from an old copy on the kept run comes behind a replay: its copies, its tableau, what it gave, and its strings
+-- from an old copy on the kept run comes after a replay: its copies, its tableau, what it gave, and its strings
 pub record IsOldRest (kept : KeptRun) (o : RunOutput) (noted : StringsState) (step number : ℕ) (new : RunOutput) (new_strings : StringsState) (rest : Rest) (c : Checkpoint) : Type 0 where
   pub copies : copies_behind rest kept.checkpoints.items ≡ map (moved_copy (meeting_of o step c)) (drop number kept.checkpoints.items)
   pub tableau : tableau_behind rest kept.tableau ≡ kept.tableau
   pub output : new ≡ joined o (rest_of c.lengths (output_of kept.outputs))
   pub strings : IsSpliced noted kept.strings (ones (take c.lengths.free kept.outputs.free.items)) (ones new.free) new_strings
 
--- what comes behind a replay that ended before a step with this tableau and output, and what the output is then
+-- what comes after a replay that ended before a step with this tableau and output, and what the output is then
 abbrev pub IsRest : KeptRun → TableauState → RunOutput → StringsState → ℕ → End → RunOutput → StringsState → Rest → Type 0
 IsRest kept t o strings step Last new new_strings rest =
     (copies_behind rest kept.checkpoints.items ≡ []) × (tableau_behind rest kept.tableau ≡ t) × (new ≡ o) × (new_strings ≡ strings)
 IsRest kept t o strings step (Joined number) new new_strings rest =
     IfSome (slice_get kept.checkpoints.items number) (IsOldRest kept o strings step number new new_strings rest)
 
--- what a replay leaves is prepared: what comes behind it, so many observables, summed, and its copies, the last first
+-- what a replay leaves is prepared: what comes after it, this many observables, summed, and its copies, the last first
 pub record IsPrepared (kept : KeptRun) (r : Replay) (count : ℕ) (end : End) (p : Prepared) : Type 0 where
   pub rest : IsRest kept r.tableau (output_of r.outputs) r.notes.strings r.step end (output_of p.outputs) p.strings p.rest
   pub reach : p.reach ≡ r.notes.reach
   pub observables : p.observables.items ≡ with_additions p.outputs.additions.items (replicate count false)
   pub laid : reverse p.laid.items ≡ r.laid.items
 
--- what was prepared is put in place, behind so many of the old copies
-pub record IsInPlace (old : KeptRun) (p : Prepared) (before K : ℕ) (new : KeptRun) : Type 0 where
+-- what was prepared is put in place, after this many of the old copies
+pub record IsCommitted (old : KeptRun) (p : Prepared) (before K : ℕ) (new : KeptRun) : Type 0 where
   pub tableau : new.tableau ≡ tableau_behind p.rest old.tableau
   pub output : output_of new.outputs ≡ output_of p.outputs
   pub observables : new.observables.items ≡ p.observables.items
@@ -98,14 +96,3 @@ pub record IsInPlace (old : KeptRun) (p : Prepared) (before K : ℕ) (new : Kept
   pub reach : new.reach ≡ p.reach
   pub checkpoints : new.checkpoints.items
       ≡ all_laid K (copies_behind p.rest old.checkpoints.items) (all_laid K (reverse p.laid.items) (take before old.checkpoints.items))
-
--- and the outlines are those of steps that differ within a span
-pub record IsCommitted (old : KeptRun) (p : Prepared) (s : Span) (before K : ℕ) (new : KeptRun) : Type 0 where
-  pub tableau : new.tableau ≡ tableau_behind p.rest old.tableau
-  pub output : output_of new.outputs ≡ output_of p.outputs
-  pub observables : new.observables.items ≡ p.observables.items
-  pub strings : new.strings ≡ p.strings
-  pub reach : new.reach ≡ p.reach
-  pub checkpoints : new.checkpoints.items
-      ≡ all_laid K (copies_behind p.rest old.checkpoints.items) (all_laid K (reverse p.laid.items) (take before old.checkpoints.items))
-  pub sections : (xs ys : List Step) → length ys ≤ most_steps → IsMoved xs ys s → All (IsSection xs) old.sections.items → All (IsSection ys) new.sections.items

@@ -4,7 +4,7 @@ use Rattle.std.specs.Prelude.{◌≡◌, ℕ, ◌+◌, ◌-◌, ◌*◌, ◌≤�
 use Rattle.stab_letters.specs.declared.letter.Letter.TheVariants.{I}
 use Rattle.stab_tableau.specs.Tableaus.{TableauState, stabilises}
 use Rattle.stab_tableau.specs.Turns.{IsTurned}
-use Rattle.stab_circuit.specs.Steps.{Step, most_steps}
+use Rattle.stab_circuit.specs.Steps.{Step}
 use Rattle.stab_circuit.specs.declared.edit.Span.{Span}
 use Rattle.stab_copies.specs.declared.checkpoint.Checkpoint.{Checkpoint}
 use Rattle.stab_copies.specs.declared.checkpoint.Meeting.{Meeting}
@@ -22,7 +22,6 @@ use Rattle.stab_turns.specs.LongerLists.{longer}
 use Rattle.stab_turns.specs.LedFrames.{IsLedFrame, with_states}
 use Rattle.stab_turns.specs.PassedPlaces.{IsFrameBetween, IsBeforePlaces}
 use Rattle.stab_turns.specs.declared.passing.PauliChange.{PauliChange}
-use Rattle.stab_replay.specs.Sections.{IsSection, IsMoved}
 use Rattle.stab_kept.specs.declared.kept.KeptRun.{KeptRun}
 use Rattle.stab_kept.specs.declared.kept.Followed.{Followed}
 use Rattle.stab_kept.specs.declared.turning.Passed.{Passed}
@@ -30,7 +29,7 @@ use Rattle.stab_kept.specs.declared.turning.Turning.{Turning}
 use Rattle.stab_kept.specs.Counts.{IsCounted}
 use Rattle.stab_kept.specs.KeptRuns.{IsKeptRun, IsSpan, AgreeBehindSpan, AgreeBackBehindSpan}
 
--- a step is not behind a span, and the next copy, which is, once it has moved, or the last step, is at most K steps from it
+-- a step is not after a span, and the next copy, which is, once it has moved, or the last step, is at most K steps from it
 abbrev pub StaysNear : ℕ → Span → (total step : ℕ) → Option Checkpoint → Type 0
 StaysNear K s total step next =
     (step ≤ s.new_end) × MatchOption next (total ≤ step + K) (λ c. (s.old_end ≤ c.step) × (moved s.old_end s.new_end c.step ≤ step + K))
@@ -39,8 +38,8 @@ StaysNear K s total step next =
 abbrev pub span_meeting : Span → Lengths → Meeting
 span_meeting s l = record { old_step = s.old_end; new_step = s.new_end; old_lengths = l; new_lengths = l }
 
--- a frame that began where the lists of a run were so long went past the places of a change within a span; of the copies that stand behind
--- so many, those up to another count were made copies of the new run
+-- a frame that began where the lists of a run were this long went past the places of a change within a span; of the copies that are after
+-- this many, those up to another count were made copies of the new run
 pub record HasPassed (ys : List Step) (s : Span) (before inside : ℕ) (change : PauliChange) (r : KeptRun) (from : Lengths) (w : WalkState) (copies : List Checkpoint) : Type 0 where
   pub from_is : IfSome (slice_get r.checkpoints.items (before - 1)) (λ c. (n : ℕ) (coins : ℕ → Bool) (a : Point)
       → from ≡ longer c.lengths (lengths_of (outputs n coins (take (s.first - c.step) (drop c.step ys)) a)))
@@ -57,7 +56,7 @@ pub record HasPassed (ys : List Step) (s : Span) (before inside : ℕ) (change :
       → IsBeforePlaces r.tableau.qubits coins xs ys (note_at r.strings.strings r.outputs.free.items) r.outputs.free.items base front s change (drop s.first ys) start
       → All (IsCheckpoint r.tableau.qubits coins xs) (take (inside - before) (drop before r.checkpoints.items)) → All (IsCheckpoint r.tableau.qubits coins ys) copies
 
--- it was led on over the steps behind the span, past the copies that stand there
+-- it was led on over the steps after the span, past the copies that are there
 pub record IsTurning (ys : List Step) (s : Span) (inside : ℕ) (p : Passed) (r : KeptRun) (t : Turning) : Type 0 where
   pub from : t.from ≡ p.from
   pub passed : t.passed.items ≡ p.copies.items
@@ -66,7 +65,7 @@ pub record IsTurning (ys : List Step) (s : Span) (inside : ℕ) (p : Passed) (r 
   pub room : (t.room.items ≡ []) × (length r.checkpoints.items ≤ vec_capacity t.room + inside)
   pub few : length t.turned.items + inside ≤ length r.checkpoints.items
 
--- the copies behind a span, those that a frame turned with their new states, and moved with it
+-- the copies after a span, those that a frame turned with their new states, and moved with it
 abbrev pub copies_moved : Span → Lengths → List TableauState → List Checkpoint → List Checkpoint
 copies_moved s from turned copies = map (moved_copy (span_meeting s from)) (with_states turned copies)
 
@@ -80,14 +79,13 @@ pub record IsPut (old : KeptRun) (s : Span) (before inside K : ℕ) (t : Turning
   pub reach : new.reach ≡ old.reach
   pub checkpoints : new.checkpoints.items
       ≡ all_laid K (t.passed.items ++ copies_moved s t.from t.turned.items (drop inside old.checkpoints.items)) (take before old.checkpoints.items)
-  pub sections : (xs ys : List Step) → length ys ≤ most_steps → IsMoved xs ys s → All (IsSection xs) old.sections.items → All (IsSection ys) new.sections.items
 
--- where the first copy stands that was not turned, or behind the last step
+-- where the first copy is that was not turned, or after the last step
 abbrev pub turned_end : Span → (total : ℕ) → Option Checkpoint → ℕ
 turned_end s total None = total
 turned_end s total (Some c) = moved s.old_end s.new_end c.step
 
--- the run was turned: it is that of the new steps, with so many observables, and so many steps were followed for it
+-- the run was turned: it is that of the new steps, with this many observables, and this many steps were followed for it
 pub record HasTurned (n : ℕ) (coins : ℕ → Bool) (K : ℕ) (ys : List Step) (observables : ℕ) (s : Span) (old : KeptRun) (f : Followed) (new : KeptRun) : Type 0 where
   pub kept : IsKeptRun n coins K ys observables new
   pub applied : f.applied + f.framed ≤ (length ys - s.first) + K

@@ -9,7 +9,7 @@ abbrev pub bracket_bytes : BracketText → List ℕ
 bracket_bytes (written.Short len bytes) = take len bytes
 bracket_bytes (written.Long s) = s.value
 
--- no more bytes are told than there is room for
+-- no more bytes are counted than there is room for
 abbrev pub IsBracketText : BracketText → Type 0
 IsBracketText (written.Short len bytes) = len ≤ 22
 IsBracketText (written.Long s) = Unit {0}

@@ -1,4 +1,4 @@
--- Detector contents: how the code cuts the content of a detector, and tells what it means.
+-- Detector contents: how the code cuts the content of a detector, and says what it means.
 -- Source: this project's own.
 use Rattle.std.specs.Prelude.{◌≡◌, ℕ, Bool, true, ◌&&◌, not, ◌==◌, List, [], ◌∷◌, ◌++◌, codes, Option, None, Some, Result, Ok, Err, ◌⊎◌}
 use Rattle.std.specs.List.{list_all}
@@ -20,11 +20,11 @@ is_inner b = not (is_brace b) && not (b == 41)
 abbrev pub IsCutDetector : List ℕ → List ℕ → List ℕ → Type 0
 IsCutDetector content inside behind = (content ≡ codes "DETECTOR(" ++ (inside ++ 41 ∷ behind)) × (list_all is_inner inside ≡ true) × (is_word_end behind ≡ true)
 
--- coordinates that are written so, and the records behind them, or the refusal of these
+-- coordinates that are written in this way, and the records after them, or the refusal of these
 abbrev pub behind_coordinates : List ℕ → Result (List ℕ) Refusal → Result (List (List ℕ) × List ℕ) Refusal
 behind_coordinates written given = given >>= λ ks. Ok (arguments_of written, ks)
 
--- the call gave the detector that the content means, or told nothing, or failed as the content does, or for want of memory
+-- the call gave the detector that the content means, or said nothing, or failed as the content does, or for lack of memory
 abbrev pub TellsDetector : List ℕ → Result (Option (List (List ℕ) × List ℕ)) Refusal → Type 0
 TellsDetector content (Ok None) = Unit {0}
 TellsDetector content (Ok (Some d)) = meaning_of content ≡ Ok (line.Operation (record { kind = kind.Detector d; tag = [] }))

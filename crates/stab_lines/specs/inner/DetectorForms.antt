@@ -16,7 +16,7 @@ abbrev pub form_records : Form → List ℕ
 form_records (form.Short bytes numbers text records) = take numbers records
 form_records (form.Long located) = located.1
 
--- no more is told than there is room for, and each number is one of a record
+-- no more is counted than there is room for, and each number is one of a record
 abbrev pub IsForm : Form → Type 0
 IsForm (form.Short bytes numbers text records) = (bytes ≤ 13) × (numbers ≤ 2) × All IsLookback (take numbers records)
 IsForm (form.Long located) = Unit {0}

@@ -20,7 +20,7 @@ are_listed within (b ∷ bs) = may_follow within b && are_listed (is_coordinate_
 abbrev pub IsSpacedRecord : List ℕ → ℕ → List ℕ → Type 0
 IsSpacedRecord bs k rest = (ds : List ℕ) × (bs ≡ codes " rec[-" ++ (ds ++ 93 ∷ rest)) × (list_all is_digit ds ≡ true) × (value ds ≡ k) × IsLookback k
 
--- the bytes are these records, each behind a space, and the rest
+-- the bytes are these records, each after a space, and the rest
 abbrev pub AreSpacedRecords : List ℕ → List ℕ → List ℕ → Type 0
 AreSpacedRecords bs [] rest = bs ≡ rest
 AreSpacedRecords bs (k ∷ ks) rest = (more : List ℕ) × IsSpacedRecord bs k more × AreSpacedRecords more ks rest

@@ -15,7 +15,7 @@ use Rattle.stab_lines.specs.Controls.{pair_of}
 abbrev pub BeginsWithTarget : {X : Type 0} → (List ℕ → Result X Refusal) → List ℕ → X → List ℕ → Type 0
 BeginsWithTarget meaning bs target rest = (word : List ℕ) × (words bs ≡ word ∷ words rest) × (meaning word ≡ Ok target)
 
--- the call gave the first word's target and what follows it, none where there is no word, or failed as that word does, or for want of memory
+-- the call gave the first word's target and what follows it, none if there is no word, or failed as that word does, or for lack of memory
 abbrev pub GivesFirst : {X : Type 0} → (List ℕ → Result X Refusal) → List ℕ → Result (Option (X × Bor (List ℕ))) Refusal → Type 0
 GivesFirst meaning bs (Ok None) = words bs ≡ []
 GivesFirst meaning bs (Ok (Some first)) = BeginsWithTarget meaning bs first.0 first.1.now
@@ -26,11 +26,11 @@ abbrev pub IsShorter : {X : Type 0} → List ℕ → Result (Option (X × Bor (L
 IsShorter bs (Ok (Some first)) = length first.1.now < length bs
 IsShorter bs answer = Unit {0}
 
--- one before what is read behind it, or the refusal of that
+-- one before what is read after it, or the refusal of that
 abbrev pub begun_with : {X E : Type 0} → X → Result (List X) E → Result (List X) E
 begun_with x given = given >>= λ more. Ok (x ∷ more)
 
--- those before what is read behind them, or the refusal of that
+-- those before what is read after them, or the refusal of that
 abbrev pub follows : {X E : Type 0} → List X → Result (List X) E → Result (List X) E
 follows front given = given >>= λ more. Ok (front ++ more)
 

@@ -21,7 +21,7 @@ use Rattle.stab_lines.specs.inner.DetectorLines.{EndsLine}
 abbrev pub IsSpacedQubit : List ℕ → ℕ → List ℕ → Type 0
 IsSpacedQubit bs q rest = (ds : List ℕ) × (bs ≡ 32 ∷ (ds ++ rest)) × (is_number ds ≡ true) × (qubit_of ds ≡ Ok q)
 
--- the bytes are two different qubits, each behind a space, and the rest
+-- the bytes are two different qubits, each after a space, and the rest
 abbrev pub IsSpacedPair : List ℕ → ℕ × ℕ → List ℕ → Type 0
 IsSpacedPair bs pair rest = (more : List ℕ) × IsSpacedQubit bs pair.0 more × IsSpacedQubit more pair.1 rest × (pair.0 ≢ pair.1)
 
@@ -29,11 +29,11 @@ IsSpacedPair bs pair rest = (more : List ℕ) × IsSpacedQubit bs pair.0 more ×
 abbrev pub paired_words : List (List ℕ) → Result (List (ℕ × ℕ)) Refusal
 paired_words ws = each qubit_of ws >>= pairs_of
 
--- words, each behind a space
+-- words, each after a space
 abbrev pub spaced_words : List (List ℕ) → List ℕ
 spaced_words ws = spaced (λ w. w) ws
 
--- the bytes are these words, which are numbers, each behind a space, and the rest
+-- the bytes are these words, which are numbers, each after a space, and the rest
 abbrev pub AreNumbers : List ℕ → List (List ℕ) → List ℕ → Type 0
 AreNumbers bs ws rest = (bs ≡ spaced_words ws ++ rest) × (list_all is_number ws ≡ true)
 
@@ -41,13 +41,13 @@ AreNumbers bs ws rest = (bs ≡ spaced_words ws ++ rest) × (list_all is_number 
 abbrev pub AreSpacedTargets : {X : Type 0} → (List (List ℕ) → Result (List X) Refusal) → List ℕ → List X → List ℕ → Type 0
 AreSpacedTargets meaning bs xs rest = (ws : List (List ℕ)) × AreNumbers bs ws rest × ((more : List (List ℕ)) → meaning (ws ++ more) ≡ follows xs (meaning more))
 
--- the call gave the targets up to the end of the line and the lines behind it, or told nothing, or failed for want of memory
+-- the call gave the targets up to the end of the line and the lines after it, or said nothing, or failed for lack of memory
 abbrev pub TellsTargets : {X : Type 0} → (List (List ℕ) → Result (List X) Refusal) → List ℕ → Result (Option (List X × Option (Bor (List ℕ)))) Refusal → Type 0
 TellsTargets meaning bs (Ok None) = Unit {0}
 TellsTargets meaning bs (Ok (Some found)) = (rest : List ℕ) × AreSpacedTargets meaning bs found.0 rest × EndsLine rest (option_copied found.1)
 TellsTargets meaning bs (Err r) = r ≡ OutOfMemory
 
--- the shape of a name with these words behind it
+-- the shape of a name with these words after it
 abbrev pub plain_shape : List ℕ → List (List ℕ) → Shape
 plain_shape name ws = record { name = name; tag = []; arguments = []; targets = spaced_words ws; opens = false }
 
@@ -56,7 +56,7 @@ abbrev pub BeginsWithKind : Instruction → List ℕ → Kind → Option (List �
 BeginsWithKind i bs k after =
     (ws : List (List ℕ)) × (rest : List ℕ) × AreNumbers bs ws rest × EndsLine rest after × ((name : List ℕ) → kind_of i (plain_shape name ws) ≡ Ok k)
 
--- the call gave what the instruction does and the lines behind it, or told nothing, or failed for want of memory
+-- the call gave what the instruction does and the lines after it, or said nothing, or failed for lack of memory
 abbrev pub TellsKind : Instruction → List ℕ → Result (Option (Kind × Option (Bor (List ℕ)))) Refusal → Type 0
 TellsKind i bs (Ok None) = Unit {0}
 TellsKind i bs (Ok (Some found)) = BeginsWithKind i bs found.0 (option_copied found.1)

@@ -42,7 +42,7 @@ pub record CoversLetters (m mask : ℕ) (row : List ℕ) : Type 0 where
 abbrev pub HasNoXBefore : ℕ → List Letter → Type 0
 HasNoXBefore k letters = (j : ℕ) → j < k → has_x (slice_index_or letters j I) ≡ false
 
--- the first of so many letters that is X or Y
+-- the first of this many letters that is X or Y
 pub record IsFirstX (size : ℕ) (letters : List Letter) (k : ℕ) : Type 0 where
   pub in_range : k < size
   pub has_x_here : has_x (slice_index_or letters k I) ≡ true
@@ -52,7 +52,7 @@ pub record IsFirstX (size : ℕ) (letters : List Letter) (k : ℕ) : Type 0 wher
 abbrev pub IsBlankFrom : ℕ → ℕ → List Letter → Type 0
 IsBlankFrom from k letters = (j : ℕ) → from ≤ j → j < k → slice_index_or letters j I ≡ I
 
--- the first of so many letters, from one on, that is not I
+-- the first of this many letters, from one on, that is not I
 pub record IsNextLetter (from size : ℕ) (letters : List Letter) (k : ℕ) : Type 0 where
   pub from_there : from ≤ k
   pub in_range : k < size

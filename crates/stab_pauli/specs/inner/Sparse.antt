@@ -4,27 +4,27 @@ use Rattle.std.specs.Prelude.{ℕ, ◌≡◌, ◌+◌, List, [], ◌∷◌, ◌+
 use Rattle.stab_letters.specs.declared.phase.Phase.{Phase}
 use Rattle.stab_pauli.specs.inner.Blocks.{IsTable}
 
--- words, each behind so many that are 0, and behind the last so many more
+-- words, each after this many that are 0, and after the last this many more
 abbrev pub spread : List ℕ → List ℕ → ℕ → List ℕ
 spread [] kept behind = replicate behind 0
 spread (gap ∷ gaps) [] behind = replicate behind 0
 spread (gap ∷ gaps) (word ∷ kept) behind = replicate gap 0 ++ word ∷ spread gaps kept behind
 
--- words from the first of those that are kept on, without the gap before it: none, where none is kept
+-- words from the first of those that are kept on, without the gap before it: none, if none is kept
 abbrev pub spread_next : List ℕ → List ℕ → ℕ → List ℕ
 spread_next gaps [] behind = []
 spread_next gaps (word ∷ kept) behind = word ∷ spread gaps kept behind
 
--- the words from a place on: so many that are 0, and then those from the next on that is kept, if any is
+-- the words from a place on: this many that are 0, and then those from the next on that is kept, if any is
 abbrev pub words_from : (gaps kept : List ℕ) (behind next gap : ℕ) → List ℕ
 words_from gaps kept behind next gap = replicate gap 0 ++ spread_next (drop (next + 1) gaps) (drop next kept) behind
 
--- what is kept of words: as many gaps as words, from which they can be told
+-- what is kept of words: as many gaps as words, from which they can be found again
 pub record IsSparse (gaps kept : List ℕ) (behind : ℕ) (words : List ℕ) : Type 0 where
   pub even : length gaps ≡ length kept
   pub words_are : spread gaps kept behind ≡ words
 
--- what is kept of so many words, with powers of i, that lie as rows of m blocks, for n letters each
+-- what is kept of this many words, with powers of i, that lie as rows of m blocks, for n letters each
 pub record IsCompact (n m : ℕ) (gaps kept : List ℕ) (behind size : ℕ) (powers : List Phase) : Type 0 where
   pub even : length gaps ≡ length kept
   pub size_is : size ≡ length (spread gaps kept behind)

@@ -56,6 +56,6 @@ xor_words = zip2 bit_xor
 abbrev pub swapped_words : ℕ → ℕ → ℕ → List ℕ → List ℕ
 swapped_words a b size words = put_chunk b (put_chunk a words (chunk b size words)) (chunk a size words)
 
--- each word has so many bits
+-- each word has this many bits
 pub record AreShort (k : ℕ) (words : List ℕ) : Type 0 where
   pub below : (i : ℕ) → slice_index words i < 2 ^ k

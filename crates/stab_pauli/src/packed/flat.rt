@@ -10,7 +10,7 @@ use crate::packed::{ones, row};
 use stab_letters::Letter;
 use std::simd::u64x4;
 
-/// Where the words of row a of so many rows begin.
+/// Where the words of row a of this many rows begin.
 #[inline(always)]
 pub(crate) fn place_of(size: usize, count: usize, blocks: usize, a: usize) -> usize
     requires in_range { a < count }
@@ -56,7 +56,7 @@ pub(crate) fn part_of(words: &[u64], count: usize, blocks: usize, a: usize) -> &
     &words[at..at + 8 * blocks * 8]
 }
 
-/// Multiplies row a of so many rows by row b, and tells whether its Z bits meet X bits of row b at an odd number of
+/// Multiplies row a of this many rows by row b, and says whether its Z bits meet X bits of row b at an odd number of
 /// places, as all products here do.
 #[inline(always)]
 pub(crate) fn multiply(words: &mut [u64], count: usize, blocks: usize, a: usize, b: usize) -> bool
@@ -95,7 +95,7 @@ fn multiply_block(words: &mut [u64], a: usize, b: usize) -> bool
     ones::are_odd(z & other_x)
 }
 
-/// Multiplies the row of so many blocks at word a by the one at word b, which it does not overlap.
+/// Multiplies the row of this many blocks at word a by the one at word b, which it does not overlap.
 #[inline(always)]
 fn multiply_at(words: &mut [u64], blocks: usize, a: usize, b: usize) -> bool
     requires a_fits { a + 8 * blocks ≤ length words.old }
@@ -202,7 +202,7 @@ pub(crate) fn swap(words: &mut [u64], count: usize, blocks: usize, a: usize, b: 
     ensures words { words.new ≡ swapped_words (8 * blocks * a) (8 * blocks * b) (8 * blocks) words.old }
 {
     let size = words.len();
-    // One block, which most codes have, is told apart so that its two halves need no loop.
+    // One block, which most codes have, is handled apart, so that its two halves need no loop.
     if blocks == 1 {
         let first = place_of(size, count, 1, a);
         let second = place_of(size, count, 1, b);
@@ -214,7 +214,7 @@ pub(crate) fn swap(words: &mut [u64], count: usize, blocks: usize, a: usize, b: 
     swap_at(words, blocks, first, second);
 }
 
-/// Exchanges the rows of so many blocks at word a and at word b, which do not overlap.
+/// Exchanges the rows of this many blocks at word a and at word b, which do not overlap.
 #[inline(always)]
 fn swap_at(words: &mut [u64], blocks: usize, a: usize, b: usize)
     requires a_fits { a + 8 * blocks ≤ length words.old }
@@ -230,7 +230,7 @@ fn swap_at(words: &mut [u64], blocks: usize, a: usize, b: usize)
     }
 }
 
-/// Whether both are the same words. That words have 64 bits is known of slices at hand, and handed back to the caller.
+/// Whether both are the same words. Slices at hand are known to have words of 64 bits, and the caller learns so too.
 #[inline(always)]
 pub(crate) fn same(words: &[u64], others: &[u64]) -> bool
     requires are_short { AreShort 64 words.now }

@@ -1,4 +1,4 @@
-//! Parts: the words of eight rows that lie side by side, which of these rows have X or Y at a place, and where any has in the
+//! Parts: the words of eight rows that lie side by side, which of these rows have X or Y at a place, and where any has it in the
 //! words with it.
 
 ghost use Rattle.std.specs.Prelude.{◌≡◌, ℕ, ◌+◌, ◌*◌, ◌/◌, ◌^◌, ◌<◌, true, length, slice_index_or};
@@ -12,7 +12,7 @@ use crate::masks;
 use crate::packed::{flat, row};
 
 /// Which of the eight rows have X or Y at a place, and at which of the 64 places of its word any of them has, each by a
-/// mask. Where few rows of a table have, most parts have none: that is asked first, of all their words at once. Where half
+/// mask. If few rows of a table have, most parts have none: that is asked first, of all their words at once. If half
 /// of the rows have, nearly no part has none, so the answer is guessed right.
 #[inline(always)]
 pub(crate) fn rows_with_x(blocks: usize, part: &[u64], qubit: usize) -> (u64, u64)

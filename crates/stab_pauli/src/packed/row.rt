@@ -33,7 +33,7 @@ pub(crate) fn product_power(first: Phase, second: Phase, meet: bool) -> Phase
     first.times(second).times(Phase::of_sign(meet))
 }
 
-/// Makes a row of so many blocks the product of itself and another, and tells whether its Z bits meet X bits of the
+/// Makes a row of this many blocks the product of itself and another, and says whether its Z bits meet X bits of the
 /// other at an odd number of places.
 #[inline(always)]
 pub(crate) fn multiply(blocks: usize, row: &mut [u64], other: &[u64]) -> bool
@@ -56,7 +56,7 @@ pub(crate) fn multiply(blocks: usize, row: &mut [u64], other: &[u64]) -> bool
     ones::are_odd(meets)
 }
 
-/// Whether two rows of so many blocks anticommute.
+/// Whether two rows of this many blocks anticommute.
 #[inline(always)]
 pub(crate) fn anticommute(blocks: usize, row: &[u64], other: &[u64]) -> bool
     requires length { length row.now ≡ 8 * blocks }
@@ -75,7 +75,7 @@ pub(crate) fn anticommute(blocks: usize, row: &[u64], other: &[u64]) -> bool
     ones::are_odd(meets)
 }
 
-/// The power of i of the letters of a row of so many blocks before their bits: one for each Y.
+/// The power of i of the letters of a row of this many blocks before their bits: one for each Y.
 #[inline(always)]
 pub(crate) fn power(blocks: usize, row: &[u64]) -> Phase
     requires length { length row.now ≡ 8 * blocks }
@@ -91,7 +91,7 @@ pub(crate) fn power(blocks: usize, row: &[u64]) -> Phase
     Phase::of_count(count)
 }
 
-/// Whether the sign of a row of so many blocks is -, by the power of i before its bits.
+/// Whether the sign of a row of this many blocks is -, by the power of i before its bits.
 #[inline(always)]
 pub(crate) fn is_negative(blocks: usize, row: &[u64], power_before: Phase) -> bool
     requires length { length row.now ≡ 8 * blocks }
@@ -108,7 +108,7 @@ pub(crate) fn power_with(power_before: Phase, old: Letter, new: Letter) -> Phase
     old.power().inverse().times(new.power().times(power_before))
 }
 
-/// The letter at a place of a row of so many blocks.
+/// The letter at a place of a row of this many blocks.
 #[inline(always)]
 pub(crate) fn letter(blocks: usize, row: &[u64], qubit: usize) -> Letter
     requires length { length row.now ≡ 8 * blocks }
@@ -120,7 +120,7 @@ pub(crate) fn letter(blocks: usize, row: &[u64], qubit: usize) -> Letter
     letter_of(bit_of(row[at], bit), bit_of(row[at + 4], bit))
 }
 
-/// Puts a letter at a place of a row of so many blocks.
+/// Puts a letter at a place of a row of this many blocks.
 #[inline(always)]
 pub(crate) fn set(blocks: usize, row: &mut [u64], qubit: usize, letter: Letter)
     requires length { length row.old ≡ 8 * blocks }
@@ -135,7 +135,7 @@ pub(crate) fn set(blocks: usize, row: &mut [u64], qubit: usize, letter: Letter)
     row[at + 4] = with_bit(row[at + 4], bit, z);
 }
 
-/// Whether the letter at a place of a row of so many blocks is X or Y: its X bit.
+/// Whether the letter at a place of a row of this many blocks is X or Y: its X bit.
 #[inline(always)]
 pub(crate) fn has_x_at(blocks: usize, row: &[u64], qubit: usize) -> bool
     requires length { length row.now ≡ 8 * blocks }
@@ -145,7 +145,7 @@ pub(crate) fn has_x_at(blocks: usize, row: &[u64], qubit: usize) -> bool
     bit_of(x_mask(blocks, row, qubit / 64), qubit % 64)
 }
 
-/// Which of the 64 letters of a word of a row of so many blocks are X or Y, by a mask: the word of their X bits.
+/// Which of the 64 letters of a word of a row of this many blocks are X or Y, by a mask: the word of their X bits.
 #[inline(always)]
 pub(crate) fn x_mask(blocks: usize, row: &[u64], word: usize) -> u64
     requires length { length row.now ≡ 8 * blocks }
@@ -155,7 +155,7 @@ pub(crate) fn x_mask(blocks: usize, row: &[u64], word: usize) -> u64
     row[8 * (word / 4) + word % 4]
 }
 
-/// The first place in a row of so many blocks where the letter is X or Y.
+/// The first place in a row of this many blocks where the letter is X or Y.
 pub(crate) fn first_x(blocks: usize, row: &[u64]) -> Option<usize>
     requires few { blocks ≤ 2 ^ 56 }
     requires length { length row.now ≡ 8 * blocks }
@@ -188,7 +188,7 @@ fn still_blocks(blocks: usize, row: &[u64]) -> usize
     blocks
 }
 
-/// The first place of a row of so many blocks, from one on, where the letter is not I.
+/// The first place of a row of this many blocks, from one on, where the letter is not I.
 #[inline(always)]
 pub(crate) fn next_letter(blocks: usize, row: &[u64], from: usize) -> Option<usize>
     requires few { blocks ≤ 2 ^ 56 }
@@ -219,7 +219,7 @@ fn next_bit(word: u64, from: usize) -> Option<usize>
     Some(from + rest.trailing_zeros() as usize)
 }
 
-/// Which of the 64 letters of a word of a row of so many blocks are not I, by a mask.
+/// Which of the 64 letters of a word of a row of this many blocks are not I, by a mask.
 #[inline(always)]
 pub(crate) fn letters_mask(blocks: usize, row: &[u64], word: usize) -> u64
     requires length { length row.now ≡ 8 * blocks }

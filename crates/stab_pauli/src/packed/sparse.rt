@@ -9,10 +9,10 @@ use std::alloc::{AllocError, Global};
 /// Words, without those that are 0.
 #[derive(Drop)]
 pub(crate) struct SparseWords {
-    /// How many words 0 stand before each word that is kept. A gap that fits no byte is cut by words 0 that are kept.
+    /// How many words 0 are before each word that is kept. A gap that fits no byte is cut by words 0 that are kept.
     pub(crate) gaps: Vec<u8>,
     pub(crate) kept: Vec<u64>,
-    /// How many stand behind the last word that is kept.
+    /// How many are after the last word that is kept.
     pub(crate) behind: usize,
 }
 
@@ -21,7 +21,7 @@ pub(crate) struct SparseWords {
 struct SparsePlace {
     /// How many of the words that are kept are passed.
     next: usize,
-    /// How many words 0 stand before the next of these, or, behind the last, how many are left.
+    /// How many words 0 are before the next of these, or, after the last, how many are left.
     gap: usize,
 }
 
@@ -44,7 +44,7 @@ pub(crate) fn is_blank(block: &[u64]) -> bool
 }
 
 impl SparseWords {
-    /// No words, with room for so many that are kept.
+    /// No words, with room to keep this many.
     fn with_room(alloc: Global, size: usize) -> Result<SparseWords, AllocError>
         ensures value { IfOk result (λ s. IsSparse s.gaps.items s.kept.items s.behind []) }
     {
@@ -55,7 +55,7 @@ impl SparseWords {
         })
     }
 
-    /// Keeps a word behind so many words 0, whatever stands behind the last that is kept.
+    /// Keeps a word after this many words 0, whatever is after the last that is kept.
     #[inline(always)]
     fn keep(&mut self, gap: usize, word: u64) -> Result<(), AllocError>
         requires fits { gap ≤ 255 }
@@ -68,7 +68,7 @@ impl SparseWords {
         Ok(())
     }
 
-    /// Puts a word behind these.
+    /// Puts a word after these.
     #[inline(always)]
     fn push(&mut self, word: u64) -> Result<(), AllocError>
         requires even { length self.old.gaps.items ≡ length self.old.kept.items }
@@ -85,7 +85,7 @@ impl SparseWords {
         Ok(())
     }
 
-    /// Cuts the gap behind the last word that is kept: keeps a word 0, behind as many others as fit a byte.
+    /// Cuts the gap after the last word that is kept: keeps a word 0, after as many others as fit a byte.
     fn cut_gap(&mut self) -> Result<(), AllocError>
         requires even { length self.old.gaps.items ≡ length self.old.kept.items }
         requires many { 0 < self.old.behind }
@@ -111,7 +111,7 @@ impl SparseWords {
         Ok(())
     }
 
-    /// Puts the eight words of a block behind these.
+    /// Puts the eight words of a block after these.
     #[inline(always)]
     fn push_words(&mut self, block: &[u64]) -> Result<(), AllocError>
         requires even { length self.old.gaps.items ≡ length self.old.kept.items }
@@ -125,7 +125,7 @@ impl SparseWords {
         Ok(())
     }
 
-    /// Puts a block behind these, that is blank or not.
+    /// Puts a block after these, that is blank or not.
     #[inline(always)]
     fn push_block(&mut self, block: &[u64]) -> Result<(), AllocError>
         requires even { length self.old.gaps.items ≡ length self.old.kept.items }
@@ -141,7 +141,7 @@ impl SparseWords {
         self.push_words(block)
     }
 
-    /// What these words are, of which there are eight times so many.
+    /// What these words are, of which there are eight times this many.
     pub(crate) fn of(alloc: Global, words: &[u64], blocks: usize) -> Result<SparseWords, AllocError>
         requires all { length words.now ≡ 8 * blocks }
         ensures value { IfOk result (λ s. IsSparse s.gaps.items s.kept.items s.behind words.now) }
@@ -183,7 +183,7 @@ impl SparseWords {
             && self.gaps.as_slice() == other.gaps.as_slice()
     }
 
-    /// How many words 0 stand behind so many of the words that are kept.
+    /// How many words 0 are after this many of the words that are kept.
     #[inline(always)]
     fn gap_behind(&self, passed: usize) -> usize
         requires even { length self.now.gaps.items ≡ length self.now.kept.items }
@@ -241,7 +241,7 @@ impl SparseWords {
         true
     }
 
-    /// Whether the next eight words are those of a block, which the place then has passed: where as many words 0 stand next, one
+    /// Whether the next eight words are those of a block, which the place then has passed: if as many words 0 are next, one
     /// question.
     #[inline(always)]
     fn has_block(&self, place: &mut SparsePlace, block: &[u64]) -> bool
@@ -258,7 +258,7 @@ impl SparseWords {
         self.has_words(place, block)
     }
 
-    /// Whether these are the words, of which there are as many, eight for each of so many blocks.
+    /// Whether these are the words, of which there are as many, eight for each of this many blocks.
     pub(crate) fn are(&self, words: &[u64], blocks: usize) -> bool
         requires even { length self.now.gaps.items ≡ length self.now.kept.items }
         requires all { length words.now ≡ 8 * blocks }

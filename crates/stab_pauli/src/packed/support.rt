@@ -26,7 +26,7 @@ pub(crate) fn of(blocks: usize, row: &[u64]) -> u64
     mask
 }
 
-/// Multiplies row a of so many rows by another row, as `flat::multiply_by` does, in the blocks alone that a mask names: in all
+/// Multiplies row a of this many rows by another row, as `flat::multiply_by` does, in the blocks alone that a mask names: in all
 /// others the other row has letters I.
 #[inline(always)]
 pub(crate) fn multiply_by(
@@ -49,7 +49,7 @@ pub(crate) fn multiply_by(
     multiply(blocks, &mut words[at..at + 8 * blocks], support, other)
 }
 
-/// Makes a row of so many blocks the product of itself and another, as `row::multiply` does, by a walk over the blocks that a
+/// Makes a row of this many blocks the product of itself and another, as `row::multiply` does, by a walk over the blocks that a
 /// mask names.
 #[inline(always)]
 fn multiply(blocks: usize, row: &mut [u64], support: u64, other: &[u64]) -> bool
@@ -70,7 +70,7 @@ fn multiply(blocks: usize, row: &mut [u64], support: u64, other: &[u64]) -> bool
     ones::are_odd(meets)
 }
 
-/// Multiplies the block of a row at a word by that of another row there, and tells at which places its Z bits meet X bits of
+/// Multiplies the block of a row at a word by that of another row there, and says at which places its Z bits meet X bits of
 /// the other.
 #[inline(always)]
 fn multiply_block(row: &mut [u64], at: usize, other: &[u64]) -> u64x4

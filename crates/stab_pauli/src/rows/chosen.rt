@@ -16,8 +16,8 @@ impl PauliRows {
     ghost use Rattle.stab_pauli.specs.inner.Blocks.{blocks_of, row_letters, signed_row, IsSignedRow, CoversLetters};
     ghost use Rattle.stab_pauli.specs.Masks.{chooses, AreChosen, CoversSupport};
 
-    /// Which of the 64 rows from one on have X or Y at a qubit, by a mask: bit k tells it of row first + k, and is 0 where
-    /// there is no such row. It is a call of its own, which 64 rows can bear: within its caller the words of eight rows would
+    /// Which of the 64 rows from one on have X or Y at a qubit, by a mask: bit k says it for row first + k, and is 0 if
+    /// there is no such row. It is a call of its own, whose cost 64 rows can bear: within its caller the words of eight rows would
     /// not all stay in registers.
     #[inline(never)]
     pub fn rows_with_x(&self, first: usize, qubit: usize) -> u64
@@ -44,7 +44,7 @@ impl PauliRows {
 
     /// Which of up to 64 rows from one on and before another have X or Y at a qubit, and at which of the 64 qubits of its word
     /// any of them has, each by a mask. The first grows from the last rows to the first: by the few that make no part of
-    /// eight, and then by one part at a time, most of which are done by one test where few rows have the bit. Where the second
+    /// eight, and then by one part at a time, most of which are done by one test if few rows have the bit. If the second
     /// is not asked for, inlining leaves nothing of it.
     #[inline(always)]
     fn mask_of_x(&self, first: usize, end: usize, qubit: usize) -> (u64, u64)
@@ -116,7 +116,7 @@ impl PauliRows {
     }
 
     /// Makes each chosen one of the 64 rows from one on i times the product of itself and another string, with which it
-    /// anticommutes, in this order. In which blocks that string may have letters other than I its `support_mask` says: who
+    /// anticommutes, in this order. Its `support_mask` says in which blocks that string may have letters other than I: a caller that
     /// multiplies many rows by it asks for that once.
     #[inline(always)]
     pub fn multiply_rows_by_times_i(&mut self, first: usize, mask: u64, other: &Pauli, support: u64)
@@ -147,7 +147,7 @@ impl PauliRows {
         requires anticommuting { (k : ℕ) → k < 64 → chooses mask k ≡ true → anticommute (row_at self.old (first + k)) other.now ≡ true }
         ensures value { AreChosen first mask (λ b p. product_times_i_if b p other.now) self.old self.new }
     {
-        // Where all blocks have letters other than I, as in dense states, there is none to pass over.
+        // If all blocks have letters other than I, as in dense states, there is none to pass over.
         if (support.count_ones() as usize) < self.blocks {
             let words = other.words.as_slice();
             sparse::are_short(words);
@@ -174,7 +174,7 @@ impl PauliRows {
         }
     }
 
-    /// The same of one block, where the words of the string stay at hand over all rows.
+    /// The same of one block, and the words of the string stay at hand over all rows.
     #[inline(always)]
     fn multiply_rows_by_block(&mut self, first: usize, mask: u64, x: u64x4, z: u64x4, power: Phase)
         requires in_range { (k : ℕ) → k < 64 → chooses mask k ≡ true → first + k < length self.old.rows }
@@ -208,7 +208,7 @@ impl PauliRows {
         self.powers[a] = row::product_power(self.powers[a], power, meet).times_i();
     }
 
-    /// The same in the blocks that a mask names, where all other blocks of the string are letters I: of these nothing is read
+    /// The same in the blocks that a mask names, if all other blocks of the string are letters I: of these nothing is read
     /// or written.
     #[inline(always)]
     fn multiply_rows_in_support(

@@ -9,7 +9,7 @@ use std::alloc::{AllocError, Global};
 use std::marker::Model;
 use std::rc::Rc;
 
-/// Signed Pauli strings of one length that are kept in little memory, to be gone back to: words that are 0 take none.
+/// Signed Pauli strings of one length that are kept in little memory, to go back to: words that are 0 take none.
 ///
 /// Contracts see of them what they see of `PauliRows`.
 pub struct CompactRows {
@@ -17,12 +17,12 @@ pub struct CompactRows {
     blocks: usize,
     // How many words the rows have.
     size: usize,
-    // Copies share them: what a copy may change is its signs.
+    // Copies share them: a copy may only change its signs.
     words: Rc<SparseWords>,
     powers: Vec<Phase>,
 }
 
-// Written out, so that to a proof rows that are let go are one call, and not one for each of their parts.
+// Written out, so that a proof sees the drop of rows as one call, and not one for each of their parts.
 impl Drop for CompactRows {
     fn drop(self) {
         let CompactRows {
@@ -92,7 +92,7 @@ impl CompactRows {
         self.qubits
     }
 
-    /// The same strings again. It takes memory for their signs alone.
+    /// The same strings again. It takes memory only for their signs.
     ///
     /// Refusal `OutOfMemory` alone.
     pub fn copy(&self, alloc: Global) -> Result<CompactRows, Refusal>
@@ -189,7 +189,7 @@ impl CompactRows {
         sparse.are(words, words.len() / 8)
     }
 
-    /// Whether the signs of row a differ in both, where its letters are the same: then none has to be looked at.
+    /// Whether the signs of row a differ in both, if its letters are the same: then none has to be looked at.
     #[inline(always)]
     pub fn signs_differ(&self, rows: &PauliRows, a: usize) -> bool
         requires in_range { a < length self.now.rows }
@@ -200,7 +200,7 @@ impl CompactRows {
         self.powers[a].inverse().times(rows.powers[a]).sign()
     }
 
-    /// Turns the sign of row a where the bit is 1.
+    /// Turns the sign of row a if the bit is 1.
     #[inline(always)]
     pub fn negate_if(&mut self, a: usize, bit: bool)
         requires in_range { a < length self.old.rows }

@@ -20,7 +20,7 @@ pub record IsSized (r : Regions) : Type 0 where
   pub detectors : r.detectors ≤ length r.unsure.items
   pub few : length r.unsure.items < 2 ^ 32
 
--- the regions, before the last steps, of D detectors and so many observables: each parity's is shown and marked where it is not
+-- the regions, before the last steps, of D detectors and this many observables: each parity's is shown and marked if it is not
 -- kept, and no other number is in any row
 pub record IsRegionsAt (n D count : ℕ) (back : List Step) (r : Regions) : Type 0 where
   pub sized : IsSized r
@@ -42,15 +42,15 @@ HasParity r (product factors inverted) = Unit {0}
 HasParity r (detector ks) = 0 < r.before
 HasParity r (observable j ks) = r.detectors + j < length r.unsure.items
 
--- what a step asks for of parity i, of D detectors, so many of which stand before the steps behind it
+-- what a step asks for about parity i, of D detectors, this many of which are before the steps after it
 abbrev pub asked_of : (D before i : ℕ) → Step → List ℕ
 asked_of D before i x = if nat_lt i D then (if is_detector x && (i + 1 == before) then named x else []) else asks_observable (i - D) x
 
--- so many detectors stand before a step, of those that stand before the steps behind it
+-- this many detectors are before a step, of those that are before the steps after it
 abbrev pub in_front_of : Step → ℕ → ℕ
 in_front_of x before = if is_detector x then before - 1 else before
 
--- regions are moved from behind a step to the place before it
+-- regions are moved from after a step to the place before it
 pub record MovesBack (n : ℕ) (x : Step) (old new : Regions) : Type 0 where
   pub rows : length new.by_z.items ≡ length old.by_z.items
   pub qubits : length new.by_x.items ≡ length old.by_x.items
@@ -72,7 +72,7 @@ pub record AreFlipped (r : Regions) (l : Letter) (q : ℕ) (numbers : List ℕ) 
   pub value : (n D count : ℕ) (back : List Step) → IsRegionsAt n D count back r → (i : ℕ) → i < D + count → odd i numbers ≡ parity_flips n D i l q back
   pub others : (n D count : ℕ) (back : List Step) → IsRegionsAt n D count back r → (i : ℕ) → D + count ≤ i → odd i numbers ≡ false
 
--- these bits tell for each parity whether it is sure, where the place is the circuit's start
+-- these bits say for each parity whether it is deterministic, if the place is the circuit's start
 pub record TellSure (r : Regions) (sure : List Bool) : Type 0 where
   pub count : length sure ≡ length r.unsure.items
   pub value : (n D count : ℕ) (back : List Step) → IsRegionsAt n D count back r → (i : ℕ) → i < D + count

@@ -44,7 +44,7 @@ sides_asked Nowhere x = record { front = false; behind = false }
 sides_asked Marked x = record { front = marks x; behind = false }
 sides_asked Everywhere x = all_sides x
 
--- a list where the bit is 1
+-- a list if the bit is 1
 abbrev pub where_asked : {A : Type 0} → Bool → List A → List A
 where_asked true xs = xs
 where_asked false xs = []

@@ -1,4 +1,4 @@
--- Stored rows: lists of numbers, one behind another in one list, by the places where they end.
+-- Stored rows: lists of numbers, one after another in one list, by the places where they end.
 use Rattle.std.specs.Prelude.{◌≡◌, ℕ, ◌+◌, ◌-◌, ◌≤◌, Bool, false, List, [], ◌∷◌, length, take, drop, slice_index_or}
 use Rattle.std.specs.List.{filter}
 
@@ -19,7 +19,7 @@ is_kept kept number = slice_index_or kept number false
 abbrev pub kept_of : List Bool → List ℕ → List ℕ
 kept_of kept = filter (is_kept kept)
 
--- where rows end once only such numbers are left, with so many left of those before the place
+-- where rows end once only such numbers are left, with this many left of those before the place
 abbrev pub ends_kept : List Bool → (count begin : ℕ) → (ends : List ℕ) → (rest : List ℕ) → List ℕ
 ends_kept kept count begin [] rest = []
 ends_kept kept count begin (e ∷ ends) rest =

@@ -1,4 +1,4 @@
--- Sweeps: the rows of faults behind a place, as the pass backwards leaves them there.
+-- Sweeps: the rows of faults after a place, as the pass backwards leaves them there.
 use Rattle.std.specs.Prelude.{◌≡◌, ℕ, ◌+◌, ◌<◌, ◌≤◌, false, List, [], ◌∷◌, ◌++◌, All, reverse, if◌then◌else◌}
 use Rattle.std.specs.List.{flat_map}
 use Rattle.stab_letters.specs.declared.letter.Letter.{Letter}
@@ -39,7 +39,7 @@ abbrev pub inserted_from : (Step → List Site) → List Step → List Inserted
 inserted_from sites [] = []
 inserted_from sites (x ∷ back) = flat_map (inserted_at x back) (sites x) ++ inserted_from sites back
 
--- a row: the parities that the letter flips, of D detectors and so many observables, ascending
+-- a row: the parities that the letter flips, of D detectors and this many observables, ascending
 pub record IsRowOf (n D count : ℕ) (f : Inserted) (row : List ℕ) : Type 0 where
   pub ascending : IsAscending row
   pub value : (i : ℕ) → i < D + count → odd i row ≡ parity_flips n D i f.letter f.qubit f.back
@@ -61,7 +61,7 @@ pub record IsSwept (n D count : ℕ) (asked : Asked) (back : List Step) (s : Swe
   pub regions : IsRegionsAt n D count back s.regions
   pub rows : HaveRows n D count (inserted_from (sites_asked asked) back) (reverse s.rows)
 
--- an observable is one of so many
+-- an observable is one of this many
 abbrev pub NamesBelow : ℕ → Step → Type 0
 NamesBelow count (one g q) = Unit {0}
 NamesBelow count (two g a b) = Unit {0}
@@ -71,14 +71,14 @@ NamesBelow count (product factors inverted) = Unit {0}
 NamesBelow count (detector ks) = Unit {0}
 NamesBelow count (observable j ks) = j < count
 
--- steps are on n qubits, and their detectors and observables are some of so many
+-- steps are on n qubits, and their detectors and observables are among this many
 pub record MayPass (n D count : ℕ) (xs back : List Step) : Type 0 where
   pub fits : All (StepFits n) xs
   pub apart : All IsApart xs
   pub detectors : detectors_of (xs ++ back) ≤ D
   pub observables : All (NamesBelow count) xs
 
--- the pass is somewhere behind such steps
+-- the pass is somewhere after such steps
 pub record StandsBehind (asked : Asked) (xs : List Step) (s : Sweep) : Type 0 where
   pub n : ℕ
   pub D : ℕ

@@ -1,4 +1,4 @@
--- Replays that come again: how a replay that stands where it stood at a copy that it laid gives again what it gave since.
+-- Replays that come again: how a replay that is as it was at a copy that it laid gives again what it gave since.
 -- Source: this project's own.
 use Rattle.std.specs.Prelude.{◌≡◌, ℕ, ◌+◌, ◌-◌, ◌*◌, ◌<◌, ◌≤◌, List, [], ◌∷◌, ◌++◌, IfSome, slice_get, take, drop}
 use Rattle.stab_circuit.specs.declared.circuit.repeats.Repeat.{Repeat}
@@ -12,7 +12,7 @@ use Rattle.stab_run.specs.Points.{joined}
 use Rattle.stab_run.specs.ProgramStates.{output_of}
 use Rattle.stab_run.specs.Records.{looked_up, ones}
 
--- a replay stands as it stood at a copy in the same block, some whole rounds before: it has the state of the copy, no coin decided since,
+-- a replay is as it stood at a copy in the same block, some whole rounds before: it has the state of the copy, no coin decided since,
 -- and the newest records are the same, as far back as its steps look
 pub record StandsAgain (block : Repeat) (r : Replay) (c : Checkpoint) : Type 0 where
   pub first : block.first ≤ c.step
@@ -32,7 +32,7 @@ pub record HasGivenAgain (spacing end : ℕ) (c d : Checkpoint) (old new : Repla
   pub output : output_of new.outputs ≡ joined (output_of old.outputs) (between c.lengths d.lengths (output_of old.outputs))
   pub laid : new.laid.items ≡ old.laid.items ++ record { step = new.step; lengths = lengths_of (output_of new.outputs); tableau = d.tableau } ∷ []
 
--- an end is that of a block at the latest, and not behind the last step or the place of the old copy that may be met next
+-- an end is that of a block at the latest, and not after the last step or the place of the old copy that may be met next
 pub record IsEndIn (p : Plan) (copies : List Checkpoint) (next : ℕ) (block : Repeat) (end : ℕ) : Type 0 where
   pub in_block : end ≤ block.first + block.rounds * block.length
   pub in_steps : end ≤ p.total

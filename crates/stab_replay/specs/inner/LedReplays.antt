@@ -20,14 +20,14 @@ pub record IsBeside (n : ℕ) (coins : ℕ → Bool) (p : Plan) (ys : List Step)
   pub old : IsOldRun n coins p ys copies o s
   pub at_step : IsAtStep n coins ys r
 
--- a replay has come to the place of an old copy behind what was changed, and differs there by a frame from the old run
+-- a replay has come to the place of an old copy after what was changed, and differs there by a frame from the old run
 pub record IsAtCopy (n : ℕ) (coins : ℕ → Bool) (p : Plan) (xs ys : List Step) (free : List Bool) (r : Replay) (w : WalkState) (c : Checkpoint) : Type 0 where
   pub behind : p.old_end ≤ c.step
   pub place : step_among_new p c ≡ r.step
   pub base : ℕ
   pub framed : IsFramedAt n coins xs ys c.step r.step free base p.reach w
 
--- a replay stands at the place of an old copy behind what was changed, and has another number of the next coin there, or other records
+-- a replay is at the place of an old copy after what was changed, and has another number of the next coin there, or other records
 pub record IsApartFrom (p : Plan) (r : Replay) (o : RunOutput) (c : Checkpoint) : Type 0 where
   pub behind : p.old_end ≤ c.step
   pub place : step_among_new p c ≡ r.step
@@ -40,12 +40,12 @@ pub record IsLed (n : ℕ) (coins : ℕ → Bool) (p : Plan) (ys : List Step) (c
   pub raised : p.reach ≤ r.notes.reach
   pub at_copy : IsSomeAnd (slice_get copies number) (IsAtCopy n coins p old.steps ys o.free r w)
 
--- the state of the last of some copies, or another one where there are none
+-- the state of the last of some copies, or another one if there are none
 abbrev pub last_state : TableauState → List Checkpoint → TableauState
 last_state t [] = t
 last_state t (c ∷ more) = last_state c.tableau more
 
--- the state that a replay has come to: where it passed a copy, that of the last one laid, and else what its tableau holds
+-- the state that a replay has come to: if it passed a copy, that of the last one laid, and else what its tableau holds
 abbrev pub state_of : Bool → Replay → TableauState
 state_of false r = r.tableau
 state_of true r = last_state r.tableau r.laid.items
@@ -65,7 +65,7 @@ pub record WentTo (n : ℕ) (coins : ℕ → Bool) (p : Plan) (ys : List Step) (
   pub near : new.step ≤ old.step + p.stride
   pub records : old.outputs.records.items ≡ take (length old.outputs.records.items) new.outputs.records.items
 
--- what came of the way to the old copy with a number: the replay is as it was; or it is there; or it is there but for its tableau, the runs
+-- what came of the way to the old copy with a number: the replay is as it was; or it is there; or it is there except for its tableau, the runs
 -- differ still, and a copy was laid
 abbrev pub IsPassed : ℕ → (ℕ → Bool) → Plan → List Step → List Checkpoint → RunOutput → StringsState → ℕ → Replay → Replay → WalkState → Passage → Type 0
 IsPassed n coins p ys copies o s number old new w Stopped = new ≡ record old { cursor = new.cursor }

@@ -1,4 +1,4 @@
--- Turned replays: how a replay that stands as it stood at a copy that it laid, but for a frame, gives again what it gave since, flipped.
+-- Turned replays: how a replay that is as it stood at a copy that it laid, except for a frame, gives again what it gave since, flipped.
 -- Source: this project's own.
 use Rattle.std.specs.Prelude.{◌≡◌, ℕ, ◌+◌, ◌-◌, ◌*◌, ◌<◌, ◌≤◌, Bool, List, [], ◌∷◌, ◌++◌, All, IsSomeAnd, length, slice_get, take, drop}
 use Rattle.stab_tableau.specs.Tableaus.{TableauState, stabilises}
@@ -23,13 +23,13 @@ use Rattle.stab_replay.specs.FramedReplays.{IsFrameFrom, between, flips_since}
 use Rattle.stab_replay.specs.Replays.{IsOnWay}
 use Rattle.stab_replay.specs.inner.AgainReplays.{IsEndIn}
 
--- a copy of a state with so many qubits, whose run gave no more than this
+-- a copy of a state with this many qubits, whose run gave no more than this
 pub record IsOfOwn (n : ℕ) (o : RunOutput) (c : Checkpoint) : Type 0 where
   pub qubits : c.tableau.qubits ≡ n
   pub free : c.lengths.free ≤ length o.free
   pub records : c.lengths.records ≤ length o.records
 
--- a step stands in a block some whole rounds behind a copy
+-- a step is in a block some whole rounds after a copy
 pub record IsRoundsBehind (block : Repeat) (k : ℕ) (c : Checkpoint) : Type 0 where
   pub first : block.first ≤ c.step
   pub before : c.step < k
@@ -40,7 +40,7 @@ pub record IsRoundsBehind (block : Repeat) (k : ℕ) (c : Checkpoint) : Type 0 w
 abbrev pub IsFrameAgain : Replay → WalkState → Checkpoint → Type 0
 IsFrameAgain r w c = IsFrameFrom r.tableau (output_of r.outputs) (output_of r.outputs) c.lengths.records r.notes.reach c w
 
--- a replay stands so in a block, and differs there by a frame from the copy
+-- a replay is so in a block, and differs there by a frame from the copy
 pub record DiffersAt (block : Repeat) (r : Replay) (w : WalkState) (c : Checkpoint) : Type 0 where
   pub behind : IsRoundsBehind block r.step c
   pub frame : IsFrameAgain r w c
@@ -63,7 +63,7 @@ pub record MayComeAgain (n : ℕ) (coins : ℕ → Bool) (begin : ℕ) (p : Plan
   pub few : length ys ≤ most_steps
   pub fits : All (StepFits n) ys
 
--- and stands so at the laid copy with a number
+-- and is so at the laid copy with a number
 pub record IsTurning (n : ℕ) (coins : ℕ → Bool) (begin : ℕ) (p : Plan) (ys : List Step) (copies : List Checkpoint) (old : List Bool) (next : ℕ) (block : Repeat) (end number : ℕ) (r : Replay)
     (w : WalkState) : Type 0 where
   pub may : MayComeAgain n coins begin p ys copies old next block end r

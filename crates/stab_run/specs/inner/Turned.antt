@@ -17,21 +17,27 @@ use Rattle.stab_frames.specs.Flips.{flipped}
 use Rattle.stab_frames.specs.KeptStrings.{AreTrue, note_at}
 use Rattle.stab_frames.specs.Walks.{WalkState, IsPlaced, frame_at}
 use Rattle.stab_frames.specs.OtherCoins.{coins_from}
-use Rattle.stab_frames.specs.AgainLaws.{DiffersBack}
+use Rattle.stab_frames.specs.AgainLaws.{DiffersBack, AreTurnedOver}
 use Rattle.stab_run.specs.inner.Led.{IsLed, behind_rounds}
 use Rattle.stab_run.specs.declared.earlier.Earlier.{Earlier}
 use Rattle.stab_run.specs.declared.turned.Period.{Period}
 
--- the point behind so many rounds
+-- the point after this many rounds
 abbrev pub point_behind : ℕ → (ℕ → Bool) → List Step → Repeat → ℕ → Point
 point_behind n coins steps r done = point_after n coins (take (behind_rounds r done) steps) origin
+
+-- m rounds that come after others begin where the m rounds before them begin, except for a frame; the same of their outcomes are free, as flags say
+pub record ComesTurned (n : ℕ) (coins : ℕ → Bool) (steps : List Step) (r : Repeat) (m done : ℕ) (flags : List Bool) : Type 0 where
+  pub before : flags ≡ (outputs n coins (rounds m (round_of r steps)) (point_behind n coins steps r (done - m))).free
+  pub again : flags ≡ (outputs n coins (rounds m (round_of r steps)) (point_behind n coins steps r done)).free
+  pub turned : AreTurnedOver n coins (rounds m (round_of r steps)) (point_behind n coins steps r (done - m)) (point_behind n coins steps r done)
 
 -- a frame that has flipped nothing but records
 abbrev pub FlipsRecords : WalkState → Type 0
 FlipsRecords w = w.flips ≡ record nothing { records = w.flips.records }
 
--- a program at the end of so many rounds: what the last of them gave, as many as a period has, is known, and the strings by which
--- a frame goes over them with other coins are kept; the frame tells the points at the two ends apart
+-- a program at the end of this many rounds: what the last of them gave, as many as a period has, is known, and the strings by which
+-- a frame goes over them with other coins are kept; the frame distinguishes the points at the two ends
 pub record IsPeriod (n : ℕ) (coins : ℕ → Bool) (steps : List Step) (r : Repeat) (strings : List (List Letter)) (done : ℕ) (o : RunOutput) (p : Period) : Type 0 where
   pub some : 0 < p.rounds
   pub from : ℕ
@@ -51,14 +57,14 @@ pub record IsPeriod (n : ℕ) (coins : ℕ → Bool) (steps : List Step) (r : Re
   pub base : ℕ
   pub differs : DiffersBack n r.reach (frame_at base p.walk) (point_behind n coins steps r from) (point_behind n coins steps r done)
 
--- the frame with these letters that begins where a program has gathered so much, by what it had then
+-- the frame with these letters that begins where a program has gathered this much, by what it had earlier
 pub record BeginsFrame (letters : List Letter) (o : RunOutput) (l : Lengths) (reach : ℕ) (w : WalkState) : Type 0 where
   pub same_letters : w.letters ≡ letters
   pub coin : w.coin ≡ l.free
   pub placed : IsPlaced o.free w
   pub flips : w.flips ≡ record nothing { records = flipped (drop (l.records - reach) (take l.records o.records)) (drop (length o.records - reach) o.records) }
 
--- a period that was found behind so many rounds, where a program has this tableau and has gathered so much, by what was kept earlier
+-- a period that was found after this many rounds, where a program has this tableau and has gathered this much, by what was kept earlier
 pub record BeginsPeriod (t : TableauState) (o : RunOutput) (r : Repeat) (e : Earlier) (done : ℕ) (strings : List (List Letter)) (p : Period) : Type 0 where
   pub rounds : p.rounds ≡ done - e.done
   pub state : p.state ≡ t

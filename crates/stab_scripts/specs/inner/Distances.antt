@@ -10,7 +10,7 @@ use Rattle.stab_tables.specs.FaultTables.{IsFirstUnsure}
 use Rattle.stab_tables.specs.Distances.{IsDistanceText}
 use Rattle.stab_replies.specs.Replies.{ReplyBytes}
 
--- the call gave a reply of a distance, or was refused for a bit that is not sure, or for want of memory
+-- the call gave a reply of a distance, or was refused for a bit that is not deterministic, or for lack of memory
 abbrev pub ShowsDistance : DistanceOptions → Items → Result ReplyBytes Refusal → Type 0
 ShowsDistance options items (Ok reply) = IsDistanceText options items reply.written
 ShowsDistance options items (Err r) = (r ≡ OutOfMemory) ⊎ ((r ≡ NotDeterministic) × (u : Unsure) × IsFirstUnsure items u)

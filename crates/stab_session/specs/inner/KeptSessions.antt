@@ -1,4 +1,4 @@
--- Kept sessions: how the logic stores what contracts see of one, and what it keeps beside the statement.
+-- Kept sessions: how the logic stores what contracts see of one, and what it keeps besides the statement.
 -- Source: this project's own.
 use Rattle.std.specs.Prelude.{◌≡◌, ℕ, ◌≤◌, Bool, List, All, None, refl}
 use Rattle.std.specs.Coded.{Coded, code_by, coded×, coded_ℕ, coded_bool, coded_list}
@@ -61,7 +61,7 @@ session_of items stride coins kept = record {
   checkpoints = checkpoint_steps kept.checkpoints.items;
 }
 
--- the statement holds of it; what is kept is the run of its items, with copies of the state that are spaced by its stride; nothing
+-- the statement holds for it; what is kept is the run of its items, with copies of the state that are spaced by its stride; nothing
 -- refuses its items on its qubits, which are at most 1,024; the qubits of each pair differ; and the stride is from 1 to 65,536
 pub record IsKept {C : Type 0} (sequence : C → ℕ → Bool) (s : SessionState C) (kept : KeptRun) : Type 0 where
   pub statement : IsRunOfItems sequence s

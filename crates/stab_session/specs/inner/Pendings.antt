@@ -1,4 +1,4 @@
--- Pending edits: a circuit is edited before it is run, and the edit is taken back where the run is refused memory.
+-- Pending edits: a circuit is edited before it is run, and the edit is taken back if the run is refused memory.
 -- Source: this project's own.
 use Rattle.std.specs.Prelude.{◌≡◌, ℕ, List, Option, None, Result, Ok}
 use Rattle.stab_io.specs.declared.refusal.Refusal.{Refusal}
@@ -37,7 +37,7 @@ item_back (Inserted path) items = taken (Delete path) items
 item_back (Replaced path old) items = taken (Replace path old) items
 item_back (Deleted path old) items = None
 
--- the items after the edit is kept: an item that is to be deleted has another in its stead until then, which stands for nothing
+-- the items after the edit is kept: an item that is to be deleted has another in its place until then, which is for nothing
 abbrev pub kept : Pending → List OneItem → Result (List OneItem) Refusal
 kept (Inserted path) items = Ok items
 kept (Replaced path old) items = Ok items

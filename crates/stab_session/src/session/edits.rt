@@ -11,7 +11,7 @@ pub struct Report {
     /// Steps that were carried out on a state. A step that a Pauli frame passes, and for which it asks a coin, is one of them.
     pub applied: usize,
     /// All other steps: those that a frame passed without a coin, those of rounds that were given again, and those of a run
-    /// that was turned where it lies.
+    /// that was turned in place.
     pub framed: usize,
     /// Copies of the state that are kept afterwards.
     pub checkpoints: usize,
@@ -28,7 +28,7 @@ impl<C: Coins> Session<C> {
 
     /// Edits the circuit, and keeps what the edited one's run gives.
     ///
-    /// Refused without a line, by the first of these: 12 and 17 along the path, 10 where blocks would
+    /// Refused without a line, by the first of these: 12 and 17 along the path, 10 if blocks would
     /// be nested over 16 deep, 6, 8 and 9 as the edited circuit's check refuses, 20. The session is
     /// then as before, and the edit's item comes back. An edit that the others let through is refused
     /// by 20 alone.

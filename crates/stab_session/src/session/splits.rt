@@ -13,11 +13,11 @@ impl<C: Coins> Session<C> {
     ghost use Rattle.stab_session.specs.Headline.{IsRunOfItems};
 
     /// Splits a round off the block at a path, counted from 0: the rounds before it become a block,
-    /// that round becomes one by itself, and so do the rounds behind it; an empty part is left out.
+    /// that round becomes one by itself, and so do the rounds after it; an empty part is left out.
     /// The steps stay, so nothing is run and nothing else changes.
     ///
-    /// Refused without a line: 12 where the path leads past a list or the block has no such round, 17
-    /// where it leads into or to an item that is no block, 20. The session is then as before.
+    /// Refused without a line: 12 if the path leads past a list or the block has no such round, 17
+    /// if it leads into or to an item that is no block, 20. The session is then as before.
     pub fn split(&mut self, path: Path, round: u64) -> Result<(), Fault>
         ensures statement { IsRunOfItems C.sequence self.new }
         ensures split { OnOk result (IsSplit path round self.old self.new) }

@@ -1,4 +1,4 @@
--- Column letters: the letters of the strings that stand in the columns of the preimages.
+-- Column letters: the letters of the strings that are in the columns of the preimages.
 -- Source: this project's own.
 use Rattle.std.specs.Prelude.{ℕ, Bool, true, false, List, [], ◌∷◌}
 use Rattle.stab_letters.specs.declared.letter.Letter.{Letter}
@@ -7,7 +7,7 @@ use Rattle.stab_letters.specs.Letters.{letters_anticommute}
 use Rattle.stab_tableau.specs.inner.InverseRows.{InverseRows}
 use Rattle.stab_tableau.specs.Gates.{letter_at}
 
--- the letter that anticommutes with X, and with Z, just where the bits say so
+-- the letter that anticommutes with X, and with Z, just if the bits say so
 abbrev pub letter_anticommuting : Bool → Bool → Letter
 letter_anticommuting false false = I
 letter_anticommuting false true = X

@@ -47,7 +47,7 @@ pub record AreExchanged (a b : ℕ) (old new : Rows) : Type 0 where
   pub count : length new.rows ≡ length old.rows
   pub rows : (c : ℕ) → c < length old.rows → row_at new c ≡ row_at old (exchanged a b c)
 
--- a string without its 1 at a place: where it has one, its product with a pivot
+-- a string without its 1 at a place: if it has one, its product with a pivot
 abbrev pub cleared_with : ℕ → ℕ → Signed → Signed → Signed
 cleared_with n k pivot p = if bit_at n p.letters k then product p pivot else p
 

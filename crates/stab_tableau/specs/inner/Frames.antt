@@ -19,7 +19,7 @@ SameLetters (r ∷ rows) (s ∷ others) = (r.x.letters ≡ s.x.letters) × (r.z.
 abbrev pub turned_row : Letter → InverseRows → InverseRows
 turned_row l r = record { x = with_sign (letters_anticommute l X) r.x; z = with_sign (letters_anticommute l Z) r.z }
 
--- the letter that anticommutes with X where the signs of the preimages of X differ, and with Z where those of Z do
+-- the letter that anticommutes with X if the signs of the preimages of X differ, and with Z if those of Z do
 abbrev pub frame_letter : InverseRows → InverseRows → Letter
 frame_letter r s = letter_anticommuting (r.x.negative ⊕ s.x.negative) (r.z.negative ⊕ s.z.negative)
 

@@ -57,7 +57,7 @@ pub record IsHomomorphism (n m : ℕ) (h : List Letter → Phased) : Type 0 wher
       → extend h (phased_product (plain p) (plain q)) ≡ phased_product (h p) (h q)
   pub size : (p : List Letter) → length p ≡ n → length (h p).letters ≡ m
 
--- both preimages stand over n places
+-- both preimages have n letters
 pub record IsOver (n : ℕ) (r : InverseRows) : Type 0 where
   pub x : length r.x.letters ≡ n
   pub z : length r.z.letters ≡ n

@@ -1,4 +1,4 @@
--- Supports: at which places rows may have X or Y, told for 64 rows together, by words of 64 places.
+-- Supports: at which places rows may have X or Y, kept for 64 rows together, by words of 64 places.
 -- Source: this project's own.
 use Rattle.std.specs.Prelude.{◌≡◌, ◌≢◌, ℕ, ◌+◌, ◌*◌, ◌<◌, ◌≤◌, Bool, true, List, length, slice_index_or}
 use Rattle.stab_letters.specs.declared.letter.Letter.TheVariants.{I}
@@ -6,7 +6,7 @@ use Rattle.stab_letters.specs.XParts.{has_x}
 use Rattle.stab_pauli.specs.Masks.{chooses}
 use Rattle.stab_pauli.specs.Rows.{Rows, row_at}
 
--- for each group of 64 rows a mask that tells which of its words are known, and 16 words
+-- for each group of 64 rows a mask that says which of its words are known, and 16 words
 pub record Supports : Type 0 where
   pub known : List ℕ
   pub words : List ℕ

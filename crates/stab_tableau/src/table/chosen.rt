@@ -14,7 +14,7 @@ impl Table {
     ghost use Rattle.stab_tableau.specs.inner.InverseRows.{rows_at};
     ghost use Rattle.stab_tableau.specs.inner.Pairs.{row_place, row_string, ArePairsChosen};
 
-    /// Which rows of the 32 qubits from one on, which is a multiple of 32, have X or Y at a place. They are looked at only where
+    /// Which rows of the 32 qubits from one on, which is a multiple of 32, have X or Y at a place. The rows are looked at only if
     /// one of them may.
     #[inline(always)]
     pub fn rows_with_x(&mut self, first: usize, place: usize) -> u64

@@ -5,7 +5,7 @@ use stab_pauli::{CompactRows, Letter};
 use std::alloc::Global;
 use std::marker::Model;
 
-/// The rows of a table that are kept in little memory, to be gone back to.
+/// The rows of a table that are kept in little memory, to go back to.
 ///
 /// Contracts see of them what they see of a table.
 #[derive(Drop)]
@@ -55,7 +55,7 @@ impl CompactTable {
         self.rows.qubits()
     }
 
-    /// The same rows again. It takes memory for their signs alone.
+    /// The same rows again. It takes memory only for their signs.
     pub fn copy(&self, alloc: Global) -> Result<CompactTable, Refusal>
         ensures ok { IfOk result (λ t. t ≡ self.now) }
         ensures err { IfErr result (λ r. r ≡ OutOfMemory) }
@@ -123,7 +123,7 @@ impl CompactTable {
         self.negate_if(InverseRow::OfZ, qubit, letter.anticommutes(Letter::Z));
     }
 
-    // Turns the sign of a row where the bit is 1.
+    // Turns the sign of a row if the bit is 1.
     #[inline(always)]
     fn negate_if(&mut self, row: InverseRow, qubit: usize, bit: bool)
         requires in_range { qubit < length self.old }

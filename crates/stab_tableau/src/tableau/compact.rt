@@ -6,14 +6,14 @@ use stab_pauli::{Letter, Pauli};
 use std::alloc::Global;
 use std::marker::Model;
 
-/// A state that is kept in little memory, to be gone back to.
+/// A state that is kept in little memory, to go back to.
 ///
 /// What contracts see of it is the value of the tableau that it was made of.
 pub struct CompactTableau {
     table: CompactTable,
 }
 
-// Written out, so that to a proof a state that is let go is one call, and not one for each of its parts.
+// Written out, so that a proof sees the drop of a state as one call, and not one for each of its parts.
 impl Drop for CompactTableau {
     fn drop(self) {
         let CompactTableau { table: _ } = self;
@@ -37,7 +37,7 @@ impl Tableau {
     ghost use Rattle.std.specs.Prelude.{◌≡◌, IfOk, IfErr};
     ghost use Rattle.stab_io.specs.declared.refusal.Refusal.TheVariants.{OutOfMemory};
 
-    /// The same state, kept in little memory, where most of its words are 0, as for codes.
+    /// The same state, kept in little memory if most of its words are 0, as for codes.
     ///
     /// Refusal `OutOfMemory` alone.
     pub fn compact(&self, alloc: Global) -> Result<CompactTableau, Refusal>
@@ -64,7 +64,7 @@ impl CompactTableau {
         self.table.len()
     }
 
-    /// The same state again. It takes memory for its signs alone.
+    /// The same state again. It takes memory only for its signs.
     ///
     /// Refusal `OutOfMemory` alone.
     pub fn copy(&self, alloc: Global) -> Result<CompactTableau, Refusal>
@@ -75,8 +75,8 @@ impl CompactTableau {
         Ok(CompactTableau { table })
     }
 
-    /// Keeps the letters of the rows in the memory of another copy, if its rows have the same ones, as those of a code
-    /// have where its rounds come to the same state but for signs. What contracts see stays.
+    /// Keeps the letters of the rows in the memory of another copy, if its rows have the same letters, as the rows of a code
+    /// have when its rounds come to the same state up to signs. What contracts see stays.
     pub fn share(&mut self, other: &CompactTableau)
         ensures unchanged { self.new ≡ self.old }
     {
@@ -114,9 +114,9 @@ impl CompactTableau {
         self.table.write_into(&mut tableau.table);
     }
 
-    /// Applies a Pauli gate to a qubit of the kept state, where it lies: at most two signs are turned. It takes no memory.
+    /// Applies a Pauli gate to a qubit of the kept state, in place: at most two signs are turned. It takes no memory.
     ///
-    /// A string stabilises the new state where it stabilised the old one with its sign turned, if it anticommutes with
+    /// A string stabilises the new state if and only if it stabilised the old one, with its sign turned if it anticommutes with
     /// the letter.
     pub fn turn_letter(&mut self, letter: Letter, qubit: usize)
         requires in_range { qubit < self.old.qubits }
@@ -126,10 +126,10 @@ impl CompactTableau {
         self.table.turn(letter, qubit);
     }
 
-    /// Whether the rows of a tableau differ from the kept ones in their signs alone; if so a string gets the letters by
-    /// which the two states differ, its sign is of no account, and else it stays as it was. It takes no memory.
+    /// Whether the rows of a tableau differ from the kept ones only in their signs; if so, a string gets the letters by
+    /// which the two states differ, and its sign does not matter; otherwise it stays as it was. It takes no memory.
     ///
-    /// A string stabilises the tableau's state where it stabilises the kept one with its sign turned, if it
+    /// A string stabilises the tableau's state if and only if it stabilises the kept one, with its sign turned if it
     /// anticommutes with these letters.
     pub fn frame_to(&self, tableau: &Tableau, frame: &mut Pauli) -> bool
         requires same_length { length frame.old.letters ≡ self.now.qubits }
@@ -145,7 +145,7 @@ impl CompactTableau {
         true
     }
 
-    /// Whether this is a copy of that very state.
+    /// Whether this is a copy of exactly that state.
     pub fn is_of(&self, tableau: &Tableau) -> bool
         ensures value { IsTrue result ↔ (self.now ≡ tableau.now) }
     {

@@ -11,8 +11,8 @@ impl Tableau {
     ghost use Rattle.stab_tableau.specs.Rules.{outcome_by, is_free_by, projected_by};
     ghost use Rattle.stab_tableau.specs.Exchanges.{Exchanges};
 
-    /// `collapse`, which where the outcome is free makes another string the letters of a stabiliser of the state before that
-    /// anticommutes with what is measured, and so exchanges the outcomes. Its sign is then of no account; where the outcome
+    /// `collapse`, which also, if the outcome is free, makes another string the letters of a stabiliser of the state before that
+    /// anticommutes with what is measured, and so exchanges the outcomes. Its sign then does not matter; if the outcome
     /// is fixed the string stays as it was.
     pub fn collapse_with_exchange(
         &mut self,

@@ -1,14 +1,16 @@
--- Coin rows: the coins of a table by their places in it.
+-- Coin rows: the coins of a table by their places in it, and the words of lanes that have what they flip.
 -- Source: this project's own.
-use Rattle.std.specs.Prelude.{◌≡◌, ℕ, ◌+◌, ◌<◌, Bool, false, List, slice_index_or}
+use Rattle.std.specs.Prelude.{◌≡◌, ℕ, ◌+◌, ◌<◌, Bool, false, List, [], ◌∷◌, slice_index_or, if◌then◌else◌}
 use Rattle.stab_circuit.specs.Items.{Items}
 use Rattle.stab_circuit.specs.Steps.{qubits_of}
 use Rattle.stab_shots.specs.Lanes.{lane_bits}
+use Rattle.stab_shots.specs.Words.{word_bit}
 use Rattle.stab_coins.specs.Coins.{flips_of, zero_coins}
 use Rattle.stab_coins.specs.Runs.{free_coins}
 use Rattle.stab_jobs.specs.declared.fault_layout.FaultLayout.{FaultLayout}
+use Rattle.stab_tables.specs.declared.coin_rows.PlacedWord.{PlacedWord}
 use Rattle.stab_tables.specs.CoinTables.{coin_text, whole_bits}
-use Rattle.stab_tables.specs.Reasons.{checked_bits}
+use Rattle.stab_tables.specs.Deciders.{checked_bits}
 
 -- the coin at a place
 abbrev pub coin_at : Items → ℕ → ℕ
@@ -26,6 +28,11 @@ text_at layout items k = coin_text layout items (coin_at items k) (flips_at item
 abbrev pub decides : Items → (number place : ℕ) → Bool
 decides items i k = slice_index_or (checked_bits (flips_of (qubits_of items) items zero_coins (coin_at items k))) i false
 
--- so many lanes of words have the bits that the coins from a place on flip
+-- the places of those words of 64 lanes that are 1 in a lane
+abbrev pub places_in : (lane : ℕ) → List PlacedWord → List ℕ
+places_in l [] = []
+places_in l (w ∷ ws) = if word_bit w.word l then w.place ∷ places_in l ws else places_in l ws
+
+-- this many lanes of words have the bits that the coins from a place on flip
 abbrev pub HaveFlips : {W : Type 0} → (at : W → ℕ → Bool) → Items → (first lanes : ℕ) → List W → Type 0
 HaveFlips at items first lanes words = (l : ℕ) → l < lanes → lane_bits at l words ≡ flips_at items (first + l)

@@ -12,7 +12,7 @@ use Rattle.stab_tables.specs.declared.fault_sites.Site.{Site as SiteValue}
 abbrev pub site_shown : SiteValue → Site
 site_shown s = record { qubit = s.qubit; behind = s.behind }
 
--- the same, where there is one
+-- the same, if there is one
 abbrev pub site_found : Option SiteValue → Option Site
 site_found (Some s) = Some (site_shown s)
 site_found None = None
@@ -21,6 +21,6 @@ site_found None = None
 abbrev pub factor_sites : Factor → List Site
 factor_sites f = in_front f.qubit ∷ behind f.qubit ∷ []
 
--- so many steps from a step on are of the item of this path
+-- this many steps from a step on are of the item of this path
 abbrev pub IsStretch : Items → ℕ → StepItem → Type 0
 IsStretch items step item = take item.steps (drop step (paths_of items)) ≡ replicate item.steps item.path

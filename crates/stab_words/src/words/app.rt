@@ -1,4 +1,4 @@
-//! The commands of the program and their options, as the command line reader is told of them.
+//! The commands of the program and their options, as the command line reader is given them.
 ghost use Rattle.std.specs.Prelude.{IfOk};
 ghost use Rattle.clap.specs.Words.{App};
 ghost use Rattle.stab_words.specs.Options.{alone, bare, check, coins, detect, deterministic, deterministic_only, distance, edit, faults, flag, most_errors, named, numbered, one_name, ranged, shot_command, stabilisers, stabsim, valued};
@@ -77,7 +77,7 @@ fn flag<'a>(alloc: Global, id: &'a str, help: &'a str) -> Arg<'a>
         .help(help)
 }
 
-/// The flag that leaves out what is not the same for all coins, which has another name.
+/// The flag that leaves out what is not the same for all random bits, which has another name.
 fn deterministic_only<'a>(alloc: Global) -> Result<Arg<'a>, AllocError>
     ensures rule { IfOk result (IsOption deterministic_only) }
 {

@@ -124,10 +124,12 @@ It writes one bit for each detector and then for each observable, in the order o
 --append_observables: 1 if its bit is the same for all coins, as `faults` wants it.
 
 With --explain it writes lines in place of bits, and --out_format changes nothing. Each detector and
-observable that is not the same for all coins has a line: its name, the path of its first item, and the
-coins that decide it, each with the path of its measurement or reset, as in
+observable that is not the same for all coins has a line: its name, the path of its first item, a
+detector's coordinates, and the coins that decide it, each with the path of its measurement or reset, as in
 
-  D37 69 c12@12 c40@66/3
+  D37 69 (1, 3, 2) c12@12 c40@66/3
+
+Coordinates are those of the DETECTOR's line: shifts by SHIFT_COORDS are not added.
 
 Examples, at the top of the repository:
   ./stabsim deterministic --in examples/repetition_code.stim
@@ -181,7 +183,8 @@ measured qubit, and each record wrong by itself.
 The answer is exact, for any code: `distance W of all errors` and then W errors, each on a line such as
 `faults` writes, if no fewer errors flip an observable and no detector; or `none up to W`, with --most W; or
 `none`, if no set of errors does. The time grows by a factor with each further error. With --graphlike the
-answer is for those errors alone that flip at most two detectors, and its first line says so.
+answer is for those errors alone that flip at most two detectors, and its first line says so. The X and the Z
+at each of its qubits take the place of an error that flips more.
 A circuit in which a detector or observable depends on the coins is refused 18: --deterministic_only leaves
 it out. That option is found as --sure_only too.
 

@@ -99,7 +99,7 @@ fn go_on_with_copy(alloc: Global, tableau: &mut Tableau) -> Result<bool, Refusal
     Ok(true)
 }
 
-// Makes a call, where a state has the qubits that it names.
+// Makes a call, if a state has the qubits that it names.
 fn carry_out_one(alloc: Global, tableau: &mut Tableau, call: Call) -> Result<bool, Refusal> {
     match call {
         Call::One(gate, place) => Ok(apply(tableau, gate, qubit(tableau, place))),
@@ -120,7 +120,7 @@ fn carry_out_one(alloc: Global, tableau: &mut Tableau, call: Call) -> Result<boo
     }
 }
 
-// Makes calls, one after another, and tells whether each was made.
+// Makes calls, one after another, and says whether each was made.
 pub(super) fn carry_out(
     alloc: Global,
     tableau: &mut Tableau,

@@ -39,7 +39,7 @@ fn frame_has_ends(
     }
 }
 
-// The first and the last letter of a frame, where all others are I.
+// The first and the last letter of a frame, if all others are I.
 fn ends(frame: &Pauli) -> Option<(Letter, Letter)> {
     let n = frame.len();
     if n < 2 {
@@ -77,7 +77,7 @@ const FRAMES: &[(&[Call], Option<(Letter, Letter)>)] = &[
     (&[TURN, ENTANGLE, Two(PairGate::Cz, First, Last)], None),
 ];
 
-// Whether the frame from a kept Bell pair of n qubits to so many, on which these calls were made, has these
+// Whether the frame from a kept Bell pair of n qubits to this many, on which these calls were made, has these
 // letters at its ends.
 fn has_frame(
     alloc: Global,

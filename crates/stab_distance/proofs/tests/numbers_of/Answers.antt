@@ -6,7 +6,7 @@ use Rattle.stab_distance.proofs.ListLemmas.{each-map, each-push}
 use Rattle.stab_distance.proofs.tests.numbers_of.Goals as goal
 use Rattle.stab_distance.proofs.tests.numbers_of.Goals.{then-bits-n-eq1+in_ok-push, else-bits-n-eq1}
 
--- a number above all is put behind them
+-- a number above all of them is put after them
 ascends-last : (m : ℕ) (xs : List ℕ) (x : ℕ) → m ≤ x → AscendsFrom m xs → Each (λ y. y < x) xs → AscendsFrom m (xs ++ x ∷ [])
 ascends-last m [] x le a b = (le, tt)
 ascends-last m (y ∷ ys) x le a b = (a.0, ascends-last (y + 1) ys x (let h = b.0 in omega arith) a.1 b.1)

@@ -1,12 +1,14 @@
-use Rattle.std.proofs.Common.{◌≡◌, ◌∙◌, ℕ, Bool, sym, ap, subst, map, length, false, arith}
+use Rattle.std.proofs.Common.{◌≡◌, ◌∙◌, ◌-◌, sym, ap, subst, map, length, false, arith}
 use Rattle.std.proofs.lemmas.List.{length-map}
-use Rattle.stab_circuit.specs.Steps.{unroll}
+use Rattle.stab_circuit.specs.Steps.{detectors_of, unroll}
 use Rattle.stab_circuit.specs.Views.{circuit_items}
-use Rattle.stab_regions.specs.Faults.{faults_of, flipped, AreSure}
-use Rattle.stab_errors.specs.ErrorTables.{flipped_by}
+use Rattle.stab_regions.specs.Faults.{faults_of, flipped}
+use Rattle.stab_errors.specs.ErrorTables.{IsErrorTable}
+use Rattle.stab_errors.specs.Parts.{AreSearched}
 use Rattle.stab_errors.specs.Placed.{error_shown}
 use Rattle.stab_errors.specs.inner.ErrorRows.{AreRowsOf}
-use Rattle.stab_errors.proofs.FlipLemmas.{rows-are, errors-add}
+use Rattle.stab_errors.proofs.FlipLemmas.{table-is}
+use Rattle.stab_errors.proofs.PartLemmas.{searched-are, searched-stand}
 use Rattle.stab_errors.proofs.RowLemmas.{rows-ascend}
 use Rattle.stab_errors.proofs.StepLemmas.{steps-inside}
 use Rattle.stab_errors.proofs.error_table.table_of.Goals as goal
@@ -20,31 +22,35 @@ pub rows_of-requires : goal.rows_of-requires
 rows_of-requires c =
     record { ascend = rows-ascend c.args.n c.args.everywhere (circuit_items c.args.circuit.now) c.args.faults.now.sure c.args.faults.now.rows c.requires.table }
 
-pub returns-clause-table : goal.returns-clause-table
-returns-clause-table c =
+pub searched_errors-requires : goal.searched_errors-requires
+searched_errors-requires c =
+    record { ascend = rows-ascend c.args.n c.args.everywhere (circuit_items c.args.circuit.now) c.args.faults.now.sure c.args.faults.now.rows c.requires.table }
+
+pub returns : goal.returns
+returns c =
     let n = c.args.n in
     let everywhere = c.args.everywhere in
     let items = circuit_items c.args.circuit.now in
     let sure = c.args.faults.now.sure in
     let rows = c.args.faults.now.rows in
+    let whole = c.in_ok-whole.whole.items in
     let errors = c.in_ok-errors.errors.items in
     let made = c.in_ok-table.table.rows in
-    let stand = c.in_ok-errors.ensures.stand in
+    let D = c.len-2.result - c.observables.result in
+    let detectors = c.in_ok-table.table.detectors in
+    let stand = searched-stand c.args.graphlike rows D whole errors (faults_of everywhere (unroll items)) c.in_ok-errors.ensures.searched c.in_ok-whole.ensures.stand in
     let fits = c.steps_fit.ensures.fits in
     let found = c.sure_parities.ensures.law in
     let places = c.faults_flip_sure_parities.ensures.places in
     let adds = c.faults_add.ensures.law in
     let same : c.in_ok-sure.sure.items ≡ sure = c.in_ok-sure.ensures.value ∙ c.sure.ensures.value in
     let named : AreRowsOf rows errors made = subst (λ es. AreRowsOf rows es made) c.as_slice.ensures.value c.in_ok-table.ensures.rows in
-    let flip : (coins : ℕ → Bool) → made ≡ map (flipped_by n items sure coins) (map error_shown errors) =
-    λ coins. rows-are n everywhere items sure rows fits c.requires.table found places adds coins errors made stand named in
+    let count : D ≡ detectors_of (unroll items) = omega (arith, c.len-2.ensures, ap length same, c.requires.table.are_sure.count, c.observables.ensures.value) in
     record {
-      are_sure = subst (AreSure n items) (sym same) c.requires.table.are_sure;
-      errors = c.in_ok-errors.ensures.errors;
-      detectors = omega (arith, c.in_ok-table.ensures.detectors, c.len-2.ensures, ap length same, c.requires.table.are_sure.count, c.observables.ensures.value);
-      are_flipped = subst (λ bits. (coins : ℕ → Bool) → made ≡ map (flipped_by n items bits coins) (map error_shown errors)) (sym same) flip;
-      add = errors-add n everywhere items sure rows fits c.requires.table found places adds errors stand;
+      errors = subst (λ es. AreSearched c.args.graphlike n items es (map error_shown errors)) c.in_ok-whole.ensures.errors
+          (searched-are n everywhere items sure rows fits c.requires.table found places adds D count c.args.graphlike whole errors c.in_ok-whole.ensures.stand c.in_ok-errors.ensures.searched);
+      table = subst (λ bits. IsErrorTable n items (record { sure = bits; errors = map error_shown errors; table = c.in_ok-table.table })) (sym same)
+          (table-is n everywhere items sure rows fits c.requires.table found places adds detectors (c.in_ok-table.ensures.detectors ∙ count) errors made stand named);
+      steps = steps-inside everywhere items errors stand;
+      err = tt;
     }
-
-pub returns-clause-steps : goal.returns-clause-steps
-returns-clause-steps c = steps-inside c.args.everywhere (circuit_items c.args.circuit.now) c.in_ok-errors.errors.items c.in_ok-errors.ensures.stand

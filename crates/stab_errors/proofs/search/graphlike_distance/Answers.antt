@@ -8,8 +8,8 @@ use Rattle.stab_errors.proofs.search.graphlike_distance.Goals as goal
 pub returns-clause-distance : goal.returns-clause-distance
 returns-clause-distance g c =
     IfOk-weaker c.least_graphlike_error.result _ _
-    (λ a is n everywhere letters items table.
-    graphlike-answer n everywhere letters items c.args.errors.now table c.args.most c.unwrap_or-bound.result a
+    (λ a is n items table.
+    graphlike-answer n items c.args.errors.now table c.args.most c.unwrap_or-bound.result a
     (c.unwrap_or-bound.ensures ∙ ap (λ k. unwrap_or c.args.most k) (c.len.ensures.value ∙ ap (λ t. length t.rows) c.table-table.ensures.value))
     (subst (λ t. IsGraphlikeAnswer t c.unwrap_or-bound.result a) c.table-table.ensures.value is))
     c.least_graphlike_error.ensures.answer

@@ -1,10 +1,10 @@
-use Rattle.std.proofs.Common.{◌≡◌, ◌≤◌, refl, sym, subst, length, arith}
+use Rattle.std.proofs.Common.{◌≡◌, ◌≤◌, sym, subst, length, arith}
 use Rattle.std.specs.Prelude.{None}
 use Rattle.stab_circuit.specs.Steps.{unroll, observables_of, check_within}
 use Rattle.stab_circuit.specs.Views.{circuit_items}
 use Rattle.stab_kept.specs.KeptRuns.{IsKeptRun}
 use Rattle.stab_laws.proofs.FitLemmas.{check-whole, check-steps}
-use Rattle.stab_kept.proofs.KeptLemmas.{nothing-follows, with-sections}
+use Rattle.stab_kept.proofs.KeptLemmas.{nothing-follows}
 use Rattle.stab_kept.proofs.opening.run_checked.Goals as goal
 
 pub replay-requires-clause-checked : goal.replay-requires-clause-checked
@@ -25,6 +25,4 @@ returns-clause-kept g c =
     let coins = g.C.Coins.sequence c.args.coins.now in
     let items = circuit_items c.args.circuit.now in
     let empty = c.in_ok-kept.ensures.kept coins c.args.stride in
-    with-sections c.args.n coins c.args.stride (unroll items) (observables_of items) c.replay.new.self _ refl refl refl refl refl refl
-    c.in_ok-kept-2.ensures.sections
-    (subst (λ n. IsKeptRun n coins c.args.stride (unroll items) (observables_of items) c.replay.new.self) empty.qubits c.in_ok-replay.ensures.kept)
+    subst (λ n. IsKeptRun n coins c.args.stride (unroll items) (observables_of items) c.replay.new.self) empty.qubits c.in_ok-replay.ensures.kept

@@ -58,5 +58,5 @@ returns-clause-noted g c =
     let before = program_state c.args.tableau.now (output_of c.args.outputs.now) in
     let behind = program_state c.run_noting.new.tableau (output_of c.run_noting.new.outputs) in
     noted-on n coins steps c.args.from c.args.count c.args.notes.now c.run_noting.new.notes before behind c.requires.led c.requires.noted
-    c.run_noting.ensures.notes_length c.run_noting.ensures.strings_length
+    c.run_noting.ensures.notes_length c.run_noting.ensures.strings_length c.run_noting.ensures.most
     (subst (λ xs. KeepsTrue n coins (take c.args.count xs) c.args.notes.now.strings c.run_noting.new.notes.strings before behind) c.in_ok-cursor.ensures.steps c.in_ok-run_noting.ensures.noted)

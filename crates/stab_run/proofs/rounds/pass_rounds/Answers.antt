@@ -8,7 +8,7 @@ use Rattle.stab_run.specs.inner.Turned.{BeginsPeriod}
 use Rattle.stab_laws.proofs.FitLemmas.{check-steps, check-whole}
 use Rattle.stab_run.proofs.LedLemmas.{coins-more}
 use Rattle.stab_run.proofs.AgainLemmas.{behind-later}
-use Rattle.stab_run.proofs.NotedLemmas.{noted-closed, noted-fixed}
+use Rattle.stab_run.proofs.NotedLemmas.{noted-fixed}
 use Rattle.stab_run.proofs.PeriodLemmas.{steps-fit}
 use Rattle.stab_run.proofs.PeriodStartLemmas.{period-begins}
 use Rattle.stab_run.proofs.rounds.pass_rounds.Goals as goal
@@ -78,15 +78,3 @@ go_over_rounds-requires-clause-period g c =
     subst (λ o. IfSome o (λ p. BeginsPeriod c.args.tableau.now output r c.in-Some.kept c.args.done strings p)) c.in-Some-found.is (c.in_ok-found.ensures {u = tt}).period in
     period-begins n coins steps r c.args.done c.args.done c.in-Some.kept c.args.tableau.now output strings c.in-Some-found.period
     c.requires.repeat early later c.requires.within fits c.requires.led refl c.requires.noted.are_true begins (omega (arith, begins.rounds, later))
-
-pub returns-clause-noted : goal.returns-clause-noted
-returns-clause-noted g c =
-    let n = c.args.tableau.now.qubits in
-    let coins = g.C.Coins.sequence c.args.coins.now in
-    let steps = unroll (circuit_items c.args.circuit.now) in
-    let r = c.args.repeat in
-    let before = program_state c.args.tableau.now (output_of c.args.outputs.now) in
-    let now = c.in_ok-now.now in
-    let behind = program_state c.go_over_rounds.new.tableau (output_of c.go_over_rounds.new.outputs) in
-    noted-closed n coins steps (behind_rounds r c.args.done) (behind_rounds r now) c.args.notes.now (record c.args.notes.now { strings = c.close.new.self }) before behind
-    (behind-later r c.args.done now (c.in_ok-now.ensures {u = tt}).more.0) c.requires.led (c.in_ok-now.ensures {u = tt}).led c.requires.noted refl c.close.ensures.value

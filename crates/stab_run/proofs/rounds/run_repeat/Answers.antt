@@ -40,6 +40,7 @@ loop-done-preserved g c =
       earlier =
           earlier-same n c.loop-done.tableau.qubits coins (g.C.Coins.sequence c.loop-done.coins) steps r now c.run_round.new.earlier inv.qubits inv.same_coins
           done.earlier;
+      most = ran.most ∙ inv.most;
       noted =
           noted-same n c.loop-done.tableau.qubits coins (g.C.Coins.sequence c.loop-done.coins) _ c.run_round.new.notes c.run_round.new.outputs.free.items inv.qubits inv.same_coins
           done.noted;

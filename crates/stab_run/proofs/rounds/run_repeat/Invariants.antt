@@ -20,6 +20,7 @@ invariant-loop-done g l = record {
       ≤ g.C.Coins.asks l.fn.coins + all_coins_of (take (behind_rounds l.repeat l.done) (unroll (circuit_items l.circuit)));
   asks_free : g.C.Coins.asks l.coins + ones l.fn.outputs.free.items ≤ g.C.Coins.asks l.fn.coins + ones l.outputs.free.items;
   earlier : IfSome l.earlier (λ e. IsEarlier l.fn.tableau.qubits (g.C.Coins.sequence l.fn.coins) (unroll (circuit_items l.circuit)) l.repeat l.done e);
+  most : l.notes.strings.most ≡ l.fn.notes.strings.most;
   noted : IsNoted l.fn.tableau.qubits (g.C.Coins.sequence l.fn.coins) (take (behind_rounds l.repeat l.done) (unroll (circuit_items l.circuit))) l.notes l.outputs.free.items;
   led : IsLed l.fn.tableau.qubits (g.C.Coins.sequence l.fn.coins) (take (behind_rounds l.repeat l.done) (unroll (circuit_items l.circuit)))
       (program_state l.tableau (output_of l.outputs));

@@ -62,6 +62,7 @@ loop-repeat-preserved g c =
       same_coins = ran.same_coins ∙ inv.same_coins;
       asks = omega (arith, inv.asks, done.asks_part);
       asks_free = omega (arith, inv.asks_free, done.asks_free);
+      most = ran.most ∙ inv.most;
       noted =
           noted-same c.args.tableau.now.qubits c.loop-repeat.tableau.qubits (g.C.Coins.sequence c.args.coins.now) (g.C.Coins.sequence c.loop-repeat.coins) _ c.run_block.new.notes
           c.run_block.new.outputs.free.items inv.qubits inv.same_coins done.noted;

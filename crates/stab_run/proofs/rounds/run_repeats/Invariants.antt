@@ -19,6 +19,7 @@ invariant-loop-repeat g l = record {
   same_coins : g.C.Coins.sequence l.coins ≡ g.C.Coins.sequence l.fn.coins;
   asks : g.C.Coins.asks l.coins ≤ g.C.Coins.asks l.fn.coins + all_coins_of (take l.from (unroll (circuit_items l.circuit)));
   asks_free : g.C.Coins.asks l.coins + ones l.fn.outputs.free.items ≤ g.C.Coins.asks l.fn.coins + ones l.outputs.free.items;
+  most : l.notes.strings.most ≡ l.fn.notes.strings.most;
   noted : IsNoted l.fn.tableau.qubits (g.C.Coins.sequence l.fn.coins) (take l.from (unroll (circuit_items l.circuit))) l.notes l.outputs.free.items;
   led : IsLed l.fn.tableau.qubits (g.C.Coins.sequence l.fn.coins) (take l.from (unroll (circuit_items l.circuit))) (program_state l.tableau (output_of l.outputs));
 }

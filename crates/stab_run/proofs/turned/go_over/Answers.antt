@@ -22,7 +22,7 @@ use Rattle.stab_run.specs.inner.Turned.{point_behind}
 use Rattle.stab_run.proofs.LedLemmas.{coins-more}
 use Rattle.stab_run.proofs.AgainLemmas.{behind-later}
 use Rattle.stab_run.proofs.FramedLemmas.{ones-first}
-use Rattle.stab_run.proofs.PeriodLemmas.{steps-fit, steps-next, asks-period, walked-same, later, next-period}
+use Rattle.stab_run.proofs.PeriodLemmas.{steps-fit, steps-next, asks-period, walked-same, later, comes-turned, next-period}
 use Rattle.stab_run.proofs.turned.go_over.Goals as goal
 
 pub overflow_mul-done : goal.overflow_mul-done
@@ -191,3 +191,25 @@ returns-clause-period g c =
     (c.begin_again.ensures.value
     ∙ (λ i. record w { flips = record nothing { records = w.flips.records }; coin = c.coin-coin.ensures.value i; number = c.number-number.ensures.value i }))
     c.in_ok-append_rest.ensures.value
+
+pub returns-clause-turned : goal.returns-clause-turned
+returns-clause-turned g c =
+    let items = circuit_items c.args.circuit.now in
+    let steps = unroll items in
+    let n = c.args.period.now.state.qubits in
+    let coins = g.C.Coins.sequence c.args.coins.now in
+    let p = c.args.period.now in
+    let r = c.args.repeat in
+    let w = c.walk_with_coins.new.walk in
+    let strings = c.args.strings.now.strings in
+    let fits = steps-fit n items c.in_ok-cursor.cursor.all c.requires.checked c.in_ok-cursor.ensures.all c.in_ok-cursor.ensures.apart in
+    let next = ap (take (p.rounds * r.length)) c.in_ok-cursor.ensures.steps ∙ steps-next steps r c.requires.repeat c.args.done p.rounds c.requires.within in
+    let here = point_behind n coins steps r c.args.done in
+    let ahead : c.len.result - c.coin-coin.result ≡ here.coin - p.walk.coin = omega (arith, c.len.ensures, c.requires.period.led.at.coin, c.coin-coin.ensures.value) in
+    let before = c.records-before.ensures.value in
+    comes-turned n coins steps r strings c.args.done (output_of c.args.outputs.now) p c.requires.repeat c.requires.period c.requires.within fits w
+    (walked-same n (length p.walk.letters) strings p.flags.items c.as_slice.result.now p.last.records.items c.as_slice-2.result.now (here.coin - p.walk.coin)
+    (c.len.result - c.coin-coin.result) coins _ (take (p.rounds * r.length) c.in_ok-cursor.cursor.left) p.walk w c.requires.period.letters c.as_slice.ensures.value
+    c.as_slice-2.ensures.value ahead next c.in_ok-walk_with_coins.ensures.walked)
+    c.in_ok-last.last
+    (c.in_ok-last.ensures.value ∙ ap (λ bits. flipped_output (output_of p.last) (record w.flips { records = drop (length bits) w.flips.records; free = [] })) before)

@@ -1,10 +1,12 @@
-use Rattle.std.proofs.Common.{◌≡◌, ◌+◌, ◌-◌, ◌∙◌, ap, subst, take, length, replicate, refl, false, arith}
+use Rattle.std.proofs.Common.{◌≡◌, ◌+◌, ◌-◌, ◌∙◌, ap, subst, take, length, arith}
 use Rattle.stab_circuit.specs.Steps.{unroll}
 use Rattle.stab_circuit.specs.Views.{circuit_items}
-use Rattle.stab_steps.specs.Points.{with_additions}
+use Rattle.stab_steps.specs.Points.{RunOutput}
 use Rattle.stab_steps.specs.ProgramStates.{program_state, output_of}
 use Rattle.stab_run.specs.inner.Led.{IsLed}
 use Rattle.stab_laws.proofs.FitLemmas.{counted-steps}
+use Rattle.stab_run.specs.inner.Noted.{BeginsNotes}
+use Rattle.stab_run.proofs.NotedLemmas.{noted-none}
 use Rattle.stab_run.proofs.ShotLemmas.{led-shot}
 use Rattle.stab_laws.proofs.StepsLeftLemmas.{take-all, asks-all}
 use Rattle.stab_run.proofs.whole.run_whole.Goals as goal
@@ -12,6 +14,11 @@ use Rattle.stab_run.proofs.whole.run_whole.Goals as goal
 pub overflow_sub-rest : goal.overflow_sub-rest
 overflow_sub-rest g c =
     omega (arith, c.in_ok-from.ensures.in_range, c.steps.ensures.value ∙ counted-steps c.args.tableau.now.qubits (circuit_items c.args.circuit.now) c.requires.checked)
+
+pub run_repeats-requires-clause-noted : goal.run_repeats-requires-clause-noted
+run_repeats-requires-clause-noted g c =
+    noted-none c.reset.new.self.qubits (g.C.Coins.sequence c.args.coins.now) c.in_ok-notes.notes c.in_ok-outputs.outputs.free.items (ap (λ (o : RunOutput). o.free) c.in_ok-outputs.ensures.value)
+    (subst (λ k. BeginsNotes k c.in_ok-notes.notes) c.len.ensures.value c.in_ok-notes.ensures.begins)
 
 pub returns-then-rest-left-clause-enough : goal.returns-then-rest-left-clause-enough
 returns-then-rest-left-clause-enough g c = λ enough.

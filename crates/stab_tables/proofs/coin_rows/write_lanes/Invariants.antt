@@ -1,11 +1,13 @@
+use Rattle.std.proofs.Common.{◌≡◌, ◌+◌, ◌*◌}
 use Rattle.stab_io.specs.Devices.{Took}
 use Rattle.stab_circuit.specs.Views.{circuit_items}
-use Rattle.stab_shots.specs.Words.{word_bit}
 use Rattle.stab_tables.specs.Texts.{texts_from}
 use Rattle.stab_tables.specs.inner.CoinRows.{HaveFlips, text_at}
 use Rattle.stab_tables.proofs.coin_rows.write_lanes.Given as goal
 
 abbrev pub invariant-loop-lane : goal.invariant-loop-lane
-invariant-loop-lane g l =
-    HaveFlips word_bit (circuit_items l.circuit) l.first l.lanes l.words →
-    Took (g.O.Output.seen l.initial.out) (g.O.Output.seen l.out) (texts_from (text_at l.layout (circuit_items l.circuit)) l.first l.lane)
+invariant-loop-lane g l = record {
+  same : l.bits ≡ l.initial.bits;
+  took : HaveFlips (λ w k. g.W.Word.at w (64 * l.part + k)) (circuit_items l.circuit) l.first l.lanes l.words
+      → Took (g.O.Output.seen l.initial.out) (g.O.Output.seen l.out) (texts_from (text_at l.layout (circuit_items l.circuit)) l.first l.lane);
+}

@@ -1,8 +1,6 @@
-use Rattle.std.proofs.Common.{◌≡◌, ◌+◌, ◌≤◌, length, ap, sym, ◌∙◌, arith, subst}
+use Rattle.std.proofs.Common.{◌≡◌, ◌+◌, ◌≤◌, false, length, replicate, ap, sym, ◌∙◌, arith, subst}
 use Rattle.stab_io.specs.Devices.{Took}
 use Rattle.stab_circuit.specs.Views.{circuit_items}
-use Rattle.stab_shots.specs.Words.{word_bit}
-use Rattle.stab_shots.specs.Lanes.{lane_bits}
 use Rattle.stab_tables.specs.Texts.{texts_from}
 use Rattle.stab_tables.specs.inner.CoinRows.{text_at}
 use Rattle.stab_tables.proofs.CoinRowLaws.{part_flips}
@@ -13,27 +11,26 @@ use Rattle.stab_tables.proofs.coin_rows.write_parts.Goals as goal
 pub loop-sent-preserved : goal.loop-sent-preserved
 loop-sent-preserved g c =
     let items = circuit_items c.args.circuit.now in
-    let part = c.write_part in
-    let has = written c.loop-sent.part.len part.new.part _ (c.loop-sent.part.ok.0 ∙ sym (part.ensures.size ∙ ap length c.as_mut_slice.ensures.value)) in
+    let old = c.loop-sent.bits.items in
+    let lanes = c.write_lanes in
+    let kept = c.in_ok-write_lanes.ensures.same ∙ c.as_mut_slice-zeros.ensures.value in
+    let has = written c.loop-sent.bits.len lanes.new.bits _ (c.loop-sent.bits.ok.0 ∙ sym (ap length kept)) ∙ kept in
     let at_once = c.loop-sent.invariant.whole c.loop-sent-test.true in
     record {
       within = omega (arith, c.min-some.ensures, c.loop-sent-test.true);
       whole = λ less. omega (arith, c.min-some.ensures, c.loop-sent-test.true, at_once, less);
-      size = ap length has ∙ part.ensures.size ∙ ap length c.as_mut_slice.ensures.value ∙ c.loop-sent.invariant.size;
+      size = ap length has ∙ c.loop-sent.invariant.size;
+      zero = has ∙ c.loop-sent.invariant.zero ∙ ap (λ n. replicate n false) (sym (ap length has));
       took = λ have.
           sent_batch (text_at c.args.layout items) c.args.first c.loop-sent.sent c.min-some.result (c.loop-sent.invariant.took have)
           (c.in_ok-write_lanes.ensures.sends
-          (part_flips g.W.Word.at items c.args.words.now c.as_slice.result.now c.args.first c.loop-sent.sent c.min-some.result c.args.lanes at_once
-          (omega (arith, c.min-some.ensures, c.loop-sent-test.true))
-          (λ k less. ap (lane_bits word_bit k) (c.as_slice.ensures.value ∙ has) ∙ part.ensures.value k (omega (arith, less, c.min-some.ensures)))
-          have));
+          (part_flips g.W.Word.at items c.args.words.now c.args.first c.loop-sent.sent c.min-some.result c.args.lanes at_once
+          (omega (arith, c.min-some.ensures, c.loop-sent-test.true)) have));
     }
 
 pub returns-in_err-write_lanes : goal.returns-in_err-write_lanes
 returns-in_err-write_lanes g c =
     let items = circuit_items c.args.circuit.now in
-    let part = c.write_part in
-    let has = written c.loop-sent.part.len part.new.part _ (c.loop-sent.part.ok.0 ∙ sym (part.ensures.size ∙ ap length c.as_mut_slice.ensures.value)) in
     let at_once = c.loop-sent.invariant.whole c.loop-sent-test.true in
     let within : c.loop-sent.sent + c.min-some.result ≤ c.args.lanes = omega (arith, c.min-some.ensures, c.loop-sent-test.true) in
     record {
@@ -41,9 +38,7 @@ returns-in_err-write_lanes g c =
           batches_break_off (text_at c.args.layout items) c.args.first c.loop-sent.sent c.min-some.result c.args.lanes c.in_err-write_lanes.field-0.0 c.from_residual-in_err-write_lanes.result within
           (c.loop-sent.invariant.took have)
           (c.in_err-write_lanes.ensures.sends
-          (part_flips g.W.Word.at items c.args.words.now c.as_slice.result.now c.args.first c.loop-sent.sent c.min-some.result c.args.lanes at_once within
-          (λ k less. ap (lane_bits word_bit k) (c.as_slice.ensures.value ∙ has) ∙ part.ensures.value k (omega (arith, less, c.min-some.ensures)))
-          have))
+          (part_flips g.W.Word.at items c.args.words.now c.args.first c.loop-sent.sent c.min-some.result c.args.lanes at_once within have))
           c.from_residual-in_err-write_lanes.ensures.1;
     }
 

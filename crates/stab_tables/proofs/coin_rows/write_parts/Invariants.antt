@@ -1,4 +1,4 @@
-use Rattle.std.proofs.Common.{◌≡◌, ◌-◌, ◌%◌, ◌<◌, ◌≤◌, length}
+use Rattle.std.proofs.Common.{◌≡◌, ◌-◌, ◌%◌, ◌<◌, ◌≤◌, false, length, replicate}
 use Rattle.stab_io.specs.Devices.{Took}
 use Rattle.stab_circuit.specs.Views.{circuit_items}
 use Rattle.stab_tables.specs.Texts.{texts_from}
@@ -9,7 +9,8 @@ abbrev pub invariant-loop-sent : goal.invariant-loop-sent
 invariant-loop-sent g l = record {
   within : l.sent ≤ l.lanes;
   whole : l.sent < l.lanes → l.sent % 64 ≡ 0;
-  size : length l.part.items ≡ length l.words;
+  size : length l.bits.items ≡ length l.words;
+  zero : l.bits.items ≡ replicate (length l.bits.items) false;
   took : HaveFlips g.W.Word.at (circuit_items l.circuit) l.first l.lanes l.words
       → Took (g.O.Output.seen l.initial.out) (g.O.Output.seen l.out) (texts_from (text_at l.layout (circuit_items l.circuit)) l.first l.sent);
 }

@@ -1,16 +1,17 @@
 use Rattle.std.proofs.Common.{◌∙◌, ◌++◌, ◌∷◌, [], ℕ, true, false, sym, ap, append_assoc, append-nil, arith}
 use Rattle.std.specs.Global.{Vec}
 use Rattle.stab_tables.specs.inner.Deciders.{ones_of}
-use Rattle.stab_tables.proofs.DeciderLaws.{ones-next}
+use Rattle.stab_shots.specs.Words.{word_bit}
+use Rattle.stab_tables.proofs.DeciderLaws.{ones-blank, ones-next}
 use Rattle.stab_tables.proofs.deciders.push_ones.Goals as goal
 use Rattle.stab_tables.proofs.deciders.push_ones.Goals.{then-bit+in_ok-push, else-bit}
 
 pub loop-place-preserved : goal.loop-place-preserved
-loop-place-preserved g c =
+loop-place-preserved c =
     let place = c.loop-place.place in
     let before = c.args.places.now.items in
-    let ones = ones_of g.W.Word.at c.args.word c.args.first place in
-    let more = ones-next g.W.Word.at c.args.word c.args.first place in
+    let ones = ones_of word_bit c.args.word c.args.first place in
+    let more = ones-next word_bit c.args.word c.args.first place in
     record {
       above = omega (arith, c.loop-place.invariant.above);
       pushed = elim c.if-bit.branch [
@@ -26,3 +27,8 @@ loop-place-preserved g c =
             ∙ ap (λ l. before ++ l) (sym (more false c.loop-place.invariant.above (sym c.bit.ensures.value ∙ w.if-bit.false) ∙ append-nil ones))
       ];
     }
+
+pub returns-then-word-eq0 : goal.returns-then-word-eq0
+returns-then-word-eq0 c =
+    let before = c.args.places.now.items in
+    record { value = sym (ap (λ w. before ++ ones_of word_bit w c.args.first c.args.end) c.if-word-eq0.true ∙ ap (λ l. before ++ l) (ones-blank c.args.first c.args.end) ∙ append-nil before) }

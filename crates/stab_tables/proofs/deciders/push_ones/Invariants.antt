@@ -1,9 +1,10 @@
 use Rattle.std.proofs.Common.{◌≡◌, ◌++◌, ◌≤◌}
 use Rattle.stab_tables.specs.inner.Deciders.{ones_of}
+use Rattle.stab_shots.specs.Words.{word_bit}
 use Rattle.stab_tables.proofs.deciders.push_ones.Given as goal
 
 abbrev pub invariant-loop-place : goal.invariant-loop-place
-invariant-loop-place g l = record {
+invariant-loop-place l = record {
   above : l.first ≤ l.place;
-  pushed : l.places.items ≡ l.initial.places.items ++ ones_of g.W.Word.at l.word l.first l.place;
+  pushed : l.places.items ≡ l.initial.places.items ++ ones_of word_bit l.word l.first l.place;
 }

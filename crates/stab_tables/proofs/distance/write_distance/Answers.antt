@@ -28,7 +28,7 @@ returns-in_err-write_count-in-Least g c =
 pub write_errors-requires-clause-rows : goal.write_errors-requires-clause-rows
 write_errors-requires-clause-rows g c =
     let items = circuit_items c.args.circuit.now in
-    rows_counted (qubits_of items) c.args.options.everywhere c.args.options.letters items c.args.found.now.errors c.requires.found.table
+    rows_counted (qubits_of items) items c.args.found.now.errors c.requires.found.table
 
 pub write_errors-requires-clause-in_range : goal.write_errors-requires-clause-in_range
 write_errors-requires-clause-in_range g c =

@@ -1,38 +1,40 @@
-use Rattle.std.proofs.Common.{◌∙◌, ◌++◌, [], ◌∷◌, codes, subst}
-use Rattle.stab_io.specs.Devices.{TookAndFailed, WritesAll}
-use Rattle.stab_io.proofs.DeviceLemmas.{failed_on, failed_within}
-use Rattle.stab_circuit.specs.Paths.{path_text}
-use Rattle.stab_tables.specs.FaultLines.{unsure_line}
-use Rattle.stab_tables.specs.Texts.{texts_joined}
-use Rattle.stab_tables.proofs.FaultTextLaws.{joined-unsure}
-use Rattle.stab_tables.proofs.WritingLaws.{failed_second, writes_third}
+use Rattle.std.proofs.Common.{◌++◌, codes}
+use Rattle.std.proofs.lemmas.Result.{err_from_is_err_and}
+use Rattle.stab_lines.proofs.WriteLemmas.{writes_failed, writes_then}
+use Rattle.stab_tables.specs.FaultLines.{unsure_bit}
+use Rattle.stab_tables.specs.Texts.{placed_coin}
 use Rattle.stab_tables.proofs.fault_line.write_unsure.Goals as goal
 
-pub returns-in_err-write_texts : goal.returns-in_err-write_texts
-returns-in_err-write_texts g c =
-    let u = c.args.unsure.now in
-    let text = joined-unsure u c.bit_name-number.result.0.now c.as_bytes-digits.result.now c.bit_name-number.result.1 c.bit_name-number.ensures.value (c.as_bytes-digits.ensures.value ∙ c.format.ensures.text) in
-    let front = texts_joined (codes "stabsim: " ∷ c.bit_name-number.result.0.now ∷ c.as_bytes-digits.result.now ∷ codes ", item " ∷ []) in record {
-      writes = failed_on (g.O.Output.seen c.args.out.now) (g.O.Output.seen c.write_texts.new.out) (unsure_line u) c.in_err-write_texts.field-0.0 c.from_residual.result c.from_residual.ensures.1 c.in_err-write_texts.ensures.writes.0
-          (subst (λ l. TookAndFailed (g.O.Output.seen c.args.out.now) (g.O.Output.seen c.write_texts.new.out) l) text
-          (failed_within front (path_text u.path ++ codes ", is not the same for all coins\n") c.in_err-write_texts.ensures.writes.1));
+pub returns-in_err-write_unsure_bit : goal.returns-in_err-write_unsure_bit
+returns-in_err-write_unsure_bit g c =
+    let p = err_from_is_err_and c.from_residual.result c.from_residual.ensures.1 in
+    let d = c.args.unsure.now.decider in
+    record { writes = writes_failed (codes ", is not the same for all coins:" ++ ((codes " " ++ placed_coin d.coin d.path) ++ codes " decides it\n")) p.1 p.2 c.in_err-write_unsure_bit.ensures.writes }
+
+pub returns-in_err-write_all : goal.returns-in_err-write_all
+returns-in_err-write_all g c =
+    let p = err_from_is_err_and c.from_residual-in_err-write_all.result c.from_residual-in_err-write_all.ensures.1 in
+    let d = c.args.unsure.now.decider in
+    record {
+      writes = writes_then _ _ _ c.in_ok-write_unsure_bit.ensures.writes
+          (writes_failed ((codes " " ++ placed_coin d.coin d.path) ++ codes " decides it\n") p.1 p.2 c.in_err-write_all.ensures.writes);
     }
 
-pub returns-in_err-write_path : goal.returns-in_err-write_path
-returns-in_err-write_path g c =
+pub returns-in_err-write_decider : goal.returns-in_err-write_decider
+returns-in_err-write_decider g c =
+    let p = err_from_is_err_and c.from_residual-in_err-write_decider.result c.from_residual-in_err-write_decider.ensures.1 in
     let u = c.args.unsure.now in
-    let text = joined-unsure u c.bit_name-number.result.0.now c.as_bytes-digits.result.now c.bit_name-number.result.1 c.bit_name-number.ensures.value (c.as_bytes-digits.ensures.value ∙ c.format.ensures.text) in
-    let front = texts_joined (codes "stabsim: " ∷ c.bit_name-number.result.0.now ∷ c.as_bytes-digits.result.now ∷ codes ", item " ∷ []) in record {
-      writes = failed_on (g.O.Output.seen c.args.out.now) (g.O.Output.seen c.write_path.new.out) (unsure_line u) c.in_err-write_path.field-0.0 c.from_residual-in_err-write_path.result c.from_residual-in_err-write_path.ensures.1 c.in_err-write_path.ensures.writes.0
-          (subst (λ l. TookAndFailed (g.O.Output.seen c.args.out.now) (g.O.Output.seen c.write_path.new.out) l) text
-          (failed_second front (path_text u.path) (codes ", is not the same for all coins\n") c.in_ok-write_texts.ensures.writes c.in_err-write_path.ensures.writes.1));
+    record {
+      writes = writes_then {front = unsure_bit u} _ _ _ c.in_ok-write_unsure_bit.ensures.writes
+          (writes_then {front = codes ", is not the same for all coins:"} _ _ _ c.in_ok-write_all.ensures.writes
+          (writes_failed {front = codes " " ++ placed_coin u.decider.coin u.decider.path} (codes " decides it\n") p.1 p.2 c.in_err-write_decider.ensures.writes));
     }
 
 pub returns : goal.returns
 returns g c =
     let u = c.args.unsure.now in
-    let text = joined-unsure u c.bit_name-number.result.0.now c.as_bytes-digits.result.now c.bit_name-number.result.1 c.bit_name-number.ensures.value (c.as_bytes-digits.ensures.value ∙ c.format.ensures.text) in
-    let front = texts_joined (codes "stabsim: " ∷ c.bit_name-number.result.0.now ∷ c.as_bytes-digits.result.now ∷ codes ", item " ∷ []) in record {
-      writes = subst (λ l. WritesAll (g.O.Output.seen c.args.out.now) (g.O.Output.seen c.write_all.new.out) l c.write_all.result) text
-          (writes_third (g.O.Output.seen c.write_all.new.out) front (path_text u.path) (codes ", is not the same for all coins\n") c.write_all.result c.in_ok-write_texts.ensures.writes c.in_ok-write_path.ensures.writes c.write_all.ensures.writes);
+    record {
+      writes = writes_then {front = unsure_bit u} _ _ _ c.in_ok-write_unsure_bit.ensures.writes
+          (writes_then {front = codes ", is not the same for all coins:"} _ _ _ c.in_ok-write_all.ensures.writes
+          (writes_then {front = codes " " ++ placed_coin u.decider.coin u.decider.path} _ _ _ c.in_ok-write_decider.ensures.writes c.write_all-2.ensures.writes));
     }

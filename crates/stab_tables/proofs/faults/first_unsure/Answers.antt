@@ -13,6 +13,7 @@ returns-in_ok-unsure-in-Some-clause-some c =
       first = sure_before (qubits_of items) items c.args.sure.now number c.requires.sure found.0 found.2;
       bit = c.in_ok-unsure-in-Some.ensures.value.bit;
       path = c.in_ok-unsure-in-Some.ensures.value.path;
+      decider = c.in_ok-unsure-in-Some.ensures.value.decider;
     }
 
 pub returns-in-None-clause-none : goal.returns-in-None-clause-none

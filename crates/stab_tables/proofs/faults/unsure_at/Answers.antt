@@ -20,4 +20,5 @@ returns-clause-value c =
     let item = c.item_of_step-path.result in record {
       bit = c.bit_of-bit.ensures.value ∙ ap (λ d. bit_of d c.args.number) c.requires.detectors;
       path = ap (slice_get paths) (sym c.in_ok-step.ensures.value) ∙ stretch_here paths c.in_ok-step.step item.steps item.path c.item_of_step-path.ensures.some c.item_of_step-path.ensures.path;
+      decider = c.in_ok-decider.ensures.value;
     }

@@ -1,37 +1,37 @@
 use Rattle.std.proofs.Common.{◌++◌, codes}
 use Rattle.std.specs.List.{flat_map}
 use Rattle.stab_io.proofs.DeviceLemmas.{failed_on, failed_within}
-use Rattle.stab_circuit.specs.Paths.{path_text}
 use Rattle.stab_circuit.specs.Views.{circuit_items}
-use Rattle.stab_tables.specs.Reasons.{bit_name, decider_text}
+use Rattle.stab_tables.specs.Reasons.{decider_text}
 use Rattle.stab_tables.specs.inner.CoinRows.{coin_at}
+use Rattle.stab_tables.proofs.ReasonLaws.{line_front}
 use Rattle.stab_tables.proofs.WritingLaws.{failed_second, writes_third}
 use Rattle.stab_tables.proofs.reasons.write_line.Goals as goal
 
-pub returns-in_err-write_bit : goal.returns-in_err-write_bit
-returns-in_err-write_bit g c =
+pub returns-in_err-write_front : goal.returns-in_err-write_front
+returns-in_err-write_front g c =
     let items = circuit_items c.args.circuit.now in
-    let head = bit_name c.args.bit ++ (codes " " ++ path_text c.args.path.now) in
+    let head = line_front items c.args.bit c.args.path.now in
     let coins = flat_map (λ k. decider_text items (coin_at items k)) c.args.places.now in record {
-      writes = failed_on (g.O.Output.seen c.args.out.now) (g.O.Output.seen c.write_bit.new.out) (head ++ (coins ++ codes "\n")) c.in_err-write_bit.field-0.0 c.from_residual.result c.from_residual.ensures.1
-          c.in_err-write_bit.ensures.writes.0
-          (failed_within head (coins ++ codes "\n") c.in_err-write_bit.ensures.writes.1);
+      writes = failed_on (g.O.Output.seen c.args.out.now) (g.O.Output.seen c.write_front.new.out) (head ++ (coins ++ codes "\n")) c.in_err-write_front.field-0.0 c.from_residual.result c.from_residual.ensures.1
+          c.in_err-write_front.ensures.writes.0
+          (failed_within head (coins ++ codes "\n") c.in_err-write_front.ensures.writes.1);
     }
 
 pub returns-in_err-write_deciders : goal.returns-in_err-write_deciders
 returns-in_err-write_deciders g c =
     let items = circuit_items c.args.circuit.now in
-    let head = bit_name c.args.bit ++ (codes " " ++ path_text c.args.path.now) in
+    let head = line_front items c.args.bit c.args.path.now in
     let coins = flat_map (λ k. decider_text items (coin_at items k)) c.args.places.now in record {
       writes = failed_on (g.O.Output.seen c.args.out.now) (g.O.Output.seen c.write_deciders.new.out) (head ++ (coins ++ codes "\n")) c.in_err-write_deciders.field-0.0 c.from_residual-in_err-write_deciders.result c.from_residual-in_err-write_deciders.ensures.1
           c.in_err-write_deciders.ensures.writes.0
-          (failed_second head coins (codes "\n") c.in_ok-write_bit.ensures.writes c.in_err-write_deciders.ensures.writes.1);
+          (failed_second head coins (codes "\n") c.in_ok-write_front.ensures.writes c.in_err-write_deciders.ensures.writes.1);
     }
 
 pub returns : goal.returns
 returns g c =
     let items = circuit_items c.args.circuit.now in
-    let head = bit_name c.args.bit ++ (codes " " ++ path_text c.args.path.now) in
+    let head = line_front items c.args.bit c.args.path.now in
     let coins = flat_map (λ k. decider_text items (coin_at items k)) c.args.places.now in record {
-      writes = writes_third (g.O.Output.seen c.write_all.new.out) head coins (codes "\n") c.write_all.result c.in_ok-write_bit.ensures.writes c.in_ok-write_deciders.ensures.writes c.write_all.ensures.writes;
+      writes = writes_third (g.O.Output.seen c.write_all.new.out) head coins (codes "\n") c.write_all.result c.in_ok-write_front.ensures.writes c.in_ok-write_deciders.ensures.writes c.write_all.ensures.writes;
     }

@@ -6,7 +6,7 @@ use Rattle.stab_turns.proofs.leading.lead_frame.Given as goal
 abbrev pub invariant-loop-copy : goal.invariant-loop-copy
 invariant-loop-copy l = record {
   behind : l.from ≤ l.at;
-  left : l.trail.left ≡ drop (l.at - l.from) l.initial.trail.left;
-  order : AreInOrder l.at (l.from + length l.initial.trail.left) (drop l.copy-index l.copies);
-  past : IsPast (length l.initial.walk.letters) l.strings.strings l.free l.initial.trail.left l.from (l.at - l.from) (take l.copy-index l.copies) l.turned.items l.initial.walk l.walk;
+  left : l.cursor.left ≡ drop (l.at - l.from) l.initial.cursor.left;
+  order : AreInOrder l.at (l.from + length l.initial.cursor.left) (drop l.copy-index l.copies);
+  past : IsPast (length l.initial.walk.letters) l.strings.strings l.free l.initial.cursor.left l.from (l.at - l.from) (take l.copy-index l.copies) l.turned.items l.initial.walk l.walk;
 }

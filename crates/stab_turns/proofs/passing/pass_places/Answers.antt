@@ -48,7 +48,7 @@ size c = c.multiply.ensures.length ∙ c.loop-gap.invariant.size
 all : (c : After-saturating_add-new-in-loop-gap) → c.skip_steps.new.cursor.all ≡ c.args.cursor.now.all
 all c = c.skip_steps.ensures.all ∙ c.loop-gap.invariant.all
 
--- behind its gates the frame is before the piece there
+-- after its gates the frame is before the piece there
 before : (c : After-saturating_add-new-in-loop-gap) (coins : ℕ → Bool) (xs : List Step) (base : ℕ) (front : RunOutput) (s : Span) → s.first ≡ c.args.first
     → IsBeforePlaces (length c.args.walk.now.letters) coins xs c.args.cursor.now.all (note_at c.args.strings.now.strings c.args.free.now) c.args.free.now base front s c.args.change.now
     c.args.cursor.now.left c.args.walk.now

@@ -11,7 +11,6 @@ invariant_of-self-2 c = (
       (still-longer c.self.inside.still c.args.count c.saturating_add-self-inside.result c.self.inside.records.items (omega (arith, c.saturating_add-self-inside.ensures)) c.self.invariant.1),
   omega (arith, c.self.invariant.2),
   omega (arith, c.self.invariant.3, c.ones_from.ensures.few),
-  c.self.invariant.4,
 )
 
 pub returns-clause-value : goal.returns-clause-value

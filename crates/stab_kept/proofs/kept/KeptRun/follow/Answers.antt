@@ -11,7 +11,7 @@ use Rattle.stab_kept.proofs.kept.KeptRun.follow.Given.{Over}
 use Rattle.stab_kept.proofs.kept.KeptRun.follow.Goals as goal
 use Rattle.stab_kept.proofs.kept.KeptRun.follow.Goals.{In-Some-2, in-Some+in_ok-followed+in_default-2, in_default}
 
--- where the run was turned
+-- if the run was turned
 turned : (g : Over) (c : In-Some-2 g) → HasTurned c.args.self.now.tableau.qubits (g.C.Coins.sequence c.args.coins.now) c.args.stride (unroll (circuit_items c.args.circuit.now))
     (observables_of (circuit_items c.args.circuit.now)) c.args.span c.args.self.now c.in-Some-2.followed c.turn.new.self
 turned g c =

@@ -37,7 +37,7 @@ letters-long : (n len : ℕ) (w : WalkState) → len ≡ n → {flips : RunOutpu
     → length w.letters ≡ n
 letters-long n len w size is = ap (λ (u : WalkState). length u.letters) is ∙ length-replicate len I ∙ size
 
--- behind the copy's step the cursor goes on to the first of the span
+-- after the copy's step the cursor goes on to the first of the span
 first-left : (first step : ℕ) (left behind ys : List Step) → step ≤ first → left ≡ drop step ys → behind ≡ drop (first - step) left → behind ≡ drop first ys
 first-left first step left behind ys le is went =
     went
@@ -112,7 +112,7 @@ pass_places-requires-clause-few c =
       ap length (left at.In_ok-walk (at-first at.After-index-copy)),
     )
 
--- the copies that stand within the span
+-- the copies that are within the span
 within : (back cs : List Checkpoint) (before inside : ℕ) (some all : List Checkpoint) → some ≡ take (inside - before) back → back ≡ drop before all → all ≡ cs
     → some ≡ take (inside - before) (drop before cs)
 within back cs before inside some all is behind same = is ∙ ap (take (inside - before)) (behind ∙ ap (drop before) same)

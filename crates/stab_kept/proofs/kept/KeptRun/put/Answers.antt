@@ -1,8 +1,7 @@
-use Rattle.std.proofs.Common.{sym, ◌∙◌, ap, subst, arith, All, length, replicate, false}
+use Rattle.std.proofs.Common.{sym, ◌∙◌, ap, subst, arith, length, replicate, false}
 use Rattle.stab_run.specs.Points.{RunOutput, with_additions}
 use Rattle.stab_tableau.specs.Tableaus.{TableauState, stabilises}
 use Rattle.stab_tableau.specs.Turns.{IsTurned}
-use Rattle.stab_replay.specs.Sections.{IsSection}
 use Rattle.stab_kept.specs.inner.Turned.{span_meeting}
 use Rattle.stab_kept.proofs.StateLemmas.{put-length, put-laid}
 use Rattle.stab_kept.proofs.kept.KeptRun.put.Goals as goal
@@ -46,6 +45,5 @@ returns c =
             c.args.before (span_meeting c.args.span c.args.turning.from) c.args.turning.room.items c.take_moved.new.taken.items c.take_moved.new.copies.items c.args.turning.passed.items
             c.reverse.new.self.items c.lay_behind.new.self.checkpoints.items c.lay_all.new.copies.items (omega (arith, c.requires.count))
             c.requires.nothing c.take_moved.ensures.taken c.take_moved.ensures.left c.reverse.ensures.items laid.checkpoints c.lay_all.ensures.value;
-        sections = λ xs ys small moved are. c.move_sections.ensures.moved xs ys small moved (subst (All (IsSection xs)) (sym laid.sections) are);
       };
     }

@@ -11,16 +11,13 @@ use Rattle.stab_run.specs.ProgramStates.{StepFits, output_of}
 use Rattle.stab_replay.specs.FramedReplays.{IsOldRun}
 use Rattle.stab_kept.specs.KeptRuns.{IsKeptRun, Follows}
 use Rattle.stab_replay.specs.Replays.{Ascending}
-use Rattle.stab_replay.specs.Sections.{IsSectionBehind}
-use Rattle.stab_replay.proofs.SectionLemmas.{behind-sections}
 use Rattle.stab_laws.proofs.FitLemmas.{check-fits, check-whole, check-steps}
 use Rattle.stab_kept.proofs.CountLemmas.{coins-behind}
-use Rattle.stab_kept.specs.inner.Prepared.{IsCount, IsCommitted}
-use Rattle.stab_kept.proofs.FollowLemmas.{committed-of}
+use Rattle.stab_kept.specs.inner.Prepared.{IsCount}
 use Rattle.stab_kept.proofs.CourseLemmas.{HasBegun, HasEnded, count-of, seen-end, seen-soon, some-before, copy-within, has-begun, asked-behind, ascending-here, old-run, has-ended}
 use Rattle.stab_kept.proofs.kept.KeptRun.replay.Given.{Over}
 use Rattle.stab_kept.proofs.kept.KeptRun.replay.Goals as goal
-use Rattle.stab_kept.proofs.kept.KeptRun.replay.Goals.{After-as_slice, After-count_before-before, In_ok-replay, After-as_slice-3, After-follow, In_ok-end, After-move_sections}
+use Rattle.stab_kept.proofs.kept.KeptRun.replay.Goals.{After-as_slice, After-count_before-before, In_ok-replay, After-as_slice-3, After-follow, In_ok-end}
 
 on-err : {A E : Type 0} (r : Result A E) (P : Type 0) → P → OnErr r P
 on-err (Ok x) P p = tt
@@ -78,13 +75,6 @@ end_of g c f few first begins behind =
     has-ended f few first begins behind plan refl refl (omega (arith, c.steps.ensures.value, few)) c.max.ensures refl c.follow.new.self c.in_ok-end.end
     c.in_ok-end.ensures.replay c.in_ok-end.ensures.raised
     (seen-end c.in_ok-replay.replay.tableau.qubits plan c.follow.new.self c.args.self.now.outputs.records.items c.args.self.now.outputs.free.items c.in_ok-end.end c.as_slice-3.ensures.value c.in_ok-end.ensures.end)
-
--- what was prepared is in place, with the outlines of the new steps
-placed : (g : Over) (c : After-move_sections g)
-    → IsCommitted c.prepare.new.self c.in_ok-prepared.prepared c.args.span c.count_before-before.result c.args.stride (record c.commit.new.self { sections = c.move_sections.new.sections })
-placed g c =
-    committed-of c.prepare.new.self c.in_ok-prepared.prepared c.args.span c.count_before-before.result c.args.stride c.commit.new.self _ c.commit.ensures.in_place c.commit.ensures.sections
-    refl refl refl refl refl refl c.move_sections.ensures.moved
 
 pub overflow_add-span : goal.overflow_add-span
 overflow_add-span g c =
@@ -179,16 +169,6 @@ follow-requires-clause-ascending g c =
     subst (λ cs. Ascending (planned c.steps.result c.args.stride c.args.span c.max.result c.len.result c.args.self.now.reach) c.in_ok-replay.replay.step (drop c.max.result cs)) (sym c.as_slice-3.ensures.value)
     (ascending-here c.requires.follows (few g at.After-as_slice) (first g at.After-count_before-before) begins (behind g at.After-as_slice-3) (planned c.steps.result c.args.stride c.args.span c.max.result c.len.result c.args.self.now.reach) refl refl (omega (arith, c.steps.ensures.value, few g at.After-as_slice)) c.max.ensures refl)
 
-pub follow-requires-clause-sections : goal.follow-requires-clause-sections
-follow-requires-clause-sections g c =
-    let at = goal.at.follow-requires-clause-sections g c in
-    let begins = begun g at.In_ok-replay (few g at.After-as_slice) (first g at.After-count_before-before) in
-    let f = c.requires.follows in
-    let ys = unroll (circuit_items c.args.circuit.now) in
-    subst (λ zs. All (IsSectionBehind c.args.span.old_end c.args.span.new_end zs) c.as_slice-4.result.now) (sym begins.all)
-    (subst (All (IsSectionBehind c.args.span.old_end c.args.span.new_end ys)) (sym c.as_slice-4.ensures.value)
-    (behind-sections f.old ys c.args.span.old_end c.args.span.new_end f.span.behind c.args.self.now.sections.items f.kept.sections))
-
 pub follow-requires-clause-same_qubits : goal.follow-requires-clause-same_qubits
 follow-requires-clause-same_qubits g c =
     let at = goal.at.follow-requires-clause-same_qubits g c in
@@ -255,7 +235,7 @@ commit-requires-clause-behind g c =
     let at = goal.at.commit-requires-clause-behind g c in
     let begins = begun g at.In_ok-replay (few g at.After-as_slice) (first g at.After-count_before-before) in
     let ended = end_of g at.In_ok-end c.requires.follows (few g at.After-as_slice) (first g at.After-count_before-before) begins (behind g at.After-as_slice-3) in
-    let ready = ended.ready _ (record { tableau = refl; output = refl; observables = refl; strings = refl; reach = refl; checkpoints = refl; sections = refl }) c.observables.result c.in_ok-prepared.prepared c.in_ok-prepared.ensures.prepared in
+    let ready = ended.ready _ (record { tableau = refl; output = refl; observables = refl; strings = refl; reach = refl; checkpoints = refl }) c.observables.result c.in_ok-prepared.prepared c.in_ok-prepared.ensures.prepared in
     ready.behind c.prepare.new.self c.prepare.ensures.unchanged
 
 pub returns-clause-kept : goal.returns-clause-kept
@@ -263,10 +243,10 @@ returns-clause-kept g c =
     let at = goal.at.returns-clause-kept g c in
     let begins = begun g at.In_ok-replay (few g at.After-as_slice) (first g at.After-count_before-before) in
     let ended = end_of g at.In_ok-end c.requires.follows (few g at.After-as_slice) (first g at.After-count_before-before) begins (behind g at.After-as_slice-3) in
-    let ready = ended.ready _ (record { tableau = refl; output = refl; observables = refl; strings = refl; reach = refl; checkpoints = refl; sections = refl }) c.observables.result c.in_ok-prepared.prepared c.in_ok-prepared.ensures.prepared in
-    subst (λ count. IsKeptRun c.args.self.now.tableau.qubits (g.C.Coins.sequence c.args.coins.now) c.args.stride (unroll (circuit_items c.args.circuit.now)) count (record c.commit.new.self { sections = c.move_sections.new.sections }))
+    let ready = ended.ready _ (record { tableau = refl; output = refl; observables = refl; strings = refl; reach = refl; checkpoints = refl }) c.observables.result c.in_ok-prepared.prepared c.in_ok-prepared.ensures.prepared in
+    subst (λ count. IsKeptRun c.args.self.now.tableau.qubits (g.C.Coins.sequence c.args.coins.now) c.args.stride (unroll (circuit_items c.args.circuit.now)) count c.commit.new.self)
     c.observables.ensures.value
-    (ready.kept c.prepare.new.self c.prepare.ensures.unchanged (fitting g at.After-as_slice begins.apart) _ (placed g at.After-move_sections))
+    (ready.kept c.prepare.new.self c.prepare.ensures.unchanged (fitting g at.After-as_slice begins.apart) c.commit.new.self c.commit.ensures.committed)
 
 pub returns-clause-apart : goal.returns-clause-apart
 returns-clause-apart g c =
@@ -279,17 +259,17 @@ returns-clause-qubits g c =
     let at = goal.at.returns-clause-qubits g c in
     let begins = begun g at.In_ok-replay (few g at.After-as_slice) (first g at.After-count_before-before) in
     let ended = end_of g at.In_ok-end c.requires.follows (few g at.After-as_slice) (first g at.After-count_before-before) begins (behind g at.After-as_slice-3) in
-    let ready = ended.ready _ (record { tableau = refl; output = refl; observables = refl; strings = refl; reach = refl; checkpoints = refl; sections = refl }) c.observables.result c.in_ok-prepared.prepared c.in_ok-prepared.ensures.prepared in
-    (ready.kept c.prepare.new.self c.prepare.ensures.unchanged (fitting g at.After-as_slice begins.apart) _ (placed g at.After-move_sections)).qubits
+    let ready = ended.ready _ (record { tableau = refl; output = refl; observables = refl; strings = refl; reach = refl; checkpoints = refl }) c.observables.result c.in_ok-prepared.prepared c.in_ok-prepared.ensures.prepared in
+    (ready.kept c.prepare.new.self c.prepare.ensures.unchanged (fitting g at.After-as_slice begins.apart) c.commit.new.self c.commit.ensures.committed).qubits
 
 pub returns-clause-asks_free : goal.returns-clause-asks_free
 returns-clause-asks_free g c =
     let at = goal.at.returns-clause-asks_free g c in
     let begins = begun g at.In_ok-replay (few g at.After-as_slice) (first g at.After-count_before-before) in
     let ended = end_of g at.In_ok-end c.requires.follows (few g at.After-as_slice) (first g at.After-count_before-before) begins (behind g at.After-as_slice-3) in
-    let ready = ended.ready _ (record { tableau = refl; output = refl; observables = refl; strings = refl; reach = refl; checkpoints = refl; sections = refl }) c.observables.result c.in_ok-prepared.prepared c.in_ok-prepared.ensures.prepared in
+    let ready = ended.ready _ (record { tableau = refl; output = refl; observables = refl; strings = refl; reach = refl; checkpoints = refl }) c.observables.result c.in_ok-prepared.prepared c.in_ok-prepared.ensures.prepared in
     let asks = c.in_ok-end.ensures.asks_free in
-    omega (arith, asks, ready.flags c.prepare.new.self c.prepare.ensures.unchanged _ (placed g at.After-move_sections))
+    omega (arith, asks, ready.flags c.prepare.new.self c.prepare.ensures.unchanged c.commit.new.self c.commit.ensures.committed)
 
 pub returns-clause-applied : goal.returns-clause-applied
 returns-clause-applied g c =

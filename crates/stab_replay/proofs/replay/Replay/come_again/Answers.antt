@@ -25,7 +25,7 @@ is_end ys block p copies next place end is_repeat total is in_block before = rec
   before = place-known (λ k. end ≤ k) (slice_get copies next) (step_among_new p) place is before;
 }
 
--- with its tableau and its cursor where it has come to it is on its way
+-- with its tableau and its cursor if it has come to it is on its way
 on_way : (g : Over) (c : In_ok-catch_up g) (begin : ℕ) (copies : List Checkpoint) (old : List Bool) (next : ℕ)
     → IsOnWay c.args.self.now.tableau.qubits (g.C.Coins.sequence c.args.coins.now) begin c.args.plan c.args.self.now.cursor.all copies old next c.args.self.now
     → c.args.place ≡ option_map (step_among_new c.args.plan) (slice_get copies next)
@@ -86,7 +86,7 @@ returns-in_default-find_again-clause-way g c = λ begin copies old next way plac
       fits = c.requires.fits;
     })
 
--- no fewer coins are asked for behind an earlier step
+-- no fewer coins are asked for after an earlier step
 
 pub returns-in_err-passed-clause-asked : goal.returns-in_err-passed-clause-asked
 returns-in_err-passed-clause-asked g c = omega (arith, coins-behind c.args.self.now.step c.give_on.new.self.step c.args.self.now.cursor.all c.give_on.ensures.further)

@@ -15,7 +15,7 @@ find_turned-requires-clause-own g c =
     let on = c.requires.on_way in
     own-copies c.args.self.now.tableau.qubits (g.C.Coins.sequence c.args.coins.now) on.0 on.1 c.args.self.now.cursor.all on.2 on.3 on.4 c.args.self.now on.5.way
 
--- it stands as it stood at the copy found, but for a frame
+-- it is as it stood at the copy found, except for a frame
 turning : (g : Over) (c : In-Some g) (begin : ℕ) (p : Plan) (copies : List Checkpoint) (old : List Bool) (next : ℕ)
     → MayComeAgain c.args.self.now.tableau.qubits (g.C.Coins.sequence c.args.coins.now) begin p c.args.self.now.cursor.all copies old next c.args.block c.args.end c.args.self.now
     → IsTurning c.find_turned.new.self.tableau.qubits (g.C.Coins.sequence c.args.coins.now) begin p c.find_turned.new.self.cursor.all copies old next c.args.block c.args.end

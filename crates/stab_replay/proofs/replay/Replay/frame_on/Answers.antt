@@ -1,24 +1,15 @@
-use Rattle.std.proofs.Common.{◌≡◌, ℕ, ◌-◌, ◌≤◌, sym, ◌∙◌, ap, subst, Bool, IfSome, All, length, drop, slice_get, arith}
+use Rattle.std.proofs.Common.{◌≡◌, ℕ, ◌-◌, ◌≤◌, sym, ◌∙◌, ap, subst, Bool, IfSome, length, drop, slice_get, arith}
 use Rattle.stab_run.specs.Records.{ones}
 use Rattle.stab_run.specs.ProgramStates.{output_of}
 use Rattle.stab_frames.specs.KeptStrings.{StringsState}
 use Rattle.stab_replay.specs.declared.replay.Replay.{Replay}
 use Rattle.stab_replay.specs.Replays.{IsAtStep, IsOnWay, Misses}
 use Rattle.stab_replay.proofs.MovedLemmas.{way-past, led-passed-over}
-use Rattle.stab_replay.specs.Sections.{IsSectionBehind}
 use Rattle.stab_replay.specs.inner.LedReplays.{IsBeside, IsLed, IsLedTo, with_cursor}
 use Rattle.stab_replay.proofs.ReplayLemmas.{ascending-end}
 use Rattle.stab_replay.proofs.LedLemmas.{at-noted}
 use Rattle.stab_replay.proofs.LedWayLemmas.{cursor-set, led-moved, way-noted}
 use Rattle.stab_replay.proofs.replay.Replay.frame_on.Goals as goal
-
-pub new-outlined-requires-clause-sections : goal.new-outlined-requires-clause-sections
-new-outlined-requires-clause-sections c =
-    subst (λ ys. All (IsSectionBehind c.args.plan.old_end c.args.plan.new_end ys) c.args.sections.now) (sym c.requires.same_circuit) c.requires.sections
-
-pub lead-requires-clause-same_steps : goal.lead-requires-clause-same_steps
-lead-requires-clause-same_steps c =
-    c.new-outlined.ensures.value ∙ c.requires.same_circuit ∙ sym (ap (λ (x : Replay). x.cursor.all) c.frame_at.ensures.unchanged)
 
 pub lead-requires-clause-led : goal.lead-requires-clause-led
 lead-requires-clause-led c =

@@ -12,6 +12,6 @@ overflow_add-number c =
 pub returns-clause-left : goal.returns-clause-left
 returns-clause-left c = λ behind.
     left-behind (length c.args.walk.now.letters) c.args.plan.reach c.in_ok-walked.walked.steps (c.args.to.now.step - c.args.from.now.step) c.args.self.now.cursor.left
-    c.walk_on.new.self.cursor.left c.walk_on.new.walk c.in_ok-walked.walked.stop
-    (subst (λ k. IsStop (length c.args.walk.now.letters) c.args.plan.reach c.in_ok-walked.walked.steps (length (take k c.args.self.now.cursor.left)) c.walk_on.new.walk c.in_ok-walked.walked.stop)
+    c.walk_steps.new.cursor.left c.walk_steps.new.walk c.in_ok-walked.walked.stop
+    (subst (λ k. IsStop (length c.args.walk.now.letters) c.args.plan.reach c.in_ok-walked.walked.steps (length (take k c.args.self.now.cursor.left)) c.walk_steps.new.walk c.in_ok-walked.walked.stop)
     c.saturating_sub-steps.ensures c.in_ok-walked.ensures.stop) behind c.in_ok-walked.ensures.left

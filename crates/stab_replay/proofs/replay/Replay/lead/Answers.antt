@@ -16,9 +16,6 @@ loop-number-init c = record {
   way = λ coins begin h way. way;
 }
 
-pub pass_copy-requires-clause-same_steps : goal.pass_copy-requires-clause-same_steps
-pass_copy-requires-clause-same_steps c = c.requires.same_steps ∙ sym c.loop-number.invariant.all
-
 pub pass_copy-requires-clause-fits : goal.pass_copy-requires-clause-fits
 pass_copy-requires-clause-fits c =
     let inv = c.loop-number.invariant in

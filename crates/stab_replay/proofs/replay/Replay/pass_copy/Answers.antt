@@ -9,12 +9,6 @@ use Rattle.stab_replay.proofs.LedLemmas.{coins-left, steps-between, step-there, 
 use Rattle.stab_replay.proofs.LedWayLemmas.{led-arrived, led-passed}
 use Rattle.stab_replay.proofs.replay.Replay.pass_copy.Goals as goal
 
-pub frame_to-requires-clause-there : goal.frame_to-requires-clause-there
-frame_to-requires-clause-there c = c.requires.led.2.at_step.left
-
-pub frame_to-requires-clause-in_range : goal.frame_to-requires-clause-in_range
-frame_to-requires-clause-in_range c = c.requires.led.2.at_step.within
-
 pub frame_to-requires-clause-few : goal.frame_to-requires-clause-few
 frame_to-requires-clause-few c =
     let from = slice_get_read c.args.copies.now (length c.args.copies.now) (c.args.number - 1) c.index-copies-number-2.result refl (omega (arith, c.requires.within)) c.index-copies-number-2.is in

@@ -1,0 +1,6 @@
+use Rattle.std.proofs.Common.{take}
+use Rattle.stab_errors.specs.inner.RowParts.{AreSplitByRows}
+use Rattle.stab_errors.proofs.parts.split_errors.Given as goal
+
+abbrev pub invariant-errors : goal.invariant-errors
+invariant-errors l = AreSplitByRows l.faults.rows l.detectors (take l.error-index l.whole) l.errors.items

@@ -1,5 +1,0 @@
-mod PlaceLemmas
-mod PartLemmas
-mod DetectorPlaceLemmas
-mod SameLemmas
-mod OutlineLemmas
