@@ -1,69 +1,169 @@
 -- Goes over: a frame over steps one after another, with what it has to know of their measurements.
-use Rattle.std.proofs.Common.{◌≡◌, ℕ, ◌+◌, ◌<◌, ◌≤◌, refl, sym, ◌∙◌, ap, subst, Bool, true, false, List, [], ◌∷◌, ◌++◌, length, take, map, get_or, All, arith}
+use Rattle.std.proofs.Common.{◌≡◌, ℕ, ◌+◌, ◌<◌, ◌≤◌, refl, sym, ◌∙◌, ap, subst, Bool, true, false, ◌&&◌, List, [], ◌∷◌, ◌++◌, length, take, map, get_or, All, arith}
 use Rattle.std.proofs.lemmas.List.{map_more, get_or-map, length-map, length-take-le}
 use Rattle.std.proofs.Math.Seq.{take-length}
 use Rattle.stab_letters.specs.declared.letter.Letter.{Letter}
-use Rattle.stab_pauli.specs.Paulis.{single}
+use Rattle.stab_pauli.specs.Paulis.{single, strings_anticommute}
 use Rattle.stab_letters.specs.declared.gate.Gate.{Gate}
 use Rattle.stab_tableau.specs.Gates.{image}
 use Rattle.stab_lines.specs.declared.axis.Axis.{Axis}
 use Rattle.stab_lines.specs.declared.control.ControlledPair.{ControlledPair}
 use Rattle.stab_lines.specs.declared.control.ControlledPair.TheVariants as pair
+use Rattle.stab_lines.specs.declared.product.Factor.{Factor}
 use Rattle.stab_lines.specs.declared.range.MeasureTarget.{MeasureTarget}
 use Rattle.stab_lines.specs.declared.operation.Measurement.{Measurement}
 use Rattle.stab_lines.specs.Axes.{letter_of}
-use Rattle.stab_circuit.specs.Steps.{Step, one, controlled, collapse, detector, controlled_step, measured, observable}
+use Rattle.stab_circuit.specs.Steps.{Step, one, controlled, collapse, product, detector, controlled_step, measured, observable}
 use Rattle.stab_steps.specs.Records.{looked_up, parity}
-use Rattle.stab_steps.specs.Points.{coins_of, nothing, joined}
+use Rattle.stab_steps.specs.Runs.{when, string_of, flip_of}
+use Rattle.stab_steps.specs.Points.{coins_of, all_coins_of, nothing, joined}
 use Rattle.stab_steps.specs.ProgramStates.{StepFits}
-use Rattle.stab_laws.proofs.CoinLemmas.{coins-steps}
+use Rattle.stab_steps.proofs.TargetLemmas.{coins-measured}
+use Rattle.stab_laws.proofs.CoinLemmas.{coins-append}
 use Rattle.stab_frames.specs.Frames.{Frame, plus, times_where}
-use Rattle.stab_frames.specs.Notes.{Notes, same_coins}
+use Rattle.stab_frames.specs.Notes.{Notes, notes_of}
 use Rattle.stab_frames.specs.FrameSteps.{frame_over, letters_after, flips_given}
 use Rattle.stab_frames.specs.KeptStrings.{note_at}
 use Rattle.stab_frames.specs.Walks.{WalkState, frame_at, IsPlaced}
-use Rattle.stab_frames.specs.inner.Passes.{Passes, IsTold, AreTold, GoesOver, GoesFreely}
+use Rattle.stab_frames.specs.inner.Draws.{is_inverted, IsDrawn, AreDrawn}
+use Rattle.stab_frames.specs.inner.Passes.{PassesWith, IsTold, AreTold, IsPassed, IsMissing, GoesOver, GoesFreely, Goes}
 use Rattle.stab_frames.proofs.PassLemmas.{over-none, over-step, over-append, told-append}
-use Rattle.stab_frames.proofs.MeasuredPassLemmas.{passes-letters, passes-flips, told-unmeasured}
+use Rattle.stab_frames.proofs.MeasuredPassLemmas.{passes-letters, passes-flips, told-unmeasured, told-measured, passes-collapse, passes-product}
 
 -- over none, one step, and steps one after another
 
-pub goes-none : (n : ℕ) (strings : List (List Letter)) (free : List Bool) (w : WalkState) → IsPlaced free w → length w.letters ≡ n → GoesOver n strings free [] w w
-goes-none n strings free w placed size = record { over = over-none n (same_coins (note_at strings free)) w; told = λ base. tt; placed = placed; size = size }
+none : (k : ℕ) → k + 0 ≡ k
+none k = omega arith
 
-pub goes-step : (n : ℕ) (strings : List (List Letter)) (free : List Bool) (x : Step) (old new : WalkState) → Passes n (note_at strings free) x old new
-    → IsTold n strings free x old.coin old.letters → IsPlaced free new → length new.letters ≡ n → GoesOver n strings free (x ∷ []) old new
-goes-step n strings free x old new passes told placed size = record {
-  over = over-step n (same_coins (note_at strings free)) x old new passes;
-  told = λ base. (told, tt);
-  placed = placed;
-  size = size;
-}
+more : (a b c : ℕ) → (a + b) + c ≡ a + (b + c)
+more a b c = omega arith
 
-pub goes-append : (n : ℕ) (strings : List (List Letter)) (free : List Bool) (xs ys : List Step) (a b c : WalkState) → GoesOver n strings free xs a b
-    → GoesOver n strings free ys b c → GoesOver n strings free (xs ++ ys) a c
-goes-append n strings free xs ys a b c first then = record {
-  over = over-append n (same_coins (note_at strings free)) xs ys a b c first.over then.over;
-  told = λ base. told-append n strings free xs ys a.coin (frame_at base a) (first.told base)
-      (subst (λ k. AreTold n strings free ys k (frame_over n (same_coins (note_at strings free)) xs a.coin (frame_at base a))) first.over.coin
-      (subst (λ (f : Frame). AreTold n strings free ys b.coin f) (first.over.frame base) (then.told base)));
-  placed = then.placed;
-  size = then.size;
-}
+drawn-front : (free : List Bool) (draw : Bool → ℕ → Bool) (changes : ℕ → Bool) (xs ys : List Step) (coin : ℕ) → AreDrawn free draw changes (xs ++ ys) coin
+    → AreDrawn free draw changes xs coin
+drawn-front free draw changes [] ys coin drawn = tt
+drawn-front free draw changes (x ∷ xs) ys coin drawn = (drawn.0, drawn-front free draw changes xs ys (coin + coins_of x) drawn.1)
 
--- over the steps of targets, one more of them, and all
+drawn-rest : (free : List Bool) (draw : Bool → ℕ → Bool) (changes : ℕ → Bool) (xs ys : List Step) (coin : ℕ) → AreDrawn free draw changes (xs ++ ys) coin
+    → AreDrawn free draw changes ys (coin + all_coins_of xs)
+drawn-rest free draw changes [] ys coin drawn = subst (AreDrawn free draw changes ys) (sym (none coin)) drawn
+drawn-rest free draw changes (x ∷ xs) ys coin drawn =
+    subst (AreDrawn free draw changes ys) (more coin (coins_of x) (all_coins_of xs)) (drawn-rest free draw changes xs ys (coin + coins_of x) drawn.1)
 
-pub goes-further : {X : Type 0} (n : ℕ) (strings : List (List Letter)) (free : List Bool) (f : X → Step) (xs : List X) (i : ℕ) (d : X) (old now new : WalkState)
-    → i < length xs → GoesOver n strings free (map f (take i xs)) old now → GoesOver n strings free (f (get_or xs i d) ∷ []) now new
-    → GoesOver n strings free (map f (take (i + 1) xs)) old new
-goes-further n strings free f xs i d old now new lt front next =
-    subst (λ ys. GoesOver n strings free ys old new) (sym (map_more f xs i d lt))
-    (goes-append n strings free (map f (take i xs)) (f (get_or xs i d) ∷ []) old now new front next)
+module _ (n : ℕ) (strings : List (List Letter)) (free : List Bool) (draw : Bool → ℕ → Bool) where
+  pub goes-none : (w : WalkState) → IsPlaced free w → length w.letters ≡ n → GoesOver n strings free draw [] w w
+  goes-none w placed size = record {
+    over = λ changes drawn. over-none n (notes_of (note_at strings free) changes) w;
+    told = λ changes drawn base. tt;
+    coin = sym (none w.coin);
+    placed = placed;
+    size = size;
+  }
 
-pub goes-all : {X : Type 0} (n : ℕ) (strings : List (List Letter)) (free : List Bool) (f : X → Step) (xs : List X) (i : ℕ) (old new : WalkState)
-    → i ≡ length xs → GoesOver n strings free (map f (take i xs)) old new → GoesOver n strings free (map f xs) old new
-goes-all n strings free f xs i old new e goes =
-    subst (λ ys. GoesOver n strings free (map f ys) old new) (ap (λ k. take k xs) e ∙ take-length xs) goes
+  pub goes-step : (x : Step) (old new : WalkState)
+      → ((changes : ℕ → Bool) → (0 < coins_of x → IsDrawn free draw changes (is_inverted x) old.coin) → PassesWith n (notes_of (note_at strings free) changes) x old new)
+      → ((changes : ℕ → Bool) → (0 < coins_of x → IsDrawn free draw changes (is_inverted x) old.coin) → IsTold n strings free changes x old.coin old.letters)
+      → new.coin ≡ old.coin + coins_of x → IsPlaced free new → length new.letters ≡ n → GoesOver n strings free draw (x ∷ []) old new
+  goes-step x old new passes told coin placed size = record {
+    over = λ changes drawn. over-step n (notes_of (note_at strings free) changes) x old new (passes changes drawn.0);
+    told = λ changes drawn base. (told changes drawn.0, tt);
+    coin = coin ∙ ap (λ k. old.coin + k) (sym (none (coins_of x)));
+    placed = placed;
+    size = size;
+  }
+
+  pub goes-append : (xs ys : List Step) (a b c : WalkState) → GoesOver n strings free draw xs a b → GoesOver n strings free draw ys b c
+      → GoesOver n strings free draw (xs ++ ys) a c
+  goes-append xs ys a b c first then = record {
+    over = λ changes drawn. over-append n (notes_of (note_at strings free) changes) xs ys a b c
+        (first.over changes (drawn-front free draw changes xs ys a.coin drawn)) (then.over changes (there changes drawn));
+    told = λ changes drawn base.
+        let front = drawn-front free draw changes xs ys a.coin drawn in
+        told-append n strings free changes xs ys a.coin (frame_at base a) (first.told changes front base)
+        (subst (λ k. AreTold n strings free changes ys k (frame_over n (notes_of (note_at strings free) changes) xs a.coin (frame_at base a))) first.coin
+        (subst (λ (f : Frame). AreTold n strings free changes ys b.coin f) ((first.over changes front).frame base) (then.told changes (there changes drawn) base)));
+    coin = then.coin ∙ ap (λ k. k + all_coins_of ys) first.coin ∙ more a.coin (all_coins_of xs) (all_coins_of ys) ∙ ap (λ k. a.coin + k) (sym (coins-append xs ys));
+    placed = then.placed;
+    size = then.size;
+  }
+    where
+      there : (changes : ℕ → Bool) → AreDrawn free draw changes (xs ++ ys) a.coin → AreDrawn free draw changes ys b.coin
+      there changes drawn = subst (AreDrawn free draw changes ys) (sym first.coin) (drawn-rest free draw changes xs ys a.coin drawn)
+
+  -- over the steps of targets, one more of them, and all
+
+  pub goes-further : {X : Type 0} (f : X → Step) (xs : List X) (i : ℕ) (d : X) (old now new : WalkState) → i < length xs
+      → GoesOver n strings free draw (map f (take i xs)) old now → GoesOver n strings free draw (f (get_or xs i d) ∷ []) now new
+      → GoesOver n strings free draw (map f (take (i + 1) xs)) old new
+  goes-further f xs i d old now new lt front next =
+      subst (λ ys. GoesOver n strings free draw ys old new) (sym (map_more f xs i d lt)) (goes-append (map f (take i xs)) (f (get_or xs i d) ∷ []) old now new front next)
+
+  pub goes-all : {X : Type 0} (f : X → Step) (xs : List X) (i : ℕ) (old new : WalkState) → i ≡ length xs → GoesOver n strings free draw (map f (take i xs)) old new
+      → GoesOver n strings free draw (map f xs) old new
+  goes-all f xs i old new e goes = subst (λ ys. GoesOver n strings free draw (map f ys) old new) (ap (λ k. take k xs) e ∙ take-length xs) goes
+
+  -- each measurement of a target has one coin
+  pub measured-coin : (how : Measurement) (targets : List MeasureTarget) (i : ℕ) (old now : WalkState) → GoesOver n strings free draw (map (measured how) (take i targets)) old now
+      → i ≤ length targets → now.coin ≡ old.coin + i
+  measured-coin how targets i old now goes le =
+      goes.coin ∙ ap (λ k. old.coin + k) (coins-measured how (take i targets) ∙ length-take-le i targets le)
+
+  -- over a measured letter and a measured product
+
+  pub goes-collapse : (l : Letter) (q : ℕ) (recorded inverted resets apart flip : Bool) (old mid reset new : WalkState)
+      → strings_anticommute old.letters (single n q l).letters ≡ apart → IsPassed strings free draw inverted apart flip old mid → length mid.letters ≡ n
+      → reset ≡ record mid { letters = times_where (resets && flip) (single (length mid.letters) q (flip_of l)).letters mid.letters }
+      → new ≡ record reset { flips = joined reset.flips (record nothing { records = when recorded flip }) } → length new.letters ≡ n
+      → GoesOver n strings free draw (collapse l q recorded inverted resets ∷ []) old new
+  goes-collapse l q recorded inverted resets apart flip old mid reset new ea p size er en new_size =
+      goes-step (collapse l q recorded inverted resets) old new
+      (λ changes drawn. passes-collapse n (notes_of (note_at strings free) changes) l q recorded inverted resets apart flip old mid reset new ea
+      (p.over changes (drawn (omega arith))) size er en)
+      (λ changes drawn. told-measured n strings free changes (collapse l q recorded inverted resets) (single n q l) old.coin apart old.letters refl ea
+      (p.told changes (drawn (omega arith))))
+      (ap (λ (w : WalkState). w.coin) en ∙ ap (λ (w : WalkState). w.coin) er ∙ p.coin)
+      (subst (IsPlaced free) (sym en) (subst (IsPlaced free) (sym er) p.placed))
+      new_size
+
+  pub goes-product : (factors : List Factor) (inverted apart flip : Bool) (old mid new : WalkState)
+      → strings_anticommute old.letters (string_of n factors).letters ≡ apart → IsPassed strings free draw inverted apart flip old mid
+      → new ≡ record mid { flips = record mid.flips { records = mid.flips.records ++ flip ∷ [] } } → length new.letters ≡ n
+      → GoesOver n strings free draw (product factors inverted ∷ []) old new
+  goes-product factors inverted apart flip old mid new ea p en size =
+      goes-step (product factors inverted) old new
+      (λ changes drawn. passes-product n (notes_of (note_at strings free) changes) factors inverted apart flip old mid new ea (p.over changes (drawn (omega arith))) en)
+      (λ changes drawn. told-measured n strings free changes (product factors inverted) (string_of n factors) old.coin apart old.letters refl ea
+      (p.told changes (drawn (omega arith))))
+      (ap (λ (w : WalkState). w.coin) en ∙ p.coin)
+      (subst (IsPlaced free) (sym en) p.placed)
+      size
+
+  -- over a step that measures nothing
+  goes-unmeasured : (x : Step) (old new : WalkState) → coins_of x ≡ 0 → ((notes : Notes) → PassesWith n notes x old new) → new.coin ≡ old.coin → IsPlaced free new
+      → length new.letters ≡ n → GoesOver n strings free draw (x ∷ []) old new
+  goes-unmeasured x old new ec passes coin placed size =
+      goes-step x old new (λ changes drawn. passes (notes_of (note_at strings free) changes)) (λ changes drawn. told-unmeasured n strings free changes x old.coin old.letters ec)
+      (omega (arith, coin, ec)) placed size
+
+-- a step was passed, or it was not
+
+pub went : (n : ℕ) (strings : List (List Letter)) (free : List Bool) (draw : Bool → ℕ → Bool) (x : Step) (old new : WalkState) (gone : Bool) → gone ≡ true
+    → Goes n strings free draw x old new gone → GoesOver n strings free draw (x ∷ []) old new
+went n strings free draw x old new true e goes = goes
+went n strings free draw x old new false e goes = cc
+
+pub stopped : (n : ℕ) (strings : List (List Letter)) (free : List Bool) (draw : Bool → ℕ → Bool) (x : Step) (old new : WalkState) (gone : Bool) → gone ≡ false
+    → Goes n strings free draw x old new gone → (new ≡ old) × IsMissing strings free (old.coin + coins_of x)
+stopped n strings free draw x old new true e goes = absurd (true-false e)
+  where
+    true-false : true ≡ false → ⊥
+    true-false e = cc
+stopped n strings free draw x old new false e goes = goes
+
+-- on as many qubits, with what is drawn
+pub goes-same : (n m : ℕ) (strings : List (List Letter)) (free : List Bool) (draw draws : Bool → ℕ → Bool) (xs : List Step) (old new : WalkState) → m ≡ n → draw ≡ draws
+    → GoesOver m strings free draw xs old new → GoesOver n strings free draws xs old new
+goes-same n m strings free draw draws xs old new same same_draw goes =
+    subst (λ k. GoesOver k strings free draws xs old new) same (subst (λ d. GoesOver m strings free d xs old new) same_draw goes)
 
 -- the step of a target is on the qubits
 pub fits-mapped : {X : Type 0} (n m : ℕ) (f : X → Step) (xs : List X) (i : ℕ) (d : X) → All (StepFits n) (map f xs) → i < length xs → m ≡ n
@@ -73,31 +173,21 @@ fits-mapped n m f xs i d fits lt same =
     subst (λ k. StepFits k (f (get_or xs i d))) (sym same) (subst (StepFits n) (get_or-map f xs i d (f d) lt) (fits i (f d) within))
 
 -- the measurement of a target
-pub goes-measured : (n m : ℕ) (strings : List (List Letter)) (free : List Bool) (how : Measurement) (t u : MeasureTarget) (l : Letter) (q : ℕ) (old new : WalkState)
-    → u ≡ t → l ≡ letter_of how.axis → q ≡ u.qubit → m ≡ n → GoesOver m strings free (collapse l q true u.inverted how.resets ∷ []) old new
-    → GoesOver n strings free (measured how t ∷ []) old new
-goes-measured n m strings free how t u l q old new is el eq same goes =
-    subst (λ k. GoesOver k strings free (measured how t ∷ []) old new) same
-    (subst (λ x. GoesOver m strings free (measured how x ∷ []) old new) is
-    (subst (λ r. GoesOver m strings free (collapse (letter_of how.axis) r true u.inverted how.resets ∷ []) old new) eq
-    (subst (λ k. GoesOver m strings free (collapse k q true u.inverted how.resets ∷ []) old new) el goes)))
-
--- coins of targets, of which each has one at most
-pub coin-within : {X : Type 0} (n : ℕ) (strings : List (List Letter)) (free : List Bool) (f : X → Step) (xs : List X) (i : ℕ) (old now : WalkState)
-    → GoesOver n strings free (map f (take i xs)) old now → i ≤ length xs → now.coin ≤ old.coin + i
-coin-within n strings free f xs i old now goes le =
-    omega (arith, goes.over.coin, coins-steps (map f (take i xs)), length-map (take i xs) f, length-take-le i xs le)
+pub goes-measured : (n : ℕ) (strings : List (List Letter)) (free : List Bool) (draw : Bool → ℕ → Bool) (how : Measurement) (t u : MeasureTarget) (l : Letter) (q : ℕ)
+    (old new : WalkState) → u ≡ t → l ≡ letter_of how.axis → q ≡ u.qubit → GoesOver n strings free draw (collapse l q true u.inverted how.resets ∷ []) old new
+    → GoesOver n strings free draw (measured how t ∷ []) old new
+goes-measured n strings free draw how t u l q old new is el eq goes =
+    subst (λ x. GoesOver n strings free draw (measured how x ∷ []) old new) is
+    (subst (λ r. GoesOver n strings free draw (collapse (letter_of how.axis) r true u.inverted how.resets ∷ []) old new) eq
+    (subst (λ k. GoesOver n strings free draw (collapse k q true u.inverted how.resets ∷ []) old new) el goes))
 
 -- a step that measures nothing and flips nothing that it gives
 pub freely-letters : (n : ℕ) (x : Step) (old new : WalkState) (letters : List Letter) → new ≡ record old { letters = letters } → length new.letters ≡ n
     → ((notes : Notes) → letters ≡ letters_after n notes x old.coin (frame_at 0 old)) → ((notes : Notes) → flips_given n notes x old.coin (frame_at 0 old) ≡ nothing)
     → coins_of x ≡ 0 → GoesFreely n (x ∷ []) old new
-freely-letters n x old new letters e size el ef ec = λ strings free placed.
-    goes-step n strings free x old new
-    (passes-letters n (note_at strings free) x old new letters e (el (same_coins (note_at strings free))) (ef (same_coins (note_at strings free))) ec)
-    (told-unmeasured n strings free x old.coin old.letters ec)
-    (subst (IsPlaced free) (sym e) placed)
-    size
+freely-letters n x old new letters e size el ef ec = λ strings free draw placed.
+    goes-unmeasured n strings free draw x old new ec (λ notes. passes-letters n notes x old new letters e (el notes) (ef notes) ec)
+    (ap (λ (w : WalkState). w.coin) e) (subst (IsPlaced free) (sym e) placed) size
 
 pub freely-gate : (n : ℕ) (g : Gate) (q r : ℕ) (old new : WalkState) → q ≡ r → new ≡ record old { letters = (image g q (plus old.letters)).letters }
     → length new.letters ≡ n → GoesFreely n (one g r ∷ []) old new
@@ -117,50 +207,46 @@ freely-controlled n axis p k q l j r old new is el ej er e size size_new =
 -- a detector, which measures nothing
 pub freely-detector : (n : ℕ) (ks : List ℕ) (old new : WalkState) → new ≡ record old { flips = joined old.flips (record nothing { detectors = parity old.flips.records ks ∷ [] }) }
     → length new.letters ≡ n → GoesFreely n (detector ks ∷ []) old new
-freely-detector n ks old new e size = λ strings free placed.
-    goes-step n strings free (detector ks) old new
-    (passes-flips n (note_at strings free) (detector ks) old new (record nothing { detectors = parity old.flips.records ks ∷ [] }) e refl refl refl)
-    (told-unmeasured n strings free (detector ks) old.coin old.letters refl)
-    (subst (IsPlaced free) (sym e) placed)
-    size
+freely-detector n ks old new e size = λ strings free draw placed.
+    goes-unmeasured n strings free draw (detector ks) old new refl
+    (λ notes. passes-flips n notes (detector ks) old new (record nothing { detectors = parity old.flips.records ks ∷ [] }) e refl refl refl)
+    (ap (λ (w : WalkState). w.coin) e) (subst (IsPlaced free) (sym e) placed) size
 
 -- an addition to an observable, which measures nothing either
 pub freely-observable : (n j : ℕ) (ks : List ℕ) (old new : WalkState)
     → new ≡ record old { flips = joined old.flips (record nothing { additions = record { observable = j; bit = parity old.flips.records ks } ∷ [] }) }
     → length new.letters ≡ n → GoesFreely n (observable j ks ∷ []) old new
-freely-observable n j ks old new e size = λ strings free placed.
-    goes-step n strings free (observable j ks) old new
-    (passes-flips n (note_at strings free) (observable j ks) old new (record nothing { additions = record { observable = j; bit = parity old.flips.records ks } ∷ [] }) e refl refl refl)
-    (told-unmeasured n strings free (observable j ks) old.coin old.letters refl)
-    (subst (IsPlaced free) (sym e) placed)
-    size
+freely-observable n j ks old new e size = λ strings free draw placed.
+    goes-unmeasured n strings free draw (observable j ks) old new refl
+    (λ notes. passes-flips n notes (observable j ks) old new (record nothing { additions = record { observable = j; bit = parity old.flips.records ks } ∷ [] }) e refl refl refl)
+    (ap (λ (w : WalkState). w.coin) e) (subst (IsPlaced free) (sym e) placed) size
 
 -- steps that need no strings, one after another
 
 pub freely-none : (n : ℕ) (w : WalkState) → length w.letters ≡ n → GoesFreely n [] w w
-freely-none n w size = λ strings free placed. goes-none n strings free w placed size
+freely-none n w size = λ strings free draw placed. goes-none n strings free draw w placed size
 
 pub freely-further : {X : Type 0} (n m : ℕ) (f : X → Step) (xs : List X) (i : ℕ) (d : X) (old now new : WalkState)
     → i < length xs → GoesFreely n (map f (take i xs)) old now → m ≡ n → GoesFreely m (f (get_or xs i d) ∷ []) now new → GoesFreely n (map f (take (i + 1) xs)) old new
-freely-further n m f xs i d old now new lt front same next = λ strings free placed.
-    let here = front strings free placed in
-    goes-further n strings free f xs i d old now new lt here
-    (subst (λ k. GoesOver k strings free (f (get_or xs i d) ∷ []) now new) same (next strings free here.placed))
+freely-further n m f xs i d old now new lt front same next = λ strings free draw placed.
+    let here = front strings free draw placed in
+    goes-further n strings free draw f xs i d old now new lt here
+    (subst (λ k. GoesOver k strings free draw (f (get_or xs i d) ∷ []) now new) same (next strings free draw here.placed))
 
 pub freely-all : {X : Type 0} (n : ℕ) (f : X → Step) (xs : List X) (i : ℕ) (old new : WalkState) → i ≡ length xs → GoesFreely n (map f (take i xs)) old new
     → GoesFreely n (map f xs) old new
-freely-all n f xs i old new e goes = λ strings free placed. goes-all n strings free f xs i old new e (goes strings free placed)
+freely-all n f xs i old new e goes = λ strings free draw placed. goes-all n strings free draw f xs i old new e (goes strings free draw placed)
 
 -- steps of an instruction, all of them or a single one
 
 pub all-mapped : {X : Type 0} (f : X → Step) (xs : List X) (steps : List Step) → steps ≡ map f xs → map f xs ≡ take (length xs) steps
 all-mapped f xs steps is = sym (ap (take (length xs)) is ∙ ap (λ k. take k (map f xs)) (sym (length-map xs f)) ∙ take-length (map f xs))
 
-pub goes-single : (n : ℕ) (strings : List (List Letter)) (free : List Bool) (x : Step) (steps : List Step) (went : Bool) (k : ℕ) (old new : WalkState) → steps ≡ x ∷ []
-    → (went ≡ true → k ≡ 1) → (went ≡ false → k ≡ 0) → (went ≡ true → GoesOver n strings free (x ∷ []) old new) → (went ≡ false → new ≡ old)
-    → IsPlaced free old → length old.letters ≡ n → GoesOver n strings free (take k steps) old new
-goes-single n strings free x steps true k old new is full bare goes same placed size =
-    subst (λ xs. GoesOver n strings free xs old new) (sym (ap (take k) is ∙ ap (λ j. take j (x ∷ [])) (full refl))) (goes refl)
-goes-single n strings free x steps false k old new is full bare goes same placed size =
-    subst (λ xs. GoesOver n strings free xs old new) (sym (ap (take k) is ∙ ap (λ j. take j (x ∷ [])) (bare refl)))
-    (subst (λ w. GoesOver n strings free [] old w) (sym (same refl)) (goes-none n strings free old placed size))
+pub goes-single : (n : ℕ) (strings : List (List Letter)) (free : List Bool) (draw : Bool → ℕ → Bool) (x : Step) (steps : List Step) (went : Bool) (k : ℕ) (old new : WalkState)
+    → steps ≡ x ∷ [] → (went ≡ true → k ≡ 1) → (went ≡ false → k ≡ 0) → Goes n strings free draw x old new went → IsPlaced free old → length old.letters ≡ n
+    → GoesOver n strings free draw (take k steps) old new
+goes-single n strings free draw x steps true k old new is full bare goes placed size =
+    subst (λ xs. GoesOver n strings free draw xs old new) (sym (ap (take k) is ∙ ap (λ j. take j (x ∷ [])) (full refl))) goes
+goes-single n strings free draw x steps false k old new is full bare goes placed size =
+    subst (λ xs. GoesOver n strings free draw xs old new) (sym (ap (take k) is ∙ ap (λ j. take j (x ∷ [])) (bare refl)))
+    (subst (λ w. GoesOver n strings free draw [] old w) (sym goes.0) (goes-none n strings free draw old placed size))

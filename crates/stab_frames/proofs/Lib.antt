@@ -17,6 +17,7 @@ pub mod StillLemmas
 pub mod OverLemmas
 pub mod TrueLemmas
 pub mod NoteAtLemmas
+pub mod FreeLemmas
 pub mod PassLemmas
 pub mod WalkLemmas
 pub mod ProductLemmas
@@ -32,6 +33,5 @@ pub mod TouchLemmas
 pub mod StillWalkLemmas
 pub mod AgainLemmas
 pub mod OtherCoinLemmas
-pub mod OtherRunLemmas
 pub mod FlippedListLemmas
 pub mod TurnedCopyLemmas

@@ -1,32 +1,33 @@
 -- Measured passes: what a frame's way over one step, as programs go it, comes to.
-use Rattle.std.proofs.Common.{◌≡◌, ℕ, zero, suc, ◌+◌, ◌<◌, refl, sym, ◌∙◌, ap, subst, Bool, true, false, ◌&&◌, List, [], ◌∷◌, ◌++◌, append-nil, length, take, get_or, arith}
-use Rattle.std.specs.Prelude.{Option, Some, None, IfSome, slice_get, if◌then◌else◌}
-use Rattle.std.proofs.lemmas.Option.{slice_get-get_or}
+use Rattle.std.proofs.Common.{◌≡◌, ℕ, ◌+◌, ◌<◌, refl, sym, ◌∙◌, ap, subst, Bool, true, false, ◌&&◌, List, [], ◌∷◌, ◌++◌, append-nil, length, get_or, arith}
+use Rattle.std.specs.Prelude.{Option, Some, None, IfSome}
+use Rattle.std.proofs.Math.Bool.{beq}
 use Rattle.stab_letters.specs.declared.letter.Letter.{Letter}
+use Rattle.stab_letters.specs.Letters.{◌⊕◌}
 use Rattle.stab_pauli.specs.Paulis.{Signed, single, string_product, strings_anticommute}
 use Rattle.stab_lines.specs.declared.product.Factor.{Factor}
 use Rattle.stab_circuit.specs.Steps.{Step, collapse, product}
-use Rattle.stab_steps.specs.Records.{ones}
 use Rattle.stab_steps.specs.Runs.{when, string_of, flip_of, measured_by}
 use Rattle.stab_steps.specs.Points.{RunOutput, nothing, joined, coins_of}
 use Rattle.stab_steps.proofs.RunLemmas.{joined-nothing, joined-assoc}
 use Rattle.stab_frames.specs.Frames.{times_where}
-use Rattle.stab_frames.specs.Notes.{Notes, same_coins}
+use Rattle.stab_frames.specs.Notes.{Notes}
 use Rattle.stab_frames.specs.FrameSteps.{flipped_by, letters_by, letters_after, flips_given}
 use Rattle.stab_frames.specs.KeptStrings.{note_at}
 use Rattle.stab_frames.specs.Walks.{WalkState, frame_at, IsPlaced}
-use Rattle.stab_frames.specs.inner.Passes.{Passes, PassesWith, IsPassed, IsPassedWith, IsTold, IsToldBy, flip_by, letters_for, one_coin}
+use Rattle.stab_frames.specs.inner.Passes.{PassesWith, IsPassed, IsPassedWith, IsTold, IsToldBy, flip_by, letters_for, one_coin}
 use Rattle.stab_frames.proofs.RunNoteLemmas.{unmeasured}
+use Rattle.stab_frames.proofs.FreeLemmas.{note-none, note-some, some-none}
 
 -- steps that measure nothing and flip nothing that they give
 
-pub passes-letters : (n : ℕ) (strings : ℕ → Option (List Letter)) (x : Step) (old new : WalkState) (letters : List Letter)
+pub passes-letters : (n : ℕ) (notes : Notes) (x : Step) (old new : WalkState) (letters : List Letter)
     → new ≡ record old { letters = letters }
-    → letters ≡ letters_after n (same_coins strings) x old.coin (frame_at 0 old)
-    → flips_given n (same_coins strings) x old.coin (frame_at 0 old) ≡ nothing
+    → letters ≡ letters_after n notes x old.coin (frame_at 0 old)
+    → flips_given n notes x old.coin (frame_at 0 old) ≡ nothing
     → coins_of x ≡ 0
-    → Passes n strings x old new
-passes-letters n strings x old new letters e el ef ec = record {
+    → PassesWith n notes x old new
+passes-letters n notes x old new letters e el ef ec = record {
   letters = ap (λ (w : WalkState). w.letters) e ∙ el;
   flips = ap (λ (w : WalkState). w.flips) e ∙ sym (joined-nothing old.flips) ∙ ap (joined old.flips) (sym ef);
   coin = ap (λ (w : WalkState). w.coin) e ∙ none old.coin ∙ ap (λ c. old.coin + c) (sym ec);
@@ -37,13 +38,13 @@ passes-letters n strings x old new letters e el ef ec = record {
 
 -- steps that measure nothing and flip something that they give
 
-pub passes-flips : (n : ℕ) (strings : ℕ → Option (List Letter)) (x : Step) (old new : WalkState) (flips : RunOutput)
+pub passes-flips : (n : ℕ) (notes : Notes) (x : Step) (old new : WalkState) (flips : RunOutput)
     → new ≡ record old { flips = joined old.flips flips }
-    → letters_after n (same_coins strings) x old.coin (frame_at 0 old) ≡ old.letters
-    → flips_given n (same_coins strings) x old.coin (frame_at 0 old) ≡ flips
+    → letters_after n notes x old.coin (frame_at 0 old) ≡ old.letters
+    → flips_given n notes x old.coin (frame_at 0 old) ≡ flips
     → coins_of x ≡ 0
-    → Passes n strings x old new
-passes-flips n strings x old new flips e el ef ec = record {
+    → PassesWith n notes x old new
+passes-flips n notes x old new flips e el ef ec = record {
   letters = ap (λ (w : WalkState). w.letters) e ∙ sym el;
   flips = ap (λ (w : WalkState). w.flips) e ∙ ap (joined old.flips) (sym ef);
   coin = ap (λ (w : WalkState). w.coin) e ∙ none old.coin ∙ ap (λ c. old.coin + c) (sym ec);
@@ -51,10 +52,6 @@ passes-flips n strings x old new flips e el ef ec = record {
   where
     none : (k : ℕ) → k ≡ k + 0
     none k = omega arith
-
-pub told-unmeasured : (n : ℕ) (strings : List (List Letter)) (free : List Bool) (x : Step) (coin : ℕ) (f : List Letter) → coins_of x ≡ 0
-    → IsTold n strings free x coin f
-told-unmeasured n strings free x coin f e = unmeasured n (λ m. IsToldBy strings free coin (strings_anticommute f m.letters)) x e
 
 -- measurements
 
@@ -68,93 +65,103 @@ letters-same : (note : Option (List Letter)) (change : Bool) (m : Signed) (f : L
 letters-same None change m f = refl
 letters-same (Some s) change m f = refl
 
--- what the flags and kept strings say of the next outcome
+-- an outcome that the frame has as it is drawn, or that was fixed: the letters stay
 
-pub note-some : (strings : List (List Letter)) (free : List Bool) (coin number : ℕ) → get_or free coin false ≡ true → number ≡ ones (take coin free)
-    → number < length strings → note_at strings free coin ≡ Some (get_or strings number [])
-note-some strings free coin number e placed lt =
-    ap (λ b. if b then slice_get strings (ones (take coin free)) else None) e
-    ∙ ap (slice_get strings) (sym placed)
-    ∙ slice_get-get_or strings number [] lt
+pub equal-bits : (a b : Bool) → beq a b ≡ true → a ≡ b
+equal-bits false false e = refl
+equal-bits false true e = cc
+equal-bits true false e = cc
+equal-bits true true e = refl
 
-pub taken-next : (free : List Bool) (coin : ℕ) (flag : Bool) → get_or free coin false ≡ flag → ones (take coin free) + ones (flag ∷ []) ≡ ones (take (suc coin) free)
-taken-next [] zero true e = cc
-taken-next [] zero false e = refl
-taken-next [] (suc coin) true e = cc
-taken-next [] (suc coin) false e = refl
-taken-next (true ∷ free) zero true e = refl
-taken-next (true ∷ free) zero false e = cc
-taken-next (false ∷ free) zero true e = cc
-taken-next (false ∷ free) zero false e = refl
-taken-next (true ∷ free) (suc coin) flag e = let h = taken-next free coin flag e in omega (arith, h)
-taken-next (false ∷ free) (suc coin) flag e = taken-next free coin flag e
+pub other-bits : (a b : Bool) → beq a b ≡ false → a ⊕ b ≡ true
+other-bits false false e = cc
+other-bits false true e = refl
+other-bits true false e = refl
+other-bits true true e = cc
 
-pub placed-next : (free : List Bool) (flag : Bool) (old new : WalkState) → IsPlaced free old → get_or free old.coin false ≡ flag
-    → new.coin ≡ old.coin + 1 → new.number ≡ old.number + ones (flag ∷ []) → IsPlaced free new
-placed-next free flag old new placed e coin number =
-    number
-    ∙ ap (λ k. k + ones (flag ∷ [])) placed
-    ∙ taken-next free old.coin flag e
-    ∙ ap (λ k. ones (take k free)) (one_more old.coin ∙ sym coin)
-  where
-    one_more : (k : ℕ) → suc k ≡ k + 1
-    one_more k = omega arith
+same-bits : (a b : Bool) → a ≡ b → a ⊕ b ≡ false
+same-bits false false e = refl
+same-bits false true e = cc
+same-bits true false e = cc
+same-bits true true e = refl
 
--- a walk after the next coin
-abbrev pub behind_coin : Bool → WalkState → WalkState
-behind_coin flag w = record w { flips = joined w.flips one_coin; coin = w.coin + 1; number = w.number + ones (flag ∷ []) }
+flip-alike : (note : Option (List Letter)) (change apart : Bool) → change ≡ apart → apart ≡ flip_by note change apart
+flip-alike None change apart e = refl
+flip-alike (Some s) change apart e = sym e
 
-flip-alike : (note : Option (List Letter)) → false ≡ flip_by note false false
-flip-alike None = refl
-flip-alike (Some s) = refl
+letters-alike : (note : Option (List Letter)) (change apart : Bool) (f : List Letter) → change ≡ apart → f ≡ letters_for note change apart f
+letters-alike None change apart f e = refl
+letters-alike (Some s) change apart f e = ap (λ b. times_where b s f) (sym (same-bits change apart e))
 
-letters-alike : (note : Option (List Letter)) (f : List Letter) → f ≡ letters_for note false false f
-letters-alike None f = refl
-letters-alike (Some s) f = refl
+module _ (strings : List (List Letter)) (free : List Bool) (changes : ℕ → Bool) (coin : ℕ) (apart : Bool) where
+  outcome-alike : (flag : Bool) → get_or free coin false ≡ flag → (flag ≡ true → changes coin ≡ apart) → apart ≡ flip_by (note_at strings free coin) (changes coin) apart
+  outcome-alike false e same = ap (λ o. flip_by o (changes coin) apart) (sym (note-none strings free coin e))
+  outcome-alike true e same = flip-alike (note_at strings free coin) (changes coin) apart (same refl)
 
-pub passed-still : (strings : ℕ → Option (List Letter)) (old new : WalkState) → new.letters ≡ old.letters → new.flips ≡ joined old.flips one_coin
-    → new.coin ≡ old.coin + 1 → IsPassed strings false false old new
-passed-still strings old new letters flips coin = record {
-  outcome = flip-alike (strings old.coin);
-  letters = letters ∙ letters-alike (strings old.coin) old.letters;
-  flips = flips;
+  frame-alike : (f : List Letter) (flag : Bool) → get_or free coin false ≡ flag → (flag ≡ true → changes coin ≡ apart)
+      → f ≡ letters_for (note_at strings free coin) (changes coin) apart f
+  frame-alike f false e same = ap (λ o. letters_for o (changes coin) apart f) (sym (note-none strings free coin e))
+  frame-alike f true e same = letters-alike (note_at strings free coin) (changes coin) apart f (same refl)
+
+  told-alike : (flag : Bool) → get_or free coin false ≡ flag → (flag ≡ true → changes coin ≡ apart) → IsToldBy strings free coin (changes coin) apart
+  told-alike false e same = λ differs none. e
+  told-alike true e same = λ differs none. absurd (true-false (sym differs ∙ same-bits (changes coin) apart (same refl)))
+    where
+      true-false : true ≡ false → ⊥
+      true-false e = cc
+
+pub passed-alike : (strings : List (List Letter)) (free : List Bool) (draw : Bool → ℕ → Bool) (inverted apart flip : Bool) (old new : WalkState)
+    → (get_or free old.coin false ≡ true → draw inverted old.coin ≡ apart) → flip ≡ apart
+    → new.letters ≡ old.letters → new.flips ≡ joined old.flips one_coin → new.coin ≡ old.coin + 1 → IsPlaced free new
+    → IsPassed strings free draw inverted apart flip old new
+passed-alike strings free draw inverted apart flip old new as_drawn is letters flips coin placed = record {
+  over = λ changes drawn. record {
+    outcome = is ∙ outcome-alike strings free changes old.coin apart (get_or free old.coin false) refl (λ e. drawn e ∙ as_drawn e);
+    letters = letters ∙ frame-alike strings free changes old.coin apart old.letters (get_or free old.coin false) refl (λ e. drawn e ∙ as_drawn e);
+    flips = flips;
+    coin = coin;
+  };
+  told = λ changes drawn. told-alike strings free changes old.coin apart (get_or free old.coin false) refl (λ e. drawn e ∙ as_drawn e);
   coin = coin;
+  placed = placed;
 }
 
-pub passed-apart : (strings : List (List Letter)) (free : List Bool) (string : List Letter) (old mid new : WalkState) → get_or free old.coin false ≡ true
-    → IsPlaced free old → old.number < length strings → string ≡ get_or strings old.number []
-    → mid ≡ behind_coin true old → new ≡ record mid { letters = string_product mid.letters string }
-    → IsPassed (note_at strings free) true false old new
-passed-apart strings free string old mid new e placed lt is_string first last = record {
-  outcome = ap (λ o. flip_by o false true) (sym note);
-  letters =
-      ap (λ (w : WalkState). w.letters) last
-      ∙ (λ i. string_product (first i).letters (is_string i))
-      ∙ ap (λ o. letters_for o false true old.letters) (sym note);
-  flips = ap (λ (w : WalkState). w.flips) last ∙ ap (λ (w : WalkState). w.flips) first;
-  coin = ap (λ (w : WalkState). w.coin) last ∙ ap (λ (w : WalkState). w.coin) first;
+-- one that the frame has otherwise: the string of it is multiplied on
+
+pub passed-times : (strings : List (List Letter)) (free : List Bool) (draw : Bool → ℕ → Bool) (inverted apart flip : Bool) (old new : WalkState)
+    → get_or free old.coin false ≡ true → IsPlaced free old → old.number < length strings → flip ≡ draw inverted old.coin → flip ⊕ apart ≡ true
+    → new.letters ≡ string_product old.letters (get_or strings old.number []) → new.flips ≡ joined old.flips one_coin → new.coin ≡ old.coin + 1 → IsPlaced free new
+    → IsPassed strings free draw inverted apart flip old new
+passed-times strings free draw inverted apart flip old new e placed lt is differs letters flips coin placed_new = record {
+  over = λ changes drawn. record {
+    outcome = is ∙ sym (drawn e) ∙ ap (λ o. flip_by o (changes old.coin) apart) (sym note);
+    letters =
+        letters
+        ∙ ap (λ b. times_where b (get_or strings old.number []) old.letters) (sym differs)
+        ∙ ap (λ b. times_where (b ⊕ apart) (get_or strings old.number []) old.letters) (is ∙ sym (drawn e))
+        ∙ ap (λ o. letters_for o (changes old.coin) apart old.letters) (sym note);
+    flips = flips;
+    coin = coin;
+  };
+  told = λ changes drawn is_so none. absurd (some-none (get_or strings old.number []) (sym note ∙ none));
+  coin = coin;
+  placed = placed_new;
 }
   where
     note : note_at strings free old.coin ≡ Some (get_or strings old.number [])
     note = note-some strings free old.coin old.number e placed lt
 
-pub told-alike : (strings : List (List Letter)) (free : List Bool) (coin : ℕ) (apart : Bool) → apart ≡ false → IsToldBy strings free coin apart
-told-alike strings free coin true e = cc
-told-alike strings free coin false e = λ is none. cc
+-- at a step that measures nothing, and at one that measures something
 
-pub told-kept : (strings : List (List Letter)) (free : List Bool) (coin number : ℕ) (apart : Bool) → get_or free coin false ≡ true
-    → number ≡ ones (take coin free) → number < length strings → IsToldBy strings free coin apart
-told-kept strings free coin number apart e placed lt = λ is none.
-    let note = note-some strings free coin number e placed lt in
-    absurd (some_none (get_or strings number []) (sym note ∙ none))
-  where
-    some_none : (s : List Letter) → ◌≡◌ {A = Option (List Letter)} (Some s) None → ⊥
-    some_none s e = cc
+pub told-unmeasured : (n : ℕ) (strings : List (List Letter)) (free : List Bool) (changes : ℕ → Bool) (x : Step) (coin : ℕ) (f : List Letter) → coins_of x ≡ 0
+    → IsTold n strings free changes x coin f
+told-unmeasured n strings free changes x coin f e = unmeasured n (λ m. IsToldBy strings free coin (changes coin) (strings_anticommute f m.letters)) x e
 
-pub told-measured : (n : ℕ) (strings : List (List Letter)) (free : List Bool) (x : Step) (m : Signed) (coin : ℕ) (apart : Bool) (f : List Letter)
-    → measured_by n x ≡ Some m → strings_anticommute f m.letters ≡ apart → IsToldBy strings free coin apart → IsTold n strings free x coin f
-told-measured n strings free x m coin apart f measured e told =
-    subst (λ o. IfSome o (λ q. IsToldBy strings free coin (strings_anticommute f q.letters))) (sym measured) (subst (IsToldBy strings free coin) (sym e) told)
+pub told-measured : (n : ℕ) (strings : List (List Letter)) (free : List Bool) (changes : ℕ → Bool) (x : Step) (m : Signed) (coin : ℕ) (apart : Bool) (f : List Letter)
+    → measured_by n x ≡ Some m → strings_anticommute f m.letters ≡ apart → IsToldBy strings free coin (changes coin) apart → IsTold n strings free changes x coin f
+told-measured n strings free changes x m coin apart f measured e told =
+    subst (λ o. IfSome o (λ q. IsToldBy strings free coin (changes coin) (strings_anticommute f q.letters))) (sym measured)
+    (subst (IsToldBy strings free coin (changes coin)) (sym e) told)
 
 -- over a measured letter and a measured product
 

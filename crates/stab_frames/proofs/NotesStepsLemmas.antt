@@ -1,15 +1,15 @@
 -- Notes of steps: what a run notes of steps one after another, of those of targets, and of steps that measure nothing.
-use Rattle.std.proofs.Common.{◌≡◌, ℕ, ◌+◌, ◌<◌, ◌≤◌, refl, sym, ◌∙◌, ap, subst, Bool, true, false, List, [], ◌∷◌, ◌++◌, All, length, map, take, get_or, arith}
+use Rattle.std.proofs.Common.{◌≡◌, ℕ, ◌+◌, ◌<◌, ◌≤◌, refl, sym, ◌∙◌, subst, Bool, true, false, List, [], ◌∷◌, ◌++◌, All, length, map, take, get_or, arith}
 use Rattle.std.specs.Prelude.{Option, Some, None}
-use Rattle.std.proofs.lemmas.List.{map_more, take_all}
-use Rattle.std.proofs.lemmas.List.Elements.{All-nil, All-cons, All-head, All-tail, All-append}
+use Rattle.std.proofs.lemmas.List.{take_all}
+use Rattle.std.proofs.lemmas.List.Elements.{All-nil, All-cons, All-append}
 use Rattle.stab_letters.specs.declared.letter.Letter.{Letter}
 use Rattle.stab_letters.specs.declared.gate.Gate.{Gate}
 use Rattle.stab_pauli.specs.Paulis.{Signed}
 use Rattle.stab_lines.specs.declared.axis.Axis.{Axis}
 use Rattle.stab_lines.specs.declared.control.ControlledPair.{ControlledPair}
 use Rattle.stab_lines.specs.declared.control.ControlledPair.TheVariants as pair
-use Rattle.stab_circuit.specs.Steps.{Step, one, controlled_step, detector, lookbacks}
+use Rattle.stab_circuit.specs.Steps.{Step, one, controlled_step, detector}
 use Rattle.stab_steps.specs.Runs.{measured_by}
 use Rattle.stab_steps.specs.Exchanged.{IsExchanged}
 use Rattle.stab_steps.specs.Points.{all_coins_of}

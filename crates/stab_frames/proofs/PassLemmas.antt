@@ -11,7 +11,7 @@ use Rattle.stab_steps.specs.Points.{Point, RunOutput, nothing, joined, coins_of,
 use Rattle.stab_steps.proofs.RunLemmas.{joined-nothing, joined-assoc}
 use Rattle.stab_laws.proofs.CoinLemmas.{coins-append}
 use Rattle.stab_frames.specs.Frames.{Frame, times_where}
-use Rattle.stab_frames.specs.Notes.{Notes, same_coins, IsNoteOf}
+use Rattle.stab_frames.specs.Notes.{Notes, notes_of, IsNoteOf}
 use Rattle.stab_frames.specs.FrameSteps.{letters_after, flips_given, frame_after, frame_over, flips_over}
 use Rattle.stab_frames.specs.StepNotes.{IsEnoughAt, AreEnough}
 use Rattle.stab_frames.specs.KeptStrings.{note_at, IsTrueAt, AreTrue}
@@ -94,20 +94,22 @@ over-append n notes xs ys a b c first then = record {
 
 -- what has to be known, over steps one after another
 
-pub told-append : (n : ℕ) (strings : List (List Letter)) (free : List Bool) (xs ys : List Step) (coin : ℕ) (f : Frame) → AreTold n strings free xs coin f
-    → AreTold n strings free ys (coin + all_coins_of xs) (frame_over n (same_coins (note_at strings free)) xs coin f) → AreTold n strings free (xs ++ ys) coin f
-told-append n strings free [] ys coin f front rest = subst (λ c. AreTold n strings free ys c f) (none coin) rest
+pub told-append : (n : ℕ) (strings : List (List Letter)) (free : List Bool) (changes : ℕ → Bool) (xs ys : List Step) (coin : ℕ) (f : Frame)
+    → AreTold n strings free changes xs coin f
+    → AreTold n strings free changes ys (coin + all_coins_of xs) (frame_over n (notes_of (note_at strings free) changes) xs coin f)
+    → AreTold n strings free changes (xs ++ ys) coin f
+told-append n strings free changes [] ys coin f front rest = subst (λ c. AreTold n strings free changes ys c f) (none coin) rest
   where
     none : (a : ℕ) → a + 0 ≡ a
     none a = omega arith
-told-append n strings free (x ∷ xs) ys coin f front rest = (
+told-append n strings free changes (x ∷ xs) ys coin f front rest = (
   front.0,
-  told-append n strings free xs ys (coin + coins_of x) (frame_after n notes x coin f) front.1
-      (subst (λ c. AreTold n strings free ys c (frame_over n notes xs (coin + coins_of x) (frame_after n notes x coin f))) (more coin (coins_of x) (all_coins_of xs)) rest),
+  told-append n strings free changes xs ys (coin + coins_of x) (frame_after n notes x coin f) front.1
+      (subst (λ c. AreTold n strings free changes ys c (frame_over n notes xs (coin + coins_of x) (frame_after n notes x coin f))) (more coin (coins_of x) (all_coins_of xs)) rest),
 )
   where
     notes : Notes
-    notes = same_coins (note_at strings free)
+    notes = notes_of (note_at strings free) changes
 
     more : (a b c : ℕ) → a + (b + c) ≡ (a + b) + c
     more a b c = omega arith
@@ -133,27 +135,27 @@ first-flag (x ∷ free) (suc coin) b bits e =
     one_more : suc coin + 1 ≡ suc (coin + 1)
     one_more = omega arith
 
-step-enough : (n : ℕ) (coins : ℕ → Bool) (strings : List (List Letter)) (free : List Bool) (x : Step) (f : List Letter) (a : Point)
-    → IsTold n strings free x a.coin f → IsTrueAt n (note_at strings free) x a → (rest : List Bool) → drop a.coin free ≡ (given n coins x a).free ++ rest
-    → IsEnoughAt n (same_coins (note_at strings free)) x f a × (drop (a.coin + coins_of x) free ≡ rest)
-step-enough n coins strings free (one g q) f a told is rest flags = (tt, ap (λ k. drop k free) (none a.coin) ∙ flags)
-step-enough n coins strings free (two g p q) f a told is rest flags = (tt, ap (λ k. drop k free) (none a.coin) ∙ flags)
-step-enough n coins strings free (controlled l k q) f a told is rest flags = (tt, ap (λ k. drop k free) (none a.coin) ∙ flags)
-step-enough n coins strings free (collapse l q recorded inverted resets) f a told is rest flags =
+step-enough : (n : ℕ) (coins : ℕ → Bool) (strings : List (List Letter)) (free : List Bool) (changes : ℕ → Bool) (x : Step) (f : List Letter) (a : Point)
+    → IsTold n strings free changes x a.coin f → IsTrueAt n (note_at strings free) x a → (rest : List Bool) → drop a.coin free ≡ (given n coins x a).free ++ rest
+    → IsEnoughAt n (notes_of (note_at strings free) changes) x f a × (drop (a.coin + coins_of x) free ≡ rest)
+step-enough n coins strings free changes (one g q) f a told is rest flags = (tt, ap (λ k. drop k free) (none a.coin) ∙ flags)
+step-enough n coins strings free changes (two g p q) f a told is rest flags = (tt, ap (λ k. drop k free) (none a.coin) ∙ flags)
+step-enough n coins strings free changes (controlled l k q) f a told is rest flags = (tt, ap (λ k. drop k free) (none a.coin) ∙ flags)
+step-enough n coins strings free changes (collapse l q recorded inverted resets) f a told is rest flags =
     let first = first-flag free a.coin (is_free a.trace (single n q l)) rest flags in
     ((λ apart. note-enough n a.trace (single n q l) (note_at strings free a.coin) (get_or free a.coin false) (told apart) first.0 is), first.1)
-step-enough n coins strings free (product factors inverted) f a told is rest flags =
+step-enough n coins strings free changes (product factors inverted) f a told is rest flags =
     let first = first-flag free a.coin (is_free a.trace (string_of n factors)) rest flags in
     ((λ apart. note-enough n a.trace (string_of n factors) (note_at strings free a.coin) (get_or free a.coin false) (told apart) first.0 is), first.1)
-step-enough n coins strings free (detector ks) f a told is rest flags = (tt, ap (λ k. drop k free) (none a.coin) ∙ flags)
-step-enough n coins strings free (observable j ks) f a told is rest flags = (tt, ap (λ k. drop k free) (none a.coin) ∙ flags)
+step-enough n coins strings free changes (detector ks) f a told is rest flags = (tt, ap (λ k. drop k free) (none a.coin) ∙ flags)
+step-enough n coins strings free changes (observable j ks) f a told is rest flags = (tt, ap (λ k. drop k free) (none a.coin) ∙ flags)
 
-pub told-enough : (n : ℕ) (coins : ℕ → Bool) (strings : List (List Letter)) (free : List Bool) (xs : List Step) (f : Frame) (a : Point)
-    → AreTold n strings free xs a.coin f → AreTrue n coins (note_at strings free) xs a → (rest : List Bool) → drop a.coin free ≡ (outputs n coins xs a).free ++ rest
-    → AreEnough n coins (same_coins (note_at strings free)) xs f a
-told-enough n coins strings free [] f a told is rest flags = tt
-told-enough n coins strings free (x ∷ xs) f a told is rest flags =
+pub told-enough : (n : ℕ) (coins : ℕ → Bool) (strings : List (List Letter)) (free : List Bool) (changes : ℕ → Bool) (xs : List Step) (f : Frame) (a : Point)
+    → AreTold n strings free changes xs a.coin f → AreTrue n coins (note_at strings free) xs a → (rest : List Bool) → drop a.coin free ≡ (outputs n coins xs a).free ++ rest
+    → AreEnough n coins (notes_of (note_at strings free) changes) xs f a
+told-enough n coins strings free changes [] f a told is rest flags = tt
+told-enough n coins strings free changes (x ∷ xs) f a told is rest flags =
     let next = next_point n coins x a in
-    let here = step-enough n coins strings free x f.letters a told.0 is.0 ((outputs n coins xs next).free ++ rest)
+    let here = step-enough n coins strings free changes x f.letters a told.0 is.0 ((outputs n coins xs next).free ++ rest)
     (flags ∙ append_assoc (given n coins x a).free (outputs n coins xs next).free rest) in
-    (here.0, told-enough n coins strings free xs (frame_after n (same_coins (note_at strings free)) x a.coin f) next told.1 is.1 rest here.1)
+    (here.0, told-enough n coins strings free changes xs (frame_after n (notes_of (note_at strings free) changes) x a.coin f) next told.1 is.1 rest here.1)

@@ -1,18 +1,19 @@
 -- Steps walked: a frame's way over the first of some steps, over some more, and what it comes to.
-use Rattle.std.proofs.Common.{◌≡◌, ℕ, ◌+◌, ◌<◌, ◌≤◌, sym, ◌∙◌, ap, subst, Bool, List, [], ◌++◌, length, take, drop, All, arith}
-use Rattle.std.proofs.Math.Seq.{take-add, take-append_seam, drop-append_seam}
+use Rattle.std.proofs.Common.{◌≡◌, ℕ, ◌+◌, ◌-◌, ◌<◌, ◌≤◌, refl, sym, ◌∙◌, ap, subst, Bool, false, List, [], ◌∷◌, ◌++◌, length, take, drop, All, arith}
+use Rattle.std.proofs.Math.Seq.{take-add, take-append_seam, drop-append_seam, take-length}
 use Rattle.std.proofs.lemmas.List.{take-append-drop, take-append-le, length-drop, length-append, drop-drop}
 use Rattle.std.proofs.lemmas.List.Elements.{All-drop, All-take}
 use Rattle.stab_letters.specs.declared.letter.Letter.{Letter}
 use Rattle.stab_circuit.specs.Steps.{Step}
-use Rattle.stab_steps.specs.Points.{Point, point_after, outputs}
+use Rattle.stab_steps.specs.Points.{Point, coins_of, all_coins_of, point_after, outputs}
 use Rattle.stab_steps.specs.ProgramStates.{StepFits}
 use Rattle.stab_steps.proofs.RunLemmas.{outputs-append}
-use Rattle.stab_frames.specs.Frames.{Frame}
+use Rattle.stab_laws.proofs.CoinLemmas.{coins-append}
 use Rattle.stab_frames.specs.Notes.{same_coins}
 use Rattle.stab_frames.specs.StepNotes.{AreEnough}
 use Rattle.stab_frames.specs.KeptStrings.{note_at, AreTrue}
-use Rattle.stab_frames.specs.Walks.{WalkState}
+use Rattle.stab_frames.specs.Walks.{WalkState, frame_at, WalksOver}
+use Rattle.stab_frames.specs.inner.Draws.{never, AreDrawn}
 use Rattle.stab_frames.specs.inner.Passes.{AreTold, GoesOver}
 use Rattle.stab_frames.proofs.TrueLemmas.{true-front}
 use Rattle.stab_frames.proofs.PassLemmas.{told-enough}
@@ -37,21 +38,47 @@ fits-over n m k xs ys rest e same fits =
     subst (λ j. All (StepFits j) ys) (sym same)
     (subst (All (StepFits n)) (take-append_seam ys rest) (All-take (StepFits n) (length ys) (ys ++ rest) (subst (All (StepFits n)) e (All-drop (StepFits n) k xs fits))))
 
+pub take-next : (k : ℕ) (xs ys rest : List Step) → drop k xs ≡ ys ++ rest → take (k + length ys) xs ≡ take k xs ++ ys
+take-next k xs ys rest e = take-over k (length ys) xs ys rest e (omega arith) ∙ ap (λ zs. take k xs ++ zs) (take-length ys)
+
+pub coins-within : (k most : ℕ) (xs ys rest : List Step) → drop k xs ≡ ys ++ rest → k + length ys ≤ most
+    → all_coins_of (take k xs) + all_coins_of ys ≤ all_coins_of (take most xs)
+coins-within k most xs ys rest e le =
+    let whole : most ≡ (k + length ys) + (most - (k + length ys)) = omega (arith, le) in
+    let parts = ap (λ j. all_coins_of (take j xs)) whole ∙ ap all_coins_of (take-add (k + length ys) (most - (k + length ys)) xs)
+    ∙ coins-append (take (k + length ys) xs) (take (most - (k + length ys)) (drop (k + length ys) xs)) in
+    let front = ap all_coins_of (take-next k xs ys rest e) ∙ coins-append (take k xs) ys in
+    omega (arith, parts, front)
+
+pub coins-less : (k most : ℕ) (xs : List Step) → k ≤ most → all_coins_of (take k xs) ≤ all_coins_of (take most xs)
+coins-less k most xs le = omega (arith, coins-within k most xs [] (drop k xs) refl (omega (arith, le)))
+
 -- a walk over some of the next steps
 
-pub goes-over : (n m : ℕ) (strings : List (List Letter)) (free : List Bool) (k j : ℕ) (xs ys rest : List Step) (old now new : WalkState) → drop k xs ≡ ys ++ rest → j ≤ length ys
-    → GoesOver n strings free (take k xs) old now → m ≡ n → GoesOver m strings free (take j ys) now new → GoesOver n strings free (take (k + j) xs) old new
-goes-over n m strings free k j xs ys rest old now new e le front same next =
-    subst (λ zs. GoesOver n strings free zs old new) (sym (take-over k j xs ys rest e le))
-    (goes-append n strings free (take k xs) (take j ys) old now new front (subst (λ i. GoesOver i strings free (take j ys) now new) same next))
+pub goes-over : (n : ℕ) (strings : List (List Letter)) (free : List Bool) (draw : Bool → ℕ → Bool) (k j : ℕ) (xs ys rest : List Step) (old now new : WalkState)
+    → drop k xs ≡ ys ++ rest → j ≤ length ys → GoesOver n strings free draw (take k xs) old now → GoesOver n strings free draw (take j ys) now new
+    → GoesOver n strings free draw (take (k + j) xs) old new
+goes-over n strings free draw k j xs ys rest old now new e le front next =
+    subst (λ zs. GoesOver n strings free draw zs old new) (sym (take-over k j xs ys rest e le))
+    (goes-append n strings free draw (take k xs) (take j ys) old now new front next)
 
--- what it comes to
+-- what it comes to, if no coin differs
 
-pub walk-enough : (n : ℕ) (coins : ℕ → Bool) (strings : List (List Letter)) (free : List Bool) (k : ℕ) (xs : List Step) (f : Frame) (coin : ℕ) (a : Point) → a.coin ≡ coin
-    → AreTold n strings free (take k xs) coin f → AreTrue n coins (note_at strings free) xs a → (outputs n coins xs a).free ≡ drop coin free
-    → AreEnough n coins (same_coins (note_at strings free)) (take k xs) f a
-walk-enough n coins strings free k xs f coin a same told is flags =
-    told-enough n coins strings free (take k xs) f a (subst (λ c. AreTold n strings free (take k xs) c f) (sym same) told)
+never-drawn : (free : List Bool) (xs : List Step) (coin : ℕ) → AreDrawn free never (λ t. false) xs coin
+never-drawn free [] coin = tt
+never-drawn free (x ∷ xs) coin = (λ some is. refl, never-drawn free xs (coin + coins_of x))
+
+pub walk-same : (n : ℕ) (strings : List (List Letter)) (free : List Bool) (xs : List Step) (old new : WalkState) → GoesOver n strings free never xs old new
+    → WalksOver n (note_at strings free) xs old new
+walk-same n strings free xs old new goes = goes.over (λ t. false) (never-drawn free xs old.coin)
+
+pub walk-enough : (n : ℕ) (coins : ℕ → Bool) (strings : List (List Letter)) (free : List Bool) (k base : ℕ) (xs : List Step) (old new : WalkState) (a : Point)
+    → GoesOver n strings free never (take k xs) old new → a.coin ≡ old.coin → AreTrue n coins (note_at strings free) xs a → (outputs n coins xs a).free ≡ drop old.coin free
+    → AreEnough n coins (same_coins (note_at strings free)) (take k xs) (frame_at base old) a
+walk-enough n coins strings free k base xs old new a goes same is flags =
+    told-enough n coins strings free (λ t. false) (take k xs) (frame_at base old) a
+    (subst (λ c. AreTold n strings free (λ t. false) (take k xs) c (frame_at base old)) (sym same)
+    (goes.told (λ t. false) (never-drawn free (take k xs) old.coin) base))
     (true-front n coins (note_at strings free) (take k xs) (drop k xs) a (subst (λ ys. AreTrue n coins (note_at strings free) ys a) (sym (take-append-drop k xs)) is))
     (outputs n coins (drop k xs) (point_after n coins (take k xs) a)).free
     (ap (λ c. drop c free) same

@@ -3,15 +3,13 @@ use Rattle.std.proofs.Common.{◌≡◌, ℕ, suc, ◌+◌, ◌-◌, ◌<◌, �
 use Rattle.std.specs.List.{list_any}
 use Rattle.std.proofs.lemmas.List.{take_all, replicate-append-replicate, length-take}
 use Rattle.std.proofs.lemmas.List.Elements.{All-tail, All-head}
-use Rattle.std.proofs.Math.Seq.{take-add}
 use Rattle.stab_letters.specs.declared.letter.Letter.{Letter}
-use Rattle.stab_pauli.specs.Paulis.{single, strings_anticommute}
+use Rattle.stab_pauli.specs.Paulis.{single}
 use Rattle.stab_lines.specs.declared.range.MeasureTarget.{MeasureTarget}
 use Rattle.stab_lines.specs.declared.operation.Measurement.{Measurement}
 use Rattle.stab_lines.specs.Axes.{letter_of}
 use Rattle.stab_circuit.specs.Steps.{measured}
 use Rattle.stab_steps.specs.declared.records.Addition.{Addition}
-use Rattle.stab_steps.proofs.RecordLemmas.{ones-append}
 use Rattle.stab_steps.proofs.RunLemmas.{joined-nothing, joined-assoc}
 use Rattle.stab_steps.specs.Records.{ones}
 use Rattle.stab_steps.specs.Runs.{when, flip_of}
@@ -19,14 +17,13 @@ use Rattle.stab_steps.specs.Points.{nothing, joined}
 use Rattle.stab_steps.specs.ProgramStates.{StepFits}
 use Rattle.stab_laws.proofs.LookbackLemmas.{or-left, or-right}
 use Rattle.stab_frames.specs.Frames.{times_where}
-use Rattle.stab_frames.specs.Notes.{same_coins}
-use Rattle.stab_frames.specs.KeptStrings.{note_at}
 use Rattle.stab_frames.specs.Walks.{WalkState, IsPlaced}
 use Rattle.stab_frames.specs.inner.Passes.{GoesOver, one_coin, none_flipped}
 use Rattle.stab_frames.specs.inner.Touches.{touches_target}
 use Rattle.stab_frames.proofs.FactorLemmas.{single-anticommute}
-use Rattle.stab_frames.proofs.MeasuredPassLemmas.{passed-still, passes-collapse, told-alike, told-measured}
-use Rattle.stab_frames.proofs.GoesOverLemmas.{goes-none, goes-step, goes-append, fits-mapped, all-mapped}
+use Rattle.stab_frames.proofs.FreeLemmas.{ones-split}
+use Rattle.stab_frames.proofs.MeasuredPassLemmas.{passed-alike}
+use Rattle.stab_frames.proofs.GoesOverLemmas.{goes-none, goes-append, goes-collapse, fits-mapped, all-mapped}
 use Rattle.stab_frames.proofs.WalkLemmas.{ones-few}
 
 -- a walk after this many coins and as many records, none of which it flips
@@ -73,83 +70,73 @@ not-reset : (resets : Bool) (string letters : List Letter) → letters ≡ times
 not-reset true string letters = refl
 not-reset false string letters = refl
 
-step-still : (n : ℕ) (strings : List (List Letter)) (free : List Bool) (how : Measurement) (t : MeasureTarget) (old : WalkState) → t.qubit < n
-    → touches_target old.letters (letter_of how.axis) t ≡ false → length old.letters ≡ n
-    → GoesOver n strings free (measured how t ∷ []) old (still_behind 1 (ones (take (old.coin + 1) free)) old)
-step-still n strings free how t old lt e size =
-    goes-step n strings free (measured how t) old (still_behind 1 (ones (take (old.coin + 1) free)) old)
-    (passes-collapse n (same_coins (note_at strings free)) (letter_of how.axis) t.qubit true t.inverted how.resets false false old mid mid
-    (still_behind 1 (ones (take (old.coin + 1) free)) old) commutes (passed-still (note_at strings free) old mid refl refl refl) size
-    (ap (λ letters. record mid { letters = letters }) (not-reset how.resets (single (length mid.letters) t.qubit (flip_of (letter_of how.axis))).letters mid.letters))
-    (ap (λ o. record mid { flips = o }) (sym (joined-assoc old.flips one_coin (record nothing { records = when true false })))))
-    (told-measured n strings free (measured how t) (single n t.qubit (letter_of how.axis)) old.coin false old.letters refl commutes (told-alike strings free old.coin false refl))
-    refl size
-  where
-    mid : WalkState
-    mid = record old { flips = joined old.flips one_coin; coin = old.coin + 1; number = ones (take (old.coin + 1) free) }
+module _ (n : ℕ) (strings : List (List Letter)) (free : List Bool) (draw : Bool → ℕ → Bool) (still : (inverted : Bool) (coin : ℕ) → draw inverted coin ≡ false) (how : Measurement) where
+  step-still : (t : MeasureTarget) (old : WalkState) → t.qubit < n → touches_target old.letters (letter_of how.axis) t ≡ false → length old.letters ≡ n
+      → GoesOver n strings free draw (measured how t ∷ []) old (still_behind 1 (ones (take (old.coin + 1) free)) old)
+  step-still t old lt e size =
+      goes-collapse n strings free draw (letter_of how.axis) t.qubit true t.inverted how.resets false false old mid mid (still_behind 1 (ones (take (old.coin + 1) free)) old)
+      (single-anticommute n t.qubit (letter_of how.axis) old.letters size lt ∙ e)
+      (passed-alike strings free draw t.inverted false false old mid (λ is. still t.inverted old.coin) refl refl refl refl refl) size
+      (ap (λ letters. record mid { letters = letters }) (not-reset how.resets (single (length mid.letters) t.qubit (flip_of (letter_of how.axis))).letters mid.letters))
+      (ap (λ o. record mid { flips = o }) (sym (joined-assoc old.flips one_coin (record nothing { records = when true false }))))
+      size
+    where
+      mid : WalkState
+      mid = record old { flips = joined old.flips one_coin; coin = old.coin + 1; number = ones (take (old.coin + 1) free) }
 
-    commutes : strings_anticommute old.letters (single n t.qubit (letter_of how.axis)).letters ≡ false
-    commutes = single-anticommute n t.qubit (letter_of how.axis) old.letters size lt ∙ e
+  steps-still : (targets : List MeasureTarget) (number : ℕ) (old : WalkState)
+      → All (λ t. t.qubit < n) targets → list_any (touches_target old.letters (letter_of how.axis)) targets ≡ false → length old.letters ≡ n
+      → IsPlaced free old → number ≡ ones (take (old.coin + length targets) free)
+      → GoesOver n strings free draw (map (measured how) targets) old (still_behind (length targets) number old)
+  steps-still [] number old fits e size placed after = subst (λ w. GoesOver n strings free draw [] old w) same (goes-none n strings free draw old placed size)
+    where
+      no_more : old.coin ≡ old.coin + 0
+      no_more = omega arith
 
-steps-still : (n : ℕ) (strings : List (List Letter)) (free : List Bool) (how : Measurement) (targets : List MeasureTarget) (number : ℕ) (old : WalkState)
-    → All (λ t. t.qubit < n) targets → list_any (touches_target old.letters (letter_of how.axis)) targets ≡ false → length old.letters ≡ n
-    → IsPlaced free old → number ≡ ones (take (old.coin + length targets) free)
-    → GoesOver n strings free (map (measured how) targets) old (still_behind (length targets) number old)
-steps-still n strings free how [] number old fits e size placed after =
-    subst (λ w. GoesOver n strings free [] old w) same (goes-none n strings free old placed size)
-  where
-    no_more : old.coin ≡ old.coin + 0
-    no_more = omega arith
+      same : old ≡ still_behind 0 number old
+      same = λ i. record {
+        letters = old.letters;
+        flips = sym (joined-nothing old.flips) i;
+        coin = no_more i;
+        number = (placed ∙ ap (λ k. ones (take k free)) no_more ∙ sym after) i;
+      }
+  steps-still (t ∷ targets) number old fits e size placed after =
+      goes-append n strings free draw (measured how t ∷ []) (map (measured how) targets) old mid (still_behind (suc (length targets)) number old)
+      (step-still t old (All-head (λ x. x.qubit < n) t targets fits) (or-left (touches t) (list_any touches targets) e) size)
+      (subst (λ w. GoesOver n strings free draw (map (measured how) targets) mid w) same
+      (steps-still targets number mid (All-tail (λ x. x.qubit < n) t targets fits) (or-right (touches t) (list_any touches targets) e) size refl
+      (after ∙ ap (λ k. ones (take k free)) (sym more))))
+    where
+      touches : MeasureTarget → Bool
+      touches = touches_target old.letters (letter_of how.axis)
 
-    same : old ≡ still_behind 0 number old
-    same = λ i. record {
-      letters = old.letters;
-      flips = sym (joined-nothing old.flips) i;
-      coin = no_more i;
-      number = (placed ∙ ap (λ k. ones (take k free)) no_more ∙ sym after) i;
-    }
-steps-still n strings free how (t ∷ targets) number old fits e size placed after =
-    goes-append n strings free (measured how t ∷ []) (map (measured how) targets) old mid (still_behind (suc (length targets)) number old)
-    (step-still n strings free how t old (All-head (λ x. x.qubit < n) t targets fits) (or-left (touches t) (list_any touches targets) e) size)
-    (subst (λ w. GoesOver n strings free (map (measured how) targets) mid w) same
-    (steps-still n strings free how targets number mid (All-tail (λ x. x.qubit < n) t targets fits) (or-right (touches t) (list_any touches targets) e) size refl
-    (after ∙ ap (λ k. ones (take k free)) (sym more))))
-  where
-    touches : MeasureTarget → Bool
-    touches = touches_target old.letters (letter_of how.axis)
+      mid : WalkState
+      mid = still_behind 1 (ones (take (old.coin + 1) free)) old
 
-    mid : WalkState
-    mid = still_behind 1 (ones (take (old.coin + 1) free)) old
+      more : (old.coin + 1) + length targets ≡ old.coin + suc (length targets)
+      more = omega arith
 
-    more : (old.coin + 1) + length targets ≡ old.coin + suc (length targets)
-    more = omega arith
-
-    same : still_behind (length targets) number mid ≡ still_behind (suc (length targets)) number old
-    same = λ i. record {
-      letters = old.letters;
-      flips = joined-assoc old.flips (none_flipped 1) (none_flipped (length targets)) i;
-      coin = more i;
-      number = number;
-    }
-
-still-placed : (free : List Bool) (k : ℕ) (w : WalkState) → IsPlaced free w → w.number + ones (take k (drop w.coin free)) ≡ ones (take (w.coin + k) free)
-still-placed free k w placed =
-    ap (λ j. j + ones (take k (drop w.coin free))) placed
-    ∙ sym (ones-append (take w.coin free) (take k (drop w.coin free)))
-    ∙ ap ones (sym (take-add w.coin k free))
+      same : still_behind (length targets) number mid ≡ still_behind (suc (length targets)) number old
+      same = λ i. record {
+        letters = old.letters;
+        flips = joined-assoc old.flips (none_flipped 1) (none_flipped (length targets)) i;
+        coin = more i;
+        number = number;
+      }
 
 pub targets-fit : (n : ℕ) (how : Measurement) (targets : List MeasureTarget) → All (StepFits n) (map (measured how) targets) → All (λ t. t.qubit < n) targets
 targets-fit n how targets fits = λ i d lt. fits-mapped n n (measured how) targets i d fits lt refl
 
-pub goes-still : (n : ℕ) (strings : List (List Letter)) (free : List Bool) (how : Measurement) (targets : List MeasureTarget) (l : Letter) (old new : WalkState)
+pub goes-still : (n : ℕ) (strings : List (List Letter)) (free : List Bool) (draw : Bool → ℕ → Bool) (how : Measurement) (targets : List MeasureTarget) (l : Letter)
+    (old new : WalkState) → ((inverted : Bool) (coin : ℕ) → draw inverted coin ≡ false)
     → l ≡ letter_of how.axis → All (StepFits n) (map (measured how) targets) → list_any (touches_target old.letters l) targets ≡ false → length old.letters ≡ n
     → IsPlaced free old → new ≡ still_behind (length targets) (old.number + ones (take (length targets) (drop old.coin free))) old
-    → GoesOver n strings free (take (length targets) (map (measured how) targets)) old new
-goes-still n strings free how targets l old new el fits e size placed is =
-    subst (λ w. GoesOver n strings free (take (length targets) (map (measured how) targets)) old w) (sym is)
-    (subst (λ xs. GoesOver n strings free xs old (still_behind (length targets) number old)) (all-mapped (measured how) targets (map (measured how) targets) refl)
-    (steps-still n strings free how targets number old (targets-fit n how targets fits) (ap (λ k. list_any (touches_target old.letters k) targets) (sym el) ∙ e) size placed
-    (still-placed free (length targets) old placed)))
+    → GoesOver n strings free draw (take (length targets) (map (measured how) targets)) old new
+goes-still n strings free draw how targets l old new still el fits e size placed is =
+    subst (λ w. GoesOver n strings free draw (take (length targets) (map (measured how) targets)) old w) (sym is)
+    (subst (λ xs. GoesOver n strings free draw xs old (still_behind (length targets) number old)) (all-mapped (measured how) targets (map (measured how) targets) refl)
+    (steps-still n strings free draw still how targets number old (targets-fit n how targets fits) (ap (λ k. list_any (touches_target old.letters k) targets) (sym el) ∙ e) size
+    placed (ap (λ j. j + ones (take (length targets) (drop old.coin free))) placed ∙ sym (ones-split old.coin (length targets) free))))
   where
     number : ℕ
     number = old.number + ones (take (length targets) (drop old.coin free))

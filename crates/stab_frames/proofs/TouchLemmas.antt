@@ -72,35 +72,36 @@ pair-untouched n axis (pair.Record k q) w e size = cc
 pub pairs-untouched : (n : ℕ) (axis : Axis) (pairs : List ControlledPair) (w : WalkState) → list_any (touches_pair w.letters) pairs ≡ false → length w.letters ≡ n
     → GoesFreely n (map (controlled_step axis) pairs) w w
 pairs-untouched n axis [] w e size = freely-none n w size
-pairs-untouched n axis (p ∷ pairs) w e size = λ strings free placed.
-    goes-append n strings free (controlled_step axis p ∷ []) (map (controlled_step axis) pairs) w w w
-    (pair-untouched n axis p w (or-left (touches_pair w.letters p) (list_any (touches_pair w.letters) pairs) e) size strings free placed)
-    (pairs-untouched n axis pairs w (or-right (touches_pair w.letters p) (list_any (touches_pair w.letters) pairs) e) size strings free placed)
+pairs-untouched n axis (p ∷ pairs) w e size = λ strings free draw placed.
+    goes-append n strings free draw (controlled_step axis p ∷ []) (map (controlled_step axis) pairs) w w w
+    (pair-untouched n axis p w (or-left (touches_pair w.letters p) (list_any (touches_pair w.letters) pairs) e) size strings free draw placed)
+    (pairs-untouched n axis pairs w (or-right (touches_pair w.letters p) (list_any (touches_pair w.letters) pairs) e) size strings free draw placed)
 
 -- steps of targets, and those of the next ones
 
-pub goes-part : {X : Type 0} (n m : ℕ) (strings : List (List Letter)) (free : List Bool) (f : X → Step) (xs part : List X) (i k : ℕ) (old now new : WalkState)
-    → GoesOver n strings free (map f (take i xs)) old now → m ≡ n → part ≡ take k (drop i xs) → GoesOver m strings free (map f part) now new
-    → GoesOver n strings free (map f (take (i + k) xs)) old new
-goes-part n m strings free f xs part i k old now new front same is next =
-    subst (λ ys. GoesOver n strings free ys old new) (sym (ap (map f) (take-add i k xs) ∙ map-append f (take i xs) (take k (drop i xs))))
-    (goes-append n strings free (map f (take i xs)) (map f (take k (drop i xs))) old now new front
-    (subst (λ j. GoesOver j strings free (map f (take k (drop i xs))) now new) same (subst (λ ys. GoesOver m strings free (map f ys) now new) is next)))
+pub goes-part : {X : Type 0} (n : ℕ) (strings : List (List Letter)) (free : List Bool) (draw : Bool → ℕ → Bool) (f : X → Step) (xs part : List X) (i k : ℕ)
+    (old now new : WalkState) → GoesOver n strings free draw (map f (take i xs)) old now → part ≡ take k (drop i xs) → GoesOver n strings free draw (map f part) now new
+    → GoesOver n strings free draw (map f (take (i + k) xs)) old new
+goes-part n strings free draw f xs part i k old now new front is next =
+    subst (λ ys. GoesOver n strings free draw ys old new) (sym (ap (map f) (take-add i k xs) ∙ map-append f (take i xs) (take k (drop i xs))))
+    (goes-append n strings free draw (map f (take i xs)) (map f (take k (drop i xs))) old now new front
+    (subst (λ ys. GoesOver n strings free draw (map f ys) now new) is next))
 
 pub freely-part : {X : Type 0} (n m : ℕ) (f : X → Step) (xs part : List X) (i k : ℕ) (old now new : WalkState) → GoesFreely n (map f (take i xs)) old now
     → m ≡ n → part ≡ take k (drop i xs) → GoesFreely m (map f part) now new → GoesFreely n (map f (take (i + k) xs)) old new
-freely-part n m f xs part i k old now new front same is next = λ strings free placed.
-    let here = front strings free placed in
-    goes-part n m strings free f xs part i k old now new here same is (next strings free here.placed)
+freely-part n m f xs part i k old now new front same is next = λ strings free draw placed.
+    let here = front strings free draw placed in
+    goes-part n strings free draw f xs part i k old now new here is
+    (subst (λ j. GoesOver j strings free draw (map f part) now new) same (next strings free draw here.placed))
 
 -- of the next k of them only j, or all
 
-pub goes-less : {X : Type 0} (n m : ℕ) (strings : List (List Letter)) (free : List Bool) (f : X → Step) (xs part : List X) (i j k : ℕ) (old now new : WalkState)
-    → GoesOver n strings free (map f (take i xs)) old now → m ≡ n → part ≡ take k (drop i xs) → j ≤ k → GoesOver m strings free (take j (map f part)) now new
-    → GoesOver n strings free (map f (take (i + j) xs)) old new
-goes-less n m strings free f xs part i j k old now new front same is le next =
-    goes-part n m strings free f xs (take j part) i j old now new front same (ap (take j) is ∙ take-take j k (drop i xs) le)
-    (subst (λ ys. GoesOver m strings free ys now new) (take-map f j part) next)
+pub goes-less : {X : Type 0} (n : ℕ) (strings : List (List Letter)) (free : List Bool) (draw : Bool → ℕ → Bool) (f : X → Step) (xs part : List X) (i j k : ℕ)
+    (old now new : WalkState) → GoesOver n strings free draw (map f (take i xs)) old now → part ≡ take k (drop i xs) → j ≤ k
+    → GoesOver n strings free draw (take j (map f part)) now new → GoesOver n strings free draw (map f (take (i + j) xs)) old new
+goes-less n strings free draw f xs part i j k old now new front is le next =
+    goes-part n strings free draw f xs (take j part) i j old now new front (ap (take j) is ∙ take-take j k (drop i xs) le)
+    (subst (λ ys. GoesOver n strings free draw ys now new) (take-map f j part) next)
 
 pub fits-part : {X : Type 0} (n m : ℕ) (f : X → Step) (xs part : List X) (i k : ℕ) → All (StepFits n) (map f xs) → m ≡ n → part ≡ take k (drop i xs)
     → All (StepFits m) (map f part)

@@ -1,9 +1,16 @@
-ghost use Rattle.std.specs.Prelude.{◌≡◌, ◌++◌, take, drop, OnOk};
+ghost use Rattle.std.specs.Prelude.{◌≡◌, ◌++◌, false, take, drop, slice_index_or, OnOk};
 ghost use Rattle.stab_steps.specs.Records.{ones};
 ghost use Rattle.stab_frames.specs.Flips.{flipped, flipped_additions};
 
 use stab_steps::Addition;
 use std::alloc::AllocError;
+
+/// A bit of a list, and 0 past its end.
+pub fn bit_at(bits: &[bool], place: usize) -> bool
+    ensures value { result ≡ slice_index_or bits.now place false }
+{
+    bits.get(place).copied().unwrap_or(false)
+}
 
 /// How many bits are 1.
 pub fn count_ones(bits: &[bool]) -> usize

@@ -21,6 +21,7 @@
 //! - `bits`: lists of bits, counted, and put after others as a frame flips them.
 //! - `turned_states`: kept states that the letters of a frame turn.
 //! - `walk`: a frame on its way, with what it has flipped.
+//! - `draw`: which coins differ on its way.
 //! - `pass`, `pass_steps`: one step on its way, and those of one instruction.
 //! - `steps`: steps, until all are past, the frame is gone, or a string is missing.
 //! - `other_coins`: steps, from a run to one that has other coins there.
@@ -41,6 +42,7 @@
 #![tactic(auto)]
 
 mod bits;
+mod draw;
 mod letters;
 pub mod note_laws;
 mod noting;

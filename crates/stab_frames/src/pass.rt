@@ -1,47 +1,56 @@
 //! One step on the way of a frame.
 
-ghost use Rattle.std.specs.Prelude.{◌≡◌, ◌+◌, ◌^◌, ◌<◌, Bool, true, false, ◌&&◌, [], ◌∷◌, All, length, slice_index_or, IfSome, IfNone, IfOk, OnOk};
+ghost use Rattle.std.specs.Prelude.{◌≡◌, ◌+◌, ◌^◌, ◌<◌, false, ◌&&◌, [], ◌∷◌, All, length, IfSome, IfNone, IfOk, OnOk};
 ghost use Rattle.stab_pauli.specs.Paulis.{single};
 ghost use Rattle.stab_tableau.specs.Gates.{image as image_of, image_pair};
 ghost use Rattle.stab_steps.specs.Records.{looked_up as looked_up_of, parity as parity_of};
 ghost use Rattle.stab_steps.specs.Runs.{when, flip_of};
-ghost use Rattle.stab_steps.specs.Points.{nothing, joined};
+ghost use Rattle.stab_steps.specs.Points.{nothing, joined, coins_of};
 ghost use Rattle.stab_frames.specs.Frames.{plus, times_where};
 ghost use Rattle.stab_lines.specs.Products.{names_twice};
-ghost use Rattle.stab_circuit.specs.Steps.{Step, one, two, controlled, collapse, product, detector, observable};
+ghost use Rattle.stab_circuit.specs.Steps.{Step, collapse, product};
 ghost use Rattle.stab_circuit.specs.Cursors.{step_shown, IsApart};
 ghost use Rattle.stab_steps.specs.ProgramStates.{StepFits};
-ghost use Rattle.stab_frames.specs.KeptStrings.{note_at};
 ghost use Rattle.stab_frames.specs.Walks.{IsPlaced};
-ghost use Rattle.stab_frames.specs.inner.Passes.{Passes, IsToldBy, IsTold, IsPassed, factors_anticommute};
+ghost use Rattle.stab_frames.specs.inner.Draws.{AsksFree};
+ghost use Rattle.stab_frames.specs.inner.Passes.{factors_anticommute, IsPassed, IsMissing, Goes};
 
+use crate::bits::bit_at;
+use crate::draw::Draw;
 use crate::letters::{first_image, image, second_image};
 use crate::strings::KeptStrings;
 use crate::walk::FrameWalk;
 use stab_circuit::{Factor, Step};
 use stab_pauli::Letter;
-use stab_steps::{Addition, flip, looked_up, parity};
+use stab_steps::{Addition, Coins, flip, looked_up, parity};
 use stab_tableau::{Gate, PairGate};
 use std::alloc::AllocError;
 
-/// Leads a frame over a step of a run with these kept strings and flags, and says whether it did:
+/// What is known of the run that a frame comes from, and which coins of the run that it goes to differ.
+#[derive(Clone, Copy)]
+pub struct Known<'a, D> {
+    pub strings: &'a KeptStrings,
+    pub free: &'a [bool],
+    pub draw: &'a D,
+}
+
+/// Leads a frame over a step to a run with these coins, and says whether it did:
 /// not if the string of a free outcome is missing, and then the frame is as before.
-pub fn pass(
+pub fn pass<D: Draw, C: Coins>(
     walk: &mut FrameWalk,
-    strings: &KeptStrings,
-    free: &[bool],
+    known: Known<D>,
+    coins: &mut C,
     step: Step,
 ) -> Result<bool, AllocError>
-    requires same_length { strings.now.qubits ≡ length walk.old.letters }
+    requires same_length { known.strings.now.qubits ≡ length walk.old.letters }
     requires fits { StepFits (length walk.old.letters) (step_shown step) }
     requires apart { IsApart (step_shown step) }
-    requires placed { IsPlaced free.now walk.old }
-    requires few { walk.old.coin < 2 ^ 63 }
+    requires placed { IsPlaced known.free.now walk.old }
+    requires few { D.ahead known.draw.now + walk.old.coin < 2 ^ 63 }
     ensures length { length walk.new.letters ≡ length walk.old.letters }
-    ensures passes { IfOk result (λ gone. gone ≡ true → Passes (length walk.old.letters) (note_at strings.now.strings free.now) (step_shown step.entry) walk.old walk.new) }
-    ensures told { IfOk result (λ gone. gone ≡ true → IsTold (length walk.old.letters) strings.now.strings free.now (step_shown step.entry) walk.old.coin walk.old.letters) }
-    ensures placed { OnOk result (IsPlaced free.now walk.new) }
-    ensures unchanged { IfOk result (λ gone. gone ≡ false → walk.new ≡ walk.old) }
+    ensures same_coins { C.sequence coins.new ≡ C.sequence coins.old }
+    ensures asks { AsksFree known.entry.free.now walk.old.coin (walk.old.coin + coins_of (step_shown step.entry)) (C.asks coins.old) (C.asks coins.new) }
+    ensures goes { IfOk result (Goes (length walk.old.letters) known.entry.strings.now.strings known.entry.free.now (D.changes known.entry.draw.now (C.sequence coins.old)) (step_shown step.entry) walk.old walk.new) }
 {
     match step {
         Step::One(gate, qubit) => pass_gate(walk, gate, qubit),
@@ -51,13 +60,12 @@ pub fn pass(
             letter,
             qubit,
             recorded,
-            inverted: _,
+            inverted,
             reset,
-        } => return pass_collapse(walk, strings, free, letter, qubit, recorded, reset),
-        Step::Product {
-            factors,
-            inverted: _,
-        } => return pass_product(walk, strings, free, factors),
+        } => return pass_collapse(walk, known, coins, letter, qubit, recorded, inverted, reset),
+        Step::Product { factors, inverted } => {
+            return pass_product(walk, known, coins, factors, inverted);
+        }
         Step::Detector(lookbacks) => pass_detector(walk, lookbacks)?,
         Step::Observable(observable, lookbacks) => pass_observable(walk, observable, lookbacks)?,
     }
@@ -105,7 +113,7 @@ pub fn pass_controlled(walk: &mut FrameWalk, letter: Letter, k: u32, qubit: usiz
 }
 
 /// Multiplies a letter on at a qubit, if the bit is 1.
-pub fn multiply_if(walk: &mut FrameWalk, bit: bool, letter: Letter, qubit: usize)
+fn multiply_if(walk: &mut FrameWalk, bit: bool, letter: Letter, qubit: usize)
     requires in_range { qubit < length walk.old.letters }
     ensures value { walk.new ≡ record walk.old { letters = times_where bit (single (length walk.old.letters) qubit letter).letters walk.old.letters } }
     ensures length { length walk.new.letters ≡ length walk.old.letters }
@@ -115,53 +123,46 @@ pub fn multiply_if(walk: &mut FrameWalk, bit: bool, letter: Letter, qubit: usize
     }
 }
 
-/// A bit of a list, and 0 past its end.
-pub fn bit_at(bits: &[bool], place: usize) -> bool
-    ensures value { result ≡ slice_index_or bits.now place false }
-{
-    bits.get(place).copied().unwrap_or(false)
-}
-
 /// Leads a frame over the measurement of the next coin, of something with which it anticommutes or
 /// not, and says whether the outcome is flipped, or `None` if the string is missing.
-fn pass_outcome(
+fn pass_outcome<D: Draw, C: Coins>(
     walk: &mut FrameWalk,
-    strings: &KeptStrings,
-    free: &[bool],
+    known: Known<D>,
+    coins: &mut C,
+    inverted: bool,
     apart: bool,
 ) -> Option<bool>
-    requires same_length { strings.now.qubits ≡ length walk.old.letters }
-    requires placed { IsPlaced free.now walk.old }
-    requires few { walk.old.coin < 2 ^ 63 }
+    requires same_length { known.strings.now.qubits ≡ length walk.old.letters }
+    requires placed { IsPlaced known.free.now walk.old }
+    requires few { D.ahead known.draw.now + walk.old.coin < 2 ^ 63 }
     ensures length { length walk.new.letters ≡ length walk.old.letters }
-    ensures passed { IfSome result (λ flipped. IsPassed (note_at strings.now.strings free.now) apart flipped walk.old walk.new) }
-    ensures told { IfSome result (λ flipped. IsToldBy strings.now.strings free.now walk.old.coin apart) }
-    ensures placed { IsPlaced free.now walk.new }
+    ensures same_coins { C.sequence coins.new ≡ C.sequence coins.old }
+    ensures asks { AsksFree known.entry.free.now walk.old.coin (walk.old.coin + 1) (C.asks coins.old) (C.asks coins.new) }
+    ensures passed { IfSome result (λ flipped. IsPassed known.entry.strings.now.strings known.entry.free.now (D.changes known.entry.draw.now (C.sequence coins.old)) inverted apart flipped walk.old walk.new) }
     ensures unchanged { IfNone result (walk.new ≡ walk.old) }
+    ensures missing { IfNone result (IsMissing known.entry.strings.now.strings known.entry.free.now (walk.old.coin + 1)) }
 {
-    if !bit_at(free, walk.coin()) {
+    let coin = walk.coin();
+    if !bit_at(known.free, coin) {
         walk.pass_coin(false);
         return Some(apart);
     }
-    if !apart {
+    let change = known.draw.change(coins, coin, inverted);
+    if change == apart {
         walk.pass_coin(true);
-        return Some(false);
+        return Some(change);
     }
     let number = walk.number();
-    if number >= strings.len() {
+    if number >= known.strings.len() {
         return None;
     }
     walk.pass_coin(true);
-    walk.multiply(strings.string(number));
-    Some(false)
+    walk.multiply(known.strings.string(number));
+    Some(change)
 }
 
 /// Flips the next record, or not, if there is one.
-pub fn flip_record_when(
-    walk: &mut FrameWalk,
-    recorded: bool,
-    flipped: bool,
-) -> Result<(), AllocError>
+fn flip_record_when(walk: &mut FrameWalk, recorded: bool, flipped: bool) -> Result<(), AllocError>
     ensures value { OnOk result (walk.new ≡ record walk.old { flips = joined walk.old.flips (record nothing { records = when recorded flipped }) }) }
     ensures letters { walk.new.letters ≡ walk.old.letters }
 {
@@ -172,27 +173,27 @@ pub fn flip_record_when(
 }
 
 /// Leads a frame over a measurement of a letter.
-pub fn pass_collapse(
+pub fn pass_collapse<D: Draw, C: Coins>(
     walk: &mut FrameWalk,
-    strings: &KeptStrings,
-    free: &[bool],
+    known: Known<D>,
+    coins: &mut C,
     letter: Letter,
     qubit: usize,
     recorded: bool,
+    inverted: bool,
     resets: bool,
 ) -> Result<bool, AllocError>
-    requires same_length { strings.now.qubits ≡ length walk.old.letters }
+    requires same_length { known.strings.now.qubits ≡ length walk.old.letters }
     requires in_range { qubit < length walk.old.letters }
-    requires placed { IsPlaced free.now walk.old }
-    requires few { walk.old.coin < 2 ^ 63 }
+    requires placed { IsPlaced known.free.now walk.old }
+    requires few { D.ahead known.draw.now + walk.old.coin < 2 ^ 63 }
     ensures length { length walk.new.letters ≡ length walk.old.letters }
-    ensures passes { IfOk result (λ gone. gone ≡ true → (inverted : Bool) → Passes (length walk.old.letters) (note_at strings.now.strings free.now) (collapse letter qubit recorded inverted resets) walk.old walk.new) }
-    ensures told { IfOk result (λ gone. gone ≡ true → (inverted : Bool) → IsTold (length walk.old.letters) strings.now.strings free.now (collapse letter qubit recorded inverted resets) walk.old.coin walk.old.letters) }
-    ensures placed { OnOk result (IsPlaced free.now walk.new) }
-    ensures unchanged { IfOk result (λ gone. gone ≡ false → walk.new ≡ walk.old) }
+    ensures same_coins { C.sequence coins.new ≡ C.sequence coins.old }
+    ensures asks { AsksFree known.entry.free.now walk.old.coin (walk.old.coin + 1) (C.asks coins.old) (C.asks coins.new) }
+    ensures goes { IfOk result (Goes (length walk.old.letters) known.entry.strings.now.strings known.entry.free.now (D.changes known.entry.draw.now (C.sequence coins.old)) (collapse letter qubit recorded inverted resets) walk.old walk.new) }
 {
     let apart = walk.letter(qubit).anticommutes(letter);
-    match pass_outcome(walk, strings, free, apart) {
+    match pass_outcome(walk, known, coins, inverted, apart) {
         Some(flipped) => {
             multiply_if(walk, resets & flipped, flip(letter), qubit);
             flip_record_when(walk, recorded, flipped)?;
@@ -203,7 +204,7 @@ pub fn pass_collapse(
 }
 
 /// Whether letters anticommute with a product.
-pub fn anticommutes(letters: &[Letter], factors: &[Factor]) -> bool
+fn anticommutes(letters: &[Letter], factors: &[Factor]) -> bool
     requires in_range { All (λ f. f.qubit < length letters.now) factors.now }
     ensures value { result ≡ factors_anticommute letters.now factors.now }
 {
@@ -215,25 +216,25 @@ pub fn anticommutes(letters: &[Letter], factors: &[Factor]) -> bool
 }
 
 /// Leads a frame over a measurement of a product.
-fn pass_product(
+fn pass_product<D: Draw, C: Coins>(
     walk: &mut FrameWalk,
-    strings: &KeptStrings,
-    free: &[bool],
+    known: Known<D>,
+    coins: &mut C,
     factors: &[Factor],
+    inverted: bool,
 ) -> Result<bool, AllocError>
-    requires same_length { strings.now.qubits ≡ length walk.old.letters }
+    requires same_length { known.strings.now.qubits ≡ length walk.old.letters }
     requires in_range { All (λ f. f.qubit < length walk.old.letters) factors.now }
     requires apart { names_twice factors.now ≡ false }
-    requires placed { IsPlaced free.now walk.old }
-    requires few { walk.old.coin < 2 ^ 63 }
+    requires placed { IsPlaced known.free.now walk.old }
+    requires few { D.ahead known.draw.now + walk.old.coin < 2 ^ 63 }
     ensures length { length walk.new.letters ≡ length walk.old.letters }
-    ensures passes { IfOk result (λ gone. gone ≡ true → (inverted : Bool) → Passes (length walk.old.letters) (note_at strings.now.strings free.now) (product factors.now inverted) walk.old walk.new) }
-    ensures told { IfOk result (λ gone. gone ≡ true → (inverted : Bool) → IsTold (length walk.old.letters) strings.now.strings free.now (product factors.now inverted) walk.old.coin walk.old.letters) }
-    ensures placed { OnOk result (IsPlaced free.now walk.new) }
-    ensures unchanged { IfOk result (λ gone. gone ≡ false → walk.new ≡ walk.old) }
+    ensures same_coins { C.sequence coins.new ≡ C.sequence coins.old }
+    ensures asks { AsksFree known.entry.free.now walk.old.coin (walk.old.coin + 1) (C.asks coins.old) (C.asks coins.new) }
+    ensures goes { IfOk result (Goes (length walk.old.letters) known.entry.strings.now.strings known.entry.free.now (D.changes known.entry.draw.now (C.sequence coins.old)) (product factors.now inverted) walk.old walk.new) }
 {
     let apart = anticommutes(walk.letters(), factors);
-    match pass_outcome(walk, strings, free, apart) {
+    match pass_outcome(walk, known, coins, inverted, apart) {
         Some(flipped) => {
             walk.flip_record(flipped)?;
             Ok(true)
@@ -252,7 +253,7 @@ pub fn pass_detector(walk: &mut FrameWalk, lookbacks: &[u32]) -> Result<(), Allo
 }
 
 /// Leads a frame over an addition to an observable.
-pub fn pass_observable(
+fn pass_observable(
     walk: &mut FrameWalk,
     observable: u32,
     lookbacks: &[u32],

@@ -1,6 +1,6 @@
 -- Passes: a frame on its way over one step, and what it must know of a measurement.
 -- Source: this project's own.
-use Rattle.std.specs.Prelude.{◌≡◌, ℕ, ◌+◌, Bool, true, false, List, [], ◌∷◌, Option, Some, None, IfSome, slice_index_or, length, replicate}
+use Rattle.std.specs.Prelude.{◌≡◌, ℕ, ◌+◌, ◌<◌, Bool, true, false, List, [], ◌∷◌, Option, Some, None, IfSome, slice_index_or, length, replicate, take}
 use Rattle.stab_letters.specs.declared.letter.Letter.{Letter}
 use Rattle.stab_letters.specs.declared.letter.Letter.TheVariants.{I}
 use Rattle.stab_letters.specs.Letters.{◌⊕◌, letters_anticommute}
@@ -9,13 +9,15 @@ use Rattle.stab_tableau.specs.Gates.{letter_at}
 use Rattle.stab_lines.specs.declared.product.Factor.{Factor}
 use Rattle.stab_lines.specs.Axes.{letter_of}
 use Rattle.stab_circuit.specs.Steps.{Step}
+use Rattle.stab_steps.specs.Records.{ones}
 use Rattle.stab_steps.specs.Runs.{measured_by}
-use Rattle.stab_steps.specs.Points.{RunOutput, nothing, joined, coins_of}
+use Rattle.stab_steps.specs.Points.{RunOutput, nothing, joined, coins_of, all_coins_of}
 use Rattle.stab_frames.specs.Frames.{Frame, times_where}
-use Rattle.stab_frames.specs.Notes.{Notes, same_coins}
+use Rattle.stab_frames.specs.Notes.{Notes, notes_of}
 use Rattle.stab_frames.specs.FrameSteps.{letters_after, flips_given, frame_after}
 use Rattle.stab_frames.specs.KeptStrings.{note_at}
-use Rattle.stab_frames.specs.Walks.{WalkState, frame_at, IsPlaced, WalksOver}
+use Rattle.stab_frames.specs.Walks.{WalkState, frame_at, IsPlaced, WalksWith}
+use Rattle.stab_frames.specs.inner.Draws.{IsDrawn, AreDrawn}
 
 -- the letter, or I if the bit is 0
 abbrev pub letter_where : Bool → Letter → Letter
@@ -52,40 +54,52 @@ pub record IsPassedWith (notes : Notes) (apart flip : Bool) (old new : WalkState
   pub flips : new.flips ≡ joined old.flips one_coin
   pub coin : new.coin ≡ old.coin + 1
 
-abbrev pub IsPassed : (ℕ → Option (List Letter)) → (apart flip : Bool) → WalkState → WalkState → Type 0
-IsPassed strings apart flip old new = IsPassedWith (same_coins strings) apart flip old new
-
 -- over one step
 pub record PassesWith (n : ℕ) (notes : Notes) (x : Step) (old new : WalkState) : Type 0 where
   pub letters : new.letters ≡ letters_after n notes x old.coin (frame_at 0 old)
   pub flips : new.flips ≡ joined old.flips (flips_given n notes x old.coin (frame_at 0 old))
   pub coin : new.coin ≡ old.coin + coins_of x
 
-abbrev pub Passes : ℕ → (ℕ → Option (List Letter)) → Step → WalkState → WalkState → Type 0
-Passes n strings x old new = PassesWith n (same_coins strings) x old new
-
--- if the frame anticommutes with what is measured, its string was kept, or its outcome was fixed
-abbrev pub IsToldBy : List (List Letter) → List Bool → ℕ → Bool → Type 0
-IsToldBy strings free coin apart = apart ≡ true → note_at strings free coin ≡ None → slice_index_or free coin false ≡ false
+-- if an outcome is flipped otherwise than the frame has it, its string was kept, or it was fixed
+abbrev pub IsToldBy : List (List Letter) → List Bool → ℕ → (change apart : Bool) → Type 0
+IsToldBy strings free coin change apart = change ⊕ apart ≡ true → note_at strings free coin ≡ None → slice_index_or free coin false ≡ false
 
 -- the same at a step
-abbrev pub IsTold : ℕ → List (List Letter) → List Bool → Step → ℕ → List Letter → Type 0
-IsTold n strings free x coin f = IfSome (measured_by n x) (λ m. IsToldBy strings free coin (strings_anticommute f m.letters))
+abbrev pub IsTold : ℕ → List (List Letter) → List Bool → (ℕ → Bool) → Step → ℕ → List Letter → Type 0
+IsTold n strings free changes x coin f = IfSome (measured_by n x) (λ m. IsToldBy strings free coin (changes coin) (strings_anticommute f m.letters))
 
 -- and at steps
-abbrev pub AreTold : ℕ → List (List Letter) → List Bool → List Step → ℕ → Frame → Type 0
-AreTold n strings free [] coin f = Unit {0}
-AreTold n strings free (x ∷ xs) coin f =
-    IsTold n strings free x coin f.letters
-    × AreTold n strings free xs (coin + coins_of x) (frame_after n (same_coins (note_at strings free)) x coin f)
+abbrev pub AreTold : ℕ → List (List Letter) → List Bool → (ℕ → Bool) → List Step → ℕ → Frame → Type 0
+AreTold n strings free changes [] coin f = Unit {0}
+AreTold n strings free changes (x ∷ xs) coin f =
+    IsTold n strings free changes x coin f.letters
+    × AreTold n strings free changes xs (coin + coins_of x) (frame_after n (notes_of (note_at strings free) changes) x coin f)
 
--- a frame of n letters passed steps, and what it had to know of their measurements was kept
-pub record GoesOver (n : ℕ) (strings : List (List Letter)) (free : List Bool) (xs : List Step) (old new : WalkState) : Type 0 where
-  pub over : WalksOver n (note_at strings free) xs old new
-  pub told : (base : ℕ) → AreTold n strings free xs old.coin (frame_at base old)
+-- over an outcome, whichever coins differ as is drawn, and what it had to know was kept
+pub record IsPassed (strings : List (List Letter)) (free : List Bool) (draw : Bool → ℕ → Bool) (inverted apart flip : Bool) (old new : WalkState) : Type 0 where
+  pub over : (changes : ℕ → Bool) → IsDrawn free draw changes inverted old.coin → IsPassedWith (notes_of (note_at strings free) changes) apart flip old new
+  pub told : (changes : ℕ → Bool) → IsDrawn free draw changes inverted old.coin → IsToldBy strings free old.coin (changes old.coin) apart
+  pub coin : new.coin ≡ old.coin + 1
+  pub placed : IsPlaced free new
+
+-- a frame of n letters passed steps, whichever coins differ as is drawn, and what it had to know of their measurements was kept
+pub record GoesOver (n : ℕ) (strings : List (List Letter)) (free : List Bool) (draw : Bool → ℕ → Bool) (xs : List Step) (old new : WalkState) : Type 0 where
+  pub over : (changes : ℕ → Bool) → AreDrawn free draw changes xs old.coin → WalksWith n (notes_of (note_at strings free) changes) xs old new
+  pub told : (changes : ℕ → Bool) → AreDrawn free draw changes xs old.coin → (base : ℕ) → AreTold n strings free changes xs old.coin (frame_at base old)
+  pub coin : new.coin ≡ old.coin + all_coins_of xs
   pub placed : IsPlaced free new
   pub size : length new.letters ≡ n
 
--- whatever strings were kept and whichever outcomes were free
+-- whatever strings were kept, whichever outcomes were free, and whatever is drawn
 abbrev pub GoesFreely : ℕ → List Step → WalkState → WalkState → Type 0
-GoesFreely n xs old new = (strings : List (List Letter)) (free : List Bool) → IsPlaced free old → GoesOver n strings free xs old new
+GoesFreely n xs old new =
+    (strings : List (List Letter)) (free : List Bool) (draw : Bool → ℕ → Bool) → IsPlaced free old → GoesOver n strings free draw xs old new
+
+-- the string of a free outcome before a coin was not kept
+abbrev pub IsMissing : List (List Letter) → List Bool → ℕ → Type 0
+IsMissing strings free coin = length strings < ones (take coin free)
+
+-- a frame passed a step or, for want of a string, is as it was
+abbrev pub Goes : ℕ → List (List Letter) → List Bool → (Bool → ℕ → Bool) → Step → WalkState → WalkState → Bool → Type 0
+Goes n strings free draw x old new true = GoesOver n strings free draw (x ∷ []) old new
+Goes n strings free draw x old new false = (new ≡ old) × IsMissing strings free (old.coin + coins_of x)

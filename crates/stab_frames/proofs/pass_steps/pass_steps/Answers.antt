@@ -1,35 +1,70 @@
-use Rattle.std.proofs.Common.{refl, sym, ◌∙◌, ap, subst, length, take, arith}
-use Rattle.stab_circuit.specs.Steps.{one, controlled_step, detector}
+use Rattle.std.proofs.Common.{◌+◌, refl, sym, ◌∙◌, ap, subst, length, take, arith}
+use Rattle.std.proofs.lemmas.List.{length-map}
+use Rattle.std.proofs.lemmas.Result.{IfOk-weaker}
+use Rattle.stab_circuit.specs.Steps.{one, controlled_step, measured, detector}
 use Rattle.stab_circuit.specs.Cursors.{step_shown, steps_shown, lookbacks_of}
-use Rattle.stab_frames.specs.inner.Passes.{GoesOver}
-use Rattle.stab_frames.proofs.GoesOverLemmas.{goes-step, all-mapped, goes-single}
+use Rattle.stab_steps.specs.Points.{all_coins_of}
+use Rattle.stab_steps.proofs.TargetLemmas.{coins-measured}
+use Rattle.stab_frames.specs.inner.Draws.{AsksFree}
+use Rattle.stab_frames.specs.inner.Passes.{GoesOver, IsMissing}
+use Rattle.stab_frames.proofs.FreeLemmas.{asks-none}
+use Rattle.stab_frames.proofs.GoesOverLemmas.{all-mapped, goes-single}
 use Rattle.stab_frames.proofs.pass_steps.pass_steps.Goals as goal
 
 pub returns-in-Gates-clause-goes : goal.returns-in-Gates-clause-goes
-returns-in-Gates-clause-goes c =
-    subst (λ xs. GoesOver (length c.args.walk.now.letters) c.args.strings.now.strings c.args.free.now xs c.args.walk.now c.pass_gates.new.walk)
-    (all-mapped (one c.in-Gates.gate) c.in-Gates.qubits.now (steps_shown c.args.steps) (ap steps_shown c.in-Gates.is))
-    (c.pass_gates.ensures.goes c.args.strings.now.strings c.args.free.now c.requires.placed)
+returns-in-Gates-clause-goes g c =
+    let shown = steps_shown c.args.steps in
+    let draw = g.D.Draw.changes c.args.known.draw.now (g.C.Coins.sequence c.args.coins.now) in
+    subst (λ xs. GoesOver (length c.args.walk.now.letters) c.args.known.strings.now.strings c.args.known.free.now draw xs c.args.walk.now c.pass_gates.new.walk)
+    (all-mapped (one c.in-Gates.gate) c.in-Gates.qubits.now shown (ap steps_shown c.in-Gates.is))
+    (c.pass_gates.ensures.goes c.args.known.strings.now.strings c.args.known.free.now draw c.requires.placed)
 
 pub returns-in-Pairs-clause-goes : goal.returns-in-Pairs-clause-goes
-returns-in-Pairs-clause-goes c =
-    subst (λ xs. GoesOver (length c.args.walk.now.letters) c.args.strings.now.strings c.args.free.now xs c.args.walk.now c.pass_pairs.new.walk)
-    (all-mapped (controlled_step c.in-Pairs.axis) c.in-Pairs.pairs.now (steps_shown c.args.steps) (ap steps_shown c.in-Pairs.is))
-    (c.pass_pairs.ensures.goes c.args.strings.now.strings c.args.free.now c.requires.placed)
+returns-in-Pairs-clause-goes g c =
+    let shown = steps_shown c.args.steps in
+    let draw = g.D.Draw.changes c.args.known.draw.now (g.C.Coins.sequence c.args.coins.now) in
+    subst (λ xs. GoesOver (length c.args.walk.now.letters) c.args.known.strings.now.strings c.args.known.free.now draw xs c.args.walk.now c.pass_pairs.new.walk)
+    (all-mapped (controlled_step c.in-Pairs.axis) c.in-Pairs.pairs.now shown (ap steps_shown c.in-Pairs.is))
+    (c.pass_pairs.ensures.goes c.args.known.strings.now.strings c.args.known.free.now draw c.requires.placed)
 
 pub returns-in_ok-pass_detectors-in-Detectors-clause-goes : goal.returns-in_ok-pass_detectors-in-Detectors-clause-goes
-returns-in_ok-pass_detectors-in-Detectors-clause-goes c =
+returns-in_ok-pass_detectors-in-Detectors-clause-goes g c =
     let shown = steps_shown c.args.steps in
-    subst (λ xs. GoesOver (length c.args.walk.now.letters) c.args.strings.now.strings c.args.free.now xs c.args.walk.now c.pass_detectors.new.walk)
+    let draw = g.D.Draw.changes c.args.known.draw.now (g.C.Coins.sequence c.args.coins.now) in
+    subst (λ xs. GoesOver (length c.args.walk.now.letters) c.args.known.strings.now.strings c.args.known.free.now draw xs c.args.walk.now c.pass_detectors.new.walk)
     (all-mapped detector (lookbacks_of c.in-Detectors.detectors) shown (ap steps_shown c.in-Detectors.is) ∙ ap (λ k. take k shown) (sym c.len.ensures.value))
-    ((c.in_ok-pass_detectors-in-Detectors.ensures {u = tt}).goes c.args.strings.now.strings c.args.free.now c.requires.placed)
+    ((c.in_ok-pass_detectors-in-Detectors.ensures {u = tt}).goes c.args.known.strings.now.strings c.args.known.free.now draw c.requires.placed)
+
+pub returns-in-Measurements-clause-asks : goal.returns-in-Measurements-clause-asks
+returns-in-Measurements-clause-asks g c =
+    subst (λ k. AsksFree c.args.known.free.now c.args.walk.now.coin (c.args.walk.now.coin + k) (g.C.Coins.asks c.args.coins.now) (g.C.Coins.asks c.pass_measurements.new.coins))
+    (sym (ap all_coins_of (ap steps_shown c.in-Measurements.is) ∙ coins-measured c.in-Measurements.measurement c.in-Measurements.targets.now)) c.pass_measurements.ensures.asks
+
+pub returns-in-Measurements-clause-missing : goal.returns-in-Measurements-clause-missing
+returns-in-Measurements-clause-missing g c =
+    let shown = ap steps_shown c.in-Measurements.is in
+    let count = ap length shown ∙ length-map c.in-Measurements.targets.now (measured c.in-Measurements.measurement) in
+    let coins = ap all_coins_of shown ∙ coins-measured c.in-Measurements.measurement c.in-Measurements.targets.now in
+    IfOk-weaker c.pass_measurements.result _ _
+    (λ k missing less. subst (λ j. IsMissing c.args.known.strings.now.strings c.args.known.free.now (c.args.walk.now.coin + j)) (sym coins) (missing (omega (arith, less, count))))
+    c.pass_measurements.ensures.missing
 
 pub returns-in_ok-went-in-Single-clause-goes : goal.returns-in_ok-went-in-Single-clause-goes
-returns-in_ok-went-in-Single-clause-goes c =
-    let n = length c.args.walk.now.letters in
-    let x = step_shown c.in-Single.step in
+returns-in_ok-went-in-Single-clause-goes g c =
     let done = c.in_ok-went-in-Single.ensures {u = tt} in
-    goes-single n c.args.strings.now.strings c.args.free.now x (steps_shown c.args.steps) c.in_ok-went-in-Single.went c.from.result c.args.walk.now c.pass.new.walk
-    (ap steps_shown c.in-Single.is) (λ yes. grind (arith, yes, c.from.ensures)) (λ other. grind (arith, other, c.from.ensures))
-    (λ yes. goes-step n c.args.strings.now.strings c.args.free.now x c.args.walk.now c.pass.new.walk (done.passes yes) (done.told yes) done.placed done.length)
-    done.unchanged c.requires.placed refl
+    goes-single (length c.args.walk.now.letters) c.args.known.strings.now.strings c.args.known.free.now
+    (g.D.Draw.changes c.args.known.draw.now (g.C.Coins.sequence c.args.coins.now)) (step_shown c.in-Single.step) (steps_shown c.args.steps) c.in_ok-went-in-Single.went c.from.result
+    c.args.walk.now c.pass.new.walk (ap steps_shown c.in-Single.is) (λ yes. grind (arith, yes, c.from.ensures)) (λ other. grind (arith, other, c.from.ensures)) done.goes
+    c.requires.placed refl
+
+pub returns-in-Gates-clause-asks : goal.returns-in-Gates-clause-asks
+returns-in-Gates-clause-asks g c = asks-none c.args.known.free.now c.args.walk.now.coin (all_coins_of (steps_shown c.args.steps)) (g.C.Coins.asks c.args.coins.now)
+
+pub returns-in-Pairs-clause-asks : goal.returns-in-Pairs-clause-asks
+returns-in-Pairs-clause-asks g c = asks-none c.args.known.free.now c.args.walk.now.coin (all_coins_of (steps_shown c.args.steps)) (g.C.Coins.asks c.args.coins.now)
+
+pub returns-in_err-pass_detectors-in-Detectors-clause-asks : goal.returns-in_err-pass_detectors-in-Detectors-clause-asks
+returns-in_err-pass_detectors-in-Detectors-clause-asks g c = asks-none c.args.known.free.now c.args.walk.now.coin (all_coins_of (steps_shown c.args.steps)) (g.C.Coins.asks c.args.coins.now)
+
+pub returns-in_ok-pass_detectors-in-Detectors-clause-asks : goal.returns-in_ok-pass_detectors-in-Detectors-clause-asks
+returns-in_ok-pass_detectors-in-Detectors-clause-asks g c = asks-none c.args.known.free.now c.args.walk.now.coin (all_coins_of (steps_shown c.args.steps)) (g.C.Coins.asks c.args.coins.now)

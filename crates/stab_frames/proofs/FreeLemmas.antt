@@ -1,0 +1,82 @@
+-- Free outcomes: how many of them there are, strings of them, and how often their coins are asked for.
+use Rattle.std.proofs.Common.{◌≡◌, ℕ, zero, suc, ◌+◌, ◌-◌, ◌<◌, ◌≤◌, refl, sym, ◌∙◌, ap, Bool, true, false, List, [], ◌∷◌, length, take, drop, get_or, arith}
+use Rattle.std.specs.Prelude.{Option, Some, None, slice_get, if◌then◌else◌}
+use Rattle.std.proofs.lemmas.Option.{slice_get-get_or}
+use Rattle.std.proofs.Math.Seq.{take-add}
+use Rattle.stab_letters.specs.declared.letter.Letter.{Letter}
+use Rattle.stab_steps.specs.Records.{ones}
+use Rattle.stab_steps.proofs.RecordLemmas.{ones-append}
+use Rattle.stab_frames.specs.KeptStrings.{note_at}
+use Rattle.stab_frames.specs.Walks.{WalkState, IsPlaced}
+use Rattle.stab_frames.specs.inner.Draws.{AsksFree}
+use Rattle.stab_frames.specs.inner.Passes.{IsMissing}
+
+-- how many are free
+
+pub ones-split : (a b : ℕ) (bits : List Bool) → ones (take (a + b) bits) ≡ ones (take a bits) + ones (take b (drop a bits))
+ones-split a b bits = ap ones (take-add a b bits) ∙ ones-append (take a bits) (take b (drop a bits))
+
+pub ones-fewer : (a b : ℕ) (bits : List Bool) → a ≤ b → ones (take a bits) ≤ ones (take b bits)
+ones-fewer a b bits le =
+    let whole : b ≡ a + (b - a) = omega (arith, le) in
+    omega (arith, ap (λ k. ones (take k bits)) whole, ones-split a (b - a) bits)
+
+one_more : (k : ℕ) → suc k ≡ k + 1
+one_more k = omega arith
+
+taken-next : (free : List Bool) (coin : ℕ) (flag : Bool) → get_or free coin false ≡ flag → ones (take coin free) + ones (flag ∷ []) ≡ ones (take (suc coin) free)
+taken-next [] zero true e = cc
+taken-next [] zero false e = refl
+taken-next [] (suc coin) true e = cc
+taken-next [] (suc coin) false e = refl
+taken-next (true ∷ free) zero true e = refl
+taken-next (true ∷ free) zero false e = cc
+taken-next (false ∷ free) zero true e = cc
+taken-next (false ∷ free) zero false e = refl
+taken-next (true ∷ free) (suc coin) flag e = let h = taken-next free coin flag e in omega (arith, h)
+taken-next (false ∷ free) (suc coin) flag e = taken-next free coin flag e
+
+pub ones-next : (free : List Bool) (coin : ℕ) (flag : Bool) → get_or free coin false ≡ flag → ones (take coin free) + ones (flag ∷ []) ≡ ones (take (coin + 1) free)
+ones-next free coin flag e = taken-next free coin flag e ∙ ap (λ k. ones (take k free)) (one_more coin)
+
+pub placed-next : (free : List Bool) (flag : Bool) (old new : WalkState) → IsPlaced free old → get_or free old.coin false ≡ flag
+    → new.coin ≡ old.coin + 1 → new.number ≡ old.number + ones (flag ∷ []) → IsPlaced free new
+placed-next free flag old new placed e coin number =
+    number ∙ ap (λ k. k + ones (flag ∷ [])) placed ∙ ones-next free old.coin flag e ∙ ap (λ k. ones (take k free)) (sym coin)
+
+-- the note of an outcome that was fixed, and of a free one whose string was kept
+
+pub note-none : (strings : List (List Letter)) (free : List Bool) (coin : ℕ) → get_or free coin false ≡ false → note_at strings free coin ≡ None
+note-none strings free coin e = ap (λ b. if b then slice_get strings (ones (take coin free)) else None) e
+
+pub note-some : (strings : List (List Letter)) (free : List Bool) (coin number : ℕ) → get_or free coin false ≡ true → number ≡ ones (take coin free)
+    → number < length strings → note_at strings free coin ≡ Some (get_or strings number [])
+note-some strings free coin number e placed lt =
+    ap (λ b. if b then slice_get strings (ones (take coin free)) else None) e
+    ∙ ap (slice_get strings) (sym placed)
+    ∙ slice_get-get_or strings number [] lt
+
+pub some-none : (s : List Letter) → ◌≡◌ {A = Option (List Letter)} (Some s) None → ⊥
+some-none s e = cc
+
+pub missing-next : (strings : List (List Letter)) (free : List Bool) (coin number : ℕ) → get_or free coin false ≡ true → number ≡ ones (take coin free)
+    → length strings ≤ number → IsMissing strings free (coin + 1)
+missing-next strings free coin number e placed le = omega (arith, ones-next free coin true e, placed, le)
+
+pub missing-later : (strings : List (List Letter)) (free : List Bool) (a b : ℕ) → a ≤ b → IsMissing strings free a → IsMissing strings free b
+missing-later strings free a b le missing = omega (arith, ones-fewer a b free le, missing)
+
+-- asks for none, for the next coin, and for further ones
+
+pub asks-none : (free : List Bool) (coin k asks : ℕ) → AsksFree free coin (coin + k) asks asks
+asks-none free coin k asks = omega (arith, ones-fewer coin (coin + k) free (omega arith))
+
+pub asks-next : (free : List Bool) (coin old new : ℕ) → get_or free coin false ≡ true → new ≤ old + 1 → AsksFree free coin (coin + 1) old new
+asks-next free coin old new e le = omega (arith, ones-next free coin true e, le)
+
+pub asks-later : (free : List Bool) (from next to old new : ℕ) → AsksFree free from next old new → next ≤ to → AsksFree free from to old new
+asks-later free from next to old new asks le = omega (arith, asks, ones-fewer next to free le)
+
+pub asks-further : (free : List Bool) (from mid next to old now new : ℕ) → AsksFree free from mid old now → AsksFree free mid next now new → next ≤ to
+    → AsksFree free from to old new
+asks-further free from mid next to old now new first later le = omega (arith, first, later, ones-fewer next to free le)
