@@ -26,7 +26,7 @@ use Rattle.stab_frames.specs.FrameSteps.{frame_over, letters_after, flips_given}
 use Rattle.stab_frames.specs.KeptStrings.{note_at}
 use Rattle.stab_frames.specs.Walks.{WalkState, frame_at, IsPlaced}
 use Rattle.stab_frames.specs.inner.Draws.{is_inverted, IsDrawn, AreDrawn}
-use Rattle.stab_frames.specs.inner.Passes.{PassesWith, IsTold, AreTold, IsPassed, IsMissing, GoesOver, GoesFreely, Goes}
+use Rattle.stab_frames.specs.inner.Passes.{PassesWith, IsTold, AreTold, IsPassed, GoesOver, GoesFreely, Goes}
 use Rattle.stab_frames.proofs.PassLemmas.{over-none, over-step, over-append, told-append}
 use Rattle.stab_frames.proofs.MeasuredPassLemmas.{passes-letters, passes-flips, told-unmeasured, told-measured, passes-collapse, passes-product}
 
@@ -144,21 +144,6 @@ module _ (n : ℕ) (strings : List (List Letter)) (free : List Bool) (draw : Boo
       goes-step x old new (λ changes drawn. passes (notes_of (note_at strings free) changes)) (λ changes drawn. told-unmeasured n strings free changes x old.coin old.letters ec)
       (omega (arith, coin, ec)) placed size
 
--- a step was passed, or it was not
-
-pub went : (n : ℕ) (strings : List (List Letter)) (free : List Bool) (draw : Bool → ℕ → Bool) (x : Step) (old new : WalkState) (gone : Bool) → gone ≡ true
-    → Goes n strings free draw x old new gone → GoesOver n strings free draw (x ∷ []) old new
-went n strings free draw x old new true e goes = goes
-went n strings free draw x old new false e goes = cc
-
-pub stopped : (n : ℕ) (strings : List (List Letter)) (free : List Bool) (draw : Bool → ℕ → Bool) (x : Step) (old new : WalkState) (gone : Bool) → gone ≡ false
-    → Goes n strings free draw x old new gone → (new ≡ old) × IsMissing strings free (old.coin + coins_of x)
-stopped n strings free draw x old new true e goes = absurd (true-false e)
-  where
-    true-false : true ≡ false → ⊥
-    true-false e = cc
-stopped n strings free draw x old new false e goes = goes
-
 -- on as many qubits, with what is drawn
 pub goes-same : (n m : ℕ) (strings : List (List Letter)) (free : List Bool) (draw draws : Bool → ℕ → Bool) (xs : List Step) (old new : WalkState) → m ≡ n → draw ≡ draws
     → GoesOver m strings free draw xs old new → GoesOver n strings free draws xs old new
@@ -246,7 +231,7 @@ pub goes-single : (n : ℕ) (strings : List (List Letter)) (free : List Bool) (d
     → steps ≡ x ∷ [] → (went ≡ true → k ≡ 1) → (went ≡ false → k ≡ 0) → Goes n strings free draw x old new went → IsPlaced free old → length old.letters ≡ n
     → GoesOver n strings free draw (take k steps) old new
 goes-single n strings free draw x steps true k old new is full bare goes placed size =
-    subst (λ xs. GoesOver n strings free draw xs old new) (sym (ap (take k) is ∙ ap (λ j. take j (x ∷ [])) (full refl))) goes
+    subst (λ xs. GoesOver n strings free draw xs old new) (sym (ap (take k) is ∙ ap (λ j. take j (x ∷ [])) (full refl))) (goes.went refl)
 goes-single n strings free draw x steps false k old new is full bare goes placed size =
     subst (λ xs. GoesOver n strings free draw xs old new) (sym (ap (take k) is ∙ ap (λ j. take j (x ∷ [])) (bare refl)))
-    (subst (λ w. GoesOver n strings free draw [] old w) (sym goes.0) (goes-none n strings free draw old placed size))
+    (subst (λ w. GoesOver n strings free draw [] old w) (sym (goes.same refl)) (goes-none n strings free draw old placed size))

@@ -1,6 +1,7 @@
 //! What gates make of letters, whatever their signs.
 
 ghost use Rattle.std.specs.Prelude.{◌≡◌};
+ghost use Rattle.stab_letters.specs.declared.letter.Letter.TheVariants.{X, Z};
 ghost use Rattle.stab_tableau.specs.Gates.{letter_image, letter_at, pair_letters};
 ghost use Rattle.stab_frames.specs.inner.Passes.{letter_where};
 ghost use Rattle.stab_frames.specs.inner.Weights.{letter_weight};
@@ -8,46 +9,31 @@ ghost use Rattle.stab_frames.specs.inner.Weights.{letter_weight};
 use stab_pauli::Letter;
 use stab_tableau::{Gate, PairGate};
 
-/// What a gate on a qubit makes of the letter there.
+/// What a gate on a qubit makes of X and of Z there.
+fn images(gate: Gate) -> (Letter, Letter)
+    ensures x { result.0 ≡ (letter_image gate X).letter }
+    ensures z { result.1 ≡ (letter_image gate Z).letter }
+{
+    match gate {
+        Gate::I | Gate::X | Gate::Y | Gate::Z => (Letter::X, Letter::Z),
+        Gate::H | Gate::SqrtY | Gate::SqrtYDag => (Letter::Z, Letter::X),
+        Gate::S | Gate::SDag => (Letter::Y, Letter::Z),
+        Gate::SqrtX | Gate::SqrtXDag => (Letter::X, Letter::Y),
+        Gate::CXyz => (Letter::Y, Letter::X),
+        Gate::CZyx => (Letter::Z, Letter::Y),
+    }
+}
+
+/// What it makes of a letter there.
 pub fn image(gate: Gate, letter: Letter) -> Letter
     ensures value { result ≡ (letter_image gate letter).letter }
 {
-    // Most letters of a frame are I.
-    if letter == Letter::I {
-        return Letter::I;
-    }
-    match gate {
-        Gate::I | Gate::X | Gate::Y | Gate::Z => letter,
-        Gate::H | Gate::SqrtY | Gate::SqrtYDag => match letter {
-            Letter::I => Letter::I,
-            Letter::X => Letter::Z,
-            Letter::Y => Letter::Y,
-            Letter::Z => Letter::X,
-        },
-        Gate::S | Gate::SDag => match letter {
-            Letter::I => Letter::I,
-            Letter::X => Letter::Y,
-            Letter::Y => Letter::X,
-            Letter::Z => Letter::Z,
-        },
-        Gate::SqrtX | Gate::SqrtXDag => match letter {
-            Letter::I => Letter::I,
-            Letter::X => Letter::X,
-            Letter::Y => Letter::Z,
-            Letter::Z => Letter::Y,
-        },
-        Gate::CXyz => match letter {
-            Letter::I => Letter::I,
-            Letter::X => Letter::Y,
-            Letter::Y => Letter::Z,
-            Letter::Z => Letter::X,
-        },
-        Gate::CZyx => match letter {
-            Letter::I => Letter::I,
-            Letter::X => Letter::Z,
-            Letter::Y => Letter::X,
-            Letter::Z => Letter::Y,
-        },
+    let (x, z) = images(gate);
+    match letter {
+        Letter::I => Letter::I,
+        Letter::X => x,
+        Letter::Y => x.times(z),
+        Letter::Z => z,
     }
 }
 

@@ -19,7 +19,7 @@ use stab_circuit::Cursor;
 use stab_steps::Coins;
 use std::alloc::AllocError;
 
-/// Those differ that are not as the records of the one run say.
+/// Those coins differ that are not as the one run's records say.
 #[derive(Clone, Copy)]
 struct OtherCoins<'a> {
     // One for each coin from the one with number `start` on.

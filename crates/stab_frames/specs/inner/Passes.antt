@@ -100,6 +100,7 @@ abbrev pub IsMissing : List (List Letter) → List Bool → ℕ → Type 0
 IsMissing strings free coin = length strings < ones (take coin free)
 
 -- a frame passed a step or, for want of a string, is as it was
-abbrev pub Goes : ℕ → List (List Letter) → List Bool → (Bool → ℕ → Bool) → Step → WalkState → WalkState → Bool → Type 0
-Goes n strings free draw x old new true = GoesOver n strings free draw (x ∷ []) old new
-Goes n strings free draw x old new false = (new ≡ old) × IsMissing strings free (old.coin + coins_of x)
+pub record Goes (n : ℕ) (strings : List (List Letter)) (free : List Bool) (draw : Bool → ℕ → Bool) (x : Step) (old new : WalkState) (gone : Bool) : Type 0 where
+  pub went : gone ≡ true → GoesOver n strings free draw (x ∷ []) old new
+  pub same : gone ≡ false → new ≡ old
+  pub missing : gone ≡ false → IsMissing strings free (old.coin + coins_of x)

@@ -11,6 +11,10 @@ returns-in_ok-flip_record-in-Some-clause-goes g c =
     factors-apart n c.args.walk.now.letters c.args.factors.now refl c.requires.in_range c.requires.apart
     ∙ ap (λ l. factors_anticommute l c.args.factors.now) (sym c.letters.ensures.value)
     ∙ sym c.anticommutes-apart.ensures.value in
-    goes-product n c.args.known.strings.now.strings c.args.known.free.now (g.D.Draw.changes c.args.known.draw.now (g.C.Coins.sequence c.args.coins.now))
-    c.args.factors.now c.args.inverted c.anticommutes-apart.result c.in-Some.flipped c.args.walk.now c.pass_outcome.new.walk c.flip_record.new.self apart
-    c.in-Some.ensures.passed c.in_ok-flip_record-in-Some.ensures.value (ap length c.flip_record.ensures.letters ∙ c.in-Some.ensures.length)
+    record {
+      went = λ is. goes-product n c.args.known.strings.now.strings c.args.known.free.now (g.D.Draw.changes c.args.known.draw.now (g.C.Coins.sequence c.args.coins.now))
+          c.args.factors.now c.args.inverted c.anticommutes-apart.result c.in-Some.flipped c.args.walk.now c.pass_outcome.new.walk c.flip_record.new.self apart
+          c.in-Some.ensures.passed c.in_ok-flip_record-in-Some.ensures.value (ap length c.flip_record.ensures.letters ∙ c.in-Some.ensures.length);
+      same = λ other. cc;
+      missing = λ other. cc;
+    }

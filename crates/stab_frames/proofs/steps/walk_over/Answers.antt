@@ -49,32 +49,24 @@ returns-in_default-clause-asks g c =
 
 pub returns-in_err-went-clause-asks : goal.returns-in_err-went-clause-asks
 returns-in_err-went-clause-asks g c =
-    let ys = steps_shown c.in-Some.next in
     let coins =
-    coins-within c.loop-steps.steps c.args.most c.args.cursor.now.left ys c.next_steps.new.self.left (sym c.loop-steps.invariant.left ∙ c.in-Some.ensures.some)
+    coins-within c.loop-steps.steps c.args.most c.args.cursor.now.left (steps_shown c.in-Some.next) _ (sym c.loop-steps.invariant.left ∙ c.in-Some.ensures.some)
     (omega (arith, c.in-Some.ensures.within.1, c.loop-steps-test.true)) in
-    asks-further c.args.known.free.now c.args.walk.now.coin c.loop-steps.walk.coin (c.loop-steps.walk.coin + all_coins_of ys)
-    (c.args.walk.now.coin + all_coins_of (take c.args.most c.args.cursor.now.left)) (g.C.Coins.asks c.args.coins.now) (g.C.Coins.asks c.loop-steps.coins)
-    (g.C.Coins.asks c.pass_steps.new.coins) c.loop-steps.invariant.asks c.pass_steps.ensures.asks (omega (arith, c.loop-steps.invariant.goes.coin, coins))
+    asks-further c.args.known.free.now c.args.walk.now.coin c.loop-steps.walk.coin (c.loop-steps.walk.coin + all_coins_of (steps_shown c.in-Some.next))
+    (c.args.walk.now.coin + all_coins_of (take c.args.most c.args.cursor.now.left)) (g.C.Coins.asks c.args.coins.now) (g.C.Coins.asks c.loop-steps.coins) (g.C.Coins.asks c.pass_steps.new.coins)
+    c.loop-steps.invariant.asks c.pass_steps.ensures.asks (omega (arith, c.loop-steps.invariant.goes.coin, coins))
 
 pub returns-then-went-len-clause-asks : goal.returns-then-went-len-clause-asks
 returns-then-went-len-clause-asks g c =
-    let ys = steps_shown c.in-Some.next in
     let coins =
-    coins-within c.loop-steps.steps c.args.most c.args.cursor.now.left ys c.next_steps.new.self.left (sym c.loop-steps.invariant.left ∙ c.in-Some.ensures.some)
+    coins-within c.loop-steps.steps c.args.most c.args.cursor.now.left (steps_shown c.in-Some.next) _ (sym c.loop-steps.invariant.left ∙ c.in-Some.ensures.some)
     (omega (arith, c.in-Some.ensures.within.1, c.loop-steps-test.true)) in
-    asks-further c.args.known.free.now c.args.walk.now.coin c.loop-steps.walk.coin (c.loop-steps.walk.coin + all_coins_of ys)
-    (c.args.walk.now.coin + all_coins_of (take c.args.most c.args.cursor.now.left)) (g.C.Coins.asks c.args.coins.now) (g.C.Coins.asks c.loop-steps.coins)
-    (g.C.Coins.asks c.pass_steps.new.coins) c.loop-steps.invariant.asks c.pass_steps.ensures.asks (omega (arith, c.loop-steps.invariant.goes.coin, coins))
+    asks-further c.args.known.free.now c.args.walk.now.coin c.loop-steps.walk.coin (c.loop-steps.walk.coin + all_coins_of (steps_shown c.in-Some.next))
+    (c.args.walk.now.coin + all_coins_of (take c.args.most c.args.cursor.now.left)) (g.C.Coins.asks c.args.coins.now) (g.C.Coins.asks c.loop-steps.coins) (g.C.Coins.asks c.pass_steps.new.coins)
+    c.loop-steps.invariant.asks c.pass_steps.ensures.asks (omega (arith, c.loop-steps.invariant.goes.coin, coins))
 
 pub returns-then-went-len-clause-goes : goal.returns-then-went-len-clause-goes
 returns-then-went-len-clause-goes g c =
-    let n = length c.args.walk.now.letters in
-    let m = length c.loop-steps.walk.letters in
-    let strings = c.args.known.strings.now.strings in
-    let free = c.args.known.free.now in
-    let draw = g.D.Draw.changes c.args.known.draw.now in
-    let k = c.loop-steps.steps in
     let xs = c.args.cursor.now.left in
     let ys = steps_shown c.in-Some.next in
     let rest = c.next_steps.new.self.left in
@@ -82,30 +74,21 @@ returns-then-went-len-clause-goes g c =
     let done = c.in_ok-went.ensures {u = tt} in
     let left = sym inv.left ∙ c.in-Some.ensures.some in
     let over =
-    goes-over n strings free (draw (g.C.Coins.sequence c.args.coins.now)) k c.in_ok-went.went xs ys rest c.args.walk.now c.loop-steps.walk c.pass_steps.new.walk left done.within
-    inv.goes
-    (goes-same n m strings free (draw (g.C.Coins.sequence c.loop-steps.coins)) (draw (g.C.Coins.sequence c.args.coins.now)) (take c.in_ok-went.went ys)
-    c.loop-steps.walk c.pass_steps.new.walk inv.goes.size (ap draw inv.same_coins) done.goes) in
+    goes-over (length c.args.walk.now.letters) _ _ _ c.loop-steps.steps c.in_ok-went.went xs ys rest _ _ _ left done.within inv.goes
+    (goes-same _ _ _ _ _ _ _ _ _ inv.goes.size (ap (g.D.Draw.changes c.args.known.draw.now) inv.same_coins) done.goes) in
     over
 
 pub returns-then-went-len-clause-missing : goal.returns-then-went-len-clause-missing
 returns-then-went-len-clause-missing g c = λ is.
-    let ys = steps_shown c.in-Some.next in
     let coins =
-    coins-within c.loop-steps.steps c.args.most c.args.cursor.now.left ys c.next_steps.new.self.left (sym c.loop-steps.invariant.left ∙ c.in-Some.ensures.some)
+    coins-within c.loop-steps.steps c.args.most c.args.cursor.now.left (steps_shown c.in-Some.next) _ (sym c.loop-steps.invariant.left ∙ c.in-Some.ensures.some)
     (omega (arith, c.in-Some.ensures.within.1, c.loop-steps-test.true)) in
-    missing-later c.args.known.strings.now.strings c.args.known.free.now (c.loop-steps.walk.coin + all_coins_of ys)
+    missing-later c.args.known.strings.now.strings c.args.known.free.now (c.loop-steps.walk.coin + all_coins_of (steps_shown c.in-Some.next))
     (c.args.walk.now.coin + all_coins_of (take c.args.most c.args.cursor.now.left)) (omega (arith, c.loop-steps.invariant.goes.coin, coins))
     ((c.in_ok-went.ensures {u = tt}).missing (omega (arith, c.if-went-len.true, c.len.ensures.value)))
 
 pub loop-steps-preserved : goal.loop-steps-preserved
 loop-steps-preserved g c =
-    let n = length c.args.walk.now.letters in
-    let m = length c.loop-steps.walk.letters in
-    let strings = c.args.known.strings.now.strings in
-    let free = c.args.known.free.now in
-    let draw = g.D.Draw.changes c.args.known.draw.now in
-    let k = c.loop-steps.steps in
     let xs = c.args.cursor.now.left in
     let ys = steps_shown c.in-Some.next in
     let rest = c.next_steps.new.self.left in
@@ -113,21 +96,19 @@ loop-steps-preserved g c =
     let done = c.in_ok-went.ensures {u = tt} in
     let left = sym inv.left ∙ c.in-Some.ensures.some in
     let over =
-    goes-over n strings free (draw (g.C.Coins.sequence c.args.coins.now)) k c.in_ok-went.went xs ys rest c.args.walk.now c.loop-steps.walk c.pass_steps.new.walk left done.within
-    inv.goes
-    (goes-same n m strings free (draw (g.C.Coins.sequence c.loop-steps.coins)) (draw (g.C.Coins.sequence c.args.coins.now)) (take c.in_ok-went.went ys)
-    c.loop-steps.walk c.pass_steps.new.walk inv.goes.size (ap draw inv.same_coins) done.goes) in
+    goes-over (length c.args.walk.now.letters) _ _ _ c.loop-steps.steps c.in_ok-went.went xs ys rest _ _ _ left done.within inv.goes
+    (goes-same _ _ _ _ _ _ _ _ _ inv.goes.size (ap (g.D.Draw.changes c.args.known.draw.now) inv.same_coins) done.goes) in
     let few : c.in_ok-went.went ≤ length ys = done.within in
     let all : length ys ≡ c.in_ok-went.went = omega (arith, few, c.len.ensures.value, c.if-went-len.false) in
     let coins = ap (λ j. all_coins_of (take j ys)) (sym all) ∙ ap all_coins_of (take-length ys) in
     record {
       most = omega (arith, few, c.in-Some.ensures.within.1, c.loop-steps-test.true);
-      within = omega (arith, few, left-over k xs ys rest left c.in-Some.ensures.within.0);
-      left = drop-over k xs ys rest left ∙ ap (λ j. drop (k + j) xs) all;
+      within = omega (arith, few, left-over c.loop-steps.steps xs ys rest left c.in-Some.ensures.within.0);
+      left = drop-over c.loop-steps.steps xs ys rest left ∙ ap (λ j. drop (c.loop-steps.steps + j) xs) all;
       all = c.next_steps.ensures.all ∙ inv.all;
       same_coins = done.same_coins ∙ inv.same_coins;
-      asks = asks-further free c.args.walk.now.coin c.loop-steps.walk.coin (c.loop-steps.walk.coin + all_coins_of ys) c.pass_steps.new.walk.coin
-          (g.C.Coins.asks c.args.coins.now) (g.C.Coins.asks c.loop-steps.coins) (g.C.Coins.asks c.pass_steps.new.coins) inv.asks done.asks
-          (omega (arith, done.goes.coin, coins));
+      asks = asks-further c.args.known.free.now c.args.walk.now.coin c.loop-steps.walk.coin (c.loop-steps.walk.coin + all_coins_of (steps_shown c.in-Some.next))
+          c.pass_steps.new.walk.coin (g.C.Coins.asks c.args.coins.now) (g.C.Coins.asks c.loop-steps.coins) (g.C.Coins.asks c.pass_steps.new.coins)
+          inv.asks done.asks (omega (arith, done.goes.coin, coins));
       goes = over;
     }
