@@ -1,46 +1,28 @@
 -- Gates on rows: how what X and Z flip before a gate follows from what they flip after it.
-use Rattle.std.proofs.Common.{◌≡◌, ◌≢◌, ℕ, ◌<◌, refl, sym, subst, ◌∙◌, ap, arith, Bool, ◌⊎◌, inl, inr, List, [], length, set}
+use Rattle.std.proofs.Common.{◌≡◌, ◌≢◌, ℕ, ◌<◌, refl, sym, subst, ◌∙◌, ap, arith, Bool, false, ◌⊎◌, inl, inr, List, [], length, set}
 use Rattle.std.specs.Prelude.{Result, Ok, Err, OnOk}
 use Rattle.std.proofs.lemmas.Bool.{cases_eq}
 use Rattle.std.proofs.lemmas.List.{get_or-set_same, get_or-set_other}
 use Rattle.stab_letters.specs.declared.letter.Letter.{Letter}
-use Rattle.stab_letters.specs.declared.letter.Letter.TheVariants.{I, X, Z}
+use Rattle.stab_letters.specs.declared.letter.Letter.TheVariants.{I, X, Y, Z}
 use Rattle.stab_letters.specs.Letters.{◌⊕◌, letters_anticommute}
 use Rattle.stab_letters.specs.declared.gate.Gate.{Gate}
-use Rattle.stab_letters.specs.declared.gate.Gate.TheVariants as on
 use Rattle.stab_tableau.specs.Gates.{letter_at, letter_image, inverse, back}
 use Rattle.stab_regions.specs.Rows.{odd, row, Toggles, MovesLetters}
 
--- what X flips before a gate, and what Z does, by what X and Z flip after it
+-- what a letter flips, by what X and Z flip
+abbrev pub by_parts : Letter → Bool → Bool → Bool
+by_parts I a b = false
+by_parts X a b = a
+by_parts Y a b = a ⊕ b
+by_parts Z a b = b
+
+-- what X flips before a gate, and what Z does: what the gate makes of them, after it
 abbrev pub x_before : Gate → Bool → Bool → Bool
-x_before on.I a b = a
-x_before on.X a b = a
-x_before on.Y a b = a
-x_before on.Z a b = a
-x_before on.H a b = b
-x_before on.S a b = a ⊕ b
-x_before on.SDag a b = a ⊕ b
-x_before on.CXyz a b = b ⊕ a
-x_before on.CZyx a b = b
-x_before on.SqrtX a b = a
-x_before on.SqrtXDag a b = a
-x_before on.SqrtY a b = b
-x_before on.SqrtYDag a b = b
+x_before g = by_parts (letter_image g X).letter
 
 abbrev pub z_before : Gate → Bool → Bool → Bool
-z_before on.I a b = b
-z_before on.X a b = b
-z_before on.Y a b = b
-z_before on.Z a b = b
-z_before on.H a b = a
-z_before on.S a b = b
-z_before on.SDag a b = b
-z_before on.CXyz a b = a
-z_before on.CZyx a b = a ⊕ b
-z_before on.SqrtX a b = b ⊕ a
-z_before on.SqrtXDag a b = b ⊕ a
-z_before on.SqrtY a b = a
-z_before on.SqrtYDag a b = a
+z_before g = by_parts (letter_image g Z).letter
 
 x-letter : (g : Gate) (l : Letter) → letters_anticommute X (letter_image (inverse g) l).letter ≡ x_before g (letters_anticommute X l) (letters_anticommute Z l)
 x-letter g l = grind arith

@@ -1,9 +1,9 @@
 -- Gates on two qubits on rows: what X and Z flip before them on each of the two, by what they flip after them.
-use Rattle.std.proofs.Common.{◌≡◌, ◌≢◌, ℕ, ◌<◌, refl, sym, subst, ◌∙◌, ap, Bool, ◌⊎◌, inl, inr, List, [], length, set}
+use Rattle.std.proofs.Common.{◌≡◌, ◌≢◌, ℕ, ◌<◌, refl, sym, subst, ◌∙◌, ap, arith, Bool, ◌⊎◌, inl, inr, List, [], length, set}
 use Rattle.std.proofs.lemmas.Bool.{cases_eq}
 use Rattle.std.proofs.lemmas.List.{get_or-set_same, get_or-set_other, length-set}
 use Rattle.stab_letters.specs.declared.letter.Letter.{Letter}
-use Rattle.stab_letters.specs.declared.letter.Letter.TheVariants.{I, X, Y, Z}
+use Rattle.stab_letters.specs.declared.letter.Letter.TheVariants.{I, X, Z}
 use Rattle.stab_letters.specs.Letters.{◌⊕◌, letters_anticommute}
 use Rattle.stab_letters.specs.declared.gate.PairGate.{PairGate}
 use Rattle.stab_letters.specs.declared.gate.PairGate.TheVariants.{Cx, Cy, Cz, Swap}
@@ -44,70 +44,7 @@ record IsTable (g : PairGate) (l m : Letter) : Type 0 where
   z_second : letters_anticommute Z (letter_at (pair_letters g l m).letters 1) ≡ second_z g (letters_anticommute X l) (letters_anticommute Z l) (letters_anticommute X m) (letters_anticommute Z m)
 
 table : (g : PairGate) (l m : Letter) → IsTable g l m
-table Cx I I = record { x_first = refl; z_first = refl; x_second = refl; z_second = refl }
-table Cx I X = record { x_first = refl; z_first = refl; x_second = refl; z_second = refl }
-table Cx I Y = record { x_first = refl; z_first = refl; x_second = refl; z_second = refl }
-table Cx I Z = record { x_first = refl; z_first = refl; x_second = refl; z_second = refl }
-table Cx X I = record { x_first = refl; z_first = refl; x_second = refl; z_second = refl }
-table Cx X X = record { x_first = refl; z_first = refl; x_second = refl; z_second = refl }
-table Cx X Y = record { x_first = refl; z_first = refl; x_second = refl; z_second = refl }
-table Cx X Z = record { x_first = refl; z_first = refl; x_second = refl; z_second = refl }
-table Cx Y I = record { x_first = refl; z_first = refl; x_second = refl; z_second = refl }
-table Cx Y X = record { x_first = refl; z_first = refl; x_second = refl; z_second = refl }
-table Cx Y Y = record { x_first = refl; z_first = refl; x_second = refl; z_second = refl }
-table Cx Y Z = record { x_first = refl; z_first = refl; x_second = refl; z_second = refl }
-table Cx Z I = record { x_first = refl; z_first = refl; x_second = refl; z_second = refl }
-table Cx Z X = record { x_first = refl; z_first = refl; x_second = refl; z_second = refl }
-table Cx Z Y = record { x_first = refl; z_first = refl; x_second = refl; z_second = refl }
-table Cx Z Z = record { x_first = refl; z_first = refl; x_second = refl; z_second = refl }
-table Cy I I = record { x_first = refl; z_first = refl; x_second = refl; z_second = refl }
-table Cy I X = record { x_first = refl; z_first = refl; x_second = refl; z_second = refl }
-table Cy I Y = record { x_first = refl; z_first = refl; x_second = refl; z_second = refl }
-table Cy I Z = record { x_first = refl; z_first = refl; x_second = refl; z_second = refl }
-table Cy X I = record { x_first = refl; z_first = refl; x_second = refl; z_second = refl }
-table Cy X X = record { x_first = refl; z_first = refl; x_second = refl; z_second = refl }
-table Cy X Y = record { x_first = refl; z_first = refl; x_second = refl; z_second = refl }
-table Cy X Z = record { x_first = refl; z_first = refl; x_second = refl; z_second = refl }
-table Cy Y I = record { x_first = refl; z_first = refl; x_second = refl; z_second = refl }
-table Cy Y X = record { x_first = refl; z_first = refl; x_second = refl; z_second = refl }
-table Cy Y Y = record { x_first = refl; z_first = refl; x_second = refl; z_second = refl }
-table Cy Y Z = record { x_first = refl; z_first = refl; x_second = refl; z_second = refl }
-table Cy Z I = record { x_first = refl; z_first = refl; x_second = refl; z_second = refl }
-table Cy Z X = record { x_first = refl; z_first = refl; x_second = refl; z_second = refl }
-table Cy Z Y = record { x_first = refl; z_first = refl; x_second = refl; z_second = refl }
-table Cy Z Z = record { x_first = refl; z_first = refl; x_second = refl; z_second = refl }
-table Cz I I = record { x_first = refl; z_first = refl; x_second = refl; z_second = refl }
-table Cz I X = record { x_first = refl; z_first = refl; x_second = refl; z_second = refl }
-table Cz I Y = record { x_first = refl; z_first = refl; x_second = refl; z_second = refl }
-table Cz I Z = record { x_first = refl; z_first = refl; x_second = refl; z_second = refl }
-table Cz X I = record { x_first = refl; z_first = refl; x_second = refl; z_second = refl }
-table Cz X X = record { x_first = refl; z_first = refl; x_second = refl; z_second = refl }
-table Cz X Y = record { x_first = refl; z_first = refl; x_second = refl; z_second = refl }
-table Cz X Z = record { x_first = refl; z_first = refl; x_second = refl; z_second = refl }
-table Cz Y I = record { x_first = refl; z_first = refl; x_second = refl; z_second = refl }
-table Cz Y X = record { x_first = refl; z_first = refl; x_second = refl; z_second = refl }
-table Cz Y Y = record { x_first = refl; z_first = refl; x_second = refl; z_second = refl }
-table Cz Y Z = record { x_first = refl; z_first = refl; x_second = refl; z_second = refl }
-table Cz Z I = record { x_first = refl; z_first = refl; x_second = refl; z_second = refl }
-table Cz Z X = record { x_first = refl; z_first = refl; x_second = refl; z_second = refl }
-table Cz Z Y = record { x_first = refl; z_first = refl; x_second = refl; z_second = refl }
-table Cz Z Z = record { x_first = refl; z_first = refl; x_second = refl; z_second = refl }
-table Swap I I = record { x_first = refl; z_first = refl; x_second = refl; z_second = refl }
-table Swap I X = record { x_first = refl; z_first = refl; x_second = refl; z_second = refl }
-table Swap I Y = record { x_first = refl; z_first = refl; x_second = refl; z_second = refl }
-table Swap I Z = record { x_first = refl; z_first = refl; x_second = refl; z_second = refl }
-table Swap X I = record { x_first = refl; z_first = refl; x_second = refl; z_second = refl }
-table Swap X X = record { x_first = refl; z_first = refl; x_second = refl; z_second = refl }
-table Swap X Y = record { x_first = refl; z_first = refl; x_second = refl; z_second = refl }
-table Swap X Z = record { x_first = refl; z_first = refl; x_second = refl; z_second = refl }
-table Swap Y I = record { x_first = refl; z_first = refl; x_second = refl; z_second = refl }
-table Swap Y X = record { x_first = refl; z_first = refl; x_second = refl; z_second = refl }
-table Swap Y Y = record { x_first = refl; z_first = refl; x_second = refl; z_second = refl }
-table Swap Y Z = record { x_first = refl; z_first = refl; x_second = refl; z_second = refl }
-table Swap Z I = record { x_first = refl; z_first = refl; x_second = refl; z_second = refl }
-table Swap Z X = record { x_first = refl; z_first = refl; x_second = refl; z_second = refl }
-table Swap Z Y = record { x_first = refl; z_first = refl; x_second = refl; z_second = refl }
-table Swap Z Z = record { x_first = refl; z_first = refl; x_second = refl; z_second = refl }
+table g l m = record { x_first = grind arith; z_first = grind arith; x_second = grind arith; z_second = grind arith }
 
 -- a row that is mixed shows the letters that the gate makes
 row-moves-pair : (i : ℕ) (p : Letter) (old new : List (List ℕ)) (letters : List Letter) (a b : ℕ) (l m : Letter) → a < length letters → b < length letters → b ≢ a
