@@ -158,17 +158,8 @@ fn run_round<C: Coins>(
     Ok(now)
 }
 
-/// How many rounds of a block are carried out one by one at most, if this many steps are left to be carried out.
-fn most_single(repeat: Repeat, left: usize) -> usize
-    requires some { 0 < repeat.length }
-    ensures within { result ≤ repeat.rounds }
-{
-    repeat.rounds.min(MOST_SINGLE).min(left / repeat.length)
-}
-
 /// Carries out rounds of a block until a state comes again, and all those after that give again what earlier ones gave. Says
-/// how many are done then: fewer than all if `MOST_SINGLE` were carried out, or as many as the steps that are left to be
-/// carried out allow. These grow fewer.
+/// how many are done then: fewer than all if `MOST_SINGLE` were carried out.
 fn run_repeat<C: Coins>(
     alloc: Global,
     circuit: &Circuit,
@@ -177,7 +168,6 @@ fn run_repeat<C: Coins>(
     coins: &mut C,
     outputs: &mut Outputs,
     repeat: Repeat,
-    left: &mut usize,
     notes: &mut RunNotes,
 ) -> Result<usize, Refusal>
     requires checked { check_within tableau.old.qubits (circuit_items circuit.now) ≡ None }
@@ -193,12 +183,11 @@ fn run_repeat<C: Coins>(
     ensures asks_free { IfOk result (λ done. C.asks coins.new + ones outputs.old.free.items ≤ C.asks coins.old + ones outputs.new.free.items) }
     ensures within { IfOk result (λ done. done ≤ repeat.rounds) }
     ensures led { IfOk result (λ done. IsLed tableau.old.qubits (C.sequence coins.old) (take (behind_rounds repeat done) (unroll (circuit_items circuit.now))) (program_state tableau.new (output_of outputs.new))) }
-    ensures left { IfOk result (λ done. left.old ≤ left.new + done * repeat.length) }
     ensures noted { IfOk result (λ done. IsNoted tableau.old.qubits (C.sequence coins.old) (take (behind_rounds repeat done) (unroll (circuit_items circuit.now))) notes.new outputs.new.free.items) }
     ensures most { notes.new.strings.most ≡ notes.old.strings.most }
     ensures err { IfErr result (λ r. r ≡ OutOfMemory) }
 {
-    let most = most_single(repeat, *left);
+    let most = repeat.rounds.min(MOST_SINGLE);
     let mut earlier = None;
     let mut done = 0;
     while done < most {
@@ -214,7 +203,6 @@ fn run_repeat<C: Coins>(
             done,
             notes,
         )?;
-        *left = left.saturating_sub(repeat.length);
     }
     Ok(done)
 }
@@ -226,7 +214,7 @@ fn is_long(repeat: Repeat) -> bool {
 }
 
 /// Carries out the steps from one on up to the last round of a long block that is done one by one or gives again what earlier
-/// ones gave, as far as the steps that are left to be carried out allow. Says which step comes next.
+/// ones gave. Says which step comes next.
 fn run_block<C: Coins>(
     alloc: Global,
     circuit: &Circuit,
@@ -236,7 +224,6 @@ fn run_block<C: Coins>(
     outputs: &mut Outputs,
     from: usize,
     repeat: Repeat,
-    left: &mut usize,
     notes: &mut RunNotes,
 ) -> Result<usize, Refusal>
     requires checked { check_within tableau.old.qubits (circuit_items circuit.now) ≡ None }
@@ -252,22 +239,20 @@ fn run_block<C: Coins>(
     ensures asks_part { IfOk result (λ next. C.asks coins.new + all_coins_of (take from (unroll (circuit_items circuit.now))) ≤ C.asks coins.old + all_coins_of (take next (unroll (circuit_items circuit.now)))) }
     ensures asks_free { IfOk result (λ next. C.asks coins.new + ones outputs.old.free.items ≤ C.asks coins.old + ones outputs.new.free.items) }
     ensures next { IfOk result (λ next. next ≤ behind_rounds repeat repeat.rounds) }
-    ensures left { IfOk result (λ next. left.old + from ≤ left.new + next) }
     ensures led { IfOk result (λ next. IsLed tableau.old.qubits (C.sequence coins.old) (take next (unroll (circuit_items circuit.now))) (program_state tableau.new (output_of outputs.new))) }
     ensures noted { IfOk result (λ next. IsNoted tableau.old.qubits (C.sequence coins.old) (take next (unroll (circuit_items circuit.now))) notes.new outputs.new.free.items) }
     ensures most { notes.new.strings.most ≡ notes.old.strings.most }
     ensures err { IfErr result (λ r. r ≡ OutOfMemory) }
 {
-    let before = repeat.first - from;
-    if !is_long(repeat) || before > *left {
+    if !is_long(repeat) {
         return Ok(from);
     }
+    let before = repeat.first - from;
     run_noted_part(
         alloc, circuit, tableau, string, coins, outputs, from, before, notes,
     )?;
-    *left -= before;
     let done = run_repeat(
-        alloc, circuit, tableau, string, coins, outputs, repeat, left, notes,
+        alloc, circuit, tableau, string, coins, outputs, repeat, notes,
     )?;
     Ok(repeat.first + done * repeat.length)
 }
@@ -309,7 +294,7 @@ pub fn notes_of_frames(alloc: Global, n: usize, repeats: &[Repeat]) -> Result<Ru
 }
 
 /// Carries out the steps of a circuit up to the last round of its long blocks that is done one by one or gives again what earlier
-/// ones gave, as far as the steps that are left to be carried out allow. Says which step comes next.
+/// ones gave. Says which step comes next.
 pub fn run_repeats<C: Coins>(
     alloc: Global,
     circuit: &Circuit,
@@ -318,7 +303,6 @@ pub fn run_repeats<C: Coins>(
     coins: &mut C,
     outputs: &mut Outputs,
     repeats: &[Repeat],
-    left: &mut usize,
     notes: &mut RunNotes,
 ) -> Result<usize, Refusal>
     requires checked { check_within tableau.old.qubits (circuit_items circuit.now) ≡ None }
@@ -333,7 +317,6 @@ pub fn run_repeats<C: Coins>(
     ensures asks_part { IfOk result (λ from. C.asks coins.new ≤ C.asks coins.old + all_coins_of (take from (unroll (circuit_items circuit.now)))) }
     ensures asks_free { IfOk result (λ from. C.asks coins.new + ones outputs.old.free.items ≤ C.asks coins.old + ones outputs.new.free.items) }
     ensures in_range { IfOk result (λ from. from ≤ length (unroll (circuit_items circuit.now))) }
-    ensures left { IfOk result (λ from. left.old ≤ left.new + from) }
     ensures led { IfOk result (λ from. IsLed tableau.old.qubits (C.sequence coins.old) (take from (unroll (circuit_items circuit.now))) (program_state tableau.new (output_of outputs.new))) }
     ensures noted { IfOk result (λ from. IsNoted tableau.old.qubits (C.sequence coins.old) (take from (unroll (circuit_items circuit.now))) notes.new outputs.new.free.items) }
     ensures most { notes.new.strings.most ≡ notes.old.strings.most }
@@ -350,7 +333,6 @@ pub fn run_repeats<C: Coins>(
             outputs,
             from,
             taken_together(*repeat),
-            left,
             notes,
         )?;
     }

@@ -1,5 +1,4 @@
-use Rattle.std.proofs.Common.{◌+◌, ◌≤◌, sym, ◌∙◌, arith}
-use Rattle.std.proofs.Math.Nat.{add-mul, mul-le-mul_right}
+use Rattle.std.proofs.Common.{sym, ◌∙◌, arith}
 use Rattle.stab_circuit.specs.Steps.{unroll}
 use Rattle.stab_circuit.specs.Views.{circuit_items}
 use Rattle.stab_steps.specs.ProgramStates.{program_state, output_of}
@@ -23,15 +22,12 @@ loop-done-preserved g c =
     let ran = c.run_round.ensures in
     let done = c.in_ok-done.ensures {u = tt} in
     let r = c.args.repeat in
-    let before = c.loop-done.done in
     let now = c.in_ok-done.done in
     let steps = unroll (circuit_items c.args.circuit.now) in
     let n = c.args.tableau.now.qubits in
     let coins = g.C.Coins.sequence c.args.coins.now in
-    let one_more : before + 1 ≤ now = omega (arith, done.more) in
     record {
       within = done.more.1;
-      left = omega (arith, inv.left, add-mul before 1 r.length, mul-le-mul_right r.length one_more, c.saturating_sub.ensures);
       qubits = ran.qubits ∙ inv.qubits;
       string = ran.string ∙ inv.string;
       same_coins = ran.same_coins ∙ inv.same_coins;

@@ -12,7 +12,6 @@ use Rattle.stab_run.proofs.rounds.run_repeat.Given as goal
 abbrev pub invariant-loop-done : goal.invariant-loop-done
 invariant-loop-done g l = record {
   within : l.done ≤ l.repeat.rounds;
-  left : l.fn.left ≤ l.left + l.done * l.repeat.length;
   qubits : l.tableau.qubits ≡ l.fn.tableau.qubits;
   string : length l.string.letters ≡ length l.fn.string.letters;
   same_coins : g.C.Coins.sequence l.coins ≡ g.C.Coins.sequence l.fn.coins;
