@@ -1,3 +1,10 @@
 pub mod BitLemmas
 mod CheckpointLemmas
 mod SameStateLemmas
+pub mod CutLemmas
+pub mod MeetingLemmas
+pub mod CopiesLemmas
+pub mod FlippedLemmas
+pub mod NoteLemmas
+pub mod RunCopyLemmas
+pub mod FrameStartLemmas

@@ -5,7 +5,7 @@ use Rattle.std.proofs.lemmas.List.{length-take, take-take, take_at, drop-take}
 use Rattle.std.proofs.lemmas.List.Elements.{All-take, All-drop}
 use Rattle.std.proofs.lemmas.Option.{none-some, same_Some, slice_get_within}
 use Rattle.std.proofs.Math.Seq.{drop-drop, take-add}
-use Rattle.stab_replay.proofs.CutLemmas.{ones-take}
+use Rattle.stab_copies.proofs.CutLemmas.{ones-take}
 use Rattle.stab_tableau.specs.Tableaus.{stabilises}
 use Rattle.stab_circuit.specs.Steps.{Step, looks_too_far}
 use Rattle.stab_circuit.specs.declared.circuit.repeats.Repeat.{Repeat}
@@ -25,7 +25,7 @@ use Rattle.stab_copies.specs.Checkpoints.{IsRunFromStart, IsCheckpoint, checkpoi
 use Rattle.stab_copies.specs.Spacing.{Near}
 use Rattle.stab_replay.specs.declared.replay.Plan.{Plan}
 use Rattle.stab_replay.specs.declared.replay.Replay.{Replay}
-use Rattle.stab_replay.specs.FramedReplays.{between}
+use Rattle.stab_copies.specs.Parts.{between}
 use Rattle.stab_replay.specs.NotedStrings.{IsNoted}
 use Rattle.stab_replay.specs.Replays.{IsAtStep, IsAtStop, IsOnWay, step_among_new}
 use Rattle.stab_replay.specs.inner.AgainReplays.{StandsAgain, HasGivenAgain, IsEndIn}

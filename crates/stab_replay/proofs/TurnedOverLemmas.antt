@@ -38,21 +38,25 @@ use Rattle.stab_copies.specs.Checkpoints.{IsRunFromStart, IsCheckpoint, checkpoi
 use Rattle.stab_copies.specs.Spacing.{Near}
 use Rattle.stab_replay.specs.declared.replay.Plan.{Plan}
 use Rattle.stab_replay.specs.declared.replay.Replay.{Replay}
-use Rattle.stab_replay.specs.FramedReplays.{between, flips_since}
+use Rattle.stab_copies.specs.Parts.{between}
+use Rattle.stab_copies.specs.FramesFrom.{flips_since}
 use Rattle.stab_replay.specs.NotedStrings.{IsNoted}
 use Rattle.stab_replay.specs.Replays.{IsAtStep, IsAtStop, step_among_new}
 use Rattle.stab_replay.specs.inner.TurnedReplays.{StandsTurned, MayComeAgain, HasGivenTurned}
 use Rattle.stab_replay.proofs.AgainLemmas.{same-later, first-steps, later-steps, first-point, later-point, part-is}
 use Rattle.stab_replay.proofs.AgainReplayLemmas.{near-neighbours, place-before}
-use Rattle.stab_replay.proofs.CutLemmas.{ones-take}
-use Rattle.stab_replay.proofs.LedLemmas.{at-number, lengths-within}
+use Rattle.stab_copies.proofs.CutLemmas.{ones-take}
+use Rattle.stab_replay.proofs.LedLemmas.{at-number}
+use Rattle.stab_copies.proofs.RunCopyLemmas.{lengths-within}
 use Rattle.stab_replay.proofs.NotedLemmas.{near-enough}
 use Rattle.stab_replay.proofs.ReplayLemmas.{on-stop, with-laid}
-use Rattle.stab_replay.proofs.SegmentLemmas.{since-joined, turned-from}
+use Rattle.stab_replay.proofs.SegmentLemmas.{turned-from}
+use Rattle.stab_copies.proofs.FlippedLemmas.{since-joined}
 use Rattle.stab_frames.proofs.AgainLemmas.{come-turned, gone-over-seen}
 use Rattle.stab_frames.proofs.FlipLemmas.{flipped-empty}
 use Rattle.stab_frames.proofs.TrueLemmas.{true-front, true-rest}
 use Rattle.stab_replay.proofs.TurnedNoteLemmas.{noted-turned}
+use Rattle.stab_copies.proofs.RunCopyLemmas.{copy-before}
 
 -- no copy is after the place of a replay
 pub near-at : (K a e i : ℕ) (cs : List Checkpoint) (c : Checkpoint) → Near K (a ∷ checkpoint_steps cs ++ e ∷ []) → slice_get cs i ≡ Some c → c.step ≤ e
@@ -75,15 +79,6 @@ all-coins coins = λ i t. coins (from t i)
   where
     from : (t : ℕ) → 0 + t ≡ t
     from t = omega arith
-
--- a copy is one of the steps up to a later one
-pub copy-before : (n : ℕ) (coins : ℕ → Bool) (ys : List Step) (k : ℕ) (c : Checkpoint) → IsCheckpoint n coins ys c → c.step ≤ k → k ≤ length ys → IsCheckpoint n coins (take k ys) c
-copy-before n coins ys k c is le within = record {
-  within = omega (arith, length-take k ys, le, within);
-  qubits = is.qubits;
-  group = subst (λ zs. SameGroup n (stabilises c.tableau) (member (point_after n coins zs origin).trace)) (sym (take-take c.step k ys le)) is.group;
-  lengths = is.lengths ∙ ap (λ zs. lengths_of (outputs n coins zs origin)) (sym (take-take c.step k ys le));
-}
 
 -- what is known of a replay that is turned at a copy, with another one after it
 module _ (n : ℕ) (coins : ℕ → Bool) (begin : ℕ) (p : Plan) (ys : List Step) (copies : List Checkpoint) (old : List Bool) (next : ℕ) (block : Repeat) (end : ℕ) (r : Replay)

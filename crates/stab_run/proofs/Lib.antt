@@ -1,7 +1,6 @@
 mod ShotLemmas
 pub mod LedLemmas
 pub mod AgainLemmas
-mod CopyLemmas
 mod NotedLemmas
 pub mod FramedLemmas
 mod OverLemmas

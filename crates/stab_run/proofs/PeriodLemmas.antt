@@ -24,7 +24,7 @@ use Rattle.stab_laws.proofs.FitLemmas.{check-fits}
 use Rattle.stab_laws.proofs.PointLemmas.{flags-are-coins, records-are-records}
 use Rattle.stab_laws.proofs.RoundLemmas.{rounds-within}
 use Rattle.stab_laws.proofs.CoinLemmas.{coins-are}
-use Rattle.stab_frames.specs.Flips.{flipped, flipped_additions, flipped_output}
+use Rattle.stab_frames.specs.Flips.{flipped_output}
 use Rattle.stab_frames.specs.FrameSteps.{frame_over, flips_over}
 use Rattle.stab_frames.specs.Notes.{Notes}
 use Rattle.stab_frames.specs.StepNotes.{AreEnough}
@@ -33,12 +33,14 @@ use Rattle.stab_frames.specs.Walks.{WalkState, WalksWith, frame_at}
 use Rattle.stab_frames.specs.OtherCoins.{coins_from, notes_between, HasGoneOver, WalksToOthers}
 use Rattle.stab_frames.specs.AgainLaws.{DiffersBack, AreTurnedOver}
 use Rattle.stab_frames.proofs.FlipLemmas.{length-flipped, flipped-empty}
+use Rattle.stab_copies.specs.FramesFrom.{flips_since}
+use Rattle.stab_copies.proofs.FlippedLemmas.{since-joined}
 use Rattle.stab_run.specs.inner.Led.{IsLed, behind_rounds}
 use Rattle.stab_run.specs.declared.turned.Period.{Period}
 use Rattle.stab_run.specs.inner.Turned.{point_behind, IsPeriod, ComesTurned}
 use Rattle.stab_run.proofs.AgainLemmas.{more-rounds, behind-more, behind-later}
 use Rattle.stab_run.proofs.LedLemmas.{coins-on, coins-more}
-use Rattle.stab_run.proofs.FramedLemmas.{flipped-zeros, flips-free}
+use Rattle.stab_run.proofs.FramedLemmas.{flips-free}
 use Rattle.stab_run.proofs.OverLemmas.{true-over}
 use Rattle.stab_frames.proofs.AgainLemmas.{come-turned, gone-over-seen}
 
@@ -197,33 +199,11 @@ module _ (n : ℕ) (coins : ℕ → Bool) (steps : List Step) (r : Repeat) (stri
     flips_are = went.0.flips period.base
 
     -- what the period gives
-    module _ (last : Outputs)
-        (is_last : output_of last ≡ flipped_output (output_of p.last) (record w.flips { records = drop (length p.walk.flips.records) w.flips.records; free = [] })) where
-      records_since : drop (length p.walk.flips.records) w.flips.records ≡ flips.records
-      records_since =
-          ap (λ (f : RunOutput). drop (length p.walk.flips.records) f.records) flips_are
-          ∙ drop_at p.walk.flips.records flips.records (length p.walk.flips.records) refl
-
-      detectors_since : w.flips.detectors ≡ flips.detectors
-      detectors_since = ap (λ (f : RunOutput). f.detectors) flips_are ∙ ap (λ (f : RunOutput). f.detectors ++ flips.detectors) period.flips
-
-      additions_since : w.flips.additions ≡ flips.additions
-      additions_since = ap (λ (f : RunOutput). f.additions) flips_are ∙ ap (λ (f : RunOutput). f.additions ++ flips.additions) period.flips
-
-      unflipped : (bits : List Bool) → flipped bits [] ≡ flipped bits flips.free
-      unflipped bits =
-          flipped-empty bits
-          ∙ sym (ap (flipped bits) (flips-free n notes xs coin (frame_at period.base p.walk)) ∙ flipped-zeros bits (all_coins_of xs))
-
+    module _ (last : Outputs) (is_last : output_of last ≡ flipped_output (output_of p.last) (flips_since p.walk w)) where
       pub gives : output_of last ≡ outputs n coins xs here
       gives =
           is_last
-          ∙ (λ i. record {
-            records = flipped p.last.records.items (records_since i);
-            free = unflipped p.last.free.items i;
-            detectors = flipped p.last.detectors.items (detectors_since i);
-            additions = flipped_additions p.last.additions.items (additions_since i);
-          })
+          ∙ sym (since-joined (output_of p.last) flips p.walk w (all_coins_of xs) (flips-free n notes xs coin (frame_at period.base p.walk)) flips_are)
           ∙ ap (λ q. flipped_output q flips) period.last
           ∙ sym come.0
 

@@ -9,15 +9,16 @@ ghost use Rattle.stab_circuit.specs.Repeats.{IsRepeat, AreRepeats};
 ghost use Rattle.stab_steps.specs.Records.{ones};
 ghost use Rattle.stab_steps.specs.Points.{all_coins_of};
 ghost use Rattle.stab_steps.specs.ProgramStates.{program_state, output_of};
-ghost use Rattle.stab_run.specs.inner.Led.{IsLed, behind_rounds, IsEarlier};
+ghost use Rattle.stab_run.specs.inner.Led.{IsLed, behind_rounds, IsMark};
 ghost use Rattle.stab_frames.specs.Limits.{most_strings};
 ghost use Rattle.stab_run.specs.inner.Noted.{IsNoted, BeginsNotes};
 
-use crate::earlier::{Earlier, comes_again, give_rounds, kept_behind};
+use crate::marks::{Mark, give_rounds, marked_behind};
 use crate::part::run_noted_part;
 use crate::together::taken_together;
 use crate::turned::{go_over_rounds, period_since};
 use stab_circuit::{Circuit, Repeat};
+use stab_copies::comes_again;
 use stab_frames::{KeptStrings, RunNotes};
 use stab_io::Refusal;
 use stab_pauli::Pauli;
@@ -46,7 +47,7 @@ fn pass_rounds<C: Coins>(
     coins: &mut C,
     outputs: &mut Outputs,
     repeat: Repeat,
-    earlier: &Option<Earlier>,
+    mark: &Option<Mark>,
     done: usize,
     notes: &mut RunNotes,
 ) -> Result<usize, Refusal>
@@ -54,8 +55,8 @@ fn pass_rounds<C: Coins>(
     requires same_length { length string.old.letters ≡ tableau.old.qubits }
     requires repeat { IsRepeat (unroll (circuit_items circuit.now)) repeat }
     requires within { done ≤ repeat.rounds }
-    requires later { IfSome earlier.now (λ e. e.done < done) }
-    requires earlier { IfSome earlier.now (λ e. IsEarlier tableau.old.qubits (C.sequence coins.old) (unroll (circuit_items circuit.now)) repeat done e) }
+    requires later { IfSome mark.now (λ m. m.done < done) }
+    requires mark { IfSome mark.now (λ m. IsMark tableau.old.qubits (C.sequence coins.old) (unroll (circuit_items circuit.now)) repeat done m) }
     requires led { IsLed tableau.old.qubits (C.sequence coins.old) (take (behind_rounds repeat done) (unroll (circuit_items circuit.now))) (program_state tableau.old (output_of outputs.old)) }
     requires noted { IsNoted tableau.old.qubits (C.sequence coins.old) (take (behind_rounds repeat done) (unroll (circuit_items circuit.now))) notes.old outputs.old.free.items }
     ensures qubits { tableau.new.qubits ≡ tableau.old.qubits }
@@ -70,10 +71,10 @@ fn pass_rounds<C: Coins>(
     ensures most { notes.new.strings.most ≡ notes.old.strings.most }
     ensures err { IfErr result (λ r. r ≡ OutOfMemory) }
 {
-    let Some(kept) = earlier else {
+    let Some(kept) = mark else {
         return Ok(done);
     };
-    if comes_again(kept, tableau, outputs, repeat.reach) {
+    if comes_again(tableau, outputs, &kept.copy, repeat.reach) {
         let again = give_rounds(alloc, tableau, outputs, repeat, kept, done)?;
         return Ok(again);
     }
@@ -100,7 +101,7 @@ fn run_round<C: Coins>(
     coins: &mut C,
     outputs: &mut Outputs,
     repeat: Repeat,
-    earlier: &mut Option<Earlier>,
+    mark: &mut Option<Mark>,
     done: usize,
     notes: &mut RunNotes,
 ) -> Result<usize, Refusal>
@@ -108,7 +109,7 @@ fn run_round<C: Coins>(
     requires same_length { length string.old.letters ≡ tableau.old.qubits }
     requires repeat { IsRepeat (unroll (circuit_items circuit.now)) repeat }
     requires within { done < repeat.rounds }
-    requires earlier { IfSome earlier.old (λ e. IsEarlier tableau.old.qubits (C.sequence coins.old) (unroll (circuit_items circuit.now)) repeat done e) }
+    requires mark { IfSome mark.old (λ m. IsMark tableau.old.qubits (C.sequence coins.old) (unroll (circuit_items circuit.now)) repeat done m) }
     requires led { IsLed tableau.old.qubits (C.sequence coins.old) (take (behind_rounds repeat done) (unroll (circuit_items circuit.now))) (program_state tableau.old (output_of outputs.old)) }
     requires noted { IsNoted tableau.old.qubits (C.sequence coins.old) (take (behind_rounds repeat done) (unroll (circuit_items circuit.now))) notes.old outputs.old.free.items }
     ensures qubits { tableau.new.qubits ≡ tableau.old.qubits }
@@ -119,7 +120,7 @@ fn run_round<C: Coins>(
     ensures asks_free { IfOk result (λ now. C.asks coins.new + ones outputs.old.free.items ≤ C.asks coins.old + ones outputs.new.free.items) }
     ensures more { IfOk result (λ now. (done < now) × (now ≤ repeat.rounds)) }
     ensures led { IfOk result (λ now. IsLed tableau.old.qubits (C.sequence coins.old) (take (behind_rounds repeat now) (unroll (circuit_items circuit.now))) (program_state tableau.new (output_of outputs.new))) }
-    ensures earlier { IfOk result (λ now. IfSome earlier.new (λ e. IsEarlier tableau.old.qubits (C.sequence coins.old) (unroll (circuit_items circuit.now)) repeat now e)) }
+    ensures mark { IfOk result (λ now. IfSome mark.new (λ m. IsMark tableau.old.qubits (C.sequence coins.old) (unroll (circuit_items circuit.now)) repeat now m)) }
     ensures noted { IfOk result (λ now. IsNoted tableau.old.qubits (C.sequence coins.old) (take (behind_rounds repeat now) (unroll (circuit_items circuit.now))) notes.new outputs.new.free.items) }
     ensures most { notes.new.strings.most ≡ notes.old.strings.most }
     ensures err { IfErr result (λ r. r ≡ OutOfMemory) }
@@ -144,7 +145,7 @@ fn run_round<C: Coins>(
         coins,
         outputs,
         repeat,
-        earlier,
+        mark,
         done + 1,
         notes,
     )?;
@@ -152,8 +153,8 @@ fn run_round<C: Coins>(
     if repeat.rounds - now < 2 {
         return Ok(now);
     }
-    if let Some(kept) = kept_behind(alloc, tableau, outputs, now)? {
-        *earlier = Some(kept);
+    if let Some(marked) = marked_behind(alloc, tableau, outputs, repeat, now)? {
+        *mark = Some(marked);
     }
     Ok(now)
 }
@@ -188,20 +189,11 @@ fn run_repeat<C: Coins>(
     ensures err { IfErr result (λ r. r ≡ OutOfMemory) }
 {
     let most = repeat.rounds.min(MOST_SINGLE);
-    let mut earlier = None;
+    let mut mark = None;
     let mut done = 0;
     while done < most {
         done = run_round(
-            alloc,
-            circuit,
-            tableau,
-            string,
-            coins,
-            outputs,
-            repeat,
-            &mut earlier,
-            done,
-            notes,
+            alloc, circuit, tableau, string, coins, outputs, repeat, &mut mark, done, notes,
         )?;
     }
     Ok(done)

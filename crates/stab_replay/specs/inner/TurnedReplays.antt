@@ -19,7 +19,8 @@ use Rattle.stab_frames.specs.OtherCoins.{coins_from, WalksToOthers}
 use Rattle.stab_frames.specs.Limits.{most_strings}
 use Rattle.stab_replay.specs.declared.replay.Plan.{Plan}
 use Rattle.stab_replay.specs.declared.replay.Replay.{Replay}
-use Rattle.stab_replay.specs.FramedReplays.{IsFrameFrom, between, flips_since}
+use Rattle.stab_copies.specs.Parts.{between}
+use Rattle.stab_copies.specs.FramesFrom.{IsFrameFrom, flips_since}
 use Rattle.stab_replay.specs.Replays.{IsOnWay}
 use Rattle.stab_replay.specs.inner.AgainReplays.{IsEndIn}
 

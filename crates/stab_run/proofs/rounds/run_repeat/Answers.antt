@@ -4,7 +4,7 @@ use Rattle.stab_circuit.specs.Views.{circuit_items}
 use Rattle.stab_steps.specs.ProgramStates.{program_state, output_of}
 use Rattle.stab_run.specs.inner.Led.{behind_rounds}
 use Rattle.stab_run.proofs.LedLemmas.{coins-more}
-use Rattle.stab_run.proofs.AgainLemmas.{behind-later, led-same, earlier-same}
+use Rattle.stab_run.proofs.AgainLemmas.{behind-later, led-same, mark-same}
 use Rattle.stab_run.proofs.NotedLemmas.{noted-same}
 use Rattle.stab_run.proofs.rounds.run_repeat.Goals as goal
 
@@ -33,9 +33,9 @@ loop-done-preserved g c =
       same_coins = ran.same_coins ∙ inv.same_coins;
       asks = omega (arith, inv.asks, done.asks_part);
       asks_free = omega (arith, inv.asks_free, done.asks_free);
-      earlier =
-          earlier-same n c.loop-done.tableau.qubits coins (g.C.Coins.sequence c.loop-done.coins) steps r now c.run_round.new.earlier inv.qubits inv.same_coins
-          done.earlier;
+      mark =
+          mark-same n c.loop-done.tableau.qubits coins (g.C.Coins.sequence c.loop-done.coins) steps r now c.run_round.new.mark inv.qubits inv.same_coins
+          done.mark;
       most = ran.most ∙ inv.most;
       noted =
           noted-same n c.loop-done.tableau.qubits coins (g.C.Coins.sequence c.loop-done.coins) _ c.run_round.new.notes c.run_round.new.outputs.free.items inv.qubits inv.same_coins

@@ -48,8 +48,8 @@ periods-preserved g c =
           subst (λ k. IsNoted n coins (take (behind_rounds r (now + k)) steps) (record notes { strings = c.note_again.new.strings }) c.go_over.new.outputs.free.items) same
           (noted-over n coins steps r c.requires.repeat p.rounds now (omega (arith, inv.period.span)) within c.go_over.new.period.last.free.items comes
           (program_state p.state (output_of c.periods.outputs)) (program_state c.go_over.new.period.state (output_of c.go_over.new.outputs))
-          inv.period.led next.led notes (record notes { strings = c.note_again.new.strings }) c.count_ones-count.result
-          (c.count_ones-count.ensures.value ∙ ap ones c.as_slice.ensures.value) inv.noted refl put);
+          inv.period.led next.led notes (record notes { strings = c.note_again.new.strings }) c.saturating_sub.result c.len-kept.result
+          (omega (arith, c.saturating_sub.ensures, c.len-kept.ensures, c.count_ones-count.ensures.value ∙ ap ones c.as_slice.ensures.value)) (omega (arith, c.len-kept.ensures)) inv.noted refl put);
       most = c.note_again.ensures.most ∙ inv.most;
     }
 

@@ -1,5 +1,5 @@
 use Rattle.std.proofs.Common.{◌-◌, ◌/◌, take, sym, arith}
-use Rattle.stab_replay.proofs.PointLemmas.{looked-last}
+use Rattle.stab_copies.proofs.MeetingLemmas.{looked-last}
 use Rattle.stab_replay.proofs.replay.Replay.stands_as_at.Goals as goal
 
 pub returns-then-rounds-block : goal.returns-then-rounds-block

@@ -2,8 +2,13 @@
 use Rattle.std.proofs.Common.{◌≡◌, ℕ, zero, suc, ◌+◌, ◌≤◌, refl, sym, ◌∙◌, ap, Bool, ◌⊎◌, inl, inr, List, [], ◌∷◌, take, drop, slice_get, None, arith}
 use Rattle.std.proofs.lemmas.List.{take-append-drop, length-take}
 use Rattle.std.proofs.lemmas.Option.{slice_get_past}
-use Rattle.stab_run.specs.Records.{ones}
+use Rattle.std.proofs.Math.Seq.{take-length}
+use Rattle.stab_steps.specs.declared.records.Lengths.{Lengths}
+use Rattle.stab_steps.specs.Points.{RunOutput}
+use Rattle.stab_steps.specs.Cuts.{lengths_of, rest_of}
+use Rattle.stab_steps.specs.Records.{ones}
 use Rattle.stab_steps.proofs.RecordLemmas.{ones-append}
+use Rattle.stab_copies.specs.Parts.{between}
 
 pub none-more : (j : ℕ) → 0 + j ≡ j
 none-more j = omega arith
@@ -27,3 +32,12 @@ get-drop (suc k) j (x ∷ xs) = get-drop k j xs ∙ ap (slice_get (x ∷ xs)) (s
 
 pub ones-take : (c : ℕ) (bits : List Bool) → ones (take c bits) + ones (drop c bits) ≡ ones bits
 ones-take c bits = sym (ones-append (take c bits) (drop c bits)) ∙ ap ones (take-append-drop c bits)
+
+-- up to their ends lists have all that comes after some lengths
+pub between-end : (l : Lengths) (o : RunOutput) → between l (lengths_of o) o ≡ rest_of l o
+between-end l o = λ i. rest_of l (record {
+  records = take-length o.records i;
+  free = take-length o.free i;
+  detectors = take-length o.detectors i;
+  additions = take-length o.additions i;
+})

@@ -4,8 +4,8 @@ use Rattle.stab_steps.specs.ProgramStates.{output_of}
 use Rattle.stab_steps.specs.Cuts.{rest_of}
 use Rattle.stab_steps.proofs.RunLemmas.{joined-assoc}
 use Rattle.stab_laws.specs.RoundLaws.{copies}
-use Rattle.stab_run.proofs.CopyLemmas.{copies-more}
-use Rattle.stab_run.proofs.again.append_times.Goals as goal
+use Rattle.stab_copies.proofs.CopiesLemmas.{copies-more}
+use Rattle.stab_copies.proofs.folding.append_times.Goals as goal
 
 pub loop-preserved : goal.loop-preserved
 loop-preserved c =

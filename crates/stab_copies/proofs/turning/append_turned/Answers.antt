@@ -2,7 +2,7 @@ use Rattle.std.proofs.Common.{◌∙◌, ◌++◌, sym, ap, length, take, drop}
 use Rattle.std.proofs.Math.Seq.{take-length}
 use Rattle.stab_frames.specs.Flips.{flipped, flipped_additions}
 use Rattle.stab_frames.proofs.FlipLemmas.{flipped-empty}
-use Rattle.stab_replay.proofs.turned.give_turned.Goals as goal
+use Rattle.stab_copies.proofs.turning.append_turned.Goals as goal
 
 pub returns : goal.returns
 returns c =
@@ -15,13 +15,12 @@ returns c =
     let old = c.args.outputs.now in
     record {
       value = λ i. record {
-        records = (c.in_ok-append_turned.ensures.value ∙ (λ j. old.records.items ++ flipped (drop c.args.from.records (take c.args.to.records old.records.items)) (records j))) i;
+        records = (c.in_ok-append_flipped.ensures.value ∙ (λ j. old.records.items ++ flipped (c.as_slice.ensures.value j) (records j))) i;
         free =
-            (c.in_ok-append_again.ensures.value
-            ∙ ap (λ bits. old.free.items ++ bits) (sym (flipped-empty (drop c.args.from.free (take c.args.to.free old.free.items))))) i;
-        detectors = (c.in_ok-append_turned-2.ensures.value ∙ (λ j. old.detectors.items ++ flipped (drop c.args.from.detectors (take c.args.to.detectors old.detectors.items)) (detectors j))) i;
-        additions =
-            (c.in_ok-append_turned_additions.ensures.value
-            ∙ (λ j. old.additions.items ++ flipped_additions (drop c.args.from.additions (take c.args.to.additions old.additions.items)) (additions j))) i;
+            (c.in_ok-extend_from_slice.ensures.items
+            ∙ (λ j. old.free.items ++ c.as_slice-2.ensures.value j)
+            ∙ ap (λ bits. old.free.items ++ bits) (sym (flipped-empty c.args.part.now.free.items))) i;
+        detectors = (c.in_ok-append_flipped-2.ensures.value ∙ (λ j. old.detectors.items ++ flipped (c.as_slice-3.ensures.value j) (detectors j))) i;
+        additions = (c.in_ok-append_flipped_additions.ensures.value ∙ (λ j. old.additions.items ++ flipped_additions (c.as_slice-4.ensures.value j) (additions j))) i;
       };
     }

@@ -2,7 +2,7 @@ use Rattle.std.proofs.Common.{◌≡◌}
 use Rattle.stab_steps.specs.Points.{joined}
 use Rattle.stab_steps.specs.ProgramStates.{output_of}
 use Rattle.stab_laws.specs.RoundLaws.{copies}
-use Rattle.stab_run.proofs.again.append_times.Given as goal
+use Rattle.stab_copies.proofs.folding.append_times.Given as goal
 
 abbrev pub invariant-loop : goal.invariant-loop
 invariant-loop l = record {

@@ -1,11 +1,11 @@
 use Rattle.std.proofs.Common.{◌≡◌, ◌-◌, ◌∙◌, ap, replicate, drop, take, length, arith}
 use Rattle.std.proofs.lemmas.List.{take_all}
 use Rattle.stab_letters.specs.declared.letter.Letter.TheVariants.{I}
-use Rattle.stab_run.specs.Records.{ones}
-use Rattle.stab_run.specs.Points.{nothing}
-use Rattle.stab_run.specs.ProgramStates.{output_of}
-use Rattle.stab_replay.proofs.FrameStartLemmas.{frame-found}
-use Rattle.stab_replay.proofs.framed.frame_between.Goals as goal
+use Rattle.stab_steps.specs.Records.{ones}
+use Rattle.stab_steps.specs.Points.{nothing}
+use Rattle.stab_steps.specs.ProgramStates.{output_of}
+use Rattle.stab_copies.proofs.FrameStartLemmas.{frame-found}
+use Rattle.stab_copies.proofs.framed.frame_between.Goals as goal
 
 pub returns-clause-walk : goal.returns-clause-walk
 returns-clause-walk c =

@@ -42,3 +42,7 @@ copies-halved k old mid more twice odd two =
 pub copies-fixed : (k : ℕ) (o : RunOutput) → ones o.free ≡ 0 → ones (copies k o).free ≡ 0
 copies-fixed zero o none = omega arith
 copies-fixed (suc k) o none = omega (arith, none, ones-append o.free (copies k o).free, copies-fixed k o none)
+
+-- once
+pub copies-once : (o : RunOutput) → copies 1 o ≡ o
+copies-once o = joined-nothing o
