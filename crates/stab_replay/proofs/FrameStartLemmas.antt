@@ -6,6 +6,7 @@ use Rattle.stab_circuit.specs.Steps.{Step}
 use Rattle.stab_run.specs.Records.{ones}
 use Rattle.stab_run.specs.Points.{Point, RunOutput, origin, point_after, outputs}
 use Rattle.stab_run.specs.ProgramStates.{StepFits, program_state}
+use Rattle.stab_frames.specs.Flips.{flipped}
 use Rattle.stab_frames.specs.Frames.{PointsDifferBy}
 use Rattle.stab_frames.specs.Walks.{WalkState, frame_at}
 use Rattle.stab_copies.specs.declared.checkpoint.Checkpoint.{Checkpoint}

@@ -36,5 +36,5 @@ returns-clause-given c = λ yes.
       output = (c.in_ok-give_again.ensures {u = tt}).value ∙ ap (joined (output_of old.outputs)) (copies-once (between from.lengths to.lengths (output_of old.outputs)));
       laid =
           (c.in_ok-push.ensures {u = tt}).items
-          ∙ (λ i. old.laid.items ++ record { step = new.step; lengths = c.lengths.ensures.value i; tableau = (c.in_ok-tableau.ensures {u = tt}).value i } ∷ []);
+          ∙ (λ i. old.laid.items ++ record { step = new.step; lengths = c.lengths.ensures.value i; tableau = (c.in_ok-tableau.ensures {u = tt}).ok i } ∷ []);
     }))
