@@ -41,3 +41,7 @@ between-end l o = λ i. rest_of l (record {
   detectors = take-length o.detectors i;
   additions = take-length o.additions i;
 })
+
+-- no more of the first bits are 1 than of all
+pub ones-first : (k : ℕ) (bits : List Bool) → ones (take k bits) ≤ ones bits
+ones-first k bits = omega (arith, ones-take k bits)

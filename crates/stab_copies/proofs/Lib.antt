@@ -8,3 +8,4 @@ pub mod FlippedLemmas
 pub mod NoteLemmas
 pub mod RunCopyLemmas
 pub mod FrameStartLemmas
+pub mod TurnedLemmas

@@ -15,9 +15,9 @@ use Rattle.stab_laws.proofs.CoinLemmas.{coins-are}
 use Rattle.stab_frames.specs.KeptStrings.{StringsState, IsNumbered, IsTrueAt, AreTrue, note_at, kept_with}
 use Rattle.stab_frames.specs.AgainLaws.{AreTurnedOver}
 use Rattle.stab_frames.proofs.AgainLemmas.{true-turned-at}
-use Rattle.stab_frames.proofs.TrueLemmas.{true-append}
+use Rattle.stab_frames.proofs.TrueLemmas.{true-append, true-same, true-none}
 use Rattle.stab_frames.proofs.OtherCoinLemmas.{ones-split}
-use Rattle.stab_frames.proofs.NoteAtLemmas.{get-append, get-behind}
+use Rattle.stab_frames.proofs.NoteAtLemmas.{get-append, get-behind, note-equal, note-past}
 use Rattle.stab_copies.proofs.BitLemmas.{counted}
 use Rattle.stab_copies.proofs.CutLemmas.{get-take, get-beyond, get-drop, ones-take}
 
@@ -189,3 +189,22 @@ module _ (n : ℕ) (coins : ℕ → Bool) (xs part : List Step) (s u : StringsSt
       (true-changed n coins (note_at s.strings flags) (note_at (take s.most (s.strings ++ others)) (flags ++ drop c (take d flags))) xs origin
       (λ t le lt. note-left s flags numbered others (drop c (take d flags)) t (omega (arith, lt, count, coins-are n coins xs origin))) are_true)
       (true-shifted n coins (note_at s.strings flags) (note_at (take s.most (s.strings ++ others)) (flags ++ drop c (take d flags))) part a (point_after n coins xs origin) notes turned true_then))
+
+-- a run that goes on, and notes no more
+
+note-stays : (strings : List (List Letter)) (free more : List Bool) (t : ℕ) → t < length free → note_at strings free t ≡ note_at strings (free ++ more) t
+note-stays strings free more t lt =
+    sym (note-equal strings strings (free ++ more) free t t (get_or_append_left free more false t lt)
+    (λ is. ap (λ bits. slice_get strings (ones bits)) (take-append-le t free more (omega (arith, lt)))))
+
+pub true-left : (n : ℕ) (coins : ℕ → Bool) (xs zs : List Step) (strings : List (List Letter)) (flags more : List Bool) → flags ≡ (outputs n coins xs origin).free
+    → length strings ≤ ones flags → AreTrue n coins (note_at strings flags) xs origin → AreTrue n coins (note_at strings (flags ++ more)) (xs ++ zs) origin
+true-left n coins xs zs strings flags more is few are_true =
+    true-append n coins (note_at strings (flags ++ more)) xs zs origin
+    (true-same n coins (note_at strings flags) (note_at strings (flags ++ more)) xs origin
+    (λ t lt. note-stays strings flags more (0 + t) (omega (arith, lt, free_coins, coins-are n coins xs origin))) are_true)
+    (true-none n coins (note_at strings (flags ++ more)) zs (point_after n coins xs origin)
+    (λ t le. note-past strings flags more t (omega (arith, le, free_coins)) few))
+  where
+    free_coins : length flags ≡ (point_after n coins xs origin).coin
+    free_coins = ap length is ∙ flags-are-coins n coins xs

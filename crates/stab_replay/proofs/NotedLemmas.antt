@@ -23,7 +23,7 @@ use Rattle.stab_frames.specs.Ends.{MayHaveCoin}
 use Rattle.stab_copies.proofs.BitLemmas.{counted}
 use Rattle.stab_replay.specs.NotedStrings.{IsNoted, IsSpliced}
 use Rattle.stab_copies.proofs.CutLemmas.{ones-take}
-use Rattle.stab_copies.proofs.NoteLemmas.{IsNoneOr, true-changed, note-front, note-left, note-beyond}
+use Rattle.stab_copies.proofs.NoteLemmas.{IsNoneOr, true-changed, note-front, note-left, note-beyond, true-left}
 use Rattle.stab_frames.specs.AgainLaws.{AreTurnedOver}
 use Rattle.stab_frames.proofs.AgainLemmas.{true-turned}
 use Rattle.stab_frames.proofs.TrueLemmas.{true-append, true-front, true-rest, true-none}
@@ -174,26 +174,9 @@ noted-fixed n coins xs zs s flags more reach noted is none near = record {
   size = noted.size;
   within = noted.within;
   numbered = omega (arith, noted.numbered, ones-append flags more, none);
-  are_true =
-      true-append n coins (note_at s.strings (flags ++ more)) xs zs origin
-      (true-changed n coins (note_at s.strings flags) (note_at s.strings (flags ++ more)) xs origin
-      (λ t le lt. inr (left t (omega (arith, lt, count, coins-are n coins xs origin)))) noted.are_true)
-      (true-none n coins (note_at s.strings (flags ++ more)) zs (point_after n coins xs origin)
-      (λ t le. unnoted s.strings (flags ++ more) t (off t (omega (arith, le, count)))));
+  are_true = true-left n coins xs zs s.strings flags more is (omega (arith, noted.numbered)) noted.are_true;
   near = All-append (LooksWithin reach) xs zs noted.near near;
 }
-  where
-    count : length flags ≡ (point_after n coins xs origin).coin
-    count = ap length is ∙ flags-are-coins n coins xs
-
-    left : (t : ℕ) → t < length flags → note_at s.strings (flags ++ more) t ≡ note_at s.strings flags t
-    left t lt = λ i. if get_or_append_left flags more false t lt i then slice_get s.strings (ones (take-append-le t flags more (omega (arith, lt)) i)) else None
-
-    off : (t : ℕ) → length flags ≤ t → get_or (flags ++ more) t false ≡ false
-    off t le =
-        ap (λ k. get_or (flags ++ more) k false) {x = t} {y = length flags + (t - length flags)} (omega (arith, le))
-        ∙ get_or-append-add flags more (t - length flags) false
-        ∙ none-one more (t - length flags) none
 
 -- a run with the rest of another after it, from points on that differ by letters alone, and in the number of the next coin if none
 -- decides after

@@ -14,7 +14,7 @@ use Rattle.stab_run.specs.Records.{ones}
 use Rattle.stab_run.specs.Points.{Point, RunOutput, origin, joined, point_after, outputs, all_coins_of}
 use Rattle.stab_run.specs.ProgramStates.{StepFits}
 use Rattle.stab_run.specs.Ends.{AgreeBack, with_coin}
-use Rattle.stab_run.proofs.FramedLemmas.{flips-free}
+use Rattle.stab_copies.proofs.FlippedLemmas.{flips-free}
 use Rattle.stab_run.proofs.LedLemmas.{coins-all}
 use Rattle.stab_steps.proofs.RunLemmas.{after-append, outputs-append}
 use Rattle.stab_laws.proofs.PointLemmas.{flags-are-coins, flags-counted, records-gathered, rest-output}

@@ -2,7 +2,6 @@ mod ShotLemmas
 pub mod LedLemmas
 pub mod AgainLemmas
 mod NotedLemmas
-pub mod FramedLemmas
 mod OverLemmas
 mod PeriodLemmas
 mod NotedAgainLemmas

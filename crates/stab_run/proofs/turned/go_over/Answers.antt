@@ -22,7 +22,7 @@ use Rattle.stab_run.specs.inner.Led.{behind_rounds}
 use Rattle.stab_run.specs.inner.Turned.{point_behind}
 use Rattle.stab_run.proofs.LedLemmas.{coins-more}
 use Rattle.stab_run.proofs.AgainLemmas.{behind-later}
-use Rattle.stab_run.proofs.FramedLemmas.{ones-first}
+use Rattle.stab_copies.proofs.CutLemmas.{ones-first}
 use Rattle.stab_run.proofs.PeriodLemmas.{steps-fit, steps-next, asks-period, walked-same, later, comes-turned, next-period}
 use Rattle.stab_run.proofs.turned.go_over.Goals as goal
 
