@@ -16,7 +16,7 @@ use Rattle.stab_steps.specs.Records.{looked_up, ones}
 use Rattle.stab_steps.specs.Points.{Point, RunOutput, nothing, origin, point_after, outputs}
 use Rattle.stab_steps.specs.ProgramStates.{StepFits, program_state}
 use Rattle.stab_laws.specs.Ends.{AgreeBack, with_coin}
-use Rattle.stab_laws.proofs.PointLemmas.{flags-are-coins, records-are-records, front-output}
+use Rattle.stab_laws.proofs.PointLemmas.{flags-are-coins, records-are-records}
 use Rattle.stab_laws.proofs.LookbackLemmas.{looked_up-near}
 use Rattle.stab_frames.specs.Flips.{flipped}
 use Rattle.stab_frames.specs.Frames.{PointsDifferBy}
@@ -27,7 +27,7 @@ use Rattle.stab_frames.proofs.FlipLemmas.{length-flipped, flipped-apart}
 use Rattle.stab_copies.specs.declared.checkpoint.Checkpoint.{Checkpoint}
 use Rattle.stab_copies.specs.Checkpoints.{IsRunFromStart, IsCheckpoint}
 use Rattle.stab_copies.specs.FramesFrom.{AreCompared, IsFrameFrom}
-use Rattle.stab_copies.proofs.RunCopyLemmas.{copy-before, lengths-within}
+use Rattle.stab_copies.proofs.RunCopyLemmas.{copy-before, lengths-within, records-at}
 
 -- if two lists are the same at first, nothing differs
 
@@ -112,10 +112,7 @@ module _ (n : ℕ) (coins : ℕ → Bool) (xs ys : List Step) (k : ℕ) (c : Che
   own_coin = ap (λ (q : RunOutput). length q.free) run.output ∙ flags-are-coins n coins (take k ys)
 
   pub olds_are : olds ≡ here.records
-  olds_are =
-      (λ i. take (ap (λ (l : Lengths). l.records) is.lengths i) (kept i).records)
-      ∙ ap (λ (q : RunOutput). q.records) (front-output n coins xs c.step)
-      ∙ records-are-records n coins (take c.step xs)
+  olds_are = records-at n coins xs old c is kept
 
   pub short : length olds ≡ c.lengths.records
   short =

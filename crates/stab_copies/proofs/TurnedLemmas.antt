@@ -1,6 +1,6 @@
 -- Turned steps: if a frame distinguishes two points, and went over the steps from the one with the coins of the other, what they give
 -- at the other is what they gave at the one, flipped, and the frame distinguishes where they lead.
-use Rattle.std.proofs.Common.{◌≡◌, ℕ, ◌+◌, sym, ◌∙◌, subst, Bool, false, List, Option, length, take, drop, All}
+use Rattle.std.proofs.Common.{◌≡◌, ℕ, ◌+◌, sym, ◌∙◌, subst, Bool, false, List, Option, length, take, drop, All, arith}
 use Rattle.stab_letters.specs.declared.letter.Letter.{Letter}
 use Rattle.stab_circuit.specs.Steps.{Step, looks_too_far}
 use Rattle.stab_steps.specs.Points.{Point, RunOutput, point_after, outputs, all_coins_of}
@@ -17,6 +17,13 @@ use Rattle.stab_frames.specs.OtherCoins.{coins_from, notes_between, WalksToOther
 use Rattle.stab_frames.proofs.AgainLemmas.{come-turned, gone-over-seen}
 use Rattle.stab_copies.specs.FramesFrom.{flips_since}
 use Rattle.stab_copies.proofs.FlippedLemmas.{flips-free, since-joined}
+
+-- coins from the first on are all
+pub all-coins : (d : ℕ) (coins : ℕ → Bool) → d ≡ 0 → coins_from d coins ≡ coins
+all-coins d coins first = λ i t. coins (from t i)
+  where
+    from : (t : ℕ) → d + t ≡ t
+    from t = omega (arith, first)
 
 module _ (n reach base da db : ℕ) (coins : ℕ → Bool) (strings : ℕ → Option (List Letter)) (flags bits : List Bool) (xs : List Step) (a b : Point) (w v : WalkState)
     (fits : All (StepFits n) xs) (near : looks_too_far reach xs ≡ false) (from_a : da + w.coin ≡ a.coin) (from_b : db + w.coin ≡ b.coin)
@@ -39,16 +46,14 @@ module _ (n reach base da db : ℕ) (coins : ℕ → Bool) (strings : ℕ → Op
       × AreTurnedOver n coins xs a b
   come = come-turned n reach w.coin da db coins strings xs (frame_at base w) a b fits near from_a from_b differs (went.1 base)
 
-  pub given-turned : outputs n coins xs b ≡ flipped_output (outputs n coins xs a) (flips_since w v)
-  given-turned =
-      come.0
-      ∙ since-joined (outputs n coins xs a) frame_flips w v (all_coins_of xs) (flips-free n notes xs w.coin (frame_at base w)) (went.0.flips base)
-
-  pub differs-behind : DiffersBack n reach (frame_at base v) (point_after n coins xs a) (point_after n coins xs b)
-  differs-behind = subst (λ f. DiffersBack n reach f (point_after n coins xs a) (point_after n coins xs b)) (sym (went.0.frame base)) come.1
-
-  pub turned-over : AreTurnedOver n coins xs a b
-  turned-over = come.2
-
-  pub coin-behind : v.coin ≡ w.coin + all_coins_of xs
-  coin-behind = went.0.coin
+  pub comes-over : (outputs n coins xs b ≡ flipped_output (outputs n coins xs a) (flips_since w v))
+      × DiffersBack n reach (frame_at base v) (point_after n coins xs a) (point_after n coins xs b)
+      × AreTurnedOver n coins xs a b
+      × (v.coin ≡ w.coin + all_coins_of xs)
+  comes-over = (
+    come.0
+        ∙ since-joined (outputs n coins xs a) frame_flips w v (all_coins_of xs) (flips-free n notes xs w.coin (frame_at base w)) (went.0.flips base),
+    subst (λ f. DiffersBack n reach f (point_after n coins xs a) (point_after n coins xs b)) (sym (went.0.frame base)) come.1,
+    come.2,
+    went.0.coin,
+  )

@@ -47,7 +47,7 @@ use Rattle.stab_copies.proofs.RunCopyLemmas.{lengths-within}
 use Rattle.stab_replay.proofs.NotedLemmas.{near-enough}
 use Rattle.stab_replay.proofs.ReplayLemmas.{on-stop, with-laid}
 use Rattle.stab_replay.proofs.SegmentLemmas.{turned-from}
-use Rattle.stab_copies.proofs.TurnedLemmas.{given-turned, differs-behind, turned-over, coin-behind}
+use Rattle.stab_copies.proofs.TurnedLemmas.{all-coins, comes-over}
 use Rattle.stab_frames.proofs.FlipLemmas.{flipped-empty}
 use Rattle.stab_frames.proofs.TrueLemmas.{true-front, true-rest}
 use Rattle.stab_replay.proofs.TurnedNoteLemmas.{noted-turned}
@@ -67,13 +67,6 @@ pub taken : (k : ℕ) (bits more : List Bool) → k ≤ length bits → take k (
 taken zero bits more le = refl
 taken (suc k) [] more le = absurd (omega (arith, le))
 taken (suc k) (bit ∷ bits) more le = ap (λ l. bit ∷ l) (taken k bits more (omega (arith, le)))
-
--- coins from the first on are all
-pub all-coins : (coins : ℕ → Bool) → coins_from 0 coins ≡ coins
-all-coins coins = λ i t. coins (from t i)
-  where
-    from : (t : ℕ) → 0 + t ≡ t
-    from t = omega arith
 
 -- what is known of a replay that is turned at a copy, with another one after it
 module _ (n : ℕ) (coins : ℕ → Bool) (begin : ℕ) (p : Plan) (ys : List Step) (copies : List Checkpoint) (old : List Bool) (next : ℕ) (block : Repeat) (end : ℕ) (r : Replay)
@@ -181,7 +174,7 @@ module _ (n : ℕ) (coins : ℕ → Bool) (begin : ℕ) (p : Plan) (ys : List St
 
     true_here : AreTrue n (coins_from 0 coins) strings part (with_coin w.coin then)
     true_here =
-        subst (λ cs. AreTrue n cs strings part (with_coin w.coin then)) (sym (all-coins coins))
+        subst (λ cs. AreTrue n cs strings part (with_coin w.coin then)) (sym (all-coins 0 coins refl))
         (subst (λ k. AreTrue n coins strings part (with_coin k then)) (sym walk_here) true_then)
 
     flags_here : (outputs n coins part then).free ≡ take (all_coins_of part) (drop w.coin r.outputs.free.items)
@@ -200,24 +193,12 @@ module _ (n : ℕ) (coins : ℕ → Bool) (begin : ℕ) (p : Plan) (ys : List St
     walked : WalksToOthers n strings r.outputs.free.items bits others part w v
     walked = subst (λ x. x) (λ i. WalksToOthers (stands.size i) strings r.outputs.free.items bits others (sym part_left i) w v) gave.walked
 
-    given : outputs n coins part now ≡ flipped_output (outputs n coins part then) (flips_since w v)
-    given =
-        given-turned n reach stands.base 0 (length r.outputs.free.items - c.lengths.free) coins strings r.outputs.free.items bits part then now w v fits near (omega (arith, walk_here)) from_now stands.differs
-        true_here flags_here (sym (ap (λ (o : RunOutput). o.records) part_given)) recorded walked
-
-    over : AreTurnedOver n coins part then now
+    over : (outputs n coins part now ≡ flipped_output (outputs n coins part then) (flips_since w v))
+        × DiffersBack n reach (frame_at stands.base v) (point_after n coins part then) (point_after n coins part now)
+        × AreTurnedOver n coins part then now
+        × (v.coin ≡ w.coin + all_coins_of part)
     over =
-        turned-over n reach stands.base 0 (length r.outputs.free.items - c.lengths.free) coins strings r.outputs.free.items bits part then now w v fits near (omega (arith, walk_here)) from_now stands.differs
-        true_here flags_here (sym (ap (λ (o : RunOutput). o.records) part_given)) recorded walked
-
-    behind : DiffersBack n reach (frame_at stands.base v) (point_after n coins part then) (point_after n coins part now)
-    behind =
-        differs-behind n reach stands.base 0 (length r.outputs.free.items - c.lengths.free) coins strings r.outputs.free.items bits part then now w v fits near (omega (arith, walk_here)) from_now stands.differs
-        true_here flags_here (sym (ap (λ (o : RunOutput). o.records) part_given)) recorded walked
-
-    coin_behind : v.coin ≡ w.coin + all_coins_of part
-    coin_behind =
-        coin-behind n reach stands.base 0 (length r.outputs.free.items - c.lengths.free) coins strings r.outputs.free.items bits part then now w v fits near (omega (arith, walk_here)) from_now stands.differs
+        comes-over n reach stands.base 0 (length r.outputs.free.items - c.lengths.free) coins strings r.outputs.free.items bits part then now w v fits near (omega (arith, walk_here)) from_now stands.differs
         true_here flags_here (sym (ap (λ (o : RunOutput). o.records) part_given)) recorded walked
 
     step : s.step ≡ r.step + (d.step - c.step)
@@ -232,7 +213,7 @@ module _ (n : ℕ) (coins : ℕ → Bool) (begin : ℕ) (p : Plan) (ys : List St
     later_end = ap (λ k. point_after n coins (take k ys) origin) step ∙ later-point n coins ys c.step d.step r.step reach order before same_steps
 
     differs : DiffersBack n reach (frame_at stands.base v) (point_after n coins (take d.step ys) origin) (point_after n coins (take s.step ys) origin)
-    differs = subst (λ x. x) (λ i. DiffersBack n reach (frame_at stands.base v) (sym first_end i) (sym later_end i)) behind
+    differs = subst (λ x. x) (λ i. DiffersBack n reach (frame_at stands.base v) (sym first_end i) (sym later_end i)) over.1
 
     group : IsTurned n v.letters (member (point_after n coins (take d.step ys) origin).trace) (member (point_after n coins (take s.step ys) origin).trace)
     group =
@@ -251,7 +232,7 @@ module _ (n : ℕ) (coins : ℕ → Bool) (begin : ℕ) (p : Plan) (ys : List St
       output =
           gave.output
           ∙ (λ i. joined (at.run.output i) (flipped_output (part_given i) (flips_since w v)))
-          ∙ ap (joined (outputs n coins (take r.step ys) origin)) (sym given)
+          ∙ ap (joined (outputs n coins (take r.step ys) origin)) (sym over.0)
           ∙ sym (outputs-append n coins (take r.step ys) part origin)
           ∙ ap (λ zs. outputs n coins zs origin) steps_now;
     }
@@ -262,7 +243,7 @@ module _ (n : ℕ) (coins : ℕ → Bool) (begin : ℕ) (p : Plan) (ys : List St
     number_here = stands.placed ∙ ap (λ k. ones (take k r.outputs.free.items)) stands.coin
 
     number_there : v.number ≡ ones (take d.lengths.free r.outputs.free.items)
-    number_there = gave.placed ∙ ap (λ k. ones (take k r.outputs.free.items)) (coin_behind ∙ ap (λ k. k + all_coins_of part) stands.coin ∙ sym last)
+    number_there = gave.placed ∙ ap (λ k. ones (take k r.outputs.free.items)) (over.3 ∙ ap (λ k. k + all_coins_of part) stands.coin ∙ sym last)
 
     kept : ones (take d.lengths.free r.outputs.free.items) ≤ length r.notes.strings.strings
     kept =
@@ -306,7 +287,7 @@ module _ (n : ℕ) (coins : ℕ → Bool) (begin : ℕ) (p : Plan) (ys : List St
     noted =
         subst (λ x. x) (λ i. IsNoted n coins (steps_now i) s.notes.strings (sym new_flags i) reach)
         (noted-turned n coins (take r.step ys) part r.notes.strings s.notes.strings r.outputs.free.items c.lengths.free d.lengths.free reach then at.noted
-        (ap (λ (o : RunOutput). o.free) at.run.output) (sym coin_here) true_then over last kept near_part new_strings)
+        (ap (λ (o : RunOutput). o.free) at.run.output) (sym coin_here) true_then over.2 last kept near_part new_strings)
 
     -- it is there with the turned state
     abbrev pub arrived : Replay
@@ -373,12 +354,12 @@ module _ (n : ℕ) (coins : ℕ → Bool) (begin : ℕ) (p : Plan) (ys : List St
       base = stands.base;
       differs = differs;
       size = gave.size ∙ stands.size;
-      coin = coin_behind ∙ ap (λ k. k + all_coins_of part) stands.coin ∙ sym last;
+      coin = over.3 ∙ ap (λ k. k + all_coins_of part) stands.coin ∙ sym last;
       placed = number_there ∙ placed;
     }
       where
         walked_to : v.coin ≡ d.lengths.free
-        walked_to = coin_behind ∙ ap (λ k. k + all_coins_of part) stands.coin ∙ sym last
+        walked_to = over.3 ∙ ap (λ k. k + all_coins_of part) stands.coin ∙ sym last
 
         placed : ones (take d.lengths.free r.outputs.free.items) ≡ ones (take v.coin s.outputs.free.items)
         placed =

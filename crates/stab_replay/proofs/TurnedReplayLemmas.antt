@@ -30,7 +30,8 @@ use Rattle.stab_copies.proofs.RunCopyLemmas.{copy-before}
 use Rattle.stab_copies.proofs.CutLemmas.{ones-take}
 use Rattle.std.proofs.lemmas.List.{take-take, drop-take}
 use Rattle.stab_laws.proofs.CoinLemmas.{coins-few, coins-are}
-use Rattle.stab_replay.specs.inner.TurnedReplays.{IsOfOwn, IsRoundsBehind, IsFrameAgain, DiffersAt, StandsTurned, MayComeAgain, IsTurning, HasGivenTurned}
+use Rattle.stab_replay.specs.inner.AgainReplays.{IsRoundsBehind}
+use Rattle.stab_replay.specs.inner.TurnedReplays.{IsOfOwn, IsFrameAgain, DiffersAt, StandsTurned, MayComeAgain, IsTurning, HasGivenTurned}
 
 pub own-copies : (n : ℕ) (coins : ℕ → Bool) (begin : ℕ) (p : Plan) (ys : List Step) (copies : List Checkpoint) (old : List Bool) (next : ℕ) (r : Replay)
     → IsOnWay n coins begin p ys copies old next r → All (IsOfOwn r.tableau.qubits (output_of r.outputs)) r.laid.items

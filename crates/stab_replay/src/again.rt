@@ -11,7 +11,7 @@ ghost use Rattle.stab_run.specs.Points.{all_coins_of};
 ghost use Rattle.stab_run.specs.ProgramStates.{StepFits};
 ghost use Rattle.stab_replay.specs.declared.replay.Plan.{Plan};
 ghost use Rattle.stab_replay.specs.Replays.{IsOnWay, step_among_new, spacing_of};
-ghost use Rattle.stab_replay.specs.inner.AgainReplays.{StandsAgain, HasGivenAgain, IsEndIn};
+ghost use Rattle.stab_replay.specs.inner.AgainReplays.{IsRoundsBehind, StandsAgain, HasGivenAgain, IsEndIn};
 ghost use Rattle.stab_replay.specs.inner.LedReplays.{with_state, with_cursor};
 
 use crate::replay::{Plan, Replay};
@@ -43,17 +43,24 @@ impl Plan {
 }
 
 impl<'a> Replay<'a> {
-    /// Whether the replay is as it stood at a copy in a block, some whole rounds before.
-    fn stands_as_at(&self, block: Repeat, copy: &Checkpoint) -> bool
+    /// Whether the replay is in a block some whole rounds after a copy.
+    pub(crate) fn is_rounds_behind(&self, block: Repeat, copy: &Checkpoint) -> bool
         requires some { 0 < block.length }
-        ensures value { IsTrue result → StandsAgain block self.now copy.now }
+        ensures value { IsTrue result → IsRoundsBehind block self.now.step copy.now }
     {
         if copy.step < block.first || copy.step >= self.step {
             return false;
         }
         let steps = self.step - copy.step;
-        let rounds = steps / block.length;
-        rounds * block.length == steps
+        steps / block.length * block.length == steps
+    }
+
+    /// Whether the replay is as it stood at a copy in a block, some whole rounds before.
+    fn stands_as_at(&self, block: Repeat, copy: &Checkpoint) -> bool
+        requires some { 0 < block.length }
+        ensures value { IsTrue result → StandsAgain block self.now copy.now }
+    {
+        self.is_rounds_behind(block, copy)
             && comes_again(&self.tableau, &self.outputs, copy, self.notes.reach)
     }
 

@@ -8,7 +8,7 @@ ghost use Rattle.stab_run.specs.ProgramStates.{output_of};
 ghost use Rattle.stab_replay.specs.declared.replay.Plan.{Plan};
 ghost use Rattle.stab_replay.specs.Replays.{IsOnWay};
 ghost use Rattle.stab_replay.specs.inner.LedReplays.{with_state};
-ghost use Rattle.stab_replay.specs.inner.TurnedReplays.{IsOfOwn, IsRoundsBehind, DiffersAt, IsFrameAgain, MayComeAgain, IsTurning, HasGivenTurned};
+ghost use Rattle.stab_replay.specs.inner.TurnedReplays.{IsOfOwn, DiffersAt, IsFrameAgain, MayComeAgain, IsTurning, HasGivenTurned};
 
 use crate::again::LOOKED_BACK;
 use crate::framed::turned_copy;
@@ -48,18 +48,6 @@ impl<'a> Replay<'a> {
             return None;
         }
         Some(asked)
-    }
-
-    /// Whether the replay is in a block some whole rounds after a copy.
-    pub(crate) fn is_rounds_behind(&self, block: Repeat, copy: &Checkpoint) -> bool
-        requires some { 0 < block.length }
-        ensures value { IsTrue result → IsRoundsBehind block self.now.step copy.now }
-    {
-        if copy.step < block.first || copy.step >= self.step {
-            return false;
-        }
-        let steps = self.step - copy.step;
-        steps / block.length * block.length == steps
     }
 
     /// The frame by which the replay differs from where it was at the laid copy with a number, if the rows have the same letters.

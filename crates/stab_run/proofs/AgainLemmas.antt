@@ -22,6 +22,7 @@ use Rattle.stab_copies.specs.declared.checkpoint.Checkpoint.{Checkpoint}
 use Rattle.stab_copies.specs.Checkpoints.{IsCheckpoint}
 use Rattle.stab_copies.specs.Meets.{ComesAgain}
 use Rattle.stab_copies.proofs.MeetingLemmas.{looked-last}
+use Rattle.stab_copies.proofs.RunCopyLemmas.{agrees-own}
 use Rattle.stab_run.specs.declared.marks.Mark.{Mark}
 use Rattle.stab_run.specs.inner.Led.{IsLed, behind_rounds, IsMark, IsMarkedAt}
 use Rattle.stab_laws.proofs.PointLemmas.{flags-are-coins, records-are-records, rest-joined}
@@ -170,25 +171,13 @@ module _ (steps : List Step) (r : Repeat) (is : IsRepeat steps r) where
     at_now : IsAt n (program_state t old) now
     at_now = subst (IsAt n (program_state t old)) now_is led.at
 
-    records_then : take e.copy.lengths.records old.records ≡ then.records
-    records_then =
-        ap (λ (l : Lengths). take l.records old.records) lengths
-        ∙ ap (λ (o : RunOutput). take (length (outputs n coins first origin).records) o.records) old_is
-        ∙ take_at (outputs n coins first origin).records (outputs n coins since then).records (length (outputs n coins first origin).records) refl
-        ∙ records-are-records n coins first
-
-    group : SameGroup n (stabilises e.copy.tableau) (member then.trace)
-    group = subst (λ k. SameGroup n (stabilises e.copy.tableau) (member (point_after n coins (take k steps) origin).trace)) mark.step mark.copy.group
-
     agree : AgreeBack n r.reach (with_coin now.coin then) now
-    agree = record {
-      group = λ p lp. sym (group p lp) ∙ ap (λ s. stabilises s p) comes.same ∙ at_now.group p lp;
-      coin = refl;
-      records = λ k le.
-          ap (λ bits. looked_up bits k) (sym records_then)
-          ∙ sym (looked-last r.reach k old.records (take e.copy.lengths.records old.records) comes.records le)
-          ∙ ap (λ bits. looked_up bits k) at_now.records;
-    }
+    agree =
+        subst (λ x. x) (λ i. AgreeBack n r.reach (with_coin (now_is i).coin (point_after n coins (take (mark.step i) steps) origin)) (now_is i))
+        (agrees-own n coins steps (behind_rounds r done) e.copy t old r.reach mark.copy
+        (omega (arith, mark.step, behind-later r e.done done mark.before)) (omega (arith, behind-later r done r.rounds within, is.inside))
+        (record { group = led.at.group; output = led.output }) comes.same
+        (λ k le. sym (looked-last r.reach k old.records (take e.copy.lengths.records old.records) comes.records le)))
 
     pub gives-again : (k : ℕ) (new : RunOutput) → done + k * period ≤ r.rounds → new ≡ joined old (copies k (rest_of e.copy.lengths old))
         → IsLed n coins (take (behind_rounds r (done + k * period)) steps) (program_state t new)

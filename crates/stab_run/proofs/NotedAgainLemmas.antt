@@ -40,9 +40,6 @@ module _ (n : ℕ) (coins : ℕ → Bool) (steps : List Step) (r : Repeat) (is :
   abbrev there : Point
   there = point_behind n coins steps r (done - m)
 
-  abbrev here : Point
-  here = point_behind n coins steps r done
-
   abbrev free : List Bool
   free = old.output.free
 

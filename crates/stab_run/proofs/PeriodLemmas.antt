@@ -31,7 +31,7 @@ use Rattle.stab_frames.specs.OtherCoins.{coins_from, WalksToOthers}
 use Rattle.stab_frames.specs.AgainLaws.{DiffersBack, AreTurnedOver}
 use Rattle.stab_frames.proofs.FlipLemmas.{length-flipped, flipped-empty}
 use Rattle.stab_copies.specs.FramesFrom.{flips_since}
-use Rattle.stab_copies.proofs.TurnedLemmas.{given-turned, differs-behind, turned-over}
+use Rattle.stab_copies.proofs.TurnedLemmas.{comes-over}
 use Rattle.stab_run.specs.inner.Led.{IsLed, behind_rounds}
 use Rattle.stab_run.specs.declared.turned.Period.{Period}
 use Rattle.stab_run.specs.inner.Turned.{point_behind, IsPeriod, ComesTurned}
@@ -170,21 +170,16 @@ module _ (n : ℕ) (coins : ℕ → Bool) (steps : List Step) (r : Repeat) (stri
     records_are : (outputs n coins xs there).records ≡ p.last.records.items
     records_are = ap (λ (q : RunOutput). q.records) (sym period.last)
 
-    given : outputs n coins xs here ≡ flipped_output (outputs n coins xs there) (flips_since p.walk w)
-    given =
-        given-turned n r.reach period.base apart ahead coins noted p.flags.items p.last.records.items xs there here p.walk w fit near from_there from_here period.differs period.are_true
-        flags_are records_are period.recorded walked
-
-    over : AreTurnedOver n coins xs there here
+    over : (outputs n coins xs here ≡ flipped_output (outputs n coins xs there) (flips_since p.walk w))
+        × DiffersBack n r.reach (frame_at period.base w) (point_after n coins xs there) (point_after n coins xs here)
+        × AreTurnedOver n coins xs there here
+        × (w.coin ≡ coin + all_coins_of xs)
     over =
-        turned-over n r.reach period.base apart ahead coins noted p.flags.items p.last.records.items xs there here p.walk w fit near from_there from_here period.differs period.are_true
+        comes-over n r.reach period.base apart ahead coins noted p.flags.items p.last.records.items xs there here p.walk w fit near from_there from_here period.differs period.are_true
         flags_are records_are period.recorded walked
 
     apart-next : DiffersBack n r.reach (frame_at period.base w) here beyond
-    apart-next =
-        subst (λ x. x) (λ i. DiffersBack n r.reach (frame_at period.base w) (sym here_is i) (sym beyond_is i))
-        (differs-behind n r.reach period.base apart ahead coins noted p.flags.items p.last.records.items xs there here p.walk w fit near from_there from_here period.differs period.are_true
-        flags_are records_are period.recorded walked)
+    apart-next = subst (λ x. x) (λ i. DiffersBack n r.reach (frame_at period.base w) (sym here_is i) (sym beyond_is i)) over.1
 
     -- what the period gives
     module _ (last : Outputs) (is_last : output_of last ≡ flipped_output (output_of p.last) (flips_since p.walk w)) where
@@ -192,7 +187,7 @@ module _ (n : ℕ) (coins : ℕ → Bool) (steps : List Step) (r : Repeat) (stri
       gives =
           is_last
           ∙ ap (λ q. flipped_output q (flips_since p.walk w)) period.last
-          ∙ sym given
+          ∙ sym over.0
 
       pub flags_same : last.free.items ≡ p.last.free.items
       flags_same = ap (λ (q : RunOutput). q.free) is_last ∙ flipped-empty p.last.free.items
@@ -204,7 +199,7 @@ module _ (n : ℕ) (coins : ℕ → Bool) (steps : List Step) (r : Repeat) (stri
             ∙ ap (λ (q : RunOutput). q.free) period.last
             ∙ ap (λ j. (outputs n coins xs (point_behind n coins steps r j)).free) begun;
         again = ap (λ (q : RunOutput). q.free) gives;
-        turned = subst (λ j. AreTurnedOver n coins xs (point_behind n coins steps r j) here) begun over;
+        turned = subst (λ j. AreTurnedOver n coins xs (point_behind n coins steps r j) here) begun over.2;
       }
         where
           begun : period.from ≡ done - p.rounds
@@ -240,7 +235,7 @@ module _ (n : ℕ) (coins : ℕ → Bool) (steps : List Step) (r : Repeat) (stri
             flags = flags_same ∙ period.flags;
             kept = period.kept;
             coin = omega (arith, period.coin, later);
-            are_true = true-over n apart ahead coin coins noted xs there here from_there from_here over period.are_true;
+            are_true = true-over n apart ahead coin coins noted xs there here from_there from_here over.2 period.are_true;
             letters = same ∙ period.letters;
             placed = period.placed;
             flips = refl;

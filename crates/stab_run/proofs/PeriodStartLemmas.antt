@@ -21,18 +21,12 @@ use Rattle.stab_frames.specs.OtherCoins.{coins_from}
 use Rattle.stab_frames.specs.AgainLaws.{DiffersBack}
 use Rattle.stab_frames.proofs.TrueLemmas.{true-rest}
 use Rattle.stab_copies.proofs.FrameStartLemmas.{frame-again}
+use Rattle.stab_copies.proofs.TurnedLemmas.{all-coins}
 use Rattle.stab_run.specs.inner.Led.{IsLed, behind_rounds, IsMark}
 use Rattle.stab_run.specs.declared.marks.Mark.{Mark}
 use Rattle.stab_run.specs.declared.turned.Period.{Period}
 use Rattle.stab_run.specs.inner.Turned.{point_behind, IsPeriod, BeginsPeriod}
 use Rattle.stab_run.proofs.AgainLemmas.{more-rounds, behind-later}
-
--- coins from the first on
-coins-whole : (d : ℕ) (coins : ℕ → Bool) → d ≡ 0 → coins ≡ coins_from d coins
-coins-whole d coins e = λ i t. coins (shift t i)
-  where
-    shift : (t : ℕ) → t ≡ d + t
-    shift t = omega (arith, e)
 
 module _ (n : ℕ) (coins : ℕ → Bool) (steps : List Step) (r : Repeat) (k done : ℕ) (m : Mark) (t : TableauState) (o : RunOutput) (strings : List (List Letter)) (p : Period)
     (is : IsRepeat steps r) (mark : IsMark n coins steps r k m) (before : m.done < done) (within : done ≤ r.rounds) (fits : All (StepFits n) steps)
@@ -112,7 +106,7 @@ module _ (n : ℕ) (coins : ℕ → Bool) (steps : List Step) (r : Repeat) (k do
     coin = omega (arith, coin_is);
     are_true =
         subst (λ c. AreTrue n (coins_from (there.coin - p.walk.coin) coins) (note_at strings p.flags.items) xs (with_coin c there)) (sym coin_is)
-        (subst (λ c. AreTrue n c (note_at strings p.flags.items) xs there) (coins-whole (there.coin - p.walk.coin) coins (omega (arith, coin_is)))
+        (subst (λ c. AreTrue n c (note_at strings p.flags.items) xs there) (sym (all-coins (there.coin - p.walk.coin) coins (omega (arith, coin_is))))
         (subst (λ bits. AreTrue n coins (note_at strings bits) xs there) (sym begins.flags)
         (true-rest n coins (note_at strings o.free) first xs origin
         (subst (λ ys. AreTrue n coins (note_at strings o.free) ys origin) steps_now are_true))));
