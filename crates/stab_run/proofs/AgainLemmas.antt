@@ -11,7 +11,7 @@ use Rattle.stab_circuit.specs.Steps.{Step, rounds}
 use Rattle.stab_circuit.specs.declared.circuit.repeats.Repeat.{Repeat}
 use Rattle.stab_circuit.specs.Repeats.{round_of, IsRepeat, AreRepeats}
 use Rattle.stab_steps.specs.Records.{looked_up, ones}
-use Rattle.stab_steps.specs.Points.{Point, RunOutput, origin, joined, point_after, outputs}
+use Rattle.stab_steps.specs.Points.{Point, RunOutput, origin, joined, all_coins_of, point_after, outputs}
 use Rattle.stab_steps.specs.declared.records.Lengths.{Lengths}
 use Rattle.stab_steps.specs.Cuts.{lengths_of, rest_of}
 use Rattle.stab_steps.specs.ProgramStates.{ProgramState, program_state, IsAt}
@@ -25,6 +25,7 @@ use Rattle.stab_copies.proofs.MeetingLemmas.{looked-last}
 use Rattle.stab_copies.proofs.RunCopyLemmas.{agrees-own}
 use Rattle.stab_run.specs.declared.marks.Mark.{Mark}
 use Rattle.stab_run.specs.inner.Led.{IsLed, behind_rounds, IsMark, IsMarkedAt}
+use Rattle.stab_run.proofs.LedLemmas.{coins-more}
 use Rattle.stab_laws.proofs.PointLemmas.{flags-are-coins, records-are-records, rest-joined}
 use Rattle.stab_laws.proofs.RoundLemmas.{rounds-append, rounds-rounds, rounds-within, length-rounds, rounds-again}
 
@@ -35,6 +36,10 @@ behind-more r k = omega (arith, add-mul k 1 r.length)
 -- it is no later than that after more rounds
 pub behind-later : (r : Repeat) (j k : ℕ) → j ≤ k → behind_rounds r j ≤ behind_rounds r k
 behind-later r j k le = let more = mul-le-mul_right r.length le in omega arith
+
+-- more rounds use up no fewer coin numbers
+pub coins-later : (r : Repeat) (j k : ℕ) (steps : List Step) → j ≤ k → all_coins_of (take (behind_rounds r j) steps) ≤ all_coins_of (take (behind_rounds r k) steps)
+coins-later r j k steps le = coins-more (behind_rounds r j) (behind_rounds r k) steps (behind-later r j k le)
 
 -- a mark that is made after a round
 pub marked-behind : (n : ℕ) (coins : ℕ → Bool) (steps : List Step) (r : Repeat) (done : ℕ) (m : Mark) (t : TableauState) (o : RunOutput)

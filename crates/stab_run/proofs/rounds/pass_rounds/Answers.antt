@@ -6,42 +6,29 @@ use Rattle.stab_steps.specs.ProgramStates.{program_state, output_of}
 use Rattle.stab_run.specs.inner.Led.{IsMark, behind_rounds}
 use Rattle.stab_run.specs.inner.Turned.{BeginsPeriod}
 use Rattle.stab_laws.proofs.FitLemmas.{check-steps, check-whole}
-use Rattle.stab_run.proofs.LedLemmas.{coins-more}
-use Rattle.stab_run.proofs.AgainLemmas.{behind-later}
+use Rattle.stab_run.proofs.AgainLemmas.{behind-later, coins-later}
 use Rattle.stab_run.proofs.NotedLemmas.{noted-fixed}
 use Rattle.stab_run.proofs.PeriodLemmas.{steps-fit}
 use Rattle.stab_run.proofs.PeriodStartLemmas.{period-begins}
 use Rattle.stab_run.proofs.rounds.pass_rounds.Goals as goal
 
 pub returns-in_default-clause-asks : goal.returns-in_default-clause-asks
-returns-in_default-clause-asks g c =
-    let r = c.args.repeat in
-    omega (arith, coins-more (behind_rounds r c.args.done) (behind_rounds r r.rounds) (unroll (circuit_items c.args.circuit.now)) (behind-later r c.args.done r.rounds c.requires.within))
+returns-in_default-clause-asks g c = omega (arith, coins-later c.args.repeat c.args.done c.args.repeat.rounds (unroll (circuit_items c.args.circuit.now)) c.requires.within)
 
 pub returns-in_err-again-clause-asks : goal.returns-in_err-again-clause-asks
-returns-in_err-again-clause-asks g c =
-    let r = c.args.repeat in
-    omega (arith, coins-more (behind_rounds r c.args.done) (behind_rounds r r.rounds) (unroll (circuit_items c.args.circuit.now)) (behind-later r c.args.done r.rounds c.requires.within))
+returns-in_err-again-clause-asks g c = omega (arith, coins-later c.args.repeat c.args.done c.args.repeat.rounds (unroll (circuit_items c.args.circuit.now)) c.requires.within)
 
 pub returns-then-comes_again-clause-asks : goal.returns-then-comes_again-clause-asks
-returns-then-comes_again-clause-asks g c =
-    let r = c.args.repeat in
-    omega (arith, coins-more (behind_rounds r c.args.done) (behind_rounds r r.rounds) (unroll (circuit_items c.args.circuit.now)) (behind-later r c.args.done r.rounds c.requires.within))
+returns-then-comes_again-clause-asks g c = omega (arith, coins-later c.args.repeat c.args.done c.args.repeat.rounds (unroll (circuit_items c.args.circuit.now)) c.requires.within)
 
 pub returns-in_err-found-clause-asks : goal.returns-in_err-found-clause-asks
-returns-in_err-found-clause-asks g c =
-    let r = c.args.repeat in
-    omega (arith, coins-more (behind_rounds r c.args.done) (behind_rounds r r.rounds) (unroll (circuit_items c.args.circuit.now)) (behind-later r c.args.done r.rounds c.requires.within))
+returns-in_err-found-clause-asks g c = omega (arith, coins-later c.args.repeat c.args.done c.args.repeat.rounds (unroll (circuit_items c.args.circuit.now)) c.requires.within)
 
 pub returns-in_default-found-clause-asks : goal.returns-in_default-found-clause-asks
-returns-in_default-found-clause-asks g c =
-    let r = c.args.repeat in
-    omega (arith, coins-more (behind_rounds r c.args.done) (behind_rounds r r.rounds) (unroll (circuit_items c.args.circuit.now)) (behind-later r c.args.done r.rounds c.requires.within))
+returns-in_default-found-clause-asks g c = omega (arith, coins-later c.args.repeat c.args.done c.args.repeat.rounds (unroll (circuit_items c.args.circuit.now)) c.requires.within)
 
 pub returns-then-comes_again-clause-asks_part : goal.returns-then-comes_again-clause-asks_part
-returns-then-comes_again-clause-asks_part g c =
-    let r = c.args.repeat in
-    omega (arith, coins-more (behind_rounds r c.args.done) (behind_rounds r c.in_ok-again.again) (unroll (circuit_items c.args.circuit.now)) (behind-later r c.args.done c.in_ok-again.again (c.in_ok-again.ensures {u = tt}).more.0))
+returns-then-comes_again-clause-asks_part g c = omega (arith, coins-later c.args.repeat c.args.done c.in_ok-again.again (unroll (circuit_items c.args.circuit.now)) (c.in_ok-again.ensures {u = tt}).more.0)
 
 pub give_rounds-requires-clause-inside : goal.give_rounds-requires-clause-inside
 give_rounds-requires-clause-inside g c =

@@ -2,9 +2,7 @@ use Rattle.std.proofs.Common.{sym, ◌∙◌, arith}
 use Rattle.stab_circuit.specs.Steps.{unroll}
 use Rattle.stab_circuit.specs.Views.{circuit_items}
 use Rattle.stab_steps.specs.ProgramStates.{program_state, output_of}
-use Rattle.stab_run.specs.inner.Led.{behind_rounds}
-use Rattle.stab_run.proofs.LedLemmas.{coins-more}
-use Rattle.stab_run.proofs.AgainLemmas.{behind-later, led-same, mark-same}
+use Rattle.stab_run.proofs.AgainLemmas.{coins-later, led-same, mark-same}
 use Rattle.stab_run.proofs.NotedLemmas.{noted-same}
 use Rattle.stab_run.proofs.rounds.run_repeat.Goals as goal
 
@@ -48,6 +46,4 @@ loop-done-preserved g c =
 pub returns-clause-asks : goal.returns-clause-asks
 returns-clause-asks g c =
     let r = c.args.repeat in
-    let done = c.loop-done.done in
-    let later = behind-later r done r.rounds c.loop-done.invariant.within in
-    omega (arith, c.loop-done.invariant.asks, coins-more (behind_rounds r done) (behind_rounds r r.rounds) (unroll (circuit_items c.args.circuit.now)) later)
+    omega (arith, c.loop-done.invariant.asks, coins-later r c.loop-done.done r.rounds (unroll (circuit_items c.args.circuit.now)) c.loop-done.invariant.within)

@@ -21,7 +21,7 @@ use Rattle.stab_copies.specs.FramesFrom.{flips_behind, flips_since}
 use Rattle.stab_run.specs.inner.Led.{behind_rounds}
 use Rattle.stab_run.specs.inner.Turned.{point_behind}
 use Rattle.stab_run.proofs.LedLemmas.{coins-more}
-use Rattle.stab_run.proofs.AgainLemmas.{behind-later}
+use Rattle.stab_run.proofs.AgainLemmas.{behind-later, coins-later}
 use Rattle.stab_copies.proofs.CutLemmas.{ones-first}
 use Rattle.stab_run.proofs.PeriodLemmas.{steps-fit, steps-next, asks-period, walked-same, later, comes-turned, next-period}
 use Rattle.stab_run.proofs.turned.go_over.Goals as goal
@@ -48,10 +48,7 @@ overflow_add-repeat g c =
 
 pub returns-in_err-cursor-clause-asks : goal.returns-in_err-cursor-clause-asks
 returns-in_err-cursor-clause-asks g c =
-    let r = c.args.repeat in
-    let done = c.args.done in
-    let next = c.args.done + c.args.period.now.rounds in
-    omega (arith, coins-more (behind_rounds r done) (behind_rounds r next) (unroll (circuit_items c.args.circuit.now)) (behind-later r done next (omega arith)))
+    omega (arith, coins-later c.args.repeat c.args.done (c.args.done + c.args.period.now.rounds) (unroll (circuit_items c.args.circuit.now)) (omega arith))
 
 pub overflow_sub-len : goal.overflow_sub-len
 overflow_sub-len g c =
