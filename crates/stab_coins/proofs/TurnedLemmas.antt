@@ -13,7 +13,7 @@ use Rattle.stab_circuit.specs.Steps.{Step, one, two, controlled, collapse, produ
 use Rattle.stab_run.specs.Runs.{State, start, run, run_of, string_of}
 use Rattle.stab_run.specs.Points.{Point, RunOutput, origin, coins_of, next_point, point_after, with_additions}
 use Rattle.stab_run.specs.ProgramStates.{StepFits}
-use Rattle.stab_run.proofs.FramedLemmas.{flips-free, flipped-zeros}
+use Rattle.stab_copies.proofs.FlippedLemmas.{flips-free, flipped-zeros}
 use Rattle.stab_steps.proofs.ProductLemmas.{length-string_of}
 use Rattle.stab_frames.specs.Flips.{flipped}
 use Rattle.stab_frames.specs.Frames.{identity_frame}

@@ -1,7 +1,7 @@
 -- Bits that are 1, and lists of bits of which none is.
 use Rattle.std.proofs.Common.{◌≡◌, ℕ, zero, suc, ◌+◌, ◌<◌, ◌∙◌, ap, arith, Bool, true, false, List, [], ◌∷◌, length, take, get_or}
 use Rattle.std.proofs.Math.Seq.{take-suc}
-use Rattle.stab_run.specs.Records.{ones}
+use Rattle.stab_steps.specs.Records.{ones}
 use Rattle.stab_steps.proofs.RecordLemmas.{ones-append}
 
 -- if none of the first is 1, and the next is none either

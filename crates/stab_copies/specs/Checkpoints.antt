@@ -6,9 +6,9 @@ use Rattle.stab_tableau.specs.Groups.{SameGroup}
 use Rattle.stab_tableau.specs.Tableaus.{stabilises}
 use Rattle.stab_circuit.specs.Steps.{Step}
 use Rattle.stab_copies.specs.declared.checkpoint.Checkpoint.{Checkpoint}
-use Rattle.stab_run.specs.Points.{origin, point_after, outputs}
-use Rattle.stab_run.specs.ProgramStates.{ProgramState}
-use Rattle.stab_run.specs.Cuts.{lengths_of}
+use Rattle.stab_steps.specs.Points.{origin, point_after, outputs}
+use Rattle.stab_steps.specs.ProgramStates.{ProgramState}
+use Rattle.stab_steps.specs.Cuts.{lengths_of}
 
 -- what the program holds is what these steps give from the first on, all qubits zero before it
 pub record IsRunFromStart (n : ℕ) (coins : ℕ → Bool) (xs : List Step) (s : ProgramState) : Type 0 where

@@ -3,8 +3,8 @@
 use Rattle.std.specs.Prelude.{◌≡◌, ◌⊎◌, ℕ, ◌-◌, Bool, List, length, take, drop}
 use Rattle.stab_tableau.specs.Tableaus.{TableauState, stabilises}
 use Rattle.stab_tableau.specs.Groups.{SameGroup}
-use Rattle.stab_run.specs.Records.{ones}
-use Rattle.stab_run.specs.Points.{RunOutput}
+use Rattle.stab_steps.specs.Records.{ones}
+use Rattle.stab_steps.specs.Points.{RunOutput}
 use Rattle.stab_copies.specs.declared.checkpoint.Checkpoint.{Checkpoint}
 
 -- a copy of an old run, which has these records and flags, is of a state that another run has come to: the same strings stabilise, the newest

@@ -1,5 +1,5 @@
 ghost use Rattle.std.specs.Prelude.{◌≡◌, ◌≤◌, true, false};
-ghost use Rattle.stab_run.specs.Records.{ones};
+ghost use Rattle.stab_steps.specs.Records.{ones};
 
 /// Whether there is a 1 among bits.
 pub fn has_one(bits: &[bool]) -> bool

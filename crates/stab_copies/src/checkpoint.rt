@@ -1,7 +1,7 @@
 ghost use Rattle.std.specs.Prelude.{◌≡◌, ◌+◌, ◌<◌, ◌≤◌, All, IfSome, length, take, drop, map, reverse, slice_get, ◌++◌, vec_capacity};
 ghost use Rattle.stab_copies.specs.LaidCopies.{laid, all_laid, moved, moved_lengths, moved_copy};
 
-use stab_run::Lengths;
+use stab_steps::Lengths;
 use stab_tableau::CompactTableau;
 
 /// A copy of the state before a step, and how long the lists were there.

@@ -4,15 +4,15 @@ ghost use Rattle.stab_pauli.specs.Paulis.{Signed};
 ghost use Rattle.stab_tableau.specs.Columns.{stabiliser_of};
 ghost use Rattle.stab_tableau.specs.Groups.{SameGroup};
 ghost use Rattle.stab_tableau.specs.Tableaus.{stabilises};
-ghost use Rattle.stab_run.specs.Records.{ones};
-ghost use Rattle.stab_run.specs.ProgramStates.{output_of};
+ghost use Rattle.stab_steps.specs.Records.{ones};
+ghost use Rattle.stab_steps.specs.ProgramStates.{output_of};
 ghost use Rattle.stab_copies.specs.Meets.{Meets, ComesAgain};
 
 use crate::bits::has_one;
 use crate::checkpoint::Checkpoint;
 use stab_io::Refusal;
 use stab_pauli::Pauli;
-use stab_run::Outputs;
+use stab_steps::Outputs;
 use stab_tableau::{CompactTableau, Tableau};
 use std::alloc::Global;
 
@@ -64,7 +64,7 @@ pub fn comes_again(tableau: &Tableau, outputs: &Outputs, copy: &Checkpoint, reac
 }
 
 /// Whether no coin decided, by the flags after this many.
-fn are_fixed(flags: &[bool], count: usize) -> bool
+pub fn are_fixed(flags: &[bool], count: usize) -> bool
     ensures value { IsTrue result ↔ (ones (drop count flags.now) ≡ 0) }
 {
     let (_, behind) = flags.split_at(count.min(flags.len()));

@@ -32,7 +32,7 @@ use Rattle.stab_replay.specs.declared.replay.Plan.{Plan}
 use Rattle.stab_replay.specs.NotedStrings.{IsNoted}
 use Rattle.stab_replay.specs.Replays.{Misses, EndsSoon, step_among_new}
 use Rattle.stab_replay.proofs.NotedLemmas.{near-enough}
-use Rattle.stab_replay.proofs.CutLemmas.{get-drop}
+use Rattle.stab_copies.proofs.CutLemmas.{get-drop}
 use Rattle.stab_kept.specs.declared.kept.KeptRun.{KeptRun}
 use Rattle.stab_kept.specs.declared.kept.Followed.{Followed}
 use Rattle.stab_kept.specs.declared.turning.Turning.{Turning}

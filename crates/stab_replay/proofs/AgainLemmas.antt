@@ -16,8 +16,8 @@ use Rattle.stab_laws.proofs.FixedLemmas.{fixed-future}
 use Rattle.stab_laws.proofs.FutureBackLemmas.{same-future-back}
 use Rattle.stab_laws.proofs.PointLemmas.{front-output, rest-joined}
 use Rattle.stab_laws.proofs.RoundLemmas.{rounds-append, length-rounds}
-use Rattle.stab_replay.specs.FramedReplays.{between}
-use Rattle.stab_replay.proofs.CutLemmas.{ones-take}
+use Rattle.stab_copies.specs.Parts.{between}
+use Rattle.stab_copies.proofs.CutLemmas.{ones-take}
 use Rattle.stab_replay.proofs.SeenLemmas.{seen-later}
 
 -- steps in a block, some whole rounds later

@@ -5,7 +5,7 @@ use Rattle.std.proofs.lemmas.List.{length-take, take-take, take_at, drop-take}
 use Rattle.std.proofs.lemmas.List.Elements.{All-take, All-drop}
 use Rattle.std.proofs.lemmas.Option.{none-some, same_Some, slice_get_within}
 use Rattle.std.proofs.Math.Seq.{drop-drop, take-add}
-use Rattle.stab_replay.proofs.CutLemmas.{ones-take}
+use Rattle.stab_copies.proofs.CutLemmas.{ones-take}
 use Rattle.stab_tableau.specs.Tableaus.{stabilises}
 use Rattle.stab_circuit.specs.Steps.{Step, looks_too_far}
 use Rattle.stab_circuit.specs.declared.circuit.repeats.Repeat.{Repeat}
@@ -25,12 +25,13 @@ use Rattle.stab_copies.specs.Checkpoints.{IsRunFromStart, IsCheckpoint, checkpoi
 use Rattle.stab_copies.specs.Spacing.{Near}
 use Rattle.stab_replay.specs.declared.replay.Plan.{Plan}
 use Rattle.stab_replay.specs.declared.replay.Replay.{Replay}
-use Rattle.stab_replay.specs.FramedReplays.{between}
+use Rattle.stab_copies.specs.Parts.{between}
 use Rattle.stab_replay.specs.NotedStrings.{IsNoted}
 use Rattle.stab_replay.specs.Replays.{IsAtStep, IsAtStop, IsOnWay, step_among_new}
 use Rattle.stab_replay.specs.inner.AgainReplays.{StandsAgain, HasGivenAgain, IsEndIn}
 use Rattle.stab_replay.specs.inner.LedReplays.{last_state, with_state, with_cursor}
 use Rattle.stab_replay.proofs.AgainLemmas.{same-later, front-at, ones-part, part-is, gives-again, agrees-again}
+use Rattle.stab_copies.proofs.RunCopyLemmas.{own-records, agrees-own}
 use Rattle.stab_replay.proofs.LedLemmas.{at-number, last-pushed}
 use Rattle.stab_replay.proofs.LedWayLemmas.{some-of}
 use Rattle.stab_replay.proofs.NotedLemmas.{near-enough, noted-fixed}
@@ -96,7 +97,7 @@ module _ (n : ℕ) (coins : ℕ → Bool) (begin : ℕ) (p : Plan) (ys : List St
 
     same_steps : part ≡ take (d.step - c.step) (drop r.step ys)
     same_steps =
-        same-later ys block is_repeat c.step r.step stands.rounds (d.step - c.step) stands.first stands.whole
+        same-later ys block is_repeat c.step r.step stands.behind.rounds (d.step - c.step) stands.behind.first stands.behind.whole
         (let in_block = is_end.in_block in let within = gave.within in omega (arith, in_block, within, step))
 
     part_given : between c.lengths d.lengths (output_of r.outputs) ≡ outputs n coins part (point_after n coins (take c.step ys) origin)
@@ -118,20 +119,8 @@ module _ (n : ℕ) (coins : ℕ → Bool) (begin : ℕ) (p : Plan) (ys : List St
     fixed = ap (λ (o : RunOutput). ones o.free) (sym part_given) ∙ no_coin
 
     agree : AgreeBack n reach (with_coin (point_after n coins (take r.step ys) origin).coin (point_after n coins (take c.step ys) origin)) (point_after n coins (take r.step ys) origin)
-    agree = record {
-      group = λ q size. sym (copy.group q size) ∙ ap (λ s. stabilises s q) stands.same ∙ at.run.group q size;
-      coin = refl;
-      records = λ k le.
-          ap (λ bits. looked_up bits k) (sym records_then)
-          ∙ stands.records k le
-          ∙ ap (λ bits. looked_up bits k) (ap (λ (o : RunOutput). o.records) at.run.output ∙ records-are-records n coins (take r.step ys));
-    }
-      where
-        records_then : take c.lengths.records r.outputs.records.items ≡ (point_after n coins (take c.step ys) origin).records
-        records_then =
-            (λ i. take (ap (λ (l : Lengths). l.records) copy.lengths i) (at.run.output i).records)
-            ∙ ap (λ (o : RunOutput). o.records) (front-at n coins ys c.step r.step (omega (arith, order, before)))
-            ∙ records-are-records n coins (take c.step ys)
+    agree =
+        agrees-own n coins ys r.step c r.tableau (output_of r.outputs) reach copy (omega (arith, order, before)) at.within at.run stands.same stands.records
 
     near : looks_too_far reach part ≡ false
     near = near-enough reach reach part (omega arith) near_part
@@ -204,10 +193,12 @@ module _ (n : ℕ) (coins : ℕ → Bool) (begin : ℕ) (p : Plan) (ys : List St
 
     pub stands-on : StandsAgain block (record arrived { laid = new.laid }) d
     stands-on = record {
-      first = let first = stands.first in omega (arith, first, order);
-      before = let earlier = stands.before in omega (arith, earlier, step, order);
-      rounds = stands.rounds;
-      whole = let whole = stands.whole in omega (arith, whole, step, order);
+      behind = record {
+        first = let first = stands.behind.first in omega (arith, first, order);
+        before = let earlier = stands.behind.before in omega (arith, earlier, step, order);
+        rounds = stands.behind.rounds;
+        whole = let whole = stands.behind.whole in omega (arith, whole, step, order);
+      };
       same = refl;
       fixed =
           omega (
@@ -255,10 +246,7 @@ module _ (n : ℕ) (coins : ℕ → Bool) (begin : ℕ) (p : Plan) (ys : List St
             ∙ ap (λ k. (point_after n coins (take k ys) origin).records) step
 
         records_then : take d.lengths.records new.outputs.records.items ≡ (point_after n coins (take d.step ys) origin).records
-        records_then =
-            (λ i. take (ap (λ (l : Lengths). l.records) copy_behind.lengths i) (run.output i).records)
-            ∙ ap (λ (o : RunOutput). o.records) (front-at n coins ys d.step new.step (omega (arith, before, step)))
-            ∙ records-are-records n coins (take d.step ys)
+        records_then = own-records n coins ys new.step (output_of new.outputs) d copy_behind (omega (arith, before, step)) at_step.within run.output
 
   -- so one whose tableau is not up to date goes on too
 

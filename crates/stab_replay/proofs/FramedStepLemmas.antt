@@ -15,7 +15,9 @@ use Rattle.stab_frames.specs.Flips.{flipped_output}
 use Rattle.stab_frames.specs.Walks.{WalkState}
 use Rattle.stab_copies.specs.declared.checkpoint.Checkpoint.{Checkpoint}
 use Rattle.stab_copies.specs.Checkpoints.{IsRunFromStart, IsCheckpoint}
-use Rattle.stab_replay.specs.FramedReplays.{IsFramedOver, between, flips_since}
+use Rattle.stab_replay.specs.FramedReplays.{IsFramedOver}
+use Rattle.stab_copies.specs.Parts.{between}
+use Rattle.stab_copies.specs.FramesFrom.{flips_since}
 
 -- what a run gave from one copy to another is what its steps between give
 pub segment-output : (n : ℕ) (coins : ℕ → Bool) (xs : List Step) (len : ℕ) (o : RunOutput) (c d : Checkpoint)

@@ -27,32 +27,18 @@ use Rattle.stab_replay.specs.declared.replay.Plan.{Plan}
 use Rattle.stab_replay.specs.declared.replay.Replay.{Replay}
 use Rattle.stab_copies.specs.Checkpoints.{IsCheckpoint}
 use Rattle.stab_replay.specs.Replays.{IsAtStep, Misses, step_among_new, copy_of}
-use Rattle.stab_replay.specs.FramedReplays.{HaveMoved, IsFramedAt, IsFramedOver, IsContinued, IsFrameFrom, WentOver, between, flips_since}
+use Rattle.stab_replay.specs.FramedReplays.{HaveMoved, IsFramedAt, IsFramedOver, IsContinued, WentOver}
+use Rattle.stab_copies.specs.Parts.{between}
+use Rattle.stab_copies.specs.FramesFrom.{IsFrameFrom, flips_since}
 use Rattle.stab_replay.specs.inner.LedReplays.{IsBeside, IsAtCopy, IsLed, IsPassed, WentTo, last_state, state_of, with_state, with_cursor}
 use Rattle.stab_replay.proofs.NotedLemmas.{noted-more}
 use Rattle.stab_replay.proofs.FrameStartLemmas.{frame-begins, flips-differ}
 use Rattle.stab_replay.proofs.OverCopyLemmas.{over, there, coins-apart, at-copy}
+use Rattle.stab_copies.proofs.RunCopyLemmas.{lengths-within}
 
 -- what holds for all copies holds for the one with a number
 pub at-number : {X : Type 0} (P : X → Type 0) (xs : List X) (k : ℕ) (x : X) → slice_get xs k ≡ Some x → All P xs → P x
 at-number P xs k x is all = subst P (get_or_from_slice_get xs k x x is) (All-get_or P xs k x (slice_get_within xs k x is) all)
-
--- a copy's lists are no longer than the run's
-pub lengths-within : (n : ℕ) (coins : ℕ → Bool) (xs : List Step) (o : RunOutput) (c : Checkpoint) → IsCheckpoint n coins xs c → o ≡ outputs n coins xs origin
-    → (c.lengths.free ≤ length o.free) × (c.lengths.records ≤ length o.records)
-lengths-within n coins xs o c is kept = (
-  omega (arith, ap (λ (l : Lengths). l.free) is.lengths, ap (λ (q : RunOutput). length q.free) whole, length-append front.free back.free),
-  omega (arith, ap (λ (l : Lengths). l.records) is.lengths, ap (λ (q : RunOutput). length q.records) whole, length-append front.records back.records),
-)
-  where
-    front : RunOutput
-    front = outputs n coins (take c.step xs) origin
-
-    back : RunOutput
-    back = outputs n coins (drop c.step xs) (point_after n coins (take c.step xs) origin)
-
-    whole : o ≡ joined front back
-    whole = kept ∙ cut n coins xs c.step
 
 pub beside-lengths : (n : ℕ) (coins : ℕ → Bool) (p : Plan) (ys : List Step) (copies : List Checkpoint) (o : RunOutput) (s : StringsState) (last : ℕ) (c : Checkpoint) (r : Replay)
     → IsBeside n coins p ys copies o s r → slice_get copies last ≡ Some c → (c.lengths.free ≤ length o.free) × (c.lengths.records ≤ length o.records)

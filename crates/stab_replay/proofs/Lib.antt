@@ -11,7 +11,6 @@ mod OverCopyLemmas
 mod LedLemmas
 mod MovedLemmas
 mod LedWayLemmas
-pub mod CutLemmas
 pub mod AgainLemmas
 mod AgainReplayLemmas
 mod TurnedNoteLemmas

@@ -22,7 +22,8 @@ use Rattle.stab_frames.specs.Lookbacks.{LooksWithin}
 use Rattle.stab_frames.specs.Ends.{MayHaveCoin}
 use Rattle.stab_copies.proofs.BitLemmas.{counted}
 use Rattle.stab_replay.specs.NotedStrings.{IsNoted, IsSpliced}
-use Rattle.stab_replay.proofs.CutLemmas.{get-take, get-beyond, get-drop, ones-take}
+use Rattle.stab_copies.proofs.CutLemmas.{ones-take}
+use Rattle.stab_copies.proofs.NoteLemmas.{IsNoneOr, true-changed, note-front, note-left, note-beyond, true-left}
 use Rattle.stab_frames.specs.AgainLaws.{AreTurnedOver}
 use Rattle.stab_frames.proofs.AgainLemmas.{true-turned}
 use Rattle.stab_frames.proofs.TrueLemmas.{true-append, true-front, true-rest, true-none}
@@ -50,103 +51,14 @@ near-enough m r (x ∷ xs) le all =
     (any-more m r (lookbacks x) le (All-head (LooksWithin m) x xs all))
     (near-enough m (r + makes x) xs (omega arith) (All-tail (LooksWithin m) x xs all))
 
--- notes that are none, or the same
-
-abbrev pub IsNoneOr : Option (List Letter) → Option (List Letter) → Type 0
-IsNoneOr o p = (o ≡ None) ⊎ (o ≡ p)
-
-none-or : (P : List Letter → Type 0) (o p : Option (List Letter)) → IsNoneOr o p → IfSome p P → IfSome o P
-none-or P o p (inl e) h = subst (λ q. IfSome q P) (sym e) tt
-none-or P o p (inr e) h = subst (λ q. IfSome q P) (sym e) h
-
-pub at-changed : (n : ℕ) (strings others : ℕ → Option (List Letter)) (x : Step) (a : Point) → (coins_of x ≡ 1 → IsNoneOr (others a.coin) (strings a.coin))
-    → IsTrueAt n strings x a → IsTrueAt n others x a
-at-changed n strings others (one g q) a h is = tt
-at-changed n strings others (two g q r) a h is = tt
-at-changed n strings others (controlled l k q) a h is = tt
-at-changed n strings others (collapse l q recorded inverted resets) a h is = none-or _ (others a.coin) (strings a.coin) (h refl) is
-at-changed n strings others (product factors inverted) a h is = none-or _ (others a.coin) (strings a.coin) (h refl) is
-at-changed n strings others (detector ks) a h is = tt
-at-changed n strings others (observable j ks) a h is = tt
-
-pub true-changed : (n : ℕ) (coins : ℕ → Bool) (strings others : ℕ → Option (List Letter)) (xs : List Step) (a : Point)
-    → ((t : ℕ) → a.coin ≤ t → t < a.coin + all_coins_of xs → IsNoneOr (others t) (strings t)) → AreTrue n coins strings xs a → AreTrue n coins others xs a
-true-changed n coins strings others [] a h is = tt
-true-changed n coins strings others (x ∷ xs) a h is = (
-  at-changed n strings others x a (λ e. h a.coin (omega arith) (omega (arith, e))) is.0,
-  true-changed n coins strings others xs (next_point n coins x a) (λ t le lt. h t (omega (arith, le)) (omega (arith, lt))) is.1,
-)
-
--- a note when strings and flags are cut
-
-choose : (b c : Bool) (o p : Option (List Letter)) → b ≡ c → (c ≡ true → IsNoneOr o p) → IsNoneOr (if b then o else None) (if c then p else None)
-choose b true o p e h = subst (λ d. IsNoneOr (if d then o else None) p) (sym e) (h refl)
-choose b false o p e h = inl (ap (λ d. if d then o else None) e)
-
-pub note-front : (strings : List (List Letter)) (free : List Bool) (k m t : ℕ) → t < m → IsNoneOr (note_at (take k strings) (take m free) t) (note_at strings free t)
-note-front strings free k m t lt =
-    choose (get_or (take m free) t false) (get_or free t false) (slice_get (take k strings) (ones (take t (take m free)))) (slice_get strings (ones (take t free)))
-    (get_or-take m free t false lt)
-    (λ is. subst (λ bits. IsNoneOr (slice_get (take k strings) (ones bits)) (slice_get strings (ones (take t free)))) (sym (take-take t m free (omega (arith, lt))))
-    (get-take k (ones (take t free)) strings))
-
--- and where others are put after them
-
-module _ (s : StringsState) (flags : List Bool) (numbered : IsNumbered s flags) (others : List (List Letter)) (more : List Bool) where
-  pub note-left : (t : ℕ) → t < length flags → IsNoneOr (note_at (take s.most (s.strings ++ others)) (flags ++ more) t) (note_at s.strings flags t)
-  note-left t lt =
-      choose (get_or (flags ++ more) t false) (get_or flags t false) (slice_get (take s.most (s.strings ++ others)) (ones (take t (flags ++ more))))
-      (slice_get s.strings (ones (take t flags))) (get_or_append_left flags more false t lt)
-      (λ is. subst (λ bits. IsNoneOr (slice_get (take s.most (s.strings ++ others)) (ones bits)) (slice_get s.strings (ones (take t flags)))) (sym (take-append-le t flags more (omega (arith, lt))))
-      (by_place (counted t flags is) (cases_lt (ones (take t flags)) (length s.strings))))
-    where
-      by_place : ones (take t flags) < ones flags → (ones (take t flags) < length s.strings) ⊎ (length s.strings ≤ ones (take t flags))
-          → IsNoneOr (slice_get (take s.most (s.strings ++ others)) (ones (take t flags))) (slice_get s.strings (ones (take t flags)))
-      by_place counted (inl there) =
-          elim (get-take s.most (ones (take t flags)) (s.strings ++ others)) [
-            | inl e ↦ inl e
-            | inr e ↦ inr (e ∙ get-append s.strings others (ones (take t flags)) there)
-          ]
-      by_place counted (inr beyond) = inl (get-beyond s.most (ones (take t flags)) (s.strings ++ others) (omega (arith, numbered, counted, beyond)))
+-- where others are put after them
 
 module _ (s : StringsState) (flags : List Bool) (numbered : IsNumbered s flags) (strings : List (List Letter)) (free : List Bool) (c : ℕ) where
-  pub note-beyond : (u : ℕ)
-      → IsNoneOr (note_at (take s.most (s.strings ++ drop (ones (take c free)) strings)) (flags ++ drop c free) (length flags + u)) (note_at strings free (c + u))
-  note-beyond u =
-      choose (get_or (flags ++ drop c free) (length flags + u) false) (get_or free (c + u) false)
-      (slice_get (take s.most (s.strings ++ drop (ones (take c free)) strings)) (ones (take (length flags + u) (flags ++ drop c free))))
-      (slice_get strings (ones (take (c + u) free)))
-      (get_or-append-add flags (drop c free) u false ∙ get_or-drop c free u false)
-      (λ is. subst (λ k. IsNoneOr (slice_get (take s.most (s.strings ++ drop (ones (take c free)) strings)) k) (slice_get strings (ones (take (c + u) free)))) (sym place)
-      (subst (λ k. IsNoneOr (slice_get (take s.most (s.strings ++ drop (ones (take c free)) strings)) (ones flags + ones (take u (drop c free)))) (slice_get strings k))
-      (sym (ones-split c u free))
-      (by_place (cases_lt (length s.strings) (ones flags)))))
-    where
-      place : ones (take (length flags + u) (flags ++ drop c free)) ≡ ones flags + ones (take u (drop c free))
-      place =
-          ap ones (take-append-add flags (drop c free) u)
-          ∙ ones-append flags (take u (drop c free))
-
-      by_place : (length s.strings < ones flags) ⊎ (ones flags ≤ length s.strings)
-          → IsNoneOr (slice_get (take s.most (s.strings ++ drop (ones (take c free)) strings)) (ones flags + ones (take u (drop c free))))
-          (slice_get strings (ones (take c free) + ones (take u (drop c free))))
-      by_place (inl short) = inl (get-beyond s.most (ones flags + ones (take u (drop c free))) (s.strings ++ drop (ones (take c free)) strings) (omega (arith, numbered, short)))
-      by_place (inr all) =
-          elim (get-take s.most (ones flags + ones (take u (drop c free))) (s.strings ++ drop (ones (take c free)) strings)) [
-            | inl e ↦ inl e
-            | inr e ↦ inr (
-                e
-                ∙ ap (λ k. slice_get (s.strings ++ drop (ones (take c free)) strings) (k + ones (take u (drop c free)))) (omega (arith, numbered, all))
-                ∙ get-behind s.strings (drop (ones (take c free)) strings) (ones (take u (drop c free)))
-                ∙ get-drop (ones (take c free)) (ones (take u (drop c free))) strings
-                )
-          ]
-
   note-right : length flags ≡ c → (t : ℕ) → c ≤ t
       → IsNoneOr (note_at (take s.most (s.strings ++ drop (ones (take c free)) strings)) (flags ++ drop c free) t) (note_at strings free t)
   note-right same t le =
       subst (λ x. x) (λ i. IsNoneOr (note_at (take s.most (s.strings ++ drop (ones (take c free)) strings)) (flags ++ drop c free) (from i)) (note_at strings free (on i)))
-      (note-beyond (t - c))
+      (note-beyond s flags numbered strings free c (t - c))
     where
       from : length flags + (t - c) ≡ t
       from = omega (arith, same, le)
@@ -262,26 +174,9 @@ noted-fixed n coins xs zs s flags more reach noted is none near = record {
   size = noted.size;
   within = noted.within;
   numbered = omega (arith, noted.numbered, ones-append flags more, none);
-  are_true =
-      true-append n coins (note_at s.strings (flags ++ more)) xs zs origin
-      (true-changed n coins (note_at s.strings flags) (note_at s.strings (flags ++ more)) xs origin
-      (λ t le lt. inr (left t (omega (arith, lt, count, coins-are n coins xs origin)))) noted.are_true)
-      (true-none n coins (note_at s.strings (flags ++ more)) zs (point_after n coins xs origin)
-      (λ t le. unnoted s.strings (flags ++ more) t (off t (omega (arith, le, count)))));
+  are_true = true-left n coins xs zs s.strings flags more is (omega (arith, noted.numbered)) noted.are_true;
   near = All-append (LooksWithin reach) xs zs noted.near near;
 }
-  where
-    count : length flags ≡ (point_after n coins xs origin).coin
-    count = ap length is ∙ flags-are-coins n coins xs
-
-    left : (t : ℕ) → t < length flags → note_at s.strings (flags ++ more) t ≡ note_at s.strings flags t
-    left t lt = λ i. if get_or_append_left flags more false t lt i then slice_get s.strings (ones (take-append-le t flags more (omega (arith, lt)) i)) else None
-
-    off : (t : ℕ) → length flags ≤ t → get_or (flags ++ more) t false ≡ false
-    off t le =
-        ap (λ k. get_or (flags ++ more) k false) {x = t} {y = length flags + (t - length flags)} (omega (arith, le))
-        ∙ get_or-append-add flags more (t - length flags) false
-        ∙ none-one more (t - length flags) none
 
 -- a run with the rest of another after it, from points on that differ by letters alone, and in the number of the next coin if none
 -- decides after

@@ -16,7 +16,7 @@ use Rattle.stab_frames.proofs.WalkLemmas.{ones-few}
 use Rattle.stab_replay.specs.NotedStrings.{IsNoted}
 use Rattle.stab_replay.specs.FramedReplays.{IsContinued}
 use Rattle.stab_frames.specs.AgainLaws.{AreTurnedOver}
-use Rattle.stab_replay.proofs.CutLemmas.{ones-take}
+use Rattle.stab_copies.proofs.CutLemmas.{ones-take}
 use Rattle.stab_replay.proofs.NotedLemmas.{noted-front, noted-spliced}
 
 length-cut : (k : ℕ) (xs : List (List Letter)) → length (take k xs) ≡ min k (length xs)

@@ -26,7 +26,7 @@ use Rattle.stab_copies.specs.Checkpoints.{IsRunFromStart, IsCheckpoint}
 use Rattle.stab_replay.specs.NotedStrings.{IsNoted}
 use Rattle.stab_replay.specs.Replays.{IsAtStep, step_among_new}
 use Rattle.stab_replay.specs.FramedReplays.{IsOldRun, IsFramedAt, IsFramedOver, IsContinued, AreEnoughBy, WentOver}
-use Rattle.stab_replay.proofs.CutLemmas.{ones-take}
+use Rattle.stab_copies.proofs.CutLemmas.{ones-take}
 use Rattle.stab_replay.proofs.NotedLemmas.{unnoted}
 use Rattle.stab_replay.proofs.SegmentLemmas.{over-segment}
 use Rattle.stab_replay.proofs.FramedStepLemmas.{segment-output, framed-run}

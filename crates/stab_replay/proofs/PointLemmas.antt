@@ -25,6 +25,7 @@ use Rattle.stab_steps.proofs.RunLemmas.{after-append, outputs-append}
 use Rattle.stab_laws.proofs.FutureLemmas.{same-future}
 use Rattle.stab_laws.proofs.PointLemmas.{flags-are-coins, records-are-records, cut, front-output, rest-output, HasAtMost, outputs-short}
 use Rattle.stab_laws.proofs.LookbackLemmas.{looked_up-near}
+use Rattle.stab_copies.proofs.MeetingLemmas.{looked-last}
 
 -- a run that goes on from a state of a run from the start
 
@@ -88,23 +89,6 @@ begun-from-start n coins xs ys c t o h same tableau front = record {
   where
     lengths : c.lengths ≡ lengths_of (outputs n coins (take c.step xs) origin)
     lengths = h.lengths ∙ ap (λ zs. lengths_of (outputs n coins zs origin)) (sym same)
-
--- records that end with the same ones are the same as far back as these
-pub looked-last : (m k : ℕ) (xs ys : List Bool) → drop (length xs - m) xs ≡ drop (length ys - m) ys → k ≤ m → looked_up xs k ≡ looked_up ys k
-looked-last m k xs ys last le =
-    elim (cases_lt (length (drop (length xs - m) xs)) k) [
-      | inl lt ↦
-          ap (λ l. looked_up l k)
-          (sym (ap (λ i. drop i xs) {y = 0} (omega (arith, lt, length-drop (length xs - m) xs)))
-          ∙ last
-          ∙ ap (λ i. drop i ys) {y = 0} (omega (arith, lt, ap length last, length-drop (length ys - m) ys)))
-      | inr near ↦
-          ap (λ l. looked_up l k) (sym (take-append-drop (length xs - m) xs))
-          ∙ looked_up-near (take (length xs - m) xs) (drop (length xs - m) xs) k near
-          ∙ ap (λ l. looked_up l k) last
-          ∙ sym (looked_up-near (take (length ys - m) ys) (drop (length ys - m) ys) k (subst (λ l. k ≤ length l) last near))
-          ∙ ap (λ l. looked_up l k) (take-append-drop (length ys - m) ys)
-    ]
 
 -- if the next coin has the same number at a copy, or none decides after it, so it is at the point of the copy
 pub may-have-coin : (n : ℕ) (coins : ℕ → Bool) (xs : List Step) (c : Checkpoint) (free : List Bool) (coin : ℕ) → IsCheckpoint n coins xs c → free ≡ (outputs n coins xs origin).free

@@ -14,7 +14,7 @@ use Rattle.stab_run.specs.Records.{ones}
 use Rattle.stab_run.specs.Points.{Point, RunOutput, origin, joined, point_after, outputs, all_coins_of}
 use Rattle.stab_run.specs.ProgramStates.{StepFits}
 use Rattle.stab_run.specs.Ends.{AgreeBack, with_coin}
-use Rattle.stab_run.proofs.FramedLemmas.{flips-free}
+use Rattle.stab_copies.proofs.FlippedLemmas.{flips-free}
 use Rattle.stab_run.proofs.LedLemmas.{coins-all}
 use Rattle.stab_steps.proofs.RunLemmas.{after-append, outputs-append}
 use Rattle.stab_laws.proofs.PointLemmas.{flags-are-coins, flags-counted, records-gathered, rest-output}
@@ -35,13 +35,15 @@ use Rattle.stab_frames.specs.Stops.{IsStop}
 use Rattle.stab_frames.specs.Walks.{WalkState, frame_at, WalksOver, IsGone}
 use Rattle.stab_frames.proofs.FrontLemmas.{group-after}
 use Rattle.stab_frames.proofs.StepLemmas.{over-framed}
-use Rattle.stab_replay.specs.FramedReplays.{HaveSameFuture, HaveMoved, IsFramedAt, IsFramedOver, AreEnoughBy, flips_since}
+use Rattle.stab_replay.specs.FramedReplays.{HaveSameFuture, HaveMoved, IsFramedAt, IsFramedOver, AreEnoughBy}
+use Rattle.stab_copies.specs.FramesFrom.{flips_since}
 use Rattle.stab_replay.proofs.NotedLemmas.{near-enough, none-one}
 use Rattle.stab_frames.proofs.AgainLemmas.{true-turned}
 use Rattle.stab_frames.proofs.FlipLemmas.{flipped-empty}
 use Rattle.stab_frames.proofs.TrueLemmas.{true-rest}
 use Rattle.stab_replay.proofs.FramedLemmas.{IsFramedBehind, future-moved, future-turned, framed-gone, framed-all}
 use Rattle.stab_replay.proofs.SeenLemmas.{AreSameFor, same-fewer, over-same, flips-same, enough-fixed, seen-later}
+use Rattle.stab_copies.proofs.FlippedLemmas.{since-joined}
 
 -- no flag is flipped
 
@@ -49,16 +51,6 @@ pub flipped-zeros : (bits : List Bool) (m : ℕ) → flipped bits (replicate m f
 flipped-zeros [] m = refl
 flipped-zeros (bit ∷ bits) zero = refl
 flipped-zeros (bit ∷ bits) (suc m) = ap (λ more. bit ∷ more) (flipped-zeros bits m ∙ flipped-empty bits)
-
--- what was flipped since is what the steps between flipped
-pub since-joined : (o more : RunOutput) (old new : WalkState) (m : ℕ) → more.free ≡ replicate m false → new.flips ≡ joined old.flips more
-    → flipped_output o more ≡ flipped_output o (flips_since old new)
-since-joined o more old new m zeros is = λ i. record {
-  records = flipped o.records (sym (ap (λ (f : RunOutput). drop (length old.flips.records) f.records) is ∙ drop_at old.flips.records more.records (length old.flips.records) refl) i);
-  free = (ap (flipped o.free) zeros ∙ flipped-zeros o.free m) i;
-  detectors = flipped o.detectors (sym (ap (λ (f : RunOutput). drop (length old.flips.detectors) f.detectors) is ∙ drop_at old.flips.detectors more.detectors (length old.flips.detectors) refl) i);
-  additions = flipped_additions o.additions (sym (ap (λ (f : RunOutput). drop (length old.flips.additions) f.additions) is ∙ drop_at old.flips.additions more.additions (length old.flips.additions) refl) i);
-}
 
 -- a walk that passed all is not one whose frame is gone
 abbrev is-left : Stop → Type 0

@@ -19,7 +19,6 @@ use Rattle.stab_run.specs.Points.{Point, RunOutput, origin, joined, point_after,
 use Rattle.stab_run.specs.ProgramStates.{StepFits, output_of, program_state}
 use Rattle.stab_run.specs.Cuts.{lengths_of}
 use Rattle.stab_run.specs.Ends.{with_coin}
-use Rattle.stab_run.proofs.FramedLemmas.{flips-free}
 use Rattle.stab_steps.proofs.RunLemmas.{outputs-append}
 use Rattle.stab_laws.proofs.PointLemmas.{flags-are-coins}
 use Rattle.stab_laws.proofs.CoinLemmas.{coins-are}
@@ -27,32 +26,32 @@ use Rattle.stab_frames.specs.Flips.{flipped_output}
 use Rattle.stab_frames.specs.KeptStrings.{AreTrue, note_at, kept_with}
 use Rattle.stab_frames.specs.Limits.{most_strings}
 use Rattle.stab_frames.specs.Lookbacks.{LooksWithin}
-use Rattle.stab_frames.specs.FrameSteps.{frame_over, flips_over}
-use Rattle.stab_frames.specs.Notes.{Notes}
-use Rattle.stab_frames.specs.StepNotes.{AreEnough}
-use Rattle.stab_frames.specs.Walks.{WalkState, frame_at, WalksWith}
+use Rattle.stab_frames.specs.Walks.{WalkState, frame_at}
 use Rattle.stab_frames.specs.AgainLaws.{DiffersBack, AreTurnedOver}
-use Rattle.stab_frames.specs.OtherCoins.{coins_from, notes_between, HasGoneOver, WalksToOthers}
+use Rattle.stab_frames.specs.OtherCoins.{coins_from, WalksToOthers}
 use Rattle.stab_copies.specs.declared.checkpoint.Checkpoint.{Checkpoint}
 use Rattle.stab_copies.specs.Checkpoints.{IsRunFromStart, IsCheckpoint, checkpoint_steps}
 use Rattle.stab_copies.specs.Spacing.{Near}
 use Rattle.stab_replay.specs.declared.replay.Plan.{Plan}
 use Rattle.stab_replay.specs.declared.replay.Replay.{Replay}
-use Rattle.stab_replay.specs.FramedReplays.{between, flips_since}
+use Rattle.stab_copies.specs.Parts.{between}
+use Rattle.stab_copies.specs.FramesFrom.{flips_since}
 use Rattle.stab_replay.specs.NotedStrings.{IsNoted}
 use Rattle.stab_replay.specs.Replays.{IsAtStep, IsAtStop, step_among_new}
 use Rattle.stab_replay.specs.inner.TurnedReplays.{StandsTurned, MayComeAgain, HasGivenTurned}
 use Rattle.stab_replay.proofs.AgainLemmas.{same-later, first-steps, later-steps, first-point, later-point, part-is}
 use Rattle.stab_replay.proofs.AgainReplayLemmas.{near-neighbours, place-before}
-use Rattle.stab_replay.proofs.CutLemmas.{ones-take}
-use Rattle.stab_replay.proofs.LedLemmas.{at-number, lengths-within}
+use Rattle.stab_copies.proofs.CutLemmas.{ones-take}
+use Rattle.stab_replay.proofs.LedLemmas.{at-number}
+use Rattle.stab_copies.proofs.RunCopyLemmas.{lengths-within}
 use Rattle.stab_replay.proofs.NotedLemmas.{near-enough}
 use Rattle.stab_replay.proofs.ReplayLemmas.{on-stop, with-laid}
-use Rattle.stab_replay.proofs.SegmentLemmas.{since-joined, turned-from}
-use Rattle.stab_frames.proofs.AgainLemmas.{come-turned, gone-over-seen}
+use Rattle.stab_replay.proofs.SegmentLemmas.{turned-from}
+use Rattle.stab_copies.proofs.TurnedLemmas.{all-coins, comes-over}
 use Rattle.stab_frames.proofs.FlipLemmas.{flipped-empty}
 use Rattle.stab_frames.proofs.TrueLemmas.{true-front, true-rest}
 use Rattle.stab_replay.proofs.TurnedNoteLemmas.{noted-turned}
+use Rattle.stab_copies.proofs.RunCopyLemmas.{copy-before}
 
 -- no copy is after the place of a replay
 pub near-at : (K a e i : ℕ) (cs : List Checkpoint) (c : Checkpoint) → Near K (a ∷ checkpoint_steps cs ++ e ∷ []) → slice_get cs i ≡ Some c → c.step ≤ e
@@ -68,22 +67,6 @@ pub taken : (k : ℕ) (bits more : List Bool) → k ≤ length bits → take k (
 taken zero bits more le = refl
 taken (suc k) [] more le = absurd (omega (arith, le))
 taken (suc k) (bit ∷ bits) more le = ap (λ l. bit ∷ l) (taken k bits more (omega (arith, le)))
-
--- coins from the first on are all
-pub all-coins : (coins : ℕ → Bool) → coins_from 0 coins ≡ coins
-all-coins coins = λ i t. coins (from t i)
-  where
-    from : (t : ℕ) → 0 + t ≡ t
-    from t = omega arith
-
--- a copy is one of the steps up to a later one
-pub copy-before : (n : ℕ) (coins : ℕ → Bool) (ys : List Step) (k : ℕ) (c : Checkpoint) → IsCheckpoint n coins ys c → c.step ≤ k → k ≤ length ys → IsCheckpoint n coins (take k ys) c
-copy-before n coins ys k c is le within = record {
-  within = omega (arith, length-take k ys, le, within);
-  qubits = is.qubits;
-  group = subst (λ zs. SameGroup n (stabilises c.tableau) (member (point_after n coins zs origin).trace)) (sym (take-take c.step k ys le)) is.group;
-  lengths = is.lengths ∙ ap (λ zs. lengths_of (outputs n coins zs origin)) (sym (take-take c.step k ys le));
-}
 
 -- what is known of a replay that is turned at a copy, with another one after it
 module _ (n : ℕ) (coins : ℕ → Bool) (begin : ℕ) (p : Plan) (ys : List Step) (copies : List Checkpoint) (old : List Bool) (next : ℕ) (block : Repeat) (end : ℕ) (r : Replay)
@@ -154,9 +137,6 @@ module _ (n : ℕ) (coins : ℕ → Bool) (begin : ℕ) (p : Plan) (ys : List St
     abbrev others : ℕ → Bool
     others = coins_from (length r.outputs.free.items - c.lengths.free) coins
 
-    abbrev notes : Notes
-    notes = notes_between strings coins others
-
     near_part : All (LooksWithin reach) part
     near_part =
         subst (All (LooksWithin reach))
@@ -189,35 +169,37 @@ module _ (n : ℕ) (coins : ℕ → Bool) (begin : ℕ) (p : Plan) (ys : List St
     abbrev bits : List Bool
     bits = drop c.lengths.records (take d.lengths.records r.outputs.records.items)
 
-    gone : HasGoneOver n coins strings r.outputs.free.items bits part w.coin (with_coin w.coin stands.differs.seen)
-    gone =
-        subst (λ cs. HasGoneOver n cs strings r.outputs.free.items bits part w.coin (with_coin w.coin stands.differs.seen)) (all-coins coins)
-        (gone-over-seen n reach w.coin 0 coins strings r.outputs.free.items bits part then stands.differs.seen near (omega (arith, walk_here)) stands.differs.agree
-        (subst (λ cs. AreTrue n cs strings part (with_coin w.coin then)) (sym (all-coins coins))
-        (subst (λ k. AreTrue n coins strings part (with_coin k then)) (sym walk_here) true_then))
-        (sym (ap (λ (o : RunOutput). o.free) part_given)
+    from_now : (length r.outputs.free.items - c.lengths.free) + w.coin ≡ now.coin
+    from_now = let short = shorter.0 in let walk_coin = stands.coin in omega (arith, walk_coin, coin_now, short)
+
+    true_here : AreTrue n (coins_from 0 coins) strings part (with_coin w.coin then)
+    true_here =
+        subst (λ cs. AreTrue n cs strings part (with_coin w.coin then)) (sym (all-coins 0 coins refl))
+        (subst (λ k. AreTrue n coins strings part (with_coin k then)) (sym walk_here) true_then)
+
+    flags_here : (outputs n coins part then).free ≡ take (all_coins_of part) (drop w.coin r.outputs.free.items)
+    flags_here =
+        sym (ap (λ (o : RunOutput). o.free) part_given)
         ∙ ap (λ k. drop c.lengths.free (take k r.outputs.free.items)) last
         ∙ drop-take c.lengths.free (all_coins_of part) r.outputs.free.items
-        ∙ ap (λ k. take (all_coins_of part) (drop k r.outputs.free.items)) (sym stands.coin))
-        (sym (ap (λ (o : RunOutput). o.records) part_given))
-        (let recorded = gave.recorded in let shorter_records = shorter_behind.1 in
-        omega (arith, recorded, shorter_records, last, length-drop c.lengths.records (take d.lengths.records r.outputs.records.items), length-take d.lengths.records r.outputs.records.items)))
+        ∙ ap (λ k. take (all_coins_of part) (drop k r.outputs.free.items)) (sym stands.coin)
 
-    walks : WalksWith n notes part w v × ((b : ℕ) → AreEnough n coins notes part (frame_at b w) (with_coin w.coin stands.differs.seen))
-    walks =
-        subst (λ x. x) (λ i. WalksToOthers (stands.size i) strings r.outputs.free.items bits others (sym part_left i) w v) gave.walked
-        coins (with_coin w.coin stands.differs.seen) gone
+    recorded : length bits ≡ all_coins_of part
+    recorded =
+        let all_recorded = gave.recorded in
+        let shorter_records = shorter_behind.1 in
+        omega (arith, all_recorded, shorter_records, last, length-drop c.lengths.records (take d.lengths.records r.outputs.records.items), length-take d.lengths.records r.outputs.records.items)
 
-    turned : (outputs n coins part now ≡ flipped_output (outputs n coins part then) (flips_over n notes part w.coin (frame_at stands.base w)))
-        × DiffersBack n reach (frame_over n notes part w.coin (frame_at stands.base w)) (point_after n coins part then) (point_after n coins part now)
+    walked : WalksToOthers n strings r.outputs.free.items bits others part w v
+    walked = subst (λ x. x) (λ i. WalksToOthers (stands.size i) strings r.outputs.free.items bits others (sym part_left i) w v) gave.walked
+
+    over : (outputs n coins part now ≡ flipped_output (outputs n coins part then) (flips_since w v))
+        × DiffersBack n reach (frame_at stands.base v) (point_after n coins part then) (point_after n coins part now)
         × AreTurnedOver n coins part then now
-    turned =
-        subst (λ cs. (outputs n coins part now ≡ flipped_output (outputs n coins part then) (flips_over n (notes_between strings cs others) part w.coin (frame_at stands.base w)))
-        × DiffersBack n reach (frame_over n (notes_between strings cs others) part w.coin (frame_at stands.base w)) (point_after n coins part then) (point_after n coins part now)
-        × AreTurnedOver n coins part then now) (all-coins coins)
-        (come-turned n reach w.coin 0 (length r.outputs.free.items - c.lengths.free) coins strings part (frame_at stands.base w) then now fits near (omega (arith, walk_here))
-        (let short = shorter.0 in let walk_coin = stands.coin in omega (arith, walk_coin, coin_now, short)) stands.differs
-        (subst (λ cs. AreEnough n cs (notes_between strings cs others) part (frame_at stands.base w) (with_coin w.coin stands.differs.seen)) (sym (all-coins coins)) (walks.1 stands.base)))
+        × (v.coin ≡ w.coin + all_coins_of part)
+    over =
+        comes-over n reach stands.base 0 (length r.outputs.free.items - c.lengths.free) coins strings r.outputs.free.items bits part then now w v fits near (omega (arith, walk_here)) from_now stands.differs
+        true_here flags_here (sym (ap (λ (o : RunOutput). o.records) part_given)) recorded walked
 
     step : s.step ≡ r.step + (d.step - c.step)
     step = gave.step
@@ -231,7 +213,7 @@ module _ (n : ℕ) (coins : ℕ → Bool) (begin : ℕ) (p : Plan) (ys : List St
     later_end = ap (λ k. point_after n coins (take k ys) origin) step ∙ later-point n coins ys c.step d.step r.step reach order before same_steps
 
     differs : DiffersBack n reach (frame_at stands.base v) (point_after n coins (take d.step ys) origin) (point_after n coins (take s.step ys) origin)
-    differs = subst (λ x. x) (λ i. DiffersBack n reach (sym (walks.0.frame stands.base) i) (sym first_end i) (sym later_end i)) turned.1
+    differs = subst (λ x. x) (λ i. DiffersBack n reach (frame_at stands.base v) (sym first_end i) (sym later_end i)) over.1
 
     group : IsTurned n v.letters (member (point_after n coins (take d.step ys) origin).trace) (member (point_after n coins (take s.step ys) origin).trace)
     group =
@@ -250,10 +232,7 @@ module _ (n : ℕ) (coins : ℕ → Bool) (begin : ℕ) (p : Plan) (ys : List St
       output =
           gave.output
           ∙ (λ i. joined (at.run.output i) (flipped_output (part_given i) (flips_since w v)))
-          ∙ ap (joined (outputs n coins (take r.step ys) origin))
-          (sym (turned.0
-          ∙ since-joined (outputs n coins part then) (flips_over n notes part w.coin (frame_at stands.base w)) w v (all_coins_of part)
-          (flips-free n notes part w.coin (frame_at stands.base w)) (walks.0.flips stands.base)))
+          ∙ ap (joined (outputs n coins (take r.step ys) origin)) (sym over.0)
           ∙ sym (outputs-append n coins (take r.step ys) part origin)
           ∙ ap (λ zs. outputs n coins zs origin) steps_now;
     }
@@ -264,7 +243,7 @@ module _ (n : ℕ) (coins : ℕ → Bool) (begin : ℕ) (p : Plan) (ys : List St
     number_here = stands.placed ∙ ap (λ k. ones (take k r.outputs.free.items)) stands.coin
 
     number_there : v.number ≡ ones (take d.lengths.free r.outputs.free.items)
-    number_there = gave.placed ∙ ap (λ k. ones (take k r.outputs.free.items)) (walks.0.coin ∙ ap (λ k. k + all_coins_of part) stands.coin ∙ sym last)
+    number_there = gave.placed ∙ ap (λ k. ones (take k r.outputs.free.items)) (over.3 ∙ ap (λ k. k + all_coins_of part) stands.coin ∙ sym last)
 
     kept : ones (take d.lengths.free r.outputs.free.items) ≤ length r.notes.strings.strings
     kept =
@@ -308,7 +287,7 @@ module _ (n : ℕ) (coins : ℕ → Bool) (begin : ℕ) (p : Plan) (ys : List St
     noted =
         subst (λ x. x) (λ i. IsNoted n coins (steps_now i) s.notes.strings (sym new_flags i) reach)
         (noted-turned n coins (take r.step ys) part r.notes.strings s.notes.strings r.outputs.free.items c.lengths.free d.lengths.free reach then at.noted
-        (ap (λ (o : RunOutput). o.free) at.run.output) (sym coin_here) true_then turned.2 last kept near_part new_strings)
+        (ap (λ (o : RunOutput). o.free) at.run.output) (sym coin_here) true_then over.2 last kept near_part new_strings)
 
     -- it is there with the turned state
     abbrev pub arrived : Replay
@@ -375,12 +354,12 @@ module _ (n : ℕ) (coins : ℕ → Bool) (begin : ℕ) (p : Plan) (ys : List St
       base = stands.base;
       differs = differs;
       size = gave.size ∙ stands.size;
-      coin = walks.0.coin ∙ ap (λ k. k + all_coins_of part) stands.coin ∙ sym last;
+      coin = over.3 ∙ ap (λ k. k + all_coins_of part) stands.coin ∙ sym last;
       placed = number_there ∙ placed;
     }
       where
         walked_to : v.coin ≡ d.lengths.free
-        walked_to = walks.0.coin ∙ ap (λ k. k + all_coins_of part) stands.coin ∙ sym last
+        walked_to = over.3 ∙ ap (λ k. k + all_coins_of part) stands.coin ∙ sym last
 
         placed : ones (take d.lengths.free r.outputs.free.items) ≡ ones (take v.coin s.outputs.free.items)
         placed =

@@ -21,14 +21,17 @@ use Rattle.stab_replay.specs.FramedReplays.{IsFramedAt}
 use Rattle.stab_replay.specs.Replays.{IsAtStep, IsOnWay}
 use Rattle.stab_replay.specs.inner.LedReplays.{last_state, with_state}
 use Rattle.stab_replay.proofs.ReplayLemmas.{coins-cut}
-use Rattle.stab_replay.proofs.FrameStartLemmas.{frame-begins}
-use Rattle.stab_replay.proofs.LedLemmas.{at-number, lengths-within, last-pushed}
+use Rattle.stab_copies.proofs.FrameStartLemmas.{frame-again}
+use Rattle.stab_replay.proofs.LedLemmas.{at-number, last-pushed}
+use Rattle.stab_copies.proofs.RunCopyLemmas.{lengths-within}
 use Rattle.stab_replay.proofs.LedWayLemmas.{some-of}
-use Rattle.stab_replay.proofs.TurnedOverLemmas.{near-at, copy-before, copy_behind, coin_now, last, shorter, part_left, arrived, goes-on, stands-on}
-use Rattle.stab_replay.proofs.CutLemmas.{ones-take}
+use Rattle.stab_replay.proofs.TurnedOverLemmas.{near-at, copy_behind, coin_now, last, shorter, part_left, arrived, goes-on, stands-on}
+use Rattle.stab_copies.proofs.RunCopyLemmas.{copy-before}
+use Rattle.stab_copies.proofs.CutLemmas.{ones-take}
 use Rattle.std.proofs.lemmas.List.{take-take, drop-take}
 use Rattle.stab_laws.proofs.CoinLemmas.{coins-few, coins-are}
-use Rattle.stab_replay.specs.inner.TurnedReplays.{IsOfOwn, IsRoundsBehind, IsFrameAgain, DiffersAt, StandsTurned, MayComeAgain, IsTurning, HasGivenTurned}
+use Rattle.stab_replay.specs.inner.AgainReplays.{IsRoundsBehind}
+use Rattle.stab_replay.specs.inner.TurnedReplays.{IsOfOwn, IsFrameAgain, DiffersAt, StandsTurned, MayComeAgain, IsTurning, HasGivenTurned}
 
 pub own-copies : (n : ℕ) (coins : ℕ → Bool) (begin : ℕ) (p : Plan) (ys : List Step) (copies : List Checkpoint) (old : List Bool) (next : ℕ) (r : Replay)
     → IsOnWay n coins begin p ys copies old next r → All (IsOfOwn r.tableau.qubits (output_of r.outputs)) r.laid.items
@@ -103,12 +106,9 @@ turned-begins n coins begin p ys copies old next block end number r s w same lon
           (record {
             behind = found.2.behind;
             base = length r.outputs.records.items - found.2.frame.compared;
-            differs = record {
-              seen = framed.seen;
-              group = framed.group;
-              agree = subst (λ zs. AgreeBack n r.notes.reach (with_coin framed.seen.coin (point_after n coins zs origin)) framed.seen) first framed.agree;
-              framed = framed.framed;
-            };
+            differs =
+                frame-again n coins ys r.step found.0 r.tableau (output_of r.outputs) r.notes.reach w at.qubits copy
+                (let lt = found.2.behind.before in omega (arith, lt)) at.within at.run may.fits found.2.frame;
             size = found.2.frame.size ∙ at.qubits;
             coin = found.2.frame.coin;
             placed = found.2.frame.placed;
@@ -123,19 +123,6 @@ turned-begins n coins begin p ys copies old next block end number r s w same lon
 
     copy : IsCheckpoint n coins ys found.0
     copy = at-number (IsCheckpoint n coins ys) r.laid.items number found.0 found.1 may.way.stop.replay.checkpoints
-
-    before : found.0.step ≤ r.step
-    before = let lt = found.2.behind.before in omega (arith, lt)
-
-    first : take found.0.step (take r.step ys) ≡ take found.0.step ys
-    first = take-take found.0.step r.step ys before
-
-    framed : IsFramedAt n coins (take r.step ys) ys found.0.step r.step r.outputs.free.items (length r.outputs.records.items - found.2.frame.compared) r.notes.reach w
-    framed =
-        frame-begins n coins (take r.step ys) ys r.step found.0 r.tableau (output_of r.outputs) (output_of r.outputs) found.0.lengths.records r.notes.reach w at.qubits
-        (copy-before n coins ys r.step found.0 copy before at.within) at.run.output at.run
-        (lengths-within n coins (take r.step ys) (output_of r.outputs) found.0 (copy-before n coins ys r.step found.0 copy before at.within) at.run.output).1
-        refl (All-take (StepFits n) r.step ys may.fits) found.2.frame
 
 pub turning-named : {m n : ℕ} {others coins : ℕ → Bool} {zs ys : List Step} (begin : ℕ) (p : Plan) (copies : List Checkpoint) (old : List Bool) (next : ℕ) (block : Repeat) (end number : ℕ)
     (r : Replay) (w : WalkState) → m ≡ n → others ≡ coins → zs ≡ ys → IsTurning m others begin p zs copies old next block end number r w

@@ -1,21 +1,18 @@
 -- Framed replays: how a replay goes on by a frame from an old copy of a run to the next one.
 -- Source: this project's own.
-use Rattle.std.specs.Prelude.{◌≡◌, ◌≢◌, ◌⊎◌, ℕ, ◌+◌, ◌-◌, ◌<◌, ◌≤◌, Bool, List, [], All, Option, length, take, drop}
+use Rattle.std.specs.Prelude.{◌≡◌, ◌≢◌, ◌⊎◌, ℕ, ◌+◌, ◌-◌, ◌<◌, ◌≤◌, Bool, List, All, Option, length, take, drop}
 use Rattle.stab_letters.specs.declared.letter.Letter.{Letter}
 use Rattle.stab_tableau.specs.Traces.{member}
 use Rattle.stab_tableau.specs.Groups.{SameGroup, IsStabiliserGroup}
-use Rattle.stab_tableau.specs.Tableaus.{TableauState, stabilises}
 use Rattle.stab_tableau.specs.Turns.{IsTurned}
 use Rattle.stab_circuit.specs.Steps.{Step, most_steps}
 use Rattle.stab_copies.specs.declared.checkpoint.Checkpoint.{Checkpoint}
 use Rattle.stab_replay.specs.declared.replay.Plan.{Plan}
 use Rattle.stab_replay.specs.declared.replay.Replay.{Replay}
 use Rattle.stab_run.specs.Records.{ones}
-use Rattle.stab_run.specs.Points.{Point, RunOutput, nothing, origin, joined, point_after, outputs}
+use Rattle.stab_run.specs.Points.{Point, RunOutput, origin, joined, point_after, outputs}
 use Rattle.stab_run.specs.ProgramStates.{StepFits, output_of}
-use Rattle.stab_run.specs.Cuts.{lengths_of, front_of, rest_of}
 use Rattle.stab_run.specs.Ends.{AgreeBack, with_coin}
-use Rattle.stab_steps.specs.declared.records.Lengths.{Lengths}
 use Rattle.stab_frames.specs.declared.steps.Stop.{Stop}
 use Rattle.stab_frames.specs.declared.steps.Stop.TheVariants.{Behind}
 use Rattle.stab_frames.specs.Flips.{flipped, flipped_output}
@@ -27,6 +24,8 @@ use Rattle.stab_frames.specs.Stops.{IsStop}
 use Rattle.stab_frames.specs.Walks.{WalkState, frame_at, IsPlaced, WalksOver}
 use Rattle.stab_copies.specs.Checkpoints.{IsCheckpoint}
 use Rattle.stab_copies.specs.LaidCopies.{moved}
+use Rattle.stab_copies.specs.Parts.{between}
+use Rattle.stab_copies.specs.FramesFrom.{flips_since}
 use Rattle.stab_replay.specs.NotedStrings.{IsNoted}
 
 -- an older run, of which these are copies, output and strings, and whose steps after what was changed are the new ones
@@ -63,23 +62,6 @@ pub record IsFramedAt (n : ℕ) (coins : ℕ → Bool) (xs ys : List Step) (i k 
   pub told : (seen.records ≡ (point_after n coins (take i xs) origin).records) ⊎ HaveMoved (point_after n coins (take i xs) origin) (point_after n coins (take k ys) origin)
   pub placed : IsPlaced free w
 
--- what a frame flipped after this much of it: never a flag
-abbrev pub flips_behind : Lengths → WalkState → RunOutput
-flips_behind l w = record {
-  records = drop l.records w.flips.records;
-  free = [];
-  detectors = drop l.detectors w.flips.detectors;
-  additions = drop l.additions w.flips.additions;
-}
-
--- and since it was an earlier one
-abbrev pub flips_since : WalkState → WalkState → RunOutput
-flips_since old new = flips_behind (lengths_of old.flips) new
-
--- what an output has between some lengths and others
-abbrev pub between : Lengths → Lengths → RunOutput → RunOutput
-between from to o = rest_of from (front_of to o)
-
 -- after this many steps the runs differ by the frame's letters, and by the frame if it is not gone; and the new one gave what the old one
 -- gave, flipped
 pub record IsFramedOver (n : ℕ) (coins : ℕ → Bool) (xs ys : List Step) (i k len : ℕ) (free : List Bool) (base reach : ℕ) (old new : WalkState) (stop : Stop) : Type 0 where
@@ -90,24 +72,6 @@ pub record IsFramedOver (n : ℕ) (coins : ℕ → Bool) (xs ys : List Step) (i 
   pub turned : (m : ℕ) → (g : List Letter) × IsTurned n g (member (point_after n coins (take m (take len (drop i xs))) (point_after n coins (take i xs) origin)).trace)
       (member (point_after n coins (take m (take len (drop i xs))) (point_after n coins (take k ys) origin)).trace)
   pub goes_on : stop ≡ Behind → IsPlaced free new → IsFramedAt n coins xs ys (i + len) (k + len) free base reach new
-
--- this many of the newest records are compared where a frame begins: all after the first ones, which are the same, where both runs have as
--- many records and the same number of the next coin; else those to which steps look back
-abbrev pub AreCompared : RunOutput → (base reach : ℕ) → Checkpoint → ℕ → Type 0
-AreCompared o base reach c m =
-    ((length o.free ≡ c.lengths.free) × (length o.records ≡ c.lengths.records) × (m + base ≡ length o.records))
-    ⊎ ((m ≡ reach) × (m ≤ length o.records) × (m ≤ c.lengths.records) × ((length o.free ≢ c.lengths.free) ⊎ (length o.records ≢ c.lengths.records)))
-
--- the frame by which a state with this output differs from an old copy, whose run gave these
-pub record IsFrameFrom (t : TableauState) (o old : RunOutput) (base reach : ℕ) (c : Checkpoint) (w : WalkState) : Type 0 where
-  pub size : length w.letters ≡ t.qubits
-  pub turned : IsTurned t.qubits w.letters (stabilises c.tableau) (stabilises t)
-  pub compared : ℕ
-  pub are_compared : AreCompared o base reach c compared
-  pub flips : w.flips
-      ≡ record nothing { records = flipped (drop (c.lengths.records - compared) (take c.lengths.records old.records)) (drop (length o.records - compared) o.records) }
-  pub coin : w.coin ≡ c.lengths.free
-  pub placed : IsPlaced old.free w
 
 -- a walk over steps finds enough notes for every run that these strings and flags are of
 abbrev pub AreEnoughBy : ℕ → (ℕ → Option (List Letter)) → List Bool → List Step → ℕ → WalkState → Type 0

@@ -1,4 +1,4 @@
-ghost use Rattle.std.specs.Prelude.{◌≡◌, ℕ, ◌+◌, ◌*◌, ◌<◌, ◌≤◌, ◌++◌, Bool, List, true, false, None, IsTrue, IsSomeAnd, IfSome, All, length, take, drop, slice_get, OnOk, IfOk, IfErr};
+ghost use Rattle.std.specs.Prelude.{◌≡◌, ℕ, ◌+◌, ◌*◌, ◌<◌, ◌≤◌, Bool, List, true, false, None, IsTrue, IsSomeAnd, IfSome, All, length, drop, slice_get, OnOk, IfOk, IfErr};
 ghost use Rattle.std.specs.Option.{option_map};
 ghost use Rattle.stab_io.specs.declared.refusal.Refusal.TheVariants.{OutOfMemory};
 ghost use Rattle.stab_circuit.specs.Steps.{Step, most_steps, unroll, check_of};
@@ -7,53 +7,23 @@ ghost use Rattle.stab_circuit.specs.Repeats.{AreRepeats, IsRepeat};
 ghost use Rattle.stab_circuit.specs.declared.circuit.repeats.Repeat.{Repeat};
 ghost use Rattle.stab_copies.specs.declared.checkpoint.Checkpoint.{Checkpoint};
 ghost use Rattle.stab_run.specs.Records.{ones};
-ghost use Rattle.stab_run.specs.Points.{joined, all_coins_of};
-ghost use Rattle.stab_run.specs.ProgramStates.{StepFits, output_of};
+ghost use Rattle.stab_run.specs.Points.{all_coins_of};
+ghost use Rattle.stab_run.specs.ProgramStates.{StepFits};
 ghost use Rattle.stab_replay.specs.declared.replay.Plan.{Plan};
-ghost use Rattle.stab_replay.specs.FramedReplays.{between as between_of};
 ghost use Rattle.stab_replay.specs.Replays.{IsOnWay, step_among_new, spacing_of};
-ghost use Rattle.stab_replay.specs.inner.AgainReplays.{StandsAgain, HasGivenAgain, IsEndIn};
+ghost use Rattle.stab_replay.specs.inner.AgainReplays.{IsRoundsBehind, StandsAgain, HasGivenAgain, IsEndIn};
 ghost use Rattle.stab_replay.specs.inner.LedReplays.{with_state, with_cursor};
 
 use crate::replay::{Plan, Replay};
 use crate::rhythm::{block_at, end_of};
 use stab_circuit::{Circuit, Cursor, Repeat};
-use stab_copies::{Checkpoint, comes_again};
-use stab_frames::between;
+use stab_copies::{Checkpoint, comes_again, give_again};
 use stab_io::Refusal;
-use stab_run::{Coins, Lengths, Outputs};
-use std::alloc::{AllocError, Global};
+use stab_run::Coins;
+use std::alloc::Global;
 
 /// A replay looks for a copy at which it was as it is now among this many that it laid before.
 pub(crate) const LOOKED_BACK: usize = 64;
-
-/// Puts after a list again what is in it from one place to another.
-pub(crate) fn append_again<T: Copy>(
-    alloc: Global,
-    list: &mut Vec<T>,
-    from: usize,
-    to: usize,
-) -> Result<(), AllocError>
-    ensures value { OnOk result (list.new.items ≡ list.old.items ++ drop from (take to list.old.items)) }
-{
-    let part = Vec::from_slice(alloc, between(list.as_slice(), from, to))?;
-    list.extend_from_slice(part.as_slice())
-}
-
-/// Gives again what was given from some lengths of the lists to others.
-fn give_again(
-    alloc: Global,
-    outputs: &mut Outputs,
-    from: Lengths,
-    to: Lengths,
-) -> Result<(), AllocError>
-    ensures value { OnOk result (output_of outputs.new ≡ joined (output_of outputs.old) (between_of from to (output_of outputs.old))) }
-{
-    append_again(alloc, &mut outputs.records, from.records, to.records)?;
-    append_again(alloc, &mut outputs.free, from.free, to.free)?;
-    append_again(alloc, &mut outputs.detectors, from.detectors, to.detectors)?;
-    append_again(alloc, &mut outputs.additions, from.additions, to.additions)
-}
 
 impl Plan {
     ghost use Rattle.std.specs.Prelude.{◌+◌, ◌*◌, ◌≤◌, IfSome};
@@ -73,17 +43,24 @@ impl Plan {
 }
 
 impl<'a> Replay<'a> {
-    /// Whether the replay is as it stood at a copy in a block, some whole rounds before.
-    fn stands_as_at(&self, block: Repeat, copy: &Checkpoint) -> bool
+    /// Whether the replay is in a block some whole rounds after a copy.
+    pub(crate) fn is_rounds_behind(&self, block: Repeat, copy: &Checkpoint) -> bool
         requires some { 0 < block.length }
-        ensures value { IsTrue result → StandsAgain block self.now copy.now }
+        ensures value { IsTrue result → IsRoundsBehind block self.now.step copy.now }
     {
         if copy.step < block.first || copy.step >= self.step {
             return false;
         }
         let steps = self.step - copy.step;
-        let rounds = steps / block.length;
-        rounds * block.length == steps
+        steps / block.length * block.length == steps
+    }
+
+    /// Whether the replay is as it stood at a copy in a block, some whole rounds before.
+    fn stands_as_at(&self, block: Repeat, copy: &Checkpoint) -> bool
+        requires some { 0 < block.length }
+        ensures value { IsTrue result → StandsAgain block self.now copy.now }
+    {
+        self.is_rounds_behind(block, copy)
             && comes_again(&self.tableau, &self.outputs, copy, self.notes.reach)
     }
 
@@ -130,7 +107,7 @@ impl<'a> Replay<'a> {
         }
         let (behind, before) = (from.lengths, to.lengths);
         let tableau = to.tableau.copy(alloc)?;
-        give_again(alloc, &mut self.outputs, behind, before)?;
+        give_again(alloc, &mut self.outputs, behind, before, 1)?;
         self.step += steps;
         self.framed += steps as u64;
         self.laid.push(Checkpoint {

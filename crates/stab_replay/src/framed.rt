@@ -9,33 +9,21 @@ ghost use Rattle.stab_frames.specs.Flips.{flipped_output};
 ghost use Rattle.stab_frames.specs.KeptStrings.{kept_with};
 ghost use Rattle.stab_frames.specs.Walks.{IsPlaced};
 ghost use Rattle.stab_frames.specs.declared.steps.Stop.TheVariants.{Behind, NoString};
-ghost use Rattle.stab_replay.specs.FramedReplays.{between as between_lengths, flips_behind, AreCompared, IsFrameFrom, WentOver};
+ghost use Rattle.stab_replay.specs.FramedReplays.{WentOver};
+ghost use Rattle.stab_copies.specs.Parts.{between as between_lengths};
+ghost use Rattle.stab_copies.specs.FramesFrom.{flips_behind, IsFrameFrom};
 
 use crate::replay::{Plan, Replay};
-use stab_copies::{Checkpoint, has_one, shifted};
+use stab_copies::{Checkpoint, frame_between, has_one, lengths_walked, shifted};
 use stab_frames::{
     FrameWalk, KeptStrings, Stop, append_flipped, append_flipped_additions, between, count_ones,
     turn_state, walk_steps,
 };
 use stab_io::Refusal;
-use stab_pauli::{Letter, Pauli};
+use stab_pauli::Letter;
 use stab_run::{Lengths, Outputs};
-use stab_tableau::{CompactTableau, Tableau};
+use stab_tableau::CompactTableau;
 use std::alloc::{AllocError, Global};
-
-/// How many records, detectors and additions a frame has passed.
-pub(crate) fn lengths_walked(walk: &FrameWalk) -> Lengths
-    ensures records { result.records ≡ length walk.now.flips.records }
-    ensures detectors { result.detectors ≡ length walk.now.flips.detectors }
-    ensures additions { result.additions ≡ length walk.now.flips.additions }
-{
-    Lengths {
-        records: walk.records().len(),
-        free: 0,
-        detectors: walk.detectors().len(),
-        additions: walk.additions().len(),
-    }
-}
 
 /// Appends what a run gave between these lengths, flipped as a frame says that had passed this much
 /// before.
@@ -112,24 +100,6 @@ fn append_strings(
     Ok(())
 }
 
-/// How many of the newest records are compared where a frame begins that leads a run, which gave this much, from an old copy on; none
-/// if it can't begin. This many records are those of the old run, whose steps look back no further than the reach.
-fn records_compared(outputs: &Outputs, copy: &Checkpoint, base: usize, reach: u32) -> Option<usize>
-    requires within { base ≤ length outputs.now.records.items }
-    ensures compared { IfSome result (AreCompared (output_of outputs.now) base reach copy.now) }
-{
-    let records = outputs.records.len();
-    if outputs.free.len() == copy.lengths.free && records == copy.lengths.records {
-        return Some(records - base);
-    }
-    let newest = reach as usize;
-    if newest <= records && newest <= copy.lengths.records {
-        Some(newest)
-    } else {
-        None
-    }
-}
-
 /// Whether the coins of the old run, in this many numbers of which none decided, serve another one that comes to a copy with this number
 /// of the next coin.
 pub(crate) fn coins_serve(coin: usize, from: &Checkpoint, flags: &[bool]) -> bool
@@ -155,52 +125,6 @@ fn can_go(coin: usize, old: &Outputs, from: &Checkpoint, to: &Checkpoint, stride
     from.step <= to.step
         && to.step - from.step <= stride
         && coins_serve(coin, from, flags_between(old, from, to))
-}
-
-/// Of the first elements of a list, as many as the one number, the last ones, as many as the other.
-fn last_of_first(bits: &[bool], first: usize, last: usize) -> &[bool]
-    ensures value { result.now ≡ drop (first - last) (take first bits.now) }
-{
-    between(bits, first.saturating_sub(last), first)
-}
-
-/// The frame by which a state, whose run gave this much, differs from an old copy of a run, if the rows of both have the same letters.
-/// This many records are those of the old run, whose steps look back no further than the reach.
-///
-/// Refusal `OutOfMemory` alone.
-pub(crate) fn frame_between(
-    alloc: Global,
-    tableau: &Tableau,
-    string: &mut Pauli,
-    outputs: &Outputs,
-    copy: &Checkpoint,
-    old: &Outputs,
-    base: usize,
-    reach: u32,
-) -> Result<Option<FrameWalk>, Refusal>
-    requires same_qubits { copy.now.tableau.qubits ≡ tableau.now.qubits }
-    requires within { base ≤ length outputs.now.records.items }
-    requires string { length string.old.letters ≡ tableau.now.qubits }
-    requires flags { copy.now.lengths.free ≤ length old.now.free.items }
-    requires records { copy.now.lengths.records ≤ length old.now.records.items }
-    ensures string { length string.new.letters ≡ length string.old.letters }
-    ensures walk { IfOk result (λ found. IfSome found (IsFrameFrom tableau.now (output_of outputs.now) (output_of old.now) base reach copy.now)) }
-    ensures err { IfErr result (λ r. r ≡ OutOfMemory) }
-{
-    let compared = match records_compared(outputs, copy, base, reach) {
-        Some(compared) => compared,
-        None => return Ok(None),
-    };
-    if !copy.tableau.frame_to(tableau, string) {
-        return Ok(None);
-    }
-    let mut walk = FrameWalk::new(alloc, tableau.len(), old.free.as_slice(), copy.lengths.free)?;
-    walk.multiply(string);
-    walk.flip_records(
-        last_of_first(old.records.as_slice(), copy.lengths.records, compared),
-        last_of_first(outputs.records.as_slice(), outputs.records.len(), compared),
-    )?;
-    Ok(Some(walk))
 }
 
 impl<'a> Replay<'a> {

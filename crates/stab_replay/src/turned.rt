@@ -1,128 +1,33 @@
-ghost use Rattle.std.specs.Prelude.{◌≡◌, ℕ, ◌+◌, ◌-◌, ◌*◌, ◌<◌, ◌≤◌, ◌++◌, Bool, List, true, false, IsTrue, All, IsSomeAnd, IfSome, length, take, drop, slice_get, OnOk, IfOk, IfErr};
+ghost use Rattle.std.specs.Prelude.{◌≡◌, ℕ, ◌+◌, ◌-◌, ◌*◌, ◌<◌, ◌≤◌, Bool, List, true, false, IsTrue, All, IsSomeAnd, IfSome, length, take, drop, slice_get, OnOk, IfOk, IfErr};
 ghost use Rattle.stab_io.specs.declared.refusal.Refusal.TheVariants.{OutOfMemory};
 ghost use Rattle.stab_circuit.specs.Steps.{most_steps};
 ghost use Rattle.stab_copies.specs.declared.checkpoint.Checkpoint.{Checkpoint};
 ghost use Rattle.stab_run.specs.Records.{ones};
-ghost use Rattle.stab_run.specs.Points.{joined, all_coins_of};
+ghost use Rattle.stab_run.specs.Points.{all_coins_of};
 ghost use Rattle.stab_run.specs.ProgramStates.{output_of};
-ghost use Rattle.stab_frames.specs.Flips.{flipped, flipped_additions, flipped_output};
-ghost use Rattle.stab_frames.specs.KeptStrings.{kept_with};
-ghost use Rattle.stab_frames.specs.Limits.{most_strings};
 ghost use Rattle.stab_replay.specs.declared.replay.Plan.{Plan};
-ghost use Rattle.stab_replay.specs.FramedReplays.{between as between_lengths, flips_behind};
 ghost use Rattle.stab_replay.specs.Replays.{IsOnWay};
 ghost use Rattle.stab_replay.specs.inner.LedReplays.{with_state};
-ghost use Rattle.stab_replay.specs.inner.TurnedReplays.{IsOfOwn, IsRoundsBehind, DiffersAt, IsFrameAgain, MayComeAgain, IsTurning, HasGivenTurned};
+ghost use Rattle.stab_replay.specs.inner.TurnedReplays.{IsOfOwn, DiffersAt, IsFrameAgain, MayComeAgain, IsTurning, HasGivenTurned};
 
-use crate::again::{LOOKED_BACK, append_again};
-use crate::framed::{frame_between, lengths_walked, turned_copy};
+use crate::again::LOOKED_BACK;
+use crate::framed::turned_copy;
 use crate::replay::Replay;
 use stab_circuit::Repeat;
-use stab_copies::Checkpoint;
-use stab_frames::{
-    FrameWalk, KeptStrings, append_flipped, append_flipped_additions, between, count_ones,
-    walk_with_coins,
+use stab_copies::{
+    Checkpoint, all_recorded, append_turned, frame_between, lengths_walked, note_again,
+    part_between,
 };
+use stab_frames::{FrameWalk, between, count_ones, walk_with_coins};
 use stab_io::Refusal;
-use stab_run::{Addition, Coins, Lengths, Outputs};
-use std::alloc::{AllocError, Global};
+use stab_run::{Coins, Lengths};
+use std::alloc::Global;
 
 /// A frame by which a replay differs from where it was at the laid copy with a number.
 #[derive(Drop)]
 struct Turned {
     number: usize,
     walk: FrameWalk,
-}
-
-/// Puts after a list of bits again what is in it from one place to another, flipped.
-fn append_turned(
-    alloc: Global,
-    list: &mut Vec<bool>,
-    from: usize,
-    to: usize,
-    flips: &[bool],
-) -> Result<(), AllocError>
-    ensures value { OnOk result (list.new.items ≡ list.old.items ++ flipped (drop from (take to list.old.items)) flips.now) }
-{
-    let part = Vec::from_slice(alloc, between(list.as_slice(), from, to))?;
-    append_flipped(list, part.as_slice(), flips)
-}
-
-/// The same for additions to observables.
-fn append_turned_additions(
-    alloc: Global,
-    list: &mut Vec<Addition>,
-    from: usize,
-    to: usize,
-    flips: &[Addition],
-) -> Result<(), AllocError>
-    ensures value { OnOk result (list.new.items ≡ list.old.items ++ flipped_additions (drop from (take to list.old.items)) flips.now) }
-{
-    let part = Vec::from_slice(alloc, between(list.as_slice(), from, to))?;
-    append_flipped_additions(list, part.as_slice(), flips)
-}
-
-/// Gives again what was given from some lengths of the lists to others, flipped as a frame says that had passed this much before.
-fn give_turned(
-    alloc: Global,
-    outputs: &mut Outputs,
-    from: Lengths,
-    to: Lengths,
-    walk: &FrameWalk,
-    before: Lengths,
-) -> Result<(), AllocError>
-    ensures value { OnOk result (output_of outputs.new ≡ joined (output_of outputs.old) (flipped_output (between_lengths from to (output_of outputs.old)) (flips_behind before walk.now))) }
-{
-    append_turned(
-        alloc,
-        &mut outputs.records,
-        from.records,
-        to.records,
-        between(walk.records(), before.records, walk.records().len()),
-    )?;
-    append_again(alloc, &mut outputs.free, from.free, to.free)?;
-    append_turned(
-        alloc,
-        &mut outputs.detectors,
-        from.detectors,
-        to.detectors,
-        between(walk.detectors(), before.detectors, walk.detectors().len()),
-    )?;
-    append_turned_additions(
-        alloc,
-        &mut outputs.additions,
-        from.additions,
-        to.additions,
-        between(walk.additions(), before.additions, walk.additions().len()),
-    )?;
-    Ok(())
-}
-
-/// Puts strings after the others again, from the one with a number up to another's, as far as there may be as many.
-///
-/// Refusal `OutOfMemory` alone.
-fn note_again(
-    alloc: Global,
-    strings: &mut KeptStrings,
-    from: usize,
-    to: usize,
-) -> Result<(), Refusal>
-    ensures value { OnOk result (strings.new ≡ record strings.old { strings = kept_with strings.old.most strings.old.strings (take (most_strings strings.old.qubits) (drop from (take to strings.old.strings))) }) }
-    ensures err { IfErr result (λ r. r ≡ OutOfMemory) }
-{
-    let mut part = strings.front(alloc, 0)?;
-    part.append_between(strings, from, to)?;
-    strings.append_rest(&part, 0)
-}
-
-/// Whether each measurement between some lengths of the lists and others made a record.
-fn all_recorded(from: Lengths, to: Lengths) -> bool
-    ensures order { result ≡ true → from.free ≤ to.free }
-    ensures recorded { result ≡ true → to.records ≡ from.records + (to.free - from.free) }
-{
-    from.free <= to.free
-        && from.records <= to.records
-        && to.records - from.records == to.free - from.free
 }
 
 impl<'a> Replay<'a> {
@@ -143,18 +48,6 @@ impl<'a> Replay<'a> {
             return None;
         }
         Some(asked)
-    }
-
-    /// Whether the replay is in a block some whole rounds after a copy.
-    pub(crate) fn is_rounds_behind(&self, block: Repeat, copy: &Checkpoint) -> bool
-        requires some { 0 < block.length }
-        ensures value { IsTrue result → IsRoundsBehind block self.now.step copy.now }
-    {
-        if copy.step < block.first || copy.step >= self.step {
-            return false;
-        }
-        let steps = self.step - copy.step;
-        steps / block.length * block.length == steps
     }
 
     /// The frame by which the replay differs from where it was at the laid copy with a number, if the rows have the same letters.
@@ -267,7 +160,8 @@ impl<'a> Replay<'a> {
             steps,
         )?;
         let tableau = turned_copy(alloc, &self.laid[number + 1].tableau, walk.letters())?;
-        give_turned(alloc, &mut self.outputs, behind, before, walk, gone)?;
+        let part = part_between(alloc, &self.outputs, behind, before)?;
+        append_turned(&mut self.outputs, &part, walk, gone)?;
         note_again(alloc, &mut self.notes.strings, noted, walk.number())?;
         self.laid.push(Checkpoint {
             step: self.step,

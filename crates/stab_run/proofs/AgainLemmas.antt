@@ -11,15 +11,21 @@ use Rattle.stab_circuit.specs.Steps.{Step, rounds}
 use Rattle.stab_circuit.specs.declared.circuit.repeats.Repeat.{Repeat}
 use Rattle.stab_circuit.specs.Repeats.{round_of, IsRepeat, AreRepeats}
 use Rattle.stab_steps.specs.Records.{looked_up, ones}
-use Rattle.stab_steps.specs.Points.{Point, RunOutput, origin, joined, point_after, outputs}
+use Rattle.stab_steps.specs.Points.{Point, RunOutput, origin, joined, all_coins_of, point_after, outputs}
 use Rattle.stab_steps.specs.declared.records.Lengths.{Lengths}
 use Rattle.stab_steps.specs.Cuts.{lengths_of, rest_of}
 use Rattle.stab_steps.specs.ProgramStates.{ProgramState, program_state, IsAt}
 use Rattle.stab_steps.proofs.RunLemmas.{after-append, outputs-append}
 use Rattle.stab_laws.specs.Ends.{AgreeBack, with_coin}
 use Rattle.stab_laws.specs.RoundLaws.{copies}
-use Rattle.stab_run.specs.declared.earlier.Earlier.{Earlier}
-use Rattle.stab_run.specs.inner.Led.{IsLed, behind_rounds, IsEarlier, IsUndecided}
+use Rattle.stab_copies.specs.declared.checkpoint.Checkpoint.{Checkpoint}
+use Rattle.stab_copies.specs.Checkpoints.{IsCheckpoint}
+use Rattle.stab_copies.specs.Meets.{ComesAgain}
+use Rattle.stab_copies.proofs.MeetingLemmas.{looked-last}
+use Rattle.stab_copies.proofs.RunCopyLemmas.{agrees-own}
+use Rattle.stab_run.specs.declared.marks.Mark.{Mark}
+use Rattle.stab_run.specs.inner.Led.{IsLed, behind_rounds, IsMark, IsMarkedAt}
+use Rattle.stab_run.proofs.LedLemmas.{coins-more}
 use Rattle.stab_laws.proofs.PointLemmas.{flags-are-coins, records-are-records, rest-joined}
 use Rattle.stab_laws.proofs.RoundLemmas.{rounds-append, rounds-rounds, rounds-within, length-rounds, rounds-again}
 
@@ -31,21 +37,25 @@ behind-more r k = omega (arith, add-mul k 1 r.length)
 pub behind-later : (r : Repeat) (j k : ℕ) → j ≤ k → behind_rounds r j ≤ behind_rounds r k
 behind-later r j k le = let more = mul-le-mul_right r.length le in omega arith
 
--- what is kept after a round
-pub kept-earlier : (n : ℕ) (coins : ℕ → Bool) (steps : List Step) (r : Repeat) (done : ℕ) (e : Earlier) (t : TableauState) (o : RunOutput)
-    → IsLed n coins (take (behind_rounds r done) steps) (program_state t o) → t.qubits ≡ n
-    → (e.tableau ≡ t) × (e.lengths ≡ lengths_of o) × (e.done ≡ done) → IsEarlier n coins steps r done e
-kept-earlier n coins steps r done e t o led size is = record {
-  before = let same = is.2 in omega arith;
-  qubits = ap (λ (s : TableauState). s.qubits) is.0 ∙ size;
-  group = λ p lp.
-      ap (λ s. stabilises s p) is.0
-      ∙ led.at.group p lp
-      ∙ ap (λ k. member (point_after n coins (take (behind_rounds r k) steps) origin).trace p) (sym is.2);
-  lengths =
-      is.1
-      ∙ ap lengths_of led.output
-      ∙ ap (λ k. lengths_of (outputs n coins (take (behind_rounds r k) steps) origin)) (sym is.2);
+-- more rounds use up no fewer coin numbers
+pub coins-later : (r : Repeat) (j k : ℕ) (steps : List Step) → j ≤ k → all_coins_of (take (behind_rounds r j) steps) ≤ all_coins_of (take (behind_rounds r k) steps)
+coins-later r j k steps le = coins-more (behind_rounds r j) (behind_rounds r k) steps (behind-later r j k le)
+
+-- a mark that is made after a round
+pub marked-behind : (n : ℕ) (coins : ℕ → Bool) (steps : List Step) (r : Repeat) (done : ℕ) (m : Mark) (t : TableauState) (o : RunOutput)
+    → behind_rounds r done ≤ length steps → IsLed n coins (take (behind_rounds r done) steps) (program_state t o) → t.qubits ≡ n
+    → IsMarkedAt t o r done m → IsMark n coins steps r done m
+marked-behind n coins steps r done m t o within led size is = record {
+  before = let same = is.rounds in omega arith;
+  step = ap (λ (c : Checkpoint). c.step) is.copy ∙ ap (behind_rounds r) (sym is.rounds);
+  copy =
+      subst (IsCheckpoint n coins steps) (sym is.copy)
+      (record {
+        within = within;
+        qubits = size;
+        group = led.at.group;
+        lengths = ap lengths_of led.output;
+      });
 }
 
 -- the repeat at a place of a list
@@ -71,10 +81,10 @@ repeats-behind from next steps rs i d lt are le =
 pub led-same : (n m : ℕ) (c d : ℕ → Bool) (xs : List Step) (s : ProgramState) → m ≡ n → d ≡ c → IsLed m d xs s → IsLed n c xs s
 led-same n m c d xs s size same is = subst (λ k. IsLed k c xs s) size (subst (λ coins. IsLed m coins xs s) same is)
 
-pub earlier-same : (n m : ℕ) (c d : ℕ → Bool) (steps : List Step) (r : Repeat) (done : ℕ) (o : Option Earlier) → m ≡ n → d ≡ c
-    → IfSome o (λ e. IsEarlier m d steps r done e) → IfSome o (λ e. IsEarlier n c steps r done e)
-earlier-same n m c d steps r done o size same is =
-    subst (λ k. IfSome o (λ e. IsEarlier k c steps r done e)) size (subst (λ coins. IfSome o (λ e. IsEarlier m coins steps r done e)) same is)
+pub mark-same : (n m : ℕ) (c d : ℕ → Bool) (steps : List Step) (r : Repeat) (done : ℕ) (o : Option Mark) → m ≡ n → d ≡ c
+    → IfSome o (λ k. IsMark m d steps r done k) → IfSome o (λ k. IsMark n c steps r done k)
+mark-same n m c d steps r done o size same is =
+    subst (λ k. IfSome o (λ e. IsMark k c steps r done e)) size (subst (λ coins. IfSome o (λ e. IsMark m coins steps r done e)) same is)
 
 -- the steps after this many rounds, and those of as many more
 
@@ -126,9 +136,8 @@ module _ (steps : List Step) (r : Repeat) (is : IsRepeat steps r) where
 
   -- if a state has come again, the rounds since then come again
 
-  module _ (n : ℕ) (coins : ℕ → Bool) (e : Earlier) (done : ℕ) (t : TableauState) (old : RunOutput) (early : IsEarlier n coins steps r done e)
-      (led : IsLed n coins (take (behind_rounds r done) steps) (program_state t old)) (within : done ≤ r.rounds) (same : e.tableau ≡ t)
-      (undecided : IsUndecided r.reach e.lengths.free e.lengths.records old) where
+  module _ (n : ℕ) (coins : ℕ → Bool) (e : Mark) (done : ℕ) (t : TableauState) (old : RunOutput) (mark : IsMark n coins steps r done e)
+      (led : IsLed n coins (take (behind_rounds r done) steps) (program_state t old)) (within : done ≤ r.rounds) (comes : ComesAgain r.reach t old e.copy) where
     abbrev period : ℕ
     period = done - e.done
 
@@ -143,8 +152,8 @@ module _ (steps : List Step) (r : Repeat) (is : IsRepeat steps r) where
 
     steps_now : take (behind_rounds r done) steps ≡ first ++ since
     steps_now =
-        ap (λ k. take (behind_rounds r k) steps) {x = done} {y = e.done + (done - e.done)} (let le = early.before in omega arith)
-        ∙ more-rounds e.done (done - e.done) (let le = early.before in omega arith)
+        ap (λ k. take (behind_rounds r k) steps) {x = done} {y = e.done + (done - e.done)} (let le = mark.before in omega arith)
+        ∙ more-rounds e.done (done - e.done) (let le = mark.before in omega arith)
 
     abbrev now : Point
     now = point_after n coins since then
@@ -155,30 +164,27 @@ module _ (steps : List Step) (r : Repeat) (is : IsRepeat steps r) where
     old_is : old ≡ joined (outputs n coins first origin) (outputs n coins since then)
     old_is = led.output ∙ ap (λ xs. outputs n coins xs origin) steps_now ∙ outputs-append n coins first since origin
 
-    pub rest_is : rest_of e.lengths old ≡ outputs n coins since then
-    rest_is = (λ i. rest_of (early.lengths i) (old_is i)) ∙ rest-joined (outputs n coins first origin) (outputs n coins since then)
+    lengths : e.copy.lengths ≡ lengths_of (outputs n coins first origin)
+    lengths = mark.copy.lengths ∙ ap (λ k. lengths_of (outputs n coins (take k steps) origin)) mark.step
+
+    pub rest_is : rest_of e.copy.lengths old ≡ outputs n coins since then
+    rest_is = (λ i. rest_of (lengths i) (old_is i)) ∙ rest-joined (outputs n coins first origin) (outputs n coins since then)
 
     fixed : ones (outputs n coins since then).free ≡ 0
-    fixed = ap (λ (o : RunOutput). ones o.free) (sym rest_is) ∙ undecided.fixed
+    fixed = ap (λ (o : RunOutput). ones o.free) (sym rest_is) ∙ comes.fixed
 
     at_now : IsAt n (program_state t old) now
     at_now = subst (IsAt n (program_state t old)) now_is led.at
 
-    records_then : take e.lengths.records old.records ≡ then.records
-    records_then =
-        ap (λ (l : Lengths). take l.records old.records) early.lengths
-        ∙ ap (λ (o : RunOutput). take (length (outputs n coins first origin).records) o.records) old_is
-        ∙ take_at (outputs n coins first origin).records (outputs n coins since then).records (length (outputs n coins first origin).records) refl
-        ∙ records-are-records n coins first
-
     agree : AgreeBack n r.reach (with_coin now.coin then) now
-    agree = record {
-      group = λ p lp. sym (early.group p lp) ∙ ap (λ s. stabilises s p) same ∙ at_now.group p lp;
-      coin = refl;
-      records = λ k le. ap (λ bits. looked_up bits k) (sym records_then) ∙ undecided.same k le ∙ ap (λ bits. looked_up bits k) at_now.records;
-    }
+    agree =
+        subst (λ x. x) (λ i. AgreeBack n r.reach (with_coin (now_is i).coin (point_after n coins (take (mark.step i) steps) origin)) (now_is i))
+        (agrees-own n coins steps (behind_rounds r done) e.copy t old r.reach mark.copy
+        (omega (arith, mark.step, behind-later r e.done done mark.before)) (omega (arith, behind-later r done r.rounds within, is.inside))
+        (record { group = led.at.group; output = led.output }) comes.same
+        (λ k le. sym (looked-last r.reach k old.records (take e.copy.lengths.records old.records) comes.records le)))
 
-    pub gives-again : (k : ℕ) (new : RunOutput) → done + k * period ≤ r.rounds → new ≡ joined old (copies k (rest_of e.lengths old))
+    pub gives-again : (k : ℕ) (new : RunOutput) → done + k * period ≤ r.rounds → new ≡ joined old (copies k (rest_of e.copy.lengths old))
         → IsLed n coins (take (behind_rounds r (done + k * period)) steps) (program_state t new)
     gives-again k new le is_new =
         subst (λ xs. IsLed n coins xs (program_state t new)) (sym steps_then)

@@ -1,9 +1,7 @@
 mod ShotLemmas
 pub mod LedLemmas
 pub mod AgainLemmas
-mod CopyLemmas
 mod NotedLemmas
-pub mod FramedLemmas
 mod OverLemmas
 mod PeriodLemmas
 mod NotedAgainLemmas

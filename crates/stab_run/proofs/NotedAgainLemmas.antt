@@ -1,135 +1,33 @@
 -- Noted again: the strings of rounds serve again for the rounds after them, which begin where they began, except for a frame.
-use Rattle.std.proofs.Common.{◌≡◌, ℕ, zero, suc, ◌+◌, ◌-◌, ◌<◌, ◌≤◌, refl, sym, ◌∙◌, ap, subst, Bool, true, false, ◌⊎◌, inl, inr, List, [], ◌∷◌, ◌++◌, length, take, drop, slice_get, get_or, Option, None, arith}
-use Rattle.std.specs.Prelude.{IfSome, if◌then◌else◌}
+use Rattle.std.proofs.Common.{◌≡◌, ℕ, zero, suc, ◌+◌, ◌-◌, ◌<◌, ◌≤◌, refl, sym, ◌∙◌, ap, subst, Bool, inl, inr, List, [], ◌∷◌, ◌++◌, length, take, drop, slice_get, arith}
 use Rattle.std.proofs.lemmas.Bool.{cases_lt}
-use Rattle.std.proofs.lemmas.List.{length-append, length-take, length-drop, take_all, take-append-drop, drop_at, get_or-append-add, get_or-drop}
-use Rattle.std.proofs.Math.Seq.{take-append-add, take-append_seam}
+use Rattle.std.proofs.lemmas.List.{length-append, length-take, length-drop, take_all, take-append-drop, drop_at}
+use Rattle.std.proofs.Math.Seq.{take-append_seam, take-length}
 use Rattle.stab_letters.specs.declared.letter.Letter.{Letter}
 use Rattle.stab_pauli.specs.Paulis.{Signed}
-use Rattle.stab_circuit.specs.Steps.{Step, rounds, one, two, controlled, collapse, product, detector, observable}
+use Rattle.stab_circuit.specs.Steps.{Step, rounds}
 use Rattle.stab_circuit.specs.declared.circuit.repeats.Repeat.{Repeat}
 use Rattle.stab_circuit.specs.Repeats.{round_of, IsRepeat}
 use Rattle.stab_steps.specs.Records.{ones}
-use Rattle.stab_steps.specs.Points.{Point, RunOutput, origin, coins_of, next_point, outputs}
+use Rattle.stab_steps.specs.Points.{Point, RunOutput, origin, all_coins_of, outputs}
 use Rattle.stab_steps.specs.ProgramStates.{ProgramState}
 use Rattle.stab_steps.proofs.RecordLemmas.{ones-append}
 use Rattle.stab_steps.proofs.RunLemmas.{outputs-append}
-use Rattle.stab_laws.specs.Ends.{with_coin}
-use Rattle.stab_laws.proofs.PointLemmas.{flags-are-coins}
+use Rattle.stab_laws.proofs.PointLemmas.{flags-are-coins, flags-counted}
 use Rattle.stab_laws.proofs.CoinLemmas.{coins-are}
 use Rattle.stab_frames.specs.Limits.{most_strings}
-use Rattle.stab_frames.specs.KeptStrings.{StringsState, IsNumbered, IsTrueAt, AreTrue, note_at, kept_with}
-use Rattle.stab_frames.specs.AgainLaws.{AreTurnedOver}
+use Rattle.stab_frames.specs.KeptStrings.{StringsState, IsNumbered, AreTrue, note_at, kept_with}
 use Rattle.stab_frames.specs.declared.noting.RunNotes.{RunNotes}
-use Rattle.stab_frames.proofs.AgainLemmas.{true-turned-at}
-use Rattle.stab_frames.proofs.TrueLemmas.{true-append, true-rest, true-same}
-use Rattle.stab_frames.proofs.OtherCoinLemmas.{ones-split}
-use Rattle.stab_frames.proofs.NoteAtLemmas.{get-append, get-behind, note-before, note-equal}
+use Rattle.stab_frames.proofs.TrueLemmas.{true-rest, true-same}
+use Rattle.stab_frames.proofs.NoteAtLemmas.{get-append, note-equal}
+use Rattle.stab_copies.proofs.BitLemmas.{counted}
+use Rattle.stab_copies.proofs.NoteLemmas.{numbered-again, true-again}
 use Rattle.stab_run.specs.inner.Led.{IsLed, behind_rounds}
 use Rattle.stab_run.specs.inner.Noted.{IsNoted}
 use Rattle.stab_run.specs.inner.Turned.{point_behind, ComesTurned, IsPeriod}
 use Rattle.stab_run.specs.declared.turned.Period.{Period}
 use Rattle.stab_run.proofs.AgainLemmas.{more-rounds, behind-later}
 use Rattle.stab_run.proofs.NotedLemmas.{noted-closed}
-
--- elements of lists that are cut
-
-get-take : {X : Type 0} (k j : ℕ) (xs : List X) → (slice_get (take k xs) j ≡ None) ⊎ (slice_get (take k xs) j ≡ slice_get xs j)
-get-take zero j xs = inl refl
-get-take (suc k) j [] = inr refl
-get-take (suc k) zero (x ∷ xs) = inr refl
-get-take (suc k) (suc j) (x ∷ xs) = get-take k j xs
-
-get-first : {X : Type 0} (k j : ℕ) (xs : List X) → j < k → slice_get (take k xs) j ≡ slice_get xs j
-get-first zero j xs lt = absurd (omega arith)
-get-first (suc k) j [] lt = refl
-get-first (suc k) zero (x ∷ xs) lt = refl
-get-first (suc k) (suc j) (x ∷ xs) lt = get-first k j xs (omega arith)
-
-get-drop : {X : Type 0} (k j : ℕ) (xs : List X) → slice_get (drop k xs) j ≡ slice_get xs (k + j)
-get-drop zero j xs = ap (slice_get xs) {x = j} {y = 0 + j} (omega arith)
-get-drop (suc k) j [] = refl
-get-drop (suc k) j (x ∷ xs) = get-drop k j xs ∙ ap (slice_get (x ∷ xs)) {x = suc (k + j)} {y = suc k + j} (omega arith)
-
--- fewer are free before one that is free than are free in all
-ones-before : (free : List Bool) (t : ℕ) → get_or free t false ≡ true → ones (take t free) < ones free
-ones-before [] t e = cc
-ones-before (true ∷ free) zero e = omega arith
-ones-before (false ∷ free) zero e = cc
-ones-before (true ∷ free) (suc t) e = let h = ones-before free t e in omega (arith, h)
-ones-before (false ∷ free) (suc t) e = ones-before free t e
-
--- notes that are none, or the same
-
-abbrev IsNoneOr : Option (List Letter) → Option (List Letter) → Type 0
-IsNoneOr o p = (o ≡ None) ⊎ (o ≡ p)
-
-none-or : (P : List Letter → Type 0) (o p : Option (List Letter)) → IsNoneOr o p → IfSome p P → IfSome o P
-none-or P o p (inl e) h = subst (λ q. IfSome q P) (sym e) tt
-none-or P o p (inr e) h = subst (λ q. IfSome q P) (sym e) h
-
-at-changed : (n : ℕ) (strings others : ℕ → Option (List Letter)) (x : Step) (a : Point) → (coins_of x ≡ 1 → IsNoneOr (others a.coin) (strings a.coin))
-    → IsTrueAt n strings x a → IsTrueAt n others x a
-at-changed n strings others (one g q) a h is = tt
-at-changed n strings others (two g q r) a h is = tt
-at-changed n strings others (controlled l k q) a h is = tt
-at-changed n strings others (collapse l q recorded inverted resets) a h is = none-or _ (others a.coin) (strings a.coin) (h refl) is
-at-changed n strings others (product factors inverted) a h is = none-or _ (others a.coin) (strings a.coin) (h refl) is
-at-changed n strings others (detector ks) a h is = tt
-at-changed n strings others (observable j ks) a h is = tt
-
-choose : (b c : Bool) (o p : Option (List Letter)) → b ≡ c → (c ≡ true → IsNoneOr o p) → IsNoneOr (if b then o else None) (if c then p else None)
-choose b true o p e h = subst (λ d. IsNoneOr (if d then o else None) p) (sym e) (h refl)
-choose b false o p e h = inl (ap (λ d. if d then o else None) e)
-
--- what is noted of a coin, if strings from one coin on are put after all others again
-
-module _ (s : StringsState) (flags : List Bool) (each : length s.strings ≡ ones flags) (c : ℕ) where
-  abbrev more : List (List Letter)
-  more = drop (ones (take c flags)) s.strings
-
-  note-again : (u : ℕ) → IsNoneOr (note_at (take s.most (s.strings ++ more)) (flags ++ drop c flags) (length flags + u)) (note_at s.strings flags (c + u))
-  note-again u =
-      choose (get_or (flags ++ drop c flags) (length flags + u) false) (get_or flags (c + u) false)
-      (slice_get (take s.most (s.strings ++ more)) (ones (take (length flags + u) (flags ++ drop c flags))))
-      (slice_get s.strings (ones (take (c + u) flags)))
-      (get_or-append-add flags (drop c flags) u false ∙ get_or-drop c flags u false)
-      (λ is. subst (λ k. IsNoneOr (slice_get (take s.most (s.strings ++ more)) k) (slice_get s.strings (ones (take (c + u) flags)))) (sym place)
-      (subst (λ k. IsNoneOr (slice_get (take s.most (s.strings ++ more)) (ones flags + ones (take u (drop c flags)))) (slice_get s.strings k)) (sym (ones-split c u flags))
-      (elim (get-take s.most (ones flags + ones (take u (drop c flags))) (s.strings ++ more)) [
-        | inl e ↦ inl e
-        | inr e ↦ inr (
-            e
-            ∙ ap (λ k. slice_get (s.strings ++ more) (k + ones (take u (drop c flags)))) (sym each)
-            ∙ get-behind s.strings more (ones (take u (drop c flags)))
-            ∙ get-drop (ones (take c flags)) (ones (take u (drop c flags))) s.strings
-            )
-      ])))
-    where
-      place : ones (take (length flags + u) (flags ++ drop c flags)) ≡ ones flags + ones (take u (drop c flags))
-      place =
-          ap ones (take-append-add flags (drop c flags) u)
-          ∙ ones-append flags (take u (drop c flags))
-
--- strings that are true at one point are true at another, whose groups are turned step by step
-true-again : (n : ℕ) (coins : ℕ → Bool) (strings others : ℕ → Option (List Letter)) (xs : List Step) (a b : Point)
-    → ((j : ℕ) → IsNoneOr (others (b.coin + j)) (strings (a.coin + j))) → AreTurnedOver n coins xs a b
-    → AreTrue n coins strings xs a → AreTrue n coins others xs b
-true-again n coins strings others [] a b notes turned is = tt
-true-again n coins strings others (x ∷ xs) a b notes turned is = (
-  at-changed n (λ t. strings a.coin) others x b
-      (λ e. subst (λ x. x) (λ i. IsNoneOr (others (first b.coin i)) (strings (first a.coin i))) (notes 0))
-      (true-turned-at n (λ t. strings a.coin) x a (with_coin a.coin b) (turned 0).0 (turned 0).1 refl is.0),
-  true-again n coins strings others xs (next_point n coins x a) (next_point n coins x b)
-      (λ j. subst (λ x. x) (λ i. IsNoneOr (others (on b.coin j i)) (strings (on a.coin j i))) (notes (coins_of x + j)))
-      (λ m. turned (suc m)) is.1,
-)
-  where
-    first : (k : ℕ) → k + 0 ≡ k
-    first k = omega arith
-
-    on : (k j : ℕ) → k + (coins_of x + j) ≡ (k + coins_of x) + j
-    on k j = omega arith
 
 -- rounds of which a frame went over the last ones
 
@@ -141,9 +39,6 @@ module _ (n : ℕ) (coins : ℕ → Bool) (steps : List Step) (r : Repeat) (is :
 
   abbrev there : Point
   there = point_behind n coins steps r (done - m)
-
-  abbrev here : Point
-  here = point_behind n coins steps r done
 
   abbrev free : List Bool
   free = old.output.free
@@ -173,21 +68,18 @@ module _ (n : ℕ) (coins : ℕ → Bool) (steps : List Step) (r : Repeat) (is :
       ap (λ (o : RunOutput). o.free) (later.output ∙ ap (λ ys. outputs n coins ys origin) parts ∙ outputs-append n coins (take (behind_rounds r done) steps) xs origin)
       ∙ (λ i. (sym led.output i).free ++ (sym comes.again ∙ sym last_are) i)
 
-  count : length free ≡ here.coin
-  count = ap (λ (o : RunOutput). length o.free) led.output ∙ flags-are-coins n coins (take (behind_rounds r done) steps)
-
   split : ones (take there.coin free) + ones flags ≡ ones free
   split =
       ap (λ bits. ones (take there.coin free) + ones bits) (sym last_are)
       ∙ sym (ones-append (take there.coin free) (drop there.coin free))
       ∙ ap ones (take-append-drop there.coin free)
 
-  module _ (notes new_notes : RunNotes) (k : ℕ) (counted : k ≡ ones flags) (noted : IsNoted n coins (take (behind_rounds r done) steps) notes free)
-      (same : new_notes.string ≡ notes.string)
+  module _ (notes new_notes : RunNotes) (from to : ℕ) (from_is : from ≡ length notes.strings.strings - ones flags) (to_is : to ≡ length notes.strings.strings)
+      (noted : IsNoted n coins (take (behind_rounds r done) steps) notes free) (same : new_notes.string ≡ notes.string)
       (put : new_notes.strings
       ≡ record notes.strings {
         strings = kept_with notes.strings.most notes.strings.strings
-            (take (most_strings notes.strings.qubits) (drop (length notes.strings.strings - k) notes.strings.strings));
+            (take (most_strings notes.strings.qubits) (drop from (take to notes.strings.strings)));
       }) where
     abbrev strings : List (List Letter)
     strings = notes.strings.strings
@@ -195,12 +87,14 @@ module _ (n : ℕ) (coins : ℕ → Bool) (steps : List Step) (r : Repeat) (is :
     abbrev most : ℕ
     most = notes.strings.most
 
-    all_put : take (most_strings notes.strings.qubits) (drop (length strings - k) strings) ≡ drop (length strings - k) strings
+    all_put : take (most_strings notes.strings.qubits) (drop from (take to strings)) ≡ drop (length strings - ones flags) strings
     all_put =
-        take_all (most_strings notes.strings.qubits) (drop (length strings - k) strings)
-        (omega (arith, length-drop (length strings - k) strings, noted.numbered, noted.within, ap most_strings noted.qubits))
+        take_all (most_strings notes.strings.qubits) (drop from (take to strings))
+        (omega (arith, length-drop from (take to strings), length-take to strings, noted.numbered, noted.within, ap most_strings noted.qubits))
+        ∙ (λ i. drop (from_is i) (take (to_is i) strings))
+        ∙ ap (drop (length strings - ones flags)) (take-length strings)
 
-    put_is : new_notes.strings ≡ record notes.strings { strings = take most (strings ++ drop (length strings - k) strings) }
+    put_is : new_notes.strings ≡ record notes.strings { strings = take most (strings ++ drop (length strings - ones flags) strings) }
     put_is = put ∙ ap (λ l. record notes.strings { strings = take most (strings ++ l) }) all_put
 
     -- where no more were kept
@@ -214,7 +108,9 @@ module _ (n : ℕ) (coins : ℕ → Bool) (steps : List Step) (r : Repeat) (is :
           ∙ (λ i. record {
             qubits = notes.strings.qubits;
             most = full i;
-            strings = (ap (λ j. take j (strings ++ drop (length strings - k) strings)) full ∙ take-append_seam strings (drop (length strings - k) strings)) i;
+            strings =
+                (ap (λ j. take j (strings ++ drop (length strings - ones flags) strings)) full
+                ∙ take-append_seam strings (drop (length strings - ones flags) strings)) i;
           })
 
       noted-full : IsNoted n coins (take (behind_rounds r (done + m)) steps) new_notes new.output.free
@@ -224,60 +120,60 @@ module _ (n : ℕ) (coins : ℕ → Bool) (steps : List Step) (r : Repeat) (is :
 
     -- where all were kept
     module _ (all : ones free ≤ length strings) where
+      abbrev end : ℕ
+      end = there.coin + all_coins_of xs
+
       each : length strings ≡ ones free
       each = omega (arith, all, noted.numbered)
 
-      put_each : new_notes.strings ≡ record notes.strings { strings = take most (strings ++ drop (ones (take there.coin free)) strings) }
-      put_each =
-          put_is
-          ∙ ap (λ j. record notes.strings { strings = take most (strings ++ drop j strings) }) {x = length strings - k} {y = ones (take there.coin free)}
-          (omega (arith, each, counted, split))
-
-      abbrev behind : List (List Letter)
-      behind = take most (strings ++ drop (ones (take there.coin free)) strings)
-
-      numbered-each : IsNumbered (record notes.strings { strings = behind }) (free ++ drop there.coin free)
-      numbered-each =
+      end_is : end ≡ length free
+      end_is =
           omega (
             arith,
-            length-take most (strings ++ drop (ones (take there.coin free)) strings),
-            length-append strings (drop (ones (take there.coin free)) strings),
-            length-drop (ones (take there.coin free)) strings,
-            ones-append free (drop there.coin free),
-            ap ones last_are,
-            split,
-            each,
-            noted.numbered,
+            ap length free_is,
+            length-append (outputs n coins first origin).free flags,
+            flags-are-coins n coins first,
+            ap length comes.before,
+            flags-counted n coins xs there,
+            coins-are n coins xs there,
           )
+
+      all_free : take end free ≡ free
+      all_free = ap (λ j. take j free) end_is ∙ take-length free
+
+      again : drop (length strings - ones flags) strings ≡ drop (ones (take there.coin free)) (take (ones (take end free)) strings)
+      again =
+          ap (λ j. drop j strings) {x = length strings - ones flags} {y = ones (take there.coin free)} (omega (arith, each, split))
+          ∙ ap (drop (ones (take there.coin free)))
+          (sym (ap (λ bits. take (ones bits) strings) all_free ∙ ap (λ j. take j strings) (sym each) ∙ take-length strings))
+
+      new_strings : new_notes.strings ≡ record notes.strings { strings = kept_with most strings (drop (ones (take there.coin free)) (take (ones (take end free)) strings)) }
+      new_strings = put_is ∙ ap (λ l. record notes.strings { strings = take most (strings ++ l) }) again
+
+      free_later : new.output.free ≡ free ++ drop there.coin (take end free)
+      free_later = free_new ∙ ap (λ bits. free ++ drop there.coin bits) (sym all_free)
+
+      kept_all : ones (take end free) ≤ length strings
+      kept_all = omega (arith, ap ones all_free, each)
 
       true-there : AreTrue n coins (note_at strings free) xs there
       true-there =
           true-rest n coins (note_at strings free) first xs origin
           (subst (λ ys. AreTrue n coins (note_at strings free) ys origin) whole_is noted.are_true)
 
-      true-here : AreTrue n coins (note_at behind (free ++ drop there.coin free)) xs here
-      true-here =
-          true-again n coins (note_at strings free) (note_at behind (free ++ drop there.coin free)) xs there here
-          (λ j. subst (λ i. IsNoneOr (note_at behind (free ++ drop there.coin free) (i + j)) (note_at strings free (there.coin + j))) count
-          (note-again notes.strings free each there.coin j))
-          comes.turned true-there
-
-      true-before : AreTrue n coins (note_at behind (free ++ drop there.coin free)) (take (behind_rounds r done) steps) origin
-      true-before =
-          true-same n coins (note_at strings free) (note_at behind (free ++ drop there.coin free)) (take (behind_rounds r done) steps) origin
-          (λ t lt. sym (note-before most strings (drop (ones (take there.coin free)) strings) free (drop there.coin free) (0 + t) noted.numbered
-          (omega (arith, lt, count, coins-are n coins (take (behind_rounds r done) steps) origin))))
-          noted.are_true
-
       noted-each : IsNoted n coins (take (behind_rounds r (done + m)) steps) new_notes new.output.free
       noted-each = record {
         scratch = ap (λ (s : Signed). length s.letters) same ∙ noted.scratch;
-        qubits = ap (λ (s : StringsState). s.qubits) put_each ∙ noted.qubits;
-        within = omega (arith, ap (λ (s : StringsState). s.most) put_each, noted.within);
-        numbered = subst (λ x. x) (λ i. IsNumbered (sym put_each i) (sym free_new i)) numbered-each;
+        qubits = ap (λ (s : StringsState). s.qubits) put ∙ noted.qubits;
+        within = omega (arith, ap (λ (s : StringsState). s.most) put, noted.within);
+        numbered =
+            subst (IsNumbered new_notes.strings) (sym free_later)
+            (numbered-again n coins (take (behind_rounds r done) steps) xs notes.strings new_notes.strings free there.coin end there noted.numbered
+            (ap (λ (o : RunOutput). o.free) led.output) refl refl kept_all new_strings);
         are_true =
-            subst (λ x. x) (λ i. AreTrue n coins (note_at (sym put_each i).strings (sym free_new i)) (sym parts i) origin)
-            (true-append n coins (note_at behind (free ++ drop there.coin free)) (take (behind_rounds r done) steps) xs origin true-before true-here);
+            subst (λ x. x) (λ i. AreTrue n coins (note_at new_notes.strings.strings (sym free_later i)) (sym parts i) origin)
+            (true-again n coins (take (behind_rounds r done) steps) xs notes.strings new_notes.strings free there.coin end there noted.numbered
+            (ap (λ (o : RunOutput). o.free) led.output) refl refl kept_all new_strings noted.are_true true-there comes.turned);
       }
 
     pub noted-over : IsNoted n coins (take (behind_rounds r (done + m)) steps) new_notes new.output.free
@@ -289,11 +185,17 @@ module _ (n : ℕ) (coins : ℕ → Bool) (steps : List Step) (r : Repeat) (is :
 
 -- a frame that goes over a period needs no more than the strings up to where it began
 
+get-first : {X : Type 0} (k j : ℕ) (xs : List X) → j < k → slice_get (take k xs) j ≡ slice_get xs j
+get-first zero j xs lt = absurd (omega arith)
+get-first (suc k) j [] lt = refl
+get-first (suc k) zero (x ∷ xs) lt = refl
+get-first (suc k) (suc j) (x ∷ xs) lt = get-first k j xs (omega arith)
+
 note-kept : (most : ℕ) (strings others : List (List Letter)) (free : List Bool) (t : ℕ) → length strings ≤ most → ones free ≤ length strings
     → note_at strings free t ≡ note_at (take most (strings ++ others)) free t
 note-kept most strings others free t within all =
     note-equal strings (take most (strings ++ others)) free free t t refl
-    (λ is. let lt = ones-before free t is in
+    (λ is. let lt = counted t free is in
     sym (get-first most (ones (take t free)) (strings ++ others) (omega (arith, lt, within, all)) ∙ get-append strings others (ones (take t free)) (omega (arith, lt, all))))
 
 pub period-kept : (n : ℕ) (coins : ℕ → Bool) (steps : List Step) (r : Repeat) (strings others : List (List Letter)) (most done : ℕ) (o : RunOutput) (p : Period)

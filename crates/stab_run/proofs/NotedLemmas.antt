@@ -1,8 +1,6 @@
 -- Noted runs: strings that are kept of free outcomes, where a run goes on.
 use Rattle.std.proofs.Common.{◌≡◌, ℕ, ◌+◌, ◌-◌, ◌<◌, ◌≤◌, refl, sym, ◌∙◌, ap, subst, Bool, false, List, [], ◌++◌, length, take, drop, arith}
-use Rattle.std.specs.Prelude.{slice_get}
 use Rattle.std.proofs.Math.Seq.{take-add}
-use Rattle.std.proofs.lemmas.List.{take-append-le, get_or_append_left}
 use Rattle.stab_letters.specs.declared.letter.Letter.{Letter}
 use Rattle.stab_pauli.specs.Paulis.{Signed}
 use Rattle.stab_circuit.specs.Steps.{Step}
@@ -11,11 +9,8 @@ use Rattle.stab_steps.specs.Points.{RunOutput, origin, point_after, outputs}
 use Rattle.stab_steps.specs.ProgramStates.{ProgramState}
 use Rattle.stab_steps.proofs.RecordLemmas.{ones-append}
 use Rattle.stab_steps.proofs.RunLemmas.{outputs-append}
-use Rattle.stab_laws.proofs.PointLemmas.{flags-are-coins}
-use Rattle.stab_laws.proofs.CoinLemmas.{coins-are}
 use Rattle.stab_frames.specs.KeptStrings.{StringsState, IsNumbered, AreTrue, KeepsTrue, note_at}
-use Rattle.stab_frames.proofs.NoteAtLemmas.{note-equal, note-past}
-use Rattle.stab_frames.proofs.TrueLemmas.{true-append, true-same, true-none}
+use Rattle.stab_copies.proofs.NoteLemmas.{true-left}
 use Rattle.stab_frames.specs.declared.noting.RunNotes.{RunNotes}
 use Rattle.stab_run.specs.inner.Led.{IsLed}
 use Rattle.stab_run.specs.inner.Noted.{IsNoted, BeginsNotes}
@@ -41,11 +36,6 @@ noted-on n coins steps from count old_notes new_notes old new led noted scratch 
 
 -- a run that goes on, and notes no more
 
-note-left : (strings : List (List Letter)) (free more : List Bool) (t : ℕ) → t < length free → note_at strings free t ≡ note_at strings (free ++ more) t
-note-left strings free more t lt =
-    sym (note-equal strings strings (free ++ more) free t t (get_or_append_left free more false t lt)
-    (λ is. ap (λ bits. slice_get strings (ones bits)) (take-append-le t free more (omega (arith, lt)))))
-
 pub noted-closed : (n : ℕ) (coins : ℕ → Bool) (steps : List Step) (from to : ℕ) (old_notes new_notes : RunNotes) (old new : ProgramState) → from ≤ to
     → IsLed n coins (take from steps) old → IsLed n coins (take to steps) new → IsNoted n coins (take from steps) old_notes old.output.free
     → new_notes.string ≡ old_notes.string → new_notes.strings ≡ record old_notes.strings { most = length old_notes.strings.strings }
@@ -59,11 +49,7 @@ noted-closed n coins steps from to old_notes new_notes old new le led later note
       subst (λ (s : StringsState). AreTrue n coins (note_at s.strings new.output.free) (take to steps) origin) (sym closed)
       (subst (λ xs. AreTrue n coins (note_at strings new.output.free) xs origin) (sym parts)
       (subst (λ bits. AreTrue n coins (note_at strings bits) (whole ++ rest) origin) (sym new_free)
-      (true-append n coins (note_at strings (old.output.free ++ more)) whole rest origin
-      (true-same n coins (note_at strings old.output.free) (note_at strings (old.output.free ++ more)) whole origin
-      (λ t lt. note-left strings old.output.free more (0 + t) (omega (arith, lt, count, coins-are n coins whole origin))) noted.are_true)
-      (true-none n coins (note_at strings (old.output.free ++ more)) rest (point_after n coins whole origin)
-      (λ t le. note-past strings old.output.free more t (omega (arith, le, count)) few)))));
+      (true-left n coins whole rest strings old.output.free more (ap (λ (o : RunOutput). o.free) led.output) few noted.are_true)));
 }
   where
     strings : List (List Letter)
@@ -88,9 +74,6 @@ noted-closed n coins steps from to old_notes new_notes old new le led later note
 
     few : length strings ≤ ones old.output.free
     few = omega (arith, noted.numbered)
-
-    count : length old.output.free ≡ (point_after n coins whole origin).coin
-    count = ap (λ (o : RunOutput). length o.free) led.output ∙ flags-are-coins n coins whole
 
 -- a run that goes on by steps which no coin decides
 pub noted-fixed : (n : ℕ) (coins : ℕ → Bool) (steps : List Step) (from to : ℕ) (notes : RunNotes) (old new : ProgramState) → from ≤ to

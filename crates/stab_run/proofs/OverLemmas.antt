@@ -1,26 +1,18 @@
 -- Strings turned over: those that exchange outcomes at one point of a run do so at another, whose groups are turned step by step.
 use Rattle.std.proofs.Common.{◌≡◌, ℕ, suc, ◌+◌, refl, sym, ap, subst, Bool, List, [], ◌∷◌, ◌++◌, arith}
-use Rattle.std.specs.Prelude.{Option, None, Some, IfSome}
+use Rattle.std.specs.Prelude.{Option}
 use Rattle.stab_letters.specs.declared.letter.Letter.{Letter}
 use Rattle.stab_letters.specs.Letters.{◌⊕◌}
-use Rattle.stab_pauli.specs.Paulis.{Signed, single}
-use Rattle.stab_tableau.specs.Traces.{member, outcome, projected}
-use Rattle.stab_tableau.specs.Turns.{IsTurned}
-use Rattle.stab_tableau.specs.Exchanges.{Exchanges}
+use Rattle.stab_pauli.specs.Paulis.{single}
+use Rattle.stab_tableau.specs.Traces.{outcome, projected}
 use Rattle.stab_circuit.specs.Steps.{Step, one, two, controlled, collapse, product, detector, observable}
-use Rattle.stab_steps.specs.Runs.{string_of, measured_by, when, collapsed}
+use Rattle.stab_steps.specs.Runs.{string_of, when, collapsed}
 use Rattle.stab_steps.specs.Points.{Point, coins_of, next_point}
 use Rattle.stab_laws.specs.Ends.{with_coin}
 use Rattle.stab_frames.specs.KeptStrings.{AreTrue}
 use Rattle.stab_frames.specs.OtherCoins.{coins_from}
 use Rattle.stab_frames.specs.AgainLaws.{AreTurnedOver}
-use Rattle.stab_frames.proofs.AgainLemmas.{exchanges-turned}
-
-if-some : (n : ℕ) (f : List Letter) (u v : Signed → Bool) (measured : Option Signed) (string : Option (List Letter)) → IsTurned n f u v
-    → IfSome measured (λ m. IfSome string (λ s. Exchanges n u m s)) → IfSome measured (λ m. IfSome string (λ s. Exchanges n v m s))
-if-some n f u v None string turned is = tt
-if-some n f u v (Some m) None turned is = tt
-if-some n f u v (Some m) (Some s) turned is = exchanges-turned n f u v turned m s is
+use Rattle.stab_frames.proofs.AgainLemmas.{true-turned-at}
 
 -- a step with its coins numbered from another one on
 next-shift : (n d k : ℕ) (coins : ℕ → Bool) (x : Step) (a : Point) → d + k ≡ a.coin
@@ -47,7 +39,7 @@ pub true-over : (n da db k : ℕ) (coins : ℕ → Bool) (strings : ℕ → Opti
     → AreTurnedOver n coins xs a b → AreTrue n (coins_from da coins) strings xs (with_coin k a) → AreTrue n (coins_from db coins) strings xs (with_coin k b)
 true-over n da db k coins strings [] a b ea eb turned is = tt
 true-over n da db k coins strings (x ∷ xs) a b ea eb turned is = (
-  if-some n (turned 0).0 (member a.trace) (member b.trace) (measured_by n x) (strings k) (turned 0).1 is.0,
+  true-turned-at n strings x (with_coin k a) (with_coin k b) (turned 0).0 (turned 0).1 refl is.0,
   subst (AreTrue n (coins_from db coins) strings xs) (sym (next-shift n db k coins x b eb))
       (true-over n da db (k + coins_of x) coins strings xs (next_point n coins x a) (next_point n coins x b) (omega (arith, ea)) (omega (arith, eb)) (λ m. turned (suc m))
       (subst (AreTrue n (coins_from da coins) strings xs) (next-shift n da k coins x a ea) is.1)),

@@ -24,23 +24,20 @@ use Rattle.stab_laws.proofs.FitLemmas.{check-fits}
 use Rattle.stab_laws.proofs.PointLemmas.{flags-are-coins, records-are-records}
 use Rattle.stab_laws.proofs.RoundLemmas.{rounds-within}
 use Rattle.stab_laws.proofs.CoinLemmas.{coins-are}
-use Rattle.stab_frames.specs.Flips.{flipped, flipped_additions, flipped_output}
-use Rattle.stab_frames.specs.FrameSteps.{frame_over, flips_over}
-use Rattle.stab_frames.specs.Notes.{Notes}
-use Rattle.stab_frames.specs.StepNotes.{AreEnough}
+use Rattle.stab_frames.specs.Flips.{flipped_output}
 use Rattle.stab_frames.specs.KeptStrings.{note_at}
-use Rattle.stab_frames.specs.Walks.{WalkState, WalksWith, frame_at}
-use Rattle.stab_frames.specs.OtherCoins.{coins_from, notes_between, HasGoneOver, WalksToOthers}
+use Rattle.stab_frames.specs.Walks.{WalkState, frame_at}
+use Rattle.stab_frames.specs.OtherCoins.{coins_from, WalksToOthers}
 use Rattle.stab_frames.specs.AgainLaws.{DiffersBack, AreTurnedOver}
 use Rattle.stab_frames.proofs.FlipLemmas.{length-flipped, flipped-empty}
+use Rattle.stab_copies.specs.FramesFrom.{flips_since}
+use Rattle.stab_copies.proofs.TurnedLemmas.{comes-over}
 use Rattle.stab_run.specs.inner.Led.{IsLed, behind_rounds}
 use Rattle.stab_run.specs.declared.turned.Period.{Period}
 use Rattle.stab_run.specs.inner.Turned.{point_behind, IsPeriod, ComesTurned}
 use Rattle.stab_run.proofs.AgainLemmas.{more-rounds, behind-more, behind-later}
 use Rattle.stab_run.proofs.LedLemmas.{coins-on, coins-more}
-use Rattle.stab_run.proofs.FramedLemmas.{flipped-zeros, flips-free}
 use Rattle.stab_run.proofs.OverLemmas.{true-over}
-use Rattle.stab_frames.proofs.AgainLemmas.{come-turned, gone-over-seen}
 
 -- where rounds lead
 pub rounds-lead : (n : ℕ) (coins : ℕ → Bool) (steps : List Step) (r : Repeat) → IsRepeat steps r → (j m : ℕ) → j + m ≤ r.rounds
@@ -143,9 +140,6 @@ module _ (n : ℕ) (coins : ℕ → Bool) (steps : List Step) (r : Repeat) (stri
   abbrev noted : ℕ → Option (List Letter)
   noted = note_at strings p.flags.items
 
-  abbrev notes : Notes
-  notes = notes_between noted (coins_from apart coins) (coins_from ahead coins)
-
   pub here_is : here ≡ point_after n coins xs there
   here_is =
       ap (point_behind n coins steps r) (sym period.span)
@@ -169,63 +163,31 @@ module _ (n : ℕ) (coins : ℕ → Bool) (steps : List Step) (r : Repeat) (stri
   from_here : ahead + coin ≡ here.coin
   from_here = omega (arith, period.coin, later)
 
-  gone : HasGoneOver n (coins_from apart coins) noted p.flags.items p.last.records.items xs coin (with_coin coin period.differs.seen)
-  gone =
-      gone-over-seen n r.reach coin apart coins noted p.flags.items p.last.records.items xs there period.differs.seen near from_there period.differs.agree
-      period.are_true (ap (λ (q : RunOutput). q.free) (sym period.last) ∙ period.flags) (ap (λ (q : RunOutput). q.records) (sym period.last)) period.recorded
-
   module _ (w : WalkState) (walked : WalksToOthers n noted p.flags.items p.last.records.items (coins_from ahead coins) xs p.walk w) where
-    went : WalksWith n notes xs p.walk w × ((base : ℕ) → AreEnough n (coins_from apart coins) notes xs (frame_at base p.walk) (with_coin coin period.differs.seen))
-    went = walked (coins_from apart coins) (with_coin coin period.differs.seen) gone
+    flags_are : (outputs n coins xs there).free ≡ take (all_coins_of xs) (drop coin p.flags.items)
+    flags_are = ap (λ (q : RunOutput). q.free) (sym period.last) ∙ period.flags
 
-    abbrev flips : RunOutput
-    flips = flips_over n notes xs coin (frame_at period.base p.walk)
+    records_are : (outputs n coins xs there).records ≡ p.last.records.items
+    records_are = ap (λ (q : RunOutput). q.records) (sym period.last)
 
-    come : (outputs n coins xs here ≡ flipped_output (outputs n coins xs there) flips)
-        × DiffersBack n r.reach (frame_over n notes xs coin (frame_at period.base p.walk)) (point_after n coins xs there) (point_after n coins xs here)
+    over : (outputs n coins xs here ≡ flipped_output (outputs n coins xs there) (flips_since p.walk w))
+        × DiffersBack n r.reach (frame_at period.base w) (point_after n coins xs there) (point_after n coins xs here)
         × AreTurnedOver n coins xs there here
-    come =
-        come-turned n r.reach coin apart ahead coins noted xs (frame_at period.base p.walk) there here fit near from_there from_here period.differs (went.1 period.base)
+        × (w.coin ≡ coin + all_coins_of xs)
+    over =
+        comes-over n r.reach period.base apart ahead coins noted p.flags.items p.last.records.items xs there here p.walk w fit near from_there from_here period.differs period.are_true
+        flags_are records_are period.recorded walked
 
     apart-next : DiffersBack n r.reach (frame_at period.base w) here beyond
-    apart-next =
-        subst (λ f. DiffersBack n r.reach f here beyond) (sym (went.0.frame period.base))
-        (subst (λ a. DiffersBack n r.reach (frame_over n notes xs coin (frame_at period.base p.walk)) a beyond) (sym here_is)
-        (subst (λ b. DiffersBack n r.reach (frame_over n notes xs coin (frame_at period.base p.walk)) (point_after n coins xs there) b) (sym beyond_is) come.1))
-
-    flips_are : w.flips ≡ joined p.walk.flips flips
-    flips_are = went.0.flips period.base
+    apart-next = subst (λ x. x) (λ i. DiffersBack n r.reach (frame_at period.base w) (sym here_is i) (sym beyond_is i)) over.1
 
     -- what the period gives
-    module _ (last : Outputs)
-        (is_last : output_of last ≡ flipped_output (output_of p.last) (record w.flips { records = drop (length p.walk.flips.records) w.flips.records; free = [] })) where
-      records_since : drop (length p.walk.flips.records) w.flips.records ≡ flips.records
-      records_since =
-          ap (λ (f : RunOutput). drop (length p.walk.flips.records) f.records) flips_are
-          ∙ drop_at p.walk.flips.records flips.records (length p.walk.flips.records) refl
-
-      detectors_since : w.flips.detectors ≡ flips.detectors
-      detectors_since = ap (λ (f : RunOutput). f.detectors) flips_are ∙ ap (λ (f : RunOutput). f.detectors ++ flips.detectors) period.flips
-
-      additions_since : w.flips.additions ≡ flips.additions
-      additions_since = ap (λ (f : RunOutput). f.additions) flips_are ∙ ap (λ (f : RunOutput). f.additions ++ flips.additions) period.flips
-
-      unflipped : (bits : List Bool) → flipped bits [] ≡ flipped bits flips.free
-      unflipped bits =
-          flipped-empty bits
-          ∙ sym (ap (flipped bits) (flips-free n notes xs coin (frame_at period.base p.walk)) ∙ flipped-zeros bits (all_coins_of xs))
-
+    module _ (last : Outputs) (is_last : output_of last ≡ flipped_output (output_of p.last) (flips_since p.walk w)) where
       pub gives : output_of last ≡ outputs n coins xs here
       gives =
           is_last
-          ∙ (λ i. record {
-            records = flipped p.last.records.items (records_since i);
-            free = unflipped p.last.free.items i;
-            detectors = flipped p.last.detectors.items (detectors_since i);
-            additions = flipped_additions p.last.additions.items (additions_since i);
-          })
-          ∙ ap (λ q. flipped_output q flips) period.last
-          ∙ sym come.0
+          ∙ ap (λ q. flipped_output q (flips_since p.walk w)) period.last
+          ∙ sym over.0
 
       pub flags_same : last.free.items ≡ p.last.free.items
       flags_same = ap (λ (q : RunOutput). q.free) is_last ∙ flipped-empty p.last.free.items
@@ -237,7 +199,7 @@ module _ (n : ℕ) (coins : ℕ → Bool) (steps : List Step) (r : Repeat) (stri
             ∙ ap (λ (q : RunOutput). q.free) period.last
             ∙ ap (λ j. (outputs n coins xs (point_behind n coins steps r j)).free) begun;
         again = ap (λ (q : RunOutput). q.free) gives;
-        turned = subst (λ j. AreTurnedOver n coins xs (point_behind n coins steps r j) here) begun come.2;
+        turned = subst (λ j. AreTurnedOver n coins xs (point_behind n coins steps r j) here) begun over.2;
       }
         where
           begun : period.from ≡ done - p.rounds
@@ -273,7 +235,7 @@ module _ (n : ℕ) (coins : ℕ → Bool) (steps : List Step) (r : Repeat) (stri
             flags = flags_same ∙ period.flags;
             kept = period.kept;
             coin = omega (arith, period.coin, later);
-            are_true = true-over n apart ahead coin coins noted xs there here from_there from_here come.2 period.are_true;
+            are_true = true-over n apart ahead coin coins noted xs there here from_there from_here over.2 period.are_true;
             letters = same ∙ period.letters;
             placed = period.placed;
             flips = refl;

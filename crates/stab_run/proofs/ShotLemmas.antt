@@ -1,8 +1,7 @@
 -- Shots: a program that went through all steps from the first on holds what the run gives.
 use Rattle.std.proofs.Common.{◌≡◌, ℕ, sym, ◌∙◌, ap, subst, Bool, false, List, replicate}
-use Rattle.std.specs.Prelude.{Option, Result, IfOk, IfSome}
+use Rattle.std.specs.Prelude.{Result, IfOk}
 use Rattle.std.proofs.lemmas.Result.{IfOk-weaker}
-use Rattle.std.proofs.lemmas.Option.{IfSome_then}
 use Rattle.stab_pauli.specs.Paulis.{Signed}
 use Rattle.stab_tableau.specs.Traces.{member}
 use Rattle.stab_tableau.specs.Groups.{SameGroup}
@@ -41,8 +40,8 @@ unfolding run_of
 shot-of_items n coins items count stabilised shot number is =
     subst (λ s. IsShotOf n s stabilised shot) (λ i. run n coins (unroll items) (start (number i))) is
 
-pub shots-of_items : {E : Type 0} (r : Result (Option Shot) E) (n : ℕ) (coins : ℕ → Bool) (items : Items) (count : ℕ) (stabilised : Signed → Bool)
-    → count ≡ observables_of items → IfOk r (λ o. IfSome o (IsShotOf n (run n coins (unroll items) (start count)) stabilised))
-    → IfOk r (λ o. IfSome o (IsShotOf n (run_of n coins items) stabilised))
+pub shots-of_items : {E : Type 0} (r : Result Shot E) (n : ℕ) (coins : ℕ → Bool) (items : Items) (count : ℕ) (stabilised : Signed → Bool)
+    → count ≡ observables_of items → IfOk r (IsShotOf n (run n coins (unroll items) (start count)) stabilised)
+    → IfOk r (IsShotOf n (run_of n coins items) stabilised)
 shots-of_items r n coins items count stabilised number =
-    IfOk-weaker r _ _ (λ o is. IfSome_then o is (λ shot. shot-of_items n coins items count stabilised shot number))
+    IfOk-weaker r _ _ (λ shot. shot-of_items n coins items count stabilised shot number)

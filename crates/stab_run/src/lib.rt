@@ -3,10 +3,8 @@
 //! In the order in which data flows; each module uses only those before it:
 //!
 //! - `run`: some steps of a circuit, and what a run gives.
-//! - `again`: what rounds gave, given again.
-//! - `turns`: what a period of rounds gives, flipped by a frame.
 //! - `part`: steps from one on, whose strings of free outcomes are noted or not.
-//! - `earlier`: what is kept of a run after a round, and rounds that are given again since the same point is reached again.
+//! - `marks`: copies of a run after a round, and rounds that are given again since the run is as it was at one.
 //! - `turned`: rounds that come again up to the signs of the state's rows, which a frame goes over.
 //! - `together`: short rounds, of which some are taken as one.
 //! - `rounds`: rounds, of blocks or written out. They are carried out until a state comes again; from there
@@ -16,7 +14,8 @@
 //! - `sampler`: one circuit made ready for many runs, and one run of it.
 //!
 //! Coins, what steps give, and one step or those of one instruction are `stab_steps`', and the laws of runs
-//! are `stab_laws`', whose names and definitions can be found here too.
+//! are `stab_laws`', whose names and definitions can be found here too. How what came once is given again, as it was or
+//! turned by a frame, is `stab_copies`'.
 //!
 //! Sources: Stim's circuit file format, for what the steps of a circuit do to records, detectors and observables;
 //! D. Gottesman, Stabilizer codes and quantum error correction (1997), and S. Aaronson and D. Gottesman, Improved
@@ -30,8 +29,7 @@
 //! (`specs/ProgramStates.antt` of `stab_steps`). `specs/inner/` has what only private contracts cite.
 #![tactic(auto)]
 
-mod again;
-mod earlier;
+mod marks;
 mod part;
 mod recorded;
 mod rounds;
@@ -39,7 +37,6 @@ mod run;
 mod sampler;
 mod together;
 mod turned;
-mod turns;
 mod whole;
 
 pub use recorded::{Recorded, run_recorded};

@@ -50,8 +50,6 @@ pub fn run_recorded<C: Coins>(
     let mut string = Pauli::identity(alloc, n)?;
     let mut outputs = Outputs::with_capacity(alloc, circuit.records())?;
     let mut notes = notes_of_all(alloc, n)?;
-    let steps = circuit.steps();
-    let mut left = steps;
     let from = run_repeats(
         alloc,
         circuit,
@@ -60,9 +58,9 @@ pub fn run_recorded<C: Coins>(
         coins,
         &mut outputs,
         repeats.as_slice(),
-        &mut left,
         &mut notes,
     )?;
+    let rest = circuit.steps() - from;
     run_noted_part(
         alloc,
         circuit,
@@ -71,7 +69,7 @@ pub fn run_recorded<C: Coins>(
         coins,
         &mut outputs,
         from,
-        steps - from,
+        rest,
         &mut notes,
     )?;
     let shot = shot_of(alloc, outputs, circuit.observables())?;

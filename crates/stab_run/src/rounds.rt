@@ -9,15 +9,16 @@ ghost use Rattle.stab_circuit.specs.Repeats.{IsRepeat, AreRepeats};
 ghost use Rattle.stab_steps.specs.Records.{ones};
 ghost use Rattle.stab_steps.specs.Points.{all_coins_of};
 ghost use Rattle.stab_steps.specs.ProgramStates.{program_state, output_of};
-ghost use Rattle.stab_run.specs.inner.Led.{IsLed, behind_rounds, IsEarlier};
+ghost use Rattle.stab_run.specs.inner.Led.{IsLed, behind_rounds, IsMark};
 ghost use Rattle.stab_frames.specs.Limits.{most_strings};
 ghost use Rattle.stab_run.specs.inner.Noted.{IsNoted, BeginsNotes};
 
-use crate::earlier::{Earlier, comes_again, give_rounds, kept_behind};
+use crate::marks::{Mark, give_rounds, marked_behind};
 use crate::part::run_noted_part;
 use crate::together::taken_together;
 use crate::turned::{go_over_rounds, period_since};
 use stab_circuit::{Circuit, Repeat};
+use stab_copies::comes_again;
 use stab_frames::{KeptStrings, RunNotes};
 use stab_io::Refusal;
 use stab_pauli::Pauli;
@@ -46,7 +47,7 @@ fn pass_rounds<C: Coins>(
     coins: &mut C,
     outputs: &mut Outputs,
     repeat: Repeat,
-    earlier: &Option<Earlier>,
+    mark: &Option<Mark>,
     done: usize,
     notes: &mut RunNotes,
 ) -> Result<usize, Refusal>
@@ -54,8 +55,8 @@ fn pass_rounds<C: Coins>(
     requires same_length { length string.old.letters ≡ tableau.old.qubits }
     requires repeat { IsRepeat (unroll (circuit_items circuit.now)) repeat }
     requires within { done ≤ repeat.rounds }
-    requires later { IfSome earlier.now (λ e. e.done < done) }
-    requires earlier { IfSome earlier.now (λ e. IsEarlier tableau.old.qubits (C.sequence coins.old) (unroll (circuit_items circuit.now)) repeat done e) }
+    requires later { IfSome mark.now (λ m. m.done < done) }
+    requires mark { IfSome mark.now (λ m. IsMark tableau.old.qubits (C.sequence coins.old) (unroll (circuit_items circuit.now)) repeat done m) }
     requires led { IsLed tableau.old.qubits (C.sequence coins.old) (take (behind_rounds repeat done) (unroll (circuit_items circuit.now))) (program_state tableau.old (output_of outputs.old)) }
     requires noted { IsNoted tableau.old.qubits (C.sequence coins.old) (take (behind_rounds repeat done) (unroll (circuit_items circuit.now))) notes.old outputs.old.free.items }
     ensures qubits { tableau.new.qubits ≡ tableau.old.qubits }
@@ -70,10 +71,10 @@ fn pass_rounds<C: Coins>(
     ensures most { notes.new.strings.most ≡ notes.old.strings.most }
     ensures err { IfErr result (λ r. r ≡ OutOfMemory) }
 {
-    let Some(kept) = earlier else {
+    let Some(kept) = mark else {
         return Ok(done);
     };
-    if comes_again(kept, tableau, outputs, repeat.reach) {
+    if comes_again(tableau, outputs, &kept.copy, repeat.reach) {
         let again = give_rounds(alloc, tableau, outputs, repeat, kept, done)?;
         return Ok(again);
     }
@@ -100,7 +101,7 @@ fn run_round<C: Coins>(
     coins: &mut C,
     outputs: &mut Outputs,
     repeat: Repeat,
-    earlier: &mut Option<Earlier>,
+    mark: &mut Option<Mark>,
     done: usize,
     notes: &mut RunNotes,
 ) -> Result<usize, Refusal>
@@ -108,7 +109,7 @@ fn run_round<C: Coins>(
     requires same_length { length string.old.letters ≡ tableau.old.qubits }
     requires repeat { IsRepeat (unroll (circuit_items circuit.now)) repeat }
     requires within { done < repeat.rounds }
-    requires earlier { IfSome earlier.old (λ e. IsEarlier tableau.old.qubits (C.sequence coins.old) (unroll (circuit_items circuit.now)) repeat done e) }
+    requires mark { IfSome mark.old (λ m. IsMark tableau.old.qubits (C.sequence coins.old) (unroll (circuit_items circuit.now)) repeat done m) }
     requires led { IsLed tableau.old.qubits (C.sequence coins.old) (take (behind_rounds repeat done) (unroll (circuit_items circuit.now))) (program_state tableau.old (output_of outputs.old)) }
     requires noted { IsNoted tableau.old.qubits (C.sequence coins.old) (take (behind_rounds repeat done) (unroll (circuit_items circuit.now))) notes.old outputs.old.free.items }
     ensures qubits { tableau.new.qubits ≡ tableau.old.qubits }
@@ -119,7 +120,7 @@ fn run_round<C: Coins>(
     ensures asks_free { IfOk result (λ now. C.asks coins.new + ones outputs.old.free.items ≤ C.asks coins.old + ones outputs.new.free.items) }
     ensures more { IfOk result (λ now. (done < now) × (now ≤ repeat.rounds)) }
     ensures led { IfOk result (λ now. IsLed tableau.old.qubits (C.sequence coins.old) (take (behind_rounds repeat now) (unroll (circuit_items circuit.now))) (program_state tableau.new (output_of outputs.new))) }
-    ensures earlier { IfOk result (λ now. IfSome earlier.new (λ e. IsEarlier tableau.old.qubits (C.sequence coins.old) (unroll (circuit_items circuit.now)) repeat now e)) }
+    ensures mark { IfOk result (λ now. IfSome mark.new (λ m. IsMark tableau.old.qubits (C.sequence coins.old) (unroll (circuit_items circuit.now)) repeat now m)) }
     ensures noted { IfOk result (λ now. IsNoted tableau.old.qubits (C.sequence coins.old) (take (behind_rounds repeat now) (unroll (circuit_items circuit.now))) notes.new outputs.new.free.items) }
     ensures most { notes.new.strings.most ≡ notes.old.strings.most }
     ensures err { IfErr result (λ r. r ≡ OutOfMemory) }
@@ -144,7 +145,7 @@ fn run_round<C: Coins>(
         coins,
         outputs,
         repeat,
-        earlier,
+        mark,
         done + 1,
         notes,
     )?;
@@ -152,23 +153,14 @@ fn run_round<C: Coins>(
     if repeat.rounds - now < 2 {
         return Ok(now);
     }
-    if let Some(kept) = kept_behind(alloc, tableau, outputs, now)? {
-        *earlier = Some(kept);
+    if let Some(marked) = marked_behind(alloc, tableau, outputs, repeat, now)? {
+        *mark = Some(marked);
     }
     Ok(now)
 }
 
-/// How many rounds of a block are carried out one by one at most, if this many steps are left to be carried out.
-fn most_single(repeat: Repeat, left: usize) -> usize
-    requires some { 0 < repeat.length }
-    ensures within { result ≤ repeat.rounds }
-{
-    repeat.rounds.min(MOST_SINGLE).min(left / repeat.length)
-}
-
 /// Carries out rounds of a block until a state comes again, and all those after that give again what earlier ones gave. Says
-/// how many are done then: fewer than all if `MOST_SINGLE` were carried out, or as many as the steps that are left to be
-/// carried out allow. These grow fewer.
+/// how many are done then: fewer than all if `MOST_SINGLE` were carried out.
 fn run_repeat<C: Coins>(
     alloc: Global,
     circuit: &Circuit,
@@ -177,7 +169,6 @@ fn run_repeat<C: Coins>(
     coins: &mut C,
     outputs: &mut Outputs,
     repeat: Repeat,
-    left: &mut usize,
     notes: &mut RunNotes,
 ) -> Result<usize, Refusal>
     requires checked { check_within tableau.old.qubits (circuit_items circuit.now) ≡ None }
@@ -193,28 +184,17 @@ fn run_repeat<C: Coins>(
     ensures asks_free { IfOk result (λ done. C.asks coins.new + ones outputs.old.free.items ≤ C.asks coins.old + ones outputs.new.free.items) }
     ensures within { IfOk result (λ done. done ≤ repeat.rounds) }
     ensures led { IfOk result (λ done. IsLed tableau.old.qubits (C.sequence coins.old) (take (behind_rounds repeat done) (unroll (circuit_items circuit.now))) (program_state tableau.new (output_of outputs.new))) }
-    ensures left { IfOk result (λ done. left.old ≤ left.new + done * repeat.length) }
     ensures noted { IfOk result (λ done. IsNoted tableau.old.qubits (C.sequence coins.old) (take (behind_rounds repeat done) (unroll (circuit_items circuit.now))) notes.new outputs.new.free.items) }
     ensures most { notes.new.strings.most ≡ notes.old.strings.most }
     ensures err { IfErr result (λ r. r ≡ OutOfMemory) }
 {
-    let most = most_single(repeat, *left);
-    let mut earlier = None;
+    let most = repeat.rounds.min(MOST_SINGLE);
+    let mut mark = None;
     let mut done = 0;
     while done < most {
         done = run_round(
-            alloc,
-            circuit,
-            tableau,
-            string,
-            coins,
-            outputs,
-            repeat,
-            &mut earlier,
-            done,
-            notes,
+            alloc, circuit, tableau, string, coins, outputs, repeat, &mut mark, done, notes,
         )?;
-        *left = left.saturating_sub(repeat.length);
     }
     Ok(done)
 }
@@ -226,7 +206,7 @@ fn is_long(repeat: Repeat) -> bool {
 }
 
 /// Carries out the steps from one on up to the last round of a long block that is done one by one or gives again what earlier
-/// ones gave, as far as the steps that are left to be carried out allow. Says which step comes next.
+/// ones gave. Says which step comes next.
 fn run_block<C: Coins>(
     alloc: Global,
     circuit: &Circuit,
@@ -236,7 +216,6 @@ fn run_block<C: Coins>(
     outputs: &mut Outputs,
     from: usize,
     repeat: Repeat,
-    left: &mut usize,
     notes: &mut RunNotes,
 ) -> Result<usize, Refusal>
     requires checked { check_within tableau.old.qubits (circuit_items circuit.now) ≡ None }
@@ -252,22 +231,20 @@ fn run_block<C: Coins>(
     ensures asks_part { IfOk result (λ next. C.asks coins.new + all_coins_of (take from (unroll (circuit_items circuit.now))) ≤ C.asks coins.old + all_coins_of (take next (unroll (circuit_items circuit.now)))) }
     ensures asks_free { IfOk result (λ next. C.asks coins.new + ones outputs.old.free.items ≤ C.asks coins.old + ones outputs.new.free.items) }
     ensures next { IfOk result (λ next. next ≤ behind_rounds repeat repeat.rounds) }
-    ensures left { IfOk result (λ next. left.old + from ≤ left.new + next) }
     ensures led { IfOk result (λ next. IsLed tableau.old.qubits (C.sequence coins.old) (take next (unroll (circuit_items circuit.now))) (program_state tableau.new (output_of outputs.new))) }
     ensures noted { IfOk result (λ next. IsNoted tableau.old.qubits (C.sequence coins.old) (take next (unroll (circuit_items circuit.now))) notes.new outputs.new.free.items) }
     ensures most { notes.new.strings.most ≡ notes.old.strings.most }
     ensures err { IfErr result (λ r. r ≡ OutOfMemory) }
 {
-    let before = repeat.first - from;
-    if !is_long(repeat) || before > *left {
+    if !is_long(repeat) {
         return Ok(from);
     }
+    let before = repeat.first - from;
     run_noted_part(
         alloc, circuit, tableau, string, coins, outputs, from, before, notes,
     )?;
-    *left -= before;
     let done = run_repeat(
-        alloc, circuit, tableau, string, coins, outputs, repeat, left, notes,
+        alloc, circuit, tableau, string, coins, outputs, repeat, notes,
     )?;
     Ok(repeat.first + done * repeat.length)
 }
@@ -309,7 +286,7 @@ pub fn notes_of_frames(alloc: Global, n: usize, repeats: &[Repeat]) -> Result<Ru
 }
 
 /// Carries out the steps of a circuit up to the last round of its long blocks that is done one by one or gives again what earlier
-/// ones gave, as far as the steps that are left to be carried out allow. Says which step comes next.
+/// ones gave. Says which step comes next.
 pub fn run_repeats<C: Coins>(
     alloc: Global,
     circuit: &Circuit,
@@ -318,7 +295,6 @@ pub fn run_repeats<C: Coins>(
     coins: &mut C,
     outputs: &mut Outputs,
     repeats: &[Repeat],
-    left: &mut usize,
     notes: &mut RunNotes,
 ) -> Result<usize, Refusal>
     requires checked { check_within tableau.old.qubits (circuit_items circuit.now) ≡ None }
@@ -333,7 +309,6 @@ pub fn run_repeats<C: Coins>(
     ensures asks_part { IfOk result (λ from. C.asks coins.new ≤ C.asks coins.old + all_coins_of (take from (unroll (circuit_items circuit.now)))) }
     ensures asks_free { IfOk result (λ from. C.asks coins.new + ones outputs.old.free.items ≤ C.asks coins.old + ones outputs.new.free.items) }
     ensures in_range { IfOk result (λ from. from ≤ length (unroll (circuit_items circuit.now))) }
-    ensures left { IfOk result (λ from. left.old ≤ left.new + from) }
     ensures led { IfOk result (λ from. IsLed tableau.old.qubits (C.sequence coins.old) (take from (unroll (circuit_items circuit.now))) (program_state tableau.new (output_of outputs.new))) }
     ensures noted { IfOk result (λ from. IsNoted tableau.old.qubits (C.sequence coins.old) (take from (unroll (circuit_items circuit.now))) notes.new outputs.new.free.items) }
     ensures most { notes.new.strings.most ≡ notes.old.strings.most }
@@ -350,7 +325,6 @@ pub fn run_repeats<C: Coins>(
             outputs,
             from,
             taken_together(*repeat),
-            left,
             notes,
         )?;
     }

@@ -64,7 +64,7 @@ impl<'a> Model for Sampler<'a> {
 }
 
 impl<'a> Sampler<'a> {
-    ghost use Rattle.std.specs.Prelude.{◌≡◌, ℕ, ◌+◌, ◌≤◌, Bool, None, length, IfOk, IfSome, IsSome, IfErr};
+    ghost use Rattle.std.specs.Prelude.{◌≡◌, ℕ, ◌+◌, ◌≤◌, Bool, None, IfOk, IfErr};
     ghost use Rattle.stab_io.specs.declared.refusal.Refusal.TheVariants.{OutOfMemory};
     ghost use Rattle.stab_letters.specs.Limits.{most_qubits};
     ghost use Rattle.stab_circuit.specs.Steps.{unroll, check_within};
@@ -130,37 +130,6 @@ impl<'a> Sampler<'a> {
         ensures asks_free { IfOk result (λ s. C.asks coins.new ≤ C.asks coins.old + ones s.free.items) }
         ensures err { IfErr result (λ r. r ≡ OutOfMemory) }
     {
-        let most = self.circuit.steps();
-        match self.short_shot(alloc, coins, most) {
-            Ok(Some(shot)) => Ok(shot),
-            Ok(None) => unreachable!(),
-            Err(refusal) => Err(refusal),
-        }
-    }
-
-    /// Runs the circuit once, as `shot` does, unless that would carry out more than this many steps:
-    /// those of rounds that give again what earlier ones gave, or that a frame goes over, are not
-    /// carried out. It is seen on the way whether it would, so some were carried out then.
-    ///
-    /// Refusal `OutOfMemory` alone.
-    pub fn short_shot<C: Coins>(
-        &mut self,
-        alloc: Global,
-        coins: &mut C,
-        most: usize,
-    ) -> Result<Option<Shot>, Refusal>
-        ensures kept { self.new ≡ self.old }
-        ensures records { IfOk result (λ found. IfSome found (λ s. s.records.items ≡ (run_of self.old.qubits (C.sequence coins.old) self.old.items).records)) }
-        ensures free { IfOk result (λ found. IfSome found (λ s. s.free.items ≡ (run_of self.old.qubits (C.sequence coins.old) self.old.items).free)) }
-        ensures detectors { IfOk result (λ found. IfSome found (λ s. s.detectors.items ≡ (run_of self.old.qubits (C.sequence coins.old) self.old.items).detectors)) }
-        ensures observables { IfOk result (λ found. IfSome found (λ s. s.observables.items ≡ (run_of self.old.qubits (C.sequence coins.old) self.old.items).observables)) }
-        ensures decided { IfOk result (λ found. IfSome found (λ s. DependsOnCoinsAt s.free.items self.old.qubits (C.sequence coins.old) self.old.items)) }
-        ensures enough { IfOk result (λ found. length (unroll self.old.items) ≤ most → IsSome found) }
-        ensures same_coins { C.sequence coins.new ≡ C.sequence coins.old }
-        ensures asks { C.asks coins.new ≤ C.asks coins.old + all_coins_of (unroll self.old.items) }
-        ensures asks_free { IfOk result (λ found. IfSome found (λ s. C.asks coins.new ≤ C.asks coins.old + ones s.free.items)) }
-        ensures err { IfErr result (λ r. r ≡ OutOfMemory) }
-    {
         run_whole(
             alloc,
             self.circuit,
@@ -170,7 +139,6 @@ impl<'a> Sampler<'a> {
             coins,
             self.records,
             self.observables,
-            most,
         )
     }
 

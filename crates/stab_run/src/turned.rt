@@ -1,6 +1,6 @@
 //! Rounds that come again up to the signs of the state's rows. A frame goes over a period of them, again and again.
 
-ghost use Rattle.std.specs.Prelude.{◌≡◌, ◌+◌, ◌-◌, ◌*◌, ◌<◌, ◌≤◌, None, IsTrue, length, take, drop, OnOk, IfOk, IfErr, IfSome};
+ghost use Rattle.std.specs.Prelude.{◌≡◌, ◌+◌, ◌-◌, ◌*◌, ◌<◌, ◌≤◌, None, IsTrue, length, take, OnOk, IfOk, IfErr, IfSome};
 ghost use Rattle.stab_io.specs.declared.refusal.Refusal.TheVariants.{OutOfMemory};
 ghost use Rattle.stab_circuit.specs.Steps.{unroll, check_within};
 ghost use Rattle.stab_circuit.specs.Views.{circuit_items};
@@ -10,21 +10,19 @@ ghost use Rattle.stab_steps.specs.Points.{all_coins_of};
 ghost use Rattle.stab_steps.specs.ProgramStates.{program_state, output_of};
 ghost use Rattle.stab_run.specs.inner.Led.{IsLed, behind_rounds};
 ghost use Rattle.stab_run.specs.inner.Noted.{IsNoted};
-ghost use Rattle.stab_run.specs.inner.Turned.{IsPeriod, BeginsFrame, BeginsPeriod, ComesTurned};
-ghost use Rattle.stab_frames.specs.KeptStrings.{kept_with};
-ghost use Rattle.stab_frames.specs.Limits.{most_strings};
+ghost use Rattle.stab_run.specs.inner.Turned.{IsPeriod, BeginsPeriod, ComesTurned};
 
-use crate::earlier::{Earlier, are_fixed};
-use crate::turns::flipped_by;
+use crate::marks::Mark;
 use stab_circuit::{Circuit, Cursor, Repeat};
-use stab_frames::{
-    FrameWalk, KeptStrings, RunNotes, between, count_ones, turn_state, walk_with_coins,
+use stab_copies::{
+    all_recorded, append_turned, are_fixed, frame_between, lengths_walked, note_again,
 };
+use stab_frames::{FrameWalk, KeptStrings, RunNotes, count_ones, turn_state, walk_with_coins};
 use stab_io::Refusal;
 use stab_pauli::Pauli;
 use stab_steps::{Coins, Lengths, Outputs};
 use stab_tableau::{CompactTableau, Tableau};
-use std::alloc::{AllocError, Global};
+use std::alloc::Global;
 
 /// As many rounds as a frame goes over at once.
 #[derive(Drop)]
@@ -44,67 +42,36 @@ pub struct Period {
 /// If no coin decided, the run waits this many rounds for a state that comes again with its signs: what is given again then costs nothing.
 const MOST_AWAITED: usize = 8;
 
-/// Whether a frame may go over the rounds since an earlier one: two periods more are left at least, each measurement since made a
-/// record, the steps look back to no record that was not there, and all strings are kept. If no further string is kept and an
-/// outcome since was free, it says no without counting: its string is missing, or was the last that there was room for. Nor does
-/// it go over rounds whose signs may come again too.
+/// Whether a frame may go over the rounds since a mark: two periods more are left at least, each measurement since made a record,
+/// and all strings are kept. If no further string is kept and an outcome since was free, it says no without counting: its string is
+/// missing, or was the last that there was room for. Nor does it go over rounds whose signs may come again too.
 fn may_turn(
-    earlier: &Earlier,
+    mark: &Mark,
     outputs: &Outputs,
     repeat: Repeat,
     done: usize,
     strings: &KeptStrings,
 ) -> bool
-    requires later { earlier.now.done < done }
+    requires later { mark.now.done < done }
     requires within { done ≤ repeat.rounds }
-    ensures recorded { IsTrue result → length outputs.now.records.items + earlier.now.lengths.free ≡ length outputs.now.free.items + earlier.now.lengths.records }
-    ensures newest { IsTrue result → (repeat.reach ≤ earlier.now.lengths.records) × (earlier.now.lengths.records ≤ length outputs.now.records.items) }
-    ensures flags { IsTrue result → earlier.now.lengths.free ≤ length outputs.now.free.items }
+    ensures order { IsTrue result → mark.now.copy.lengths.free ≤ length outputs.now.free.items }
+    ensures recorded { IsTrue result → length outputs.now.records.items ≡ mark.now.copy.lengths.records + (length outputs.now.free.items - mark.now.copy.lengths.free) }
     ensures kept { IsTrue result → ones outputs.now.free.items ≤ length strings.now.strings }
 {
-    let lengths = earlier.lengths;
-    let records = outputs.records.len();
-    let flags = outputs.free.len();
-    let fixed = are_fixed(outputs.free.as_slice(), lengths.free);
-    (repeat.rounds - done) / (done - earlier.done) >= 2
-        && repeat.reach as usize <= lengths.records
-        && lengths.records <= records
-        && lengths.free <= flags
-        && records - lengths.records == flags - lengths.free
+    let from = mark.copy.lengths;
+    let fixed = are_fixed(outputs.free.as_slice(), from.free);
+    (repeat.rounds - done) / (done - mark.done) >= 2
+        && all_recorded(from, outputs.lengths())
         && (!fixed || done > MOST_AWAITED)
         && (fixed || !strings.is_full())
         && count_ones(outputs.free.as_slice()) <= strings.len()
 }
 
-/// The frame with these letters by which a run differs from where it was earlier.
-fn frame_of(
-    alloc: Global,
-    letters: &Pauli,
-    outputs: &Outputs,
-    lengths: Lengths,
-    reach: usize,
-) -> Result<FrameWalk, AllocError>
-    requires flags { lengths.free ≤ length outputs.now.free.items }
-    requires newest { reach ≤ lengths.records }
-    requires records { lengths.records ≤ length outputs.now.records.items }
-    ensures walk { IfOk result (λ w. BeginsFrame letters.now.letters (output_of outputs.now) lengths reach w) }
-{
-    let mut walk = FrameWalk::new(alloc, letters.len(), outputs.free.as_slice(), lengths.free)?;
-    walk.multiply(letters);
-    let records = outputs.records.as_slice();
-    let now = records.len();
-    walk.flip_records(
-        between(records, lengths.records - reach, lengths.records),
-        between(records, now - reach, now),
-    )?;
-    Ok(walk)
-}
-
-/// The rounds since an earlier one as a period for a frame to go over, if the state now and then differ in the signs of their
-/// rows alone, if it may. Strings are kept of the free outcomes.
+/// The rounds since a mark as a period for a frame to go over, if the state now and there differ in the signs of their rows alone, if
+/// it may. Strings are kept of the free outcomes.
 pub fn period_since(
     alloc: Global,
-    earlier: &Earlier,
+    mark: &Mark,
     tableau: &Tableau,
     string: &mut Pauli,
     outputs: &Outputs,
@@ -112,49 +79,43 @@ pub fn period_since(
     done: usize,
     strings: &KeptStrings,
 ) -> Result<Option<Period>, Refusal>
-    requires later { earlier.now.done < done }
+    requires later { mark.now.done < done }
     requires within { done ≤ repeat.rounds }
     requires same_length { length string.old.letters ≡ tableau.now.qubits }
-    requires same_qubits { earlier.now.tableau.qubits ≡ tableau.now.qubits }
+    requires same_qubits { mark.now.copy.tableau.qubits ≡ tableau.now.qubits }
     ensures string { length string.new.letters ≡ length string.old.letters }
-    ensures period { IfOk result (λ found. IfSome found (BeginsPeriod tableau.now (output_of outputs.now) repeat earlier.now done strings.now.strings)) }
+    ensures period { IfOk result (λ found. IfSome found (BeginsPeriod tableau.now (output_of outputs.now) repeat mark.now done strings.now.strings)) }
     ensures err { IfErr result (λ r. r ≡ OutOfMemory) }
 {
-    if !may_turn(earlier, outputs, repeat, done, strings)
-        || !earlier.tableau.frame_to(tableau, string)
-    {
+    if !may_turn(mark, outputs, repeat, done, strings) {
         return Ok(None);
     }
-    let walk = frame_of(
+    let copy = &mark.copy;
+    let base = copy.lengths.records;
+    let found = frame_between(
         alloc,
+        tableau,
         string,
         outputs,
-        earlier.lengths,
-        repeat.reach as usize,
+        copy,
+        outputs,
+        base,
+        repeat.reach,
     )?;
+    let Some(walk) = found else {
+        return Ok(None);
+    };
     let mut last = Outputs::new(alloc);
-    last.append_rest(outputs, earlier.lengths)?;
+    last.append_rest(outputs, copy.lengths)?;
     let mut flags = Vec::new(alloc);
     flags.extend_from_slice(outputs.free.as_slice())?;
     Ok(Some(Period {
-        rounds: done - earlier.done,
+        rounds: done - mark.done,
         state: tableau.compact(alloc)?,
         last,
         flags,
         walk,
     }))
-}
-
-/// Puts the last strings, this many of them, after all others again, as far as there may be as many.
-fn note_again(alloc: Global, strings: &mut KeptStrings, count: usize) -> Result<(), Refusal>
-    ensures value { OnOk result (strings.new ≡ record strings.old { strings = kept_with strings.old.most strings.old.strings (take (most_strings strings.old.qubits) (drop (length strings.old.strings - count) strings.old.strings)) }) }
-    ensures most { strings.new.most ≡ strings.old.most }
-    ensures err { IfErr result (λ r. r ≡ OutOfMemory) }
-{
-    let from = strings.len().saturating_sub(count);
-    let mut part = strings.front(alloc, 0)?;
-    part.append_rest(strings, from)?;
-    strings.append_rest(&part, 0)
 }
 
 /// Goes over the rounds of one more period.
@@ -184,7 +145,7 @@ fn go_over<C: Coins>(
 {
     let coin = period.walk.coin();
     let number = period.walk.number();
-    let before = period.walk.records().len();
+    let before = lengths_walked(&period.walk);
     let mut cursor = Cursor::at(alloc, circuit, repeat.first + done * repeat.length)?;
     walk_with_coins(
         &mut period.walk,
@@ -196,7 +157,8 @@ fn go_over<C: Coins>(
         &mut cursor,
         period.rounds * repeat.length,
     )?;
-    let last = flipped_by(alloc, &period.last, &period.walk, before)?;
+    let mut last = Outputs::new(alloc);
+    append_turned(&mut last, &period.last, &period.walk, before)?;
     let none = Lengths {
         records: 0,
         free: 0,
@@ -253,7 +215,8 @@ pub fn go_over_rounds<C: Coins>(
             now,
         )?;
         let count = count_ones(period.last.free.as_slice());
-        note_again(alloc, &mut notes.strings, count)?;
+        let kept = notes.strings.len();
+        note_again(alloc, &mut notes.strings, kept.saturating_sub(count), kept)?;
         now += period.rounds;
     }
     period.state.write_into(tableau);

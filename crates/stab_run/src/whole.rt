@@ -1,6 +1,6 @@
 //! A whole run of a circuit.
 
-ghost use Rattle.std.specs.Prelude.{◌≡◌, ◌+◌, ◌≤◌, false, length, replicate, None, IfOk, IfSome, IsSome, IfErr};
+ghost use Rattle.std.specs.Prelude.{◌≡◌, ◌+◌, ◌≤◌, false, length, replicate, None, IfOk, IfErr};
 ghost use Rattle.stab_io.specs.declared.refusal.Refusal.TheVariants.{OutOfMemory};
 ghost use Rattle.stab_tableau.specs.Tableaus.{stabilises};
 ghost use Rattle.stab_circuit.specs.Steps.{unroll, check_within};
@@ -23,8 +23,7 @@ use std::alloc::{AllocError, Global};
 
 /// Carries out all steps of a circuit on qubits that are 0 at first, whatever the tableau was before. Rounds,
 /// of a block or written out, are carried out until a state comes again; from there on they give again
-/// what they gave, or a frame goes over them. If more than this many steps would be carried out nevertheless, there is no shot.
-/// There is room for this many records from the beginning, and there are this many observables.
+/// what they gave, or a frame goes over them. There is room for this many records from the beginning, and there are this many observables.
 ///
 /// Refusal `OutOfMemory` alone.
 pub fn run_whole<C: Coins>(
@@ -36,8 +35,7 @@ pub fn run_whole<C: Coins>(
     coins: &mut C,
     records: usize,
     observables: usize,
-    most: usize,
-) -> Result<Option<Shot>, Refusal>
+) -> Result<Shot, Refusal>
     requires checked { check_within tableau.old.qubits (circuit_items circuit.now) ≡ None }
     requires repeats { AreRepeats 0 (unroll (circuit_items circuit.now)) repeats.now }
     requires same_length { length string.old.letters ≡ tableau.old.qubits }
@@ -45,14 +43,12 @@ pub fn run_whole<C: Coins>(
     ensures string { length string.new.letters ≡ length string.old.letters }
     ensures same_coins { C.sequence coins.new ≡ C.sequence coins.old }
     ensures asks { C.asks coins.new ≤ C.asks coins.old + all_coins_of (unroll (circuit_items circuit.now)) }
-    ensures asks_free { IfOk result (λ found. IfSome found (λ s. C.asks coins.new ≤ C.asks coins.old + ones s.free.items)) }
-    ensures run { IfOk result (λ found. IfSome found (IsShotOf tableau.old.qubits (run tableau.old.qubits (C.sequence coins.old) (unroll (circuit_items circuit.now)) (start observables)) (stabilises tableau.new))) }
-    ensures enough { IfOk result (λ found. length (unroll (circuit_items circuit.now)) ≤ most → IsSome found) }
+    ensures asks_free { IfOk result (λ s. C.asks coins.new ≤ C.asks coins.old + ones s.free.items) }
+    ensures run { IfOk result (IsShotOf tableau.old.qubits (run tableau.old.qubits (C.sequence coins.old) (unroll (circuit_items circuit.now)) (start observables)) (stabilises tableau.new)) }
     ensures err { IfErr result (λ r. r ≡ OutOfMemory) }
 {
     tableau.reset();
     let mut outputs = Outputs::with_capacity(alloc, records)?;
-    let mut left = most;
     let mut notes = notes_of_frames(alloc, tableau.len(), repeats)?;
     let from = run_repeats(
         alloc,
@@ -62,13 +58,9 @@ pub fn run_whole<C: Coins>(
         coins,
         &mut outputs,
         repeats,
-        &mut left,
         &mut notes,
     )?;
     let rest = circuit.steps() - from;
-    if rest > left {
-        return Ok(None);
-    }
     run_part(
         alloc,
         circuit,
@@ -80,7 +72,7 @@ pub fn run_whole<C: Coins>(
         rest,
     )?;
     let shot = shot_of(alloc, outputs, observables)?;
-    Ok(Some(shot))
+    Ok(shot)
 }
 
 /// What a run gives that has this many observables, by what its steps gave.

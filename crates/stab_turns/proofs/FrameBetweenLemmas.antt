@@ -15,7 +15,7 @@ use Rattle.stab_run.specs.Runs.{gate_of}
 use Rattle.stab_run.specs.Points.{Point, RunOutput, nothing, origin, joined, point_after, outputs, all_coins_of}
 use Rattle.stab_run.specs.ProgramStates.{StepFits}
 use Rattle.stab_run.specs.Cuts.{lengths_of}
-use Rattle.stab_run.proofs.FramedLemmas.{flips-free}
+use Rattle.stab_copies.proofs.FlippedLemmas.{flips-free}
 use Rattle.stab_steps.proofs.RunLemmas.{after-append, outputs-append, joined-assoc, joined-nothing}
 use Rattle.stab_laws.proofs.PointLemmas.{flags-are-coins}
 use Rattle.stab_laws.proofs.CoinLemmas.{coins-are}

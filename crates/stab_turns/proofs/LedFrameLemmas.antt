@@ -16,7 +16,7 @@ use Rattle.stab_run.specs.ProgramStates.{StepFits}
 use Rattle.stab_run.specs.Cuts.{lengths_of}
 use Rattle.stab_run.specs.Laws.{AgreeAt}
 use Rattle.stab_run.specs.Ends.{AgreeBack}
-use Rattle.stab_run.proofs.FramedLemmas.{flips-free}
+use Rattle.stab_copies.proofs.FlippedLemmas.{flips-free}
 use Rattle.stab_laws.proofs.FutureLemmas.{same-future}
 use Rattle.stab_laws.proofs.FutureBackLemmas.{same-future-back}
 use Rattle.stab_steps.proofs.RunLemmas.{after-append, outputs-append}

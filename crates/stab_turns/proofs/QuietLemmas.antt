@@ -13,7 +13,7 @@ use Rattle.stab_frames.specs.Notes.{same_coins}
 use Rattle.stab_frames.specs.FrameSteps.{flips_over}
 use Rattle.stab_frames.specs.Walks.{WalkState, frame_at, IsGone, WalksOver}
 use Rattle.stab_frames.proofs.StillLemmas.{still-base}
-use Rattle.stab_replay.proofs.CutLemmas.{ones-take}
+use Rattle.stab_copies.proofs.CutLemmas.{ones-take}
 
 -- bits of which none is 1
 zeros : (bits : List Bool) → ones bits ≡ 0 → bits ≡ replicate (length bits) false

@@ -8,7 +8,7 @@ use Rattle.stab_circuit.specs.Steps.{Step, one}
 use Rattle.stab_run.specs.Runs.{gate_of}
 use Rattle.stab_run.specs.Points.{Point, RunOutput, origin, next_point, point_after, outputs, all_coins_of}
 use Rattle.stab_run.specs.ProgramStates.{StepFits}
-use Rattle.stab_run.proofs.FramedLemmas.{flips-free}
+use Rattle.stab_copies.proofs.FlippedLemmas.{flips-free}
 use Rattle.stab_steps.proofs.RunLemmas.{after-append, outputs-append}
 use Rattle.stab_frames.specs.Flips.{flipped}
 use Rattle.stab_frames.specs.Frames.{Frame, PointsDifferBy}

@@ -6,19 +6,23 @@ use Rattle.stab_copies.specs.declared.checkpoint.Checkpoint.{Checkpoint}
 use Rattle.stab_replay.specs.declared.replay.Plan.{Plan}
 use Rattle.stab_replay.specs.declared.replay.Replay.{Replay}
 use Rattle.stab_replay.specs.Replays.{step_among_new}
-use Rattle.stab_replay.specs.FramedReplays.{between}
+use Rattle.stab_copies.specs.Parts.{between}
 use Rattle.stab_run.specs.Cuts.{lengths_of}
 use Rattle.stab_run.specs.Points.{joined}
 use Rattle.stab_run.specs.ProgramStates.{output_of}
 use Rattle.stab_run.specs.Records.{looked_up, ones}
 
--- a replay is as it stood at a copy in the same block, some whole rounds before: it has the state of the copy, no coin decided since,
--- and the newest records are the same, as far back as its steps look
-pub record StandsAgain (block : Repeat) (r : Replay) (c : Checkpoint) : Type 0 where
+-- a step is in a block some whole rounds after a copy
+pub record IsRoundsBehind (block : Repeat) (k : ℕ) (c : Checkpoint) : Type 0 where
   pub first : block.first ≤ c.step
-  pub before : c.step < r.step
+  pub before : c.step < k
   pub rounds : ℕ
-  pub whole : r.step ≡ c.step + rounds * block.length
+  pub whole : k ≡ c.step + rounds * block.length
+
+-- a replay is so after a copy, and as it stood there: it has the state of the copy, no coin decided since, and the newest records are
+-- the same, as far back as its steps look
+pub record StandsAgain (block : Repeat) (r : Replay) (c : Checkpoint) : Type 0 where
+  pub behind : IsRoundsBehind block r.step c
   pub same : c.tableau ≡ r.tableau
   pub fixed : ones (drop c.lengths.free r.outputs.free.items) ≡ 0
   pub records : (k : ℕ) → k ≤ r.notes.reach → looked_up (take c.lengths.records r.outputs.records.items) k ≡ looked_up r.outputs.records.items k

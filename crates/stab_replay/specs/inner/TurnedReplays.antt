@@ -19,22 +19,16 @@ use Rattle.stab_frames.specs.OtherCoins.{coins_from, WalksToOthers}
 use Rattle.stab_frames.specs.Limits.{most_strings}
 use Rattle.stab_replay.specs.declared.replay.Plan.{Plan}
 use Rattle.stab_replay.specs.declared.replay.Replay.{Replay}
-use Rattle.stab_replay.specs.FramedReplays.{IsFrameFrom, between, flips_since}
+use Rattle.stab_copies.specs.Parts.{between}
+use Rattle.stab_copies.specs.FramesFrom.{IsFrameFrom, flips_since}
 use Rattle.stab_replay.specs.Replays.{IsOnWay}
-use Rattle.stab_replay.specs.inner.AgainReplays.{IsEndIn}
+use Rattle.stab_replay.specs.inner.AgainReplays.{IsRoundsBehind, IsEndIn}
 
 -- a copy of a state with this many qubits, whose run gave no more than this
 pub record IsOfOwn (n : ℕ) (o : RunOutput) (c : Checkpoint) : Type 0 where
   pub qubits : c.tableau.qubits ≡ n
   pub free : c.lengths.free ≤ length o.free
   pub records : c.lengths.records ≤ length o.records
-
--- a step is in a block some whole rounds after a copy
-pub record IsRoundsBehind (block : Repeat) (k : ℕ) (c : Checkpoint) : Type 0 where
-  pub first : block.first ≤ c.step
-  pub before : c.step < k
-  pub rounds : ℕ
-  pub whole : k ≡ c.step + rounds * block.length
 
 -- the frame by which a replay differs from a copy that it laid
 abbrev pub IsFrameAgain : Replay → WalkState → Checkpoint → Type 0

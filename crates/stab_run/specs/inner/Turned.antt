@@ -2,24 +2,22 @@
 -- Source: this project's own.
 use Rattle.std.specs.Prelude.{◌≡◌, ℕ, ◌+◌, ◌-◌, ◌<◌, ◌≤◌, Bool, List, length, take, drop}
 use Rattle.stab_letters.specs.declared.letter.Letter.{Letter}
-use Rattle.stab_tableau.specs.Tableaus.{TableauState, stabilises}
-use Rattle.stab_tableau.specs.Turns.{IsTurned}
+use Rattle.stab_tableau.specs.Tableaus.{TableauState}
 use Rattle.stab_circuit.specs.Steps.{Step, rounds}
 use Rattle.stab_circuit.specs.declared.circuit.repeats.Repeat.{Repeat}
 use Rattle.stab_circuit.specs.Repeats.{round_of}
 use Rattle.stab_steps.specs.Records.{ones}
 use Rattle.stab_steps.specs.Points.{Point, RunOutput, origin, nothing, all_coins_of, point_after, outputs}
-use Rattle.stab_steps.specs.declared.records.Lengths.{Lengths}
 use Rattle.stab_steps.specs.Cuts.{rest_of}
 use Rattle.stab_steps.specs.ProgramStates.{program_state, output_of}
 use Rattle.stab_laws.specs.Ends.{with_coin}
-use Rattle.stab_frames.specs.Flips.{flipped}
 use Rattle.stab_frames.specs.KeptStrings.{AreTrue, note_at}
 use Rattle.stab_frames.specs.Walks.{WalkState, IsPlaced, frame_at}
 use Rattle.stab_frames.specs.OtherCoins.{coins_from}
 use Rattle.stab_frames.specs.AgainLaws.{DiffersBack, AreTurnedOver}
 use Rattle.stab_run.specs.inner.Led.{IsLed, behind_rounds}
-use Rattle.stab_run.specs.declared.earlier.Earlier.{Earlier}
+use Rattle.stab_copies.specs.FramesFrom.{IsFrameFrom}
+use Rattle.stab_run.specs.declared.marks.Mark.{Mark}
 use Rattle.stab_run.specs.declared.turned.Period.{Period}
 
 -- the point after this many rounds
@@ -57,23 +55,13 @@ pub record IsPeriod (n : ℕ) (coins : ℕ → Bool) (steps : List Step) (r : Re
   pub base : ℕ
   pub differs : DiffersBack n r.reach (frame_at base p.walk) (point_behind n coins steps r from) (point_behind n coins steps r done)
 
--- the frame with these letters that begins where a program has gathered this much, by what it had earlier
-pub record BeginsFrame (letters : List Letter) (o : RunOutput) (l : Lengths) (reach : ℕ) (w : WalkState) : Type 0 where
-  pub same_letters : w.letters ≡ letters
-  pub coin : w.coin ≡ l.free
-  pub placed : IsPlaced o.free w
-  pub flips : w.flips ≡ record nothing { records = flipped (drop (l.records - reach) (take l.records o.records)) (drop (length o.records - reach) o.records) }
-
--- a period that was found after this many rounds, where a program has this tableau and has gathered this much, by what was kept earlier
-pub record BeginsPeriod (t : TableauState) (o : RunOutput) (r : Repeat) (e : Earlier) (done : ℕ) (strings : List (List Letter)) (p : Period) : Type 0 where
-  pub rounds : p.rounds ≡ done - e.done
+-- a period that was found after this many rounds, where a program has this tableau and has gathered this much, by a mark
+pub record BeginsPeriod (t : TableauState) (o : RunOutput) (r : Repeat) (m : Mark) (done : ℕ) (strings : List (List Letter)) (p : Period) : Type 0 where
+  pub rounds : p.rounds ≡ done - m.done
   pub state : p.state ≡ t
-  pub last : output_of p.last ≡ rest_of e.lengths o
+  pub last : output_of p.last ≡ rest_of m.copy.lengths o
   pub flags : p.flags.items ≡ o.free
-  pub recorded : length o.records + e.lengths.free ≡ length o.free + e.lengths.records
-  pub newest : (r.reach ≤ e.lengths.records) × (e.lengths.records ≤ length o.records)
+  pub order : m.copy.lengths.free ≤ length o.free
+  pub recorded : length o.records ≡ m.copy.lengths.records + (length o.free - m.copy.lengths.free)
   pub kept : ones o.free ≤ length strings
-  pub letters : List Letter
-  pub size : length letters ≡ t.qubits
-  pub turned : IsTurned t.qubits letters (stabilises e.tableau) (stabilises t)
-  pub frame : BeginsFrame letters o e.lengths r.reach p.walk
+  pub frame : IsFrameFrom t o o m.copy.lengths.records r.reach m.copy p.walk

@@ -1,5 +1,5 @@
 use Rattle.std.proofs.Common.{◌≡◌, take}
-use Rattle.stab_run.specs.Records.{ones}
+use Rattle.stab_steps.specs.Records.{ones}
 use Rattle.stab_copies.proofs.bits.has_one.Given as goal
 
 abbrev pub invariant-loop-bit : goal.invariant-loop-bit

@@ -28,9 +28,9 @@ run_repeats-requires-clause-led g c =
       output = nothing_yet;
     })
 
-pub overflow_sub-steps : goal.overflow_sub-steps
-overflow_sub-steps g c =
-    omega (arith, c.in_ok-from.ensures.in_range, c.steps-steps.ensures.value ∙ counted-steps c.args.n (circuit_items c.args.circuit.now) c.requires.checked)
+pub overflow_sub-rest : goal.overflow_sub-rest
+overflow_sub-rest g c =
+    omega (arith, c.in_ok-from.ensures.in_range, c.steps.ensures.value ∙ counted-steps c.args.n (circuit_items c.args.circuit.now) c.requires.checked)
 
 pub returns-clause-recorded : goal.returns-clause-recorded
 returns-clause-recorded g c =
@@ -39,8 +39,8 @@ returns-clause-recorded g c =
     let items = circuit_items c.args.circuit.now in
     let steps = unroll items in
     let from = c.in_ok-from.from in
-    let rest = c.steps-steps.result - from in
-    let counted = c.steps-steps.ensures.value ∙ counted-steps n items c.requires.checked in
+    let rest = c.steps.result - from in
+    let counted = c.steps.ensures.value ∙ counted-steps n items c.requires.checked in
     let all = take-all from rest steps (omega (arith, counted)) in
     let ran = c.run_noted_part.new in
     let size = c.run_repeats.ensures.qubits ∙ c.in_ok-tableau.ensures.qubits in

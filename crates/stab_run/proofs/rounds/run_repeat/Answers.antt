@@ -1,11 +1,8 @@
-use Rattle.std.proofs.Common.{◌+◌, ◌≤◌, sym, ◌∙◌, arith}
-use Rattle.std.proofs.Math.Nat.{add-mul, mul-le-mul_right}
+use Rattle.std.proofs.Common.{sym, ◌∙◌, arith}
 use Rattle.stab_circuit.specs.Steps.{unroll}
 use Rattle.stab_circuit.specs.Views.{circuit_items}
 use Rattle.stab_steps.specs.ProgramStates.{program_state, output_of}
-use Rattle.stab_run.specs.inner.Led.{behind_rounds}
-use Rattle.stab_run.proofs.LedLemmas.{coins-more}
-use Rattle.stab_run.proofs.AgainLemmas.{behind-later, led-same, earlier-same}
+use Rattle.stab_run.proofs.AgainLemmas.{coins-later, led-same, mark-same}
 use Rattle.stab_run.proofs.NotedLemmas.{noted-same}
 use Rattle.stab_run.proofs.rounds.run_repeat.Goals as goal
 
@@ -23,23 +20,20 @@ loop-done-preserved g c =
     let ran = c.run_round.ensures in
     let done = c.in_ok-done.ensures {u = tt} in
     let r = c.args.repeat in
-    let before = c.loop-done.done in
     let now = c.in_ok-done.done in
     let steps = unroll (circuit_items c.args.circuit.now) in
     let n = c.args.tableau.now.qubits in
     let coins = g.C.Coins.sequence c.args.coins.now in
-    let one_more : before + 1 ≤ now = omega (arith, done.more) in
     record {
       within = done.more.1;
-      left = omega (arith, inv.left, add-mul before 1 r.length, mul-le-mul_right r.length one_more, c.saturating_sub.ensures);
       qubits = ran.qubits ∙ inv.qubits;
       string = ran.string ∙ inv.string;
       same_coins = ran.same_coins ∙ inv.same_coins;
       asks = omega (arith, inv.asks, done.asks_part);
       asks_free = omega (arith, inv.asks_free, done.asks_free);
-      earlier =
-          earlier-same n c.loop-done.tableau.qubits coins (g.C.Coins.sequence c.loop-done.coins) steps r now c.run_round.new.earlier inv.qubits inv.same_coins
-          done.earlier;
+      mark =
+          mark-same n c.loop-done.tableau.qubits coins (g.C.Coins.sequence c.loop-done.coins) steps r now c.run_round.new.mark inv.qubits inv.same_coins
+          done.mark;
       most = ran.most ∙ inv.most;
       noted =
           noted-same n c.loop-done.tableau.qubits coins (g.C.Coins.sequence c.loop-done.coins) _ c.run_round.new.notes c.run_round.new.outputs.free.items inv.qubits inv.same_coins
@@ -52,6 +46,4 @@ loop-done-preserved g c =
 pub returns-clause-asks : goal.returns-clause-asks
 returns-clause-asks g c =
     let r = c.args.repeat in
-    let done = c.loop-done.done in
-    let later = behind-later r done r.rounds c.loop-done.invariant.within in
-    omega (arith, c.loop-done.invariant.asks, coins-more (behind_rounds r done) (behind_rounds r r.rounds) (unroll (circuit_items c.args.circuit.now)) later)
+    omega (arith, c.loop-done.invariant.asks, coins-later r c.loop-done.done r.rounds (unroll (circuit_items c.args.circuit.now)) c.loop-done.invariant.within)

@@ -55,7 +55,6 @@ loop-repeat-preserved g c =
     omega (arith, done.next, c.taken_together.ensures.first, c.taken_together.ensures.within) in
     record {
       within = omega (arith, next, here.1.inside);
-      left = omega (arith, inv.left, done.left);
       repeats = repeats-behind from c.in_ok-from.from steps all i none c.loop-repeat-test.true inv.repeats next;
       qubits = ran.qubits ∙ inv.qubits;
       string = ran.string ∙ inv.string;

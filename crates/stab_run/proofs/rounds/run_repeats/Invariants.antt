@@ -12,7 +12,6 @@ use Rattle.stab_run.proofs.rounds.run_repeats.Given as goal
 abbrev pub invariant-loop-repeat : goal.invariant-loop-repeat
 invariant-loop-repeat g l = record {
   within : l.from ≤ length (unroll (circuit_items l.circuit));
-  left : l.fn.left ≤ l.left + l.from;
   repeats : AreRepeats l.from (unroll (circuit_items l.circuit)) (drop l.repeat-index l.repeats);
   qubits : l.tableau.qubits ≡ l.fn.tableau.qubits;
   string : length l.string.letters ≡ length l.fn.string.letters;

@@ -9,7 +9,7 @@ use Rattle.stab_circuit.specs.Steps.{rounds, unroll}
 use Rattle.stab_circuit.specs.Repeats.{round_of}
 use Rattle.stab_circuit.specs.Views.{circuit_items}
 use Rattle.stab_steps.specs.Records.{ones}
-use Rattle.stab_steps.specs.Points.{RunOutput, nothing, origin, all_coins_of}
+use Rattle.stab_steps.specs.Points.{RunOutput, nothing, origin, joined, all_coins_of}
 use Rattle.stab_steps.specs.ProgramStates.{StepFits, output_of}
 use Rattle.stab_steps.proofs.RecordLemmas.{ones-append}
 use Rattle.stab_frames.specs.Flips.{flipped_output}
@@ -17,11 +17,12 @@ use Rattle.stab_frames.proofs.FlipLemmas.{flipped-empty}
 use Rattle.stab_frames.proofs.StillWalkLemmas.{ones-within}
 use Rattle.stab_laws.proofs.FitLemmas.{check-steps, check-whole}
 use Rattle.stab_laws.proofs.CoinLemmas.{coins-steps, coins-are}
+use Rattle.stab_copies.specs.FramesFrom.{flips_behind, flips_since}
 use Rattle.stab_run.specs.inner.Led.{behind_rounds}
 use Rattle.stab_run.specs.inner.Turned.{point_behind}
 use Rattle.stab_run.proofs.LedLemmas.{coins-more}
-use Rattle.stab_run.proofs.AgainLemmas.{behind-later}
-use Rattle.stab_run.proofs.FramedLemmas.{ones-first}
+use Rattle.stab_run.proofs.AgainLemmas.{behind-later, coins-later}
+use Rattle.stab_copies.proofs.CutLemmas.{ones-first}
 use Rattle.stab_run.proofs.PeriodLemmas.{steps-fit, steps-next, asks-period, walked-same, later, comes-turned, next-period}
 use Rattle.stab_run.proofs.turned.go_over.Goals as goal
 
@@ -47,10 +48,7 @@ overflow_add-repeat g c =
 
 pub returns-in_err-cursor-clause-asks : goal.returns-in_err-cursor-clause-asks
 returns-in_err-cursor-clause-asks g c =
-    let r = c.args.repeat in
-    let done = c.args.done in
-    let next = c.args.done + c.args.period.now.rounds in
-    omega (arith, coins-more (behind_rounds r done) (behind_rounds r next) (unroll (circuit_items c.args.circuit.now)) (behind-later r done next (omega arith)))
+    omega (arith, coins-later c.args.repeat c.args.done (c.args.done + c.args.period.now.rounds) (unroll (circuit_items c.args.circuit.now)) (omega arith))
 
 pub overflow_sub-len : goal.overflow_sub-len
 overflow_sub-len g c =
@@ -121,8 +119,8 @@ returns-in_err-walk_with_coins-clause-asks g c =
     asks-period c.args.repeat c.args.done c.args.period.now.rounds (g.C.Coins.asks c.args.coins.now) (g.C.Coins.asks c.walk_with_coins.new.coins)
     (unroll (circuit_items c.args.circuit.now)) c.in_ok-cursor.cursor.left c.in_ok-cursor.ensures.steps c.walk_with_coins.ensures.asks
 
-pub returns-in_err-last-clause-asks : goal.returns-in_err-last-clause-asks
-returns-in_err-last-clause-asks g c =
+pub returns-in_err-append_turned-clause-asks : goal.returns-in_err-append_turned-clause-asks
+returns-in_err-append_turned-clause-asks g c =
     asks-period c.args.repeat c.args.done c.args.period.now.rounds (g.C.Coins.asks c.args.coins.now) (g.C.Coins.asks c.walk_with_coins.new.coins)
     (unroll (circuit_items c.args.circuit.now)) c.in_ok-cursor.cursor.left c.in_ok-cursor.ensures.steps c.walk_with_coins.ensures.asks
 
@@ -160,9 +158,9 @@ returns-clause-asks_free g c =
       arith,
       c.in_ok-walk_with_coins.ensures.asks_free,
       free,
-      ap ones (ap (λ (o : RunOutput). o.free) c.in_ok-last.ensures.value ∙ flipped-empty p.last.free.items ∙ c.requires.period.flags),
+      ap ones (ap (λ (o : RunOutput). o.free) (c.in_ok-append_turned.ensures.value ∙ (λ i. joined (c.new-last.ensures.value i) (flipped_output (output_of p.last) (flips_behind c.lengths_walked-before.result c.walk_with_coins.new.walk)))) ∙ flipped-empty p.last.free.items ∙ c.requires.period.flags),
       ap (λ (o : RunOutput). ones o.free) c.in_ok-append_rest.ensures.value,
-      ones-append c.args.outputs.now.free.items c.in_ok-last.last.free.items,
+      ones-append c.args.outputs.now.free.items c.append_turned.new.outputs.free.items,
     )
 
 pub returns-clause-period : goal.returns-clause-period
@@ -179,13 +177,18 @@ returns-clause-period g c =
     let next = ap (take (p.rounds * r.length)) c.in_ok-cursor.ensures.steps ∙ steps-next steps r c.requires.repeat c.args.done p.rounds c.requires.within in
     let here = point_behind n coins steps r c.args.done in
     let ahead : c.len.result - c.coin-coin.result ≡ here.coin - p.walk.coin = omega (arith, c.len.ensures, c.requires.period.led.at.coin, c.coin-coin.ensures.value) in
-    let before = c.records-before.ensures.value in
+    let before : flips_behind c.lengths_walked-before.result w ≡ flips_since p.walk w = λ i. record {
+      records = drop (c.lengths_walked-before.ensures.records i) w.flips.records;
+      free = [];
+      detectors = drop (c.lengths_walked-before.ensures.detectors i) w.flips.detectors;
+      additions = drop (c.lengths_walked-before.ensures.additions i) w.flips.additions;
+    } in
     next-period n coins steps r strings c.args.done (output_of c.args.outputs.now) p c.requires.repeat c.requires.period c.requires.within fits w
     (walked-same n (length p.walk.letters) strings p.flags.items c.as_slice.result.now p.last.records.items c.as_slice-2.result.now (here.coin - p.walk.coin)
     (c.len.result - c.coin-coin.result) coins _ (take (p.rounds * r.length) c.in_ok-cursor.cursor.left) p.walk w c.requires.period.letters c.as_slice.ensures.value
     c.as_slice-2.ensures.value ahead next c.in_ok-walk_with_coins.ensures.walked)
-    c.in_ok-last.last
-    (c.in_ok-last.ensures.value ∙ ap (λ bits. flipped_output (output_of p.last) (record w.flips { records = drop (length bits) w.flips.records; free = [] })) before)
+    c.append_turned.new.outputs
+    (c.in_ok-append_turned.ensures.value ∙ (λ i. joined (c.new-last.ensures.value i) (flipped_output (output_of p.last) (before i))))
     c.turn_state.new.state c.begin_again.new.self (output_of c.append_rest.new.self) c.turn_state.ensures.qubits c.walk_with_coins.ensures.length
     (subst (λ l. IsTurned n l (stabilises p.state) (stabilises c.turn_state.new.state)) c.letters.ensures.value c.turn_state.ensures.turned)
     (c.begin_again.ensures.value
@@ -206,10 +209,15 @@ returns-clause-turned g c =
     let next = ap (take (p.rounds * r.length)) c.in_ok-cursor.ensures.steps ∙ steps-next steps r c.requires.repeat c.args.done p.rounds c.requires.within in
     let here = point_behind n coins steps r c.args.done in
     let ahead : c.len.result - c.coin-coin.result ≡ here.coin - p.walk.coin = omega (arith, c.len.ensures, c.requires.period.led.at.coin, c.coin-coin.ensures.value) in
-    let before = c.records-before.ensures.value in
+    let before : flips_behind c.lengths_walked-before.result w ≡ flips_since p.walk w = λ i. record {
+      records = drop (c.lengths_walked-before.ensures.records i) w.flips.records;
+      free = [];
+      detectors = drop (c.lengths_walked-before.ensures.detectors i) w.flips.detectors;
+      additions = drop (c.lengths_walked-before.ensures.additions i) w.flips.additions;
+    } in
     comes-turned n coins steps r strings c.args.done (output_of c.args.outputs.now) p c.requires.repeat c.requires.period c.requires.within fits w
     (walked-same n (length p.walk.letters) strings p.flags.items c.as_slice.result.now p.last.records.items c.as_slice-2.result.now (here.coin - p.walk.coin)
     (c.len.result - c.coin-coin.result) coins _ (take (p.rounds * r.length) c.in_ok-cursor.cursor.left) p.walk w c.requires.period.letters c.as_slice.ensures.value
     c.as_slice-2.ensures.value ahead next c.in_ok-walk_with_coins.ensures.walked)
-    c.in_ok-last.last
-    (c.in_ok-last.ensures.value ∙ ap (λ bits. flipped_output (output_of p.last) (record w.flips { records = drop (length bits) w.flips.records; free = [] })) before)
+    c.append_turned.new.outputs
+    (c.in_ok-append_turned.ensures.value ∙ (λ i. joined (c.new-last.ensures.value i) (flipped_output (output_of p.last) (before i))))

@@ -8,8 +8,7 @@ use Rattle.stab_run.specs.inner.Led.{behind_rounds}
 use Rattle.stab_steps.specs.Points.{all_coins_of}
 use Rattle.stab_run.specs.inner.Noted.{IsNoted}
 use Rattle.stab_run.specs.inner.Turned.{IsPeriod}
-use Rattle.stab_run.proofs.LedLemmas.{coins-more}
-use Rattle.stab_run.proofs.AgainLemmas.{behind-later}
+use Rattle.stab_run.proofs.AgainLemmas.{coins-later}
 use Rattle.stab_run.proofs.NotedAgainLemmas.{noted-over, period-kept, period-same, comes-same}
 use Rattle.stab_run.proofs.turned.go_over_rounds.Goals as goal
 
@@ -48,8 +47,8 @@ periods-preserved g c =
           subst (λ k. IsNoted n coins (take (behind_rounds r (now + k)) steps) (record notes { strings = c.note_again.new.strings }) c.go_over.new.outputs.free.items) same
           (noted-over n coins steps r c.requires.repeat p.rounds now (omega (arith, inv.period.span)) within c.go_over.new.period.last.free.items comes
           (program_state p.state (output_of c.periods.outputs)) (program_state c.go_over.new.period.state (output_of c.go_over.new.outputs))
-          inv.period.led next.led notes (record notes { strings = c.note_again.new.strings }) c.count_ones-count.result
-          (c.count_ones-count.ensures.value ∙ ap ones c.as_slice.ensures.value) inv.noted refl put);
+          inv.period.led next.led notes (record notes { strings = c.note_again.new.strings }) c.saturating_sub.result c.len-kept.result
+          (omega (arith, c.saturating_sub.ensures, c.len-kept.ensures, c.count_ones-count.ensures.value ∙ ap ones c.as_slice.ensures.value)) (omega (arith, c.len-kept.ensures)) inv.noted refl put);
       most = c.note_again.ensures.most ∙ inv.most;
     }
 
@@ -62,7 +61,7 @@ returns-in_err-note_again-clause-asks g c =
       arith,
       c.periods.invariant.asks,
       c.go_over.ensures.asks,
-      coins-more (behind_rounds r later) (behind_rounds r r.rounds) steps (behind-later r later r.rounds (omega (arith, c.periods-test.true, c.periods.invariant.within))),
+      coins-later r later r.rounds steps (omega (arith, c.periods-test.true, c.periods.invariant.within)),
     )
 
 pub returns-in_err-go_over-clause-asks : goal.returns-in_err-go_over-clause-asks
@@ -74,7 +73,7 @@ returns-in_err-go_over-clause-asks g c =
       arith,
       c.periods.invariant.asks,
       c.go_over.ensures.asks,
-      coins-more (behind_rounds r later) (behind_rounds r r.rounds) steps (behind-later r later r.rounds (omega (arith, c.periods-test.true, c.periods.invariant.within))),
+      coins-later r later r.rounds steps (omega (arith, c.periods-test.true, c.periods.invariant.within)),
     )
 
 pub returns-clause-asks : goal.returns-clause-asks
@@ -85,5 +84,5 @@ returns-clause-asks g c =
     omega (
       arith,
       c.periods.invariant.asks,
-      coins-more (behind_rounds r now) (behind_rounds r r.rounds) steps (behind-later r now r.rounds c.periods.invariant.within),
+      coins-later r now r.rounds steps c.periods.invariant.within,
     )

@@ -20,10 +20,6 @@ run_repeats-requires-clause-noted g c =
     noted-none c.reset.new.self.qubits (g.C.Coins.sequence c.args.coins.now) c.in_ok-notes.notes c.in_ok-outputs.outputs.free.items (ap (λ (o : RunOutput). o.free) c.in_ok-outputs.ensures.value)
     (subst (λ k. BeginsNotes k c.in_ok-notes.notes) c.len.ensures.value c.in_ok-notes.ensures.begins)
 
-pub returns-then-rest-left-clause-enough : goal.returns-then-rest-left-clause-enough
-returns-then-rest-left-clause-enough g c = λ enough.
-    absurd (omega (arith, enough, c.in_ok-from.ensures.left, c.steps.ensures.value ∙ counted-steps c.args.tableau.now.qubits (circuit_items c.args.circuit.now) c.requires.checked))
-
 pub returns-in_err-run_part-clause-asks : goal.returns-in_err-run_part-clause-asks
 returns-in_err-run_part-clause-asks g c =
     let items = circuit_items c.args.circuit.now in

@@ -4,7 +4,7 @@ use Rattle.stab_run.specs.ProgramStates.{output_of}
 use Rattle.stab_run.specs.Points.{RunOutput}
 use Rattle.stab_steps.proofs.RecordLemmas.{ones-append}
 use Rattle.stab_replay.specs.declared.replay.Replay.{Replay}
-use Rattle.stab_replay.specs.FramedReplays.{between}
+use Rattle.stab_copies.specs.Parts.{between}
 use Rattle.stab_replay.specs.Replays.{IsOnWay}
 use Rattle.stab_replay.specs.inner.AgainReplays.{HasGivenAgain}
 use Rattle.stab_replay.specs.inner.LedReplays.{with_state, with_cursor}

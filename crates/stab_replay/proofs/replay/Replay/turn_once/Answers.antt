@@ -16,7 +16,7 @@ use Rattle.stab_tableau.specs.Tableaus.{stabilises}
 use Rattle.stab_tableau.specs.Turns.{IsTurned}
 use Rattle.stab_laws.proofs.CoinLemmas.{coins-few}
 use Rattle.stab_replay.specs.declared.replay.Replay.{Replay}
-use Rattle.stab_replay.specs.FramedReplays.{between}
+use Rattle.stab_copies.specs.FramesFrom.{flips_behind}
 use Rattle.stab_replay.specs.inner.TurnedReplays.{HasGivenTurned}
 use Rattle.stab_replay.proofs.ReplayLemmas.{coins-cut}
 use Rattle.stab_replay.proofs.TurnedReplayLemmas.{AreKnown, turned-known, kept-before, ones-given}
@@ -121,8 +121,11 @@ returns-in_err-walk_with_coins-clause-asked g c =
 pub returns-in_err-tableau-clause-asked : goal.returns-in_err-tableau-clause-asked
 returns-in_err-tableau-clause-asked g c = asked-for g ((goal.at.returns-in_err-tableau-clause-asked g c).In-Some) _ _ c.walk_with_coins.ensures.asks
 
-pub returns-in_err-give_turned-clause-asked : goal.returns-in_err-give_turned-clause-asked
-returns-in_err-give_turned-clause-asked g c = asked-for g ((goal.at.returns-in_err-give_turned-clause-asked g c).In-Some) _ _ c.walk_with_coins.ensures.asks
+pub returns-in_err-part-clause-asked : goal.returns-in_err-part-clause-asked
+returns-in_err-part-clause-asked g c = asked-for g ((goal.at.returns-in_err-part-clause-asked g c).In-Some) _ _ c.walk_with_coins.ensures.asks
+
+pub returns-in_err-append_turned-clause-asked : goal.returns-in_err-append_turned-clause-asked
+returns-in_err-append_turned-clause-asked g c = asked-for g ((goal.at.returns-in_err-append_turned-clause-asked g c).In-Some) _ _ c.walk_with_coins.ensures.asks
 
 pub returns-in_err-note_again-clause-asked : goal.returns-in_err-note_again-clause-asked
 returns-in_err-note_again-clause-asked g c = asked-for g ((goal.at.returns-in_err-note_again-clause-asked g c).In-Some) _ _ c.walk_with_coins.ensures.asks
@@ -152,7 +155,7 @@ returns-clause-asks_free g c =
     let to = c.index-to.result.now.lengths.free in
     let count = all_coins_of (take c.saturating_sub-steps.result c.args.self.now.cursor.left) in
     let asked = (c.in_ok-walk_with_coins.ensures {u = tt}).asks_free in
-    let given = ap (λ (o : RunOutput). ones o.free) (c.in_ok-give_turned.ensures {u = tt}).value in
+    let given = ap (λ (o : RunOutput). ones o.free) ((c.in_ok-append_turned.ensures {u = tt}).value ∙ ap (λ o. joined (output_of c.args.self.now.outputs) (flipped_output o (flips_behind c.lengths_walked-gone.result c.walk_with_coins.new.walk))) (c.in_ok-part.ensures {u = tt}).value) in
     omega (
       arith,
       asked,
@@ -177,7 +180,7 @@ returns-clause-given g c = λ yes.
     let v = c.walk_with_coins.new.walk in
     let coins = g.C.Coins.sequence c.args.coins.now in
     let new : Replay = record old {
-      outputs = c.give_turned.new.outputs;
+      outputs = c.append_turned.new.outputs;
       notes = record old.notes { strings = c.note_again.new.strings };
       cursor = c.walk_with_coins.new.cursor;
       step = old.step + c.saturating_sub-steps.result;
@@ -208,8 +211,8 @@ returns-clause-given g c = λ yes.
           walked.walked;
       left = walked.left ∙ ap (λ m. drop m old.cursor.left) (steps g at);
       output =
-          (c.in_ok-give_turned.ensures {u = tt}).value
-          ∙ (λ i. joined (output_of old.outputs) (flipped_output (between from.lengths to.lengths (output_of old.outputs)) (record {
+          (c.in_ok-append_turned.ensures {u = tt}).value
+          ∙ (λ i. joined (output_of old.outputs) (flipped_output ((c.in_ok-part.ensures {u = tt}).value i) (record {
             records = drop (c.lengths_walked-gone.ensures.records i) v.flips.records;
             free = [];
             detectors = drop (c.lengths_walked-gone.ensures.detectors i) v.flips.detectors;
