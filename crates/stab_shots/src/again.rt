@@ -1,10 +1,9 @@
 //! What lanes flipped in some rounds, appended again.
-ghost use Rattle.std.specs.Prelude.{◌≡◌, ℕ, ◌<◌, ◌++◌, drop, length, OnOk};
-ghost use Rattle.std.specs.List.{concat};
+ghost use Rattle.std.specs.Prelude.{◌≡◌, ℕ, ◌++◌, drop, OnOk};
 ghost use Rattle.stab_run.specs.Points.{joined};
 ghost use Rattle.stab_laws.specs.RoundLaws.{copies};
 ghost use Rattle.stab_run.specs.Cuts.{rest_of};
-ghost use Rattle.stab_shots.specs.Lanes.{lane_letters, lane_output};
+ghost use Rattle.stab_shots.specs.Lanes.{lane_output};
 ghost use Rattle.stab_shots.specs.Marks.{times};
 
 use crate::lanes::Lanes;
@@ -27,7 +26,11 @@ fn append_times<T: Copy>(items: &mut Vec<T>, from: usize, count: usize) -> Resul
 }
 
 /// Appends what all lanes flipped after some lengths, this many times.
-pub fn flip_again<W: Word>(lanes: &mut Lanes<W>, lengths: Lengths, count: usize) -> Result<(), AllocError>
+pub fn flip_again<W: Word>(
+    lanes: &mut Lanes<W>,
+    lengths: Lengths,
+    count: usize,
+) -> Result<(), AllocError>
     ensures frames { lanes.new.frames ≡ lanes.old.frames }
     ensures free { OnOk result (lanes.new.free.items ≡ lanes.old.free.items ++ times count (drop lengths.free lanes.old.free.items)) }
     ensures output { OnOk result ((l : ℕ) → lane_output W.at l lanes.new ≡ joined (lane_output W.at l lanes.old) (copies count (rest_of lengths (lane_output W.at l lanes.old)))) }
@@ -35,5 +38,6 @@ pub fn flip_again<W: Word>(lanes: &mut Lanes<W>, lengths: Lengths, count: usize)
     append_times(&mut lanes.records, lengths.records, count)?;
     append_times(&mut lanes.free, lengths.free, count)?;
     append_times(&mut lanes.detectors, lengths.detectors, count)?;
-    append_times(&mut lanes.sums, lengths.additions, count)
+    append_times(&mut lanes.sums, lengths.additions, count)?;
+    Ok(())
 }
