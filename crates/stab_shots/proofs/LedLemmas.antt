@@ -1,11 +1,12 @@
 -- Led lanes: lanes that are again as they were at a mark go over the rounds that are left as they went over those since.
 use Rattle.std.proofs.Common.{◌≡◌, ℕ, ◌+◌, ◌-◌, ◌*◌, ◌<◌, ◌≤◌, refl, sym, ◌∙◌, ap, subst, Bool, false, List, [], ◌++◌, length, take, drop, slice_get, get_or, arith}
 use Rattle.std.specs.Prelude.{None, if◌then◌else◌}
-use Rattle.std.proofs.lemmas.List.{take_at}
+use Rattle.std.proofs.lemmas.List.{length-map, take_at}
 use Rattle.stab_letters.specs.declared.letter.Letter.{Letter}
 use Rattle.stab_circuit.specs.Steps.{Step, rounds, looks_too_far}
 use Rattle.stab_circuit.specs.declared.circuit.repeats.Repeat.{Repeat}
 use Rattle.stab_circuit.specs.Repeats.{round_of, IsRepeat}
+use Rattle.stab_steps.specs.declared.records.Addition.{Addition}
 use Rattle.stab_steps.specs.declared.records.Lengths.{Lengths}
 use Rattle.stab_steps.proofs.RunLemmas.{joined-assoc}
 use Rattle.stab_run.specs.Records.{looked_up, ones}
@@ -21,8 +22,13 @@ use Rattle.stab_frames.specs.Notes.{Notes}
 use Rattle.stab_frames.specs.FrameSteps.{frame_over, flips_over}
 use Rattle.stab_frames.specs.KeptStrings.{note_at}
 use Rattle.stab_frames.proofs.OverLemmas.{frame-append, flips-append}
-use Rattle.stab_shots.specs.Differences.{Difference, frame_of_difference, next_coin, Follows}
-use Rattle.stab_shots.specs.Marks.{no_difference, IsMarked}
+use Rattle.stab_shots.specs.declared.lanes.Lanes.{Lanes}
+use Rattle.stab_shots.specs.declared.marks.Mark.{Mark}
+use Rattle.stab_shots.specs.declared.measure.Noted.{Noted}
+use Rattle.stab_shots.specs.Lanes.{lane_letters}
+use Rattle.stab_shots.specs.Noted.{lane_notes}
+use Rattle.stab_shots.specs.Differences.{Difference, frame_of_difference, next_coin, lane_difference, Follows}
+use Rattle.stab_shots.specs.Marks.{lengths_in, no_difference, AreLed, IsMarked, IsMark}
 use Rattle.stab_shots.proofs.FollowLemmas.{follows-append}
 use Rattle.stab_shots.proofs.FoldLemmas.{HasNone, AreAlike, follows-again}
 
@@ -45,6 +51,27 @@ follows-rest n notes xs ys a b c whole first = record {
       ∙ (λ i. joined (sym first.flips i) (flips_over n notes ys (sym first.coin i) (sym first.frame i)));
   coin = omega (arith, whole.coin, first.coin, coins-append xs ys);
 }
+
+-- lanes are marked after some rounds
+pub led-marked : {W : Type 0} (at : W → ℕ → Bool) (count : ℕ) (noted : Noted) (coins : ℕ → ℕ → Bool) (steps : List Step) (r : Repeat) (done number : ℕ) (lanes : Lanes W) (mark : Mark W)
+    → mark.letters.items ≡ lanes.frames.letters.items → mark.lengths ≡ lengths_in lanes → mark.done ≡ done
+    → AreLed at count noted coins (take (behind_rounds r done) steps) number lanes → IsMark at count noted coins steps r mark
+led-marked at count noted coins steps r done number lanes mark letters lengths same led = λ l lt.
+    record {
+      before = lane_difference at l lanes;
+      led =
+          subst (λ k. Follows noted.strings.now.qubits (lane_notes noted (coins l)) (take (behind_rounds r k) steps) (no_difference noted.strings.now.qubits) (lane_difference at l lanes))
+          (sym same) (led.follow l lt);
+      same = ap (lane_letters at l) letters;
+      long =
+          lengths
+          ∙ (λ i. record {
+            records = sym (length-map lanes.records.items (λ w. at w l)) i;
+            free = length lanes.free.items;
+            detectors = sym (length-map lanes.detectors.items (λ w. at w l)) i;
+            additions = sym (length-map {B = Addition} lanes.sums.items (λ s. record { observable = s.observable; bit = at s.parity l })) i;
+          });
+    }
 
 -- a lane that was marked after some rounds, and is again as it was then
 

@@ -1,6 +1,6 @@
 -- Marks: what is kept of lanes after a round, and lanes that are again as they were then.
 -- Source: this project's own.
-use Rattle.std.specs.Prelude.{◌≡◌, ℕ, zero, suc, ◌<◌, ◌≤◌, Bool, List, [], ◌++◌, length, take, replicate}
+use Rattle.std.specs.Prelude.{◌≡◌, ℕ, zero, suc, ◌<◌, ◌≤◌, Bool, List, [], ◌++◌, length, take, replicate, Option, IfSome}
 use Rattle.stab_letters.specs.declared.letter.Letter.{Letter}
 use Rattle.stab_letters.specs.declared.letter.Letter.TheVariants.{I}
 use Rattle.stab_circuit.specs.Steps.{Step}
@@ -62,8 +62,14 @@ pub record IsAgain {W : Type 0} (at : W → ℕ → Bool) (l m : ℕ) (mark : Ma
   pub letters : lane_letters at l mark.letters.items ≡ lane_letters at l lanes.frames.letters.items
   pub records : (k : ℕ) → k ≤ m → looked_up (take mark.lengths.records (lane_bits at l lanes.records.items)) k ≡ looked_up (lane_bits at l lanes.records.items) k
 
--- lanes that went over some rounds, and were marked after an earlier one, go over these many
-abbrev pub GoOn : {W : Type 0} → (W → ℕ → Bool) → ℕ → Noted → Repeat → Mark W → (done now : ℕ) → (old new : Lanes W) → Type 0
+-- lanes that went over some rounds, and may have been marked after an earlier one, go over these many
+abbrev pub GoOn : {W : Type 0} → (W → ℕ → Bool) → ℕ → Noted → Repeat → Option (Mark W) → (done now : ℕ) → (old new : Lanes W) → Type 0
 GoOn at count noted r mark done now old new =
-    (coins : ℕ → ℕ → Bool) (steps : List Step) (number : ℕ) → IsRepeat steps r → IsMark at count noted coins steps r mark
+    (coins : ℕ → ℕ → Bool) (steps : List Step) (number : ℕ) → IsRepeat steps r → IfSome mark (IsMark at count noted coins steps r)
     → AreLed at count noted coins (take (behind_rounds r done) steps) number old → AreLed at count noted coins (take (behind_rounds r now) steps) number new
+
+-- of lanes that went over these rounds a mark is kept, or one that was kept before stays
+abbrev pub StayMarked : {W : Type 0} → (W → ℕ → Bool) → ℕ → Lanes W → Repeat → ℕ → (old new : Option (Mark W)) → Type 0
+StayMarked at count lanes r done old new =
+    (noted : Noted) (coins : ℕ → ℕ → Bool) (steps : List Step) (number : ℕ) → AreLed at count noted coins (take (behind_rounds r done) steps) number lanes
+    → IfSome old (IsMark at count noted coins steps r) → IfSome new (IsMark at count noted coins steps r)

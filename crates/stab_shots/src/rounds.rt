@@ -8,7 +8,7 @@ ghost use Rattle.stab_circuit.specs.Repeats.{IsRepeat, AreRepeats};
 ghost use Rattle.stab_run.specs.ProgramStates.{StepFits};
 ghost use Rattle.stab_run.specs.inner.Led.{behind_rounds};
 ghost use Rattle.stab_shots.specs.Noted.{HasAll};
-ghost use Rattle.stab_shots.specs.Marks.{AreLed, IsMark, GoOn};
+ghost use Rattle.stab_shots.specs.Marks.{AreLed, IsMark, GoOn, StayMarked};
 
 use crate::again::flip_again;
 use crate::coins::Draw;
@@ -35,14 +35,17 @@ fn fold_rounds<W: Word>(
     noted: Noted,
     lanes: &mut Lanes<W>,
     repeat: Repeat,
-    mark: &Mark<W>,
+    mark: &Option<Mark<W>>,
     done: usize,
 ) -> Result<usize, AllocError>
-    requires later { mark.now.done < done }
+    requires later { IfSome mark.now (λ m. m.done < done) }
     requires within { done ≤ repeat.rounds }
     ensures more { IfOk result (λ now. (done ≤ now) × (now ≤ repeat.rounds)) }
     ensures go_on { IfOk result (λ now. GoOn W.at W.lanes noted.entry repeat mark.now done now lanes.old lanes.new) }
 {
+    let Some(mark) = mark else {
+        return Ok(done);
+    };
     let period = done - mark.done;
     let times = (repeat.rounds - done) / period;
     if times == 0 || !comes_again(mark, lanes, repeat.reach) {
@@ -59,11 +62,29 @@ fn fold_rounds<W: Word>(
     Ok(done + times * period)
 }
 
-/// Whether a mark is made after this many rounds on n qubits: after a first, second, fourth, eighth one and so on, if enough steps are
+/// Whether lanes on n qubits are marked after this many rounds: after a first, second, fourth, eighth one and so on, if enough steps are
 /// left.
 fn is_marked(repeat: Repeat, done: usize, n: usize) -> bool {
     let left = repeat.rounds.saturating_sub(done);
     done.is_power_of_two() && left >= 2 && left.saturating_mul(repeat.length) / 2 >= n
+}
+
+/// Marks lanes after this many rounds, if that is worth it. Else what was marked before stays.
+fn mark_lanes<W: Word>(
+    alloc: Global,
+    lanes: &Lanes<W>,
+    repeat: Repeat,
+    mark: &mut Option<Mark<W>>,
+    done: usize,
+) -> Result<(), AllocError>
+    requires earlier { IfSome mark.old (λ m. m.done ≤ done) }
+    ensures earlier { OnOk result (IfSome mark.new (λ m. m.done ≤ done)) }
+    ensures marked { OnOk result (StayMarked W.at W.lanes lanes.now repeat done mark.old mark.new) }
+{
+    if is_marked(repeat, done, lanes.frames.letters.len()) {
+        *mark = Some(Mark::of(alloc, lanes, done)?);
+    }
+    Ok(())
 }
 
 /// Leads all lanes over a round of a block after this many, and over all those after it in which they flip again what they
@@ -96,13 +117,8 @@ fn pass_round<W: Word, D: Draw<W>>(
     let from = repeat.first + done * repeat.length;
     let length = repeat.length;
     pass_led(alloc, circuit, noted, number, draw, lanes, from, length)?;
-    let mut now = done + 1;
-    if let Some(earlier) = mark {
-        now = fold_rounds(noted, lanes, repeat, earlier, now)?;
-    }
-    if is_marked(repeat, now, lanes.frames.letters.len()) {
-        *mark = Some(Mark::of(alloc, lanes, now)?);
-    }
+    let now = fold_rounds(noted, lanes, repeat, mark, done + 1)?;
+    mark_lanes(alloc, lanes, repeat, mark, now)?;
     Ok(now)
 }
 

@@ -79,8 +79,16 @@ fn pass_recorded<W: Word, D: Draw<W>>(
         let count = most.min(steps - from);
         recording.note(alloc, circuit, from, count)?;
         let mut number = 0;
-        let noted = recording.noted();
-        pass_part(alloc, circuit, noted, &mut number, draw, lanes, from, count)?;
+        pass_part(
+            alloc,
+            circuit,
+            recording.noted(),
+            &mut number,
+            draw,
+            lanes,
+            from,
+            count,
+        )?;
         from += count;
     }
     Ok(())

@@ -1,20 +1,24 @@
-use Rattle.std.proofs.Common.{◌≡◌, ℕ, ◌+◌, ◌-◌, ◌*◌, ◌/◌, ◌<◌, ◌≤◌, arith, sym, ap, ◌∙◌, ◌++◌, length, take, drop, false, refl}
+use Rattle.std.proofs.Common.{◌≡◌, ℕ, ◌+◌, ◌-◌, ◌*◌, ◌/◌, ◌<◌, ◌≤◌, arith, sym, ap, ◌∙◌, ◌++◌, subst, length, take, drop, false, refl}
+use Rattle.std.specs.Prelude.{IfSome}
 use Rattle.std.proofs.Math.Nat.{div-mul-le_self}
 use Rattle.stab_shots.specs.declared.frames.Frames.{Frames}
 use Rattle.stab_shots.specs.Lanes.{lane_letters}
 use Rattle.stab_shots.specs.Noted.{lane_notes}
+use Rattle.stab_shots.specs.Marks.{IsMark}
 use Rattle.stab_shots.specs.Differences.{lane_difference}
 use Rattle.stab_shots.proofs.MarkLemmas.{counted-again}
 use Rattle.stab_shots.proofs.LedLemmas.{unnoted, led-again}
 use Rattle.stab_shots.proofs.rounds.fold_rounds.Goals as goal
 
 pub returns-clause-go_on : goal.returns-clause-go_on
-returns-clause-go_on g c = λ coins steps number is mark led.
+returns-clause-go_on g c = λ coins steps number is kept led.
     let noted = c.args.noted in
+    let later = subst (λ o. IfSome o (λ m. m.done < c.args.done)) c.in-Some.is c.requires.later in
+    let mark = subst (λ o. IfSome o (IsMark g.W.Word.at g.W.Word.lanes noted coins steps c.args.repeat)) c.in-Some.is kept in
     let r = c.args.repeat in
-    let early = c.args.mark.now.done in
+    let early = c.in-Some.mark.done in
     let done = c.args.done in
-    let lengths = c.args.mark.now.lengths in
+    let lengths = c.in-Some.mark.lengths in
     let old = c.args.lanes.now in
     let new = c.flip_again.new.lanes in
     let left = r.rounds - done in
@@ -25,7 +29,7 @@ returns-clause-go_on g c = λ coins steps number is mark led.
     let flipped = c.in_ok-flip_again.ensures {u = tt} in
     let period = c.saturating_sub-coins.result in
     let few : period ≡ length old.free.items - lengths.free = omega (arith, c.saturating_sub-coins.ensures, c.len.ensures) in
-    let all : c.in-Some.count ≡ period * (count + 1) = c.in-Some.ensures.1 in
+    let all : c.in-Some-checked_mul.count ≡ period * (count + 1) = c.in-Some-checked_mul.ensures.1 in
     record {
       counted =
           led.counted
@@ -36,7 +40,7 @@ returns-clause-go_on g c = λ coins steps number is mark led.
           let at = g.W.Word.at in
           let notes = lane_notes noted (coins l) in
           let now = lane_difference at l old in
-          led-again noted.strings.now.qubits notes steps r is early done count c.requires.later within (lane_letters at l c.args.mark.now.letters.items) lengths (mark l lt) now
+          led-again noted.strings.now.qubits notes steps r is early done count later within (lane_letters at l c.in-Some.mark.letters.items) lengths (mark l lt) now
           (led.follow l lt) (again l lt).letters (again l lt).records period (lane_difference at l new) few
           (λ t le. unnoted noted.strings.now.strings noted.free.now (lengths.free + t) (fixed t (omega (arith, le, all))))
           (λ i. record { letters = lane_letters at l (flipped.frames i).letters.items; flips = flipped.output l i });
