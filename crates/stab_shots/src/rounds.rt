@@ -21,6 +21,7 @@ use crate::word::Word;
 use stab_circuit::{Circuit, Repeat};
 use stab_io::Refusal;
 use stab_rounds::find_rounds;
+use stab_run::taken_together;
 use std::alloc::{AllocError, Global};
 
 /// How many rounds of a block are gone over one by one, to see whether lanes come again. All others are gone over in one go.
@@ -207,7 +208,14 @@ fn pass_blocks<W: Word, D: Draw<W>>(
     let mut from = 0;
     for repeat in repeats {
         from = pass_block(
-            alloc, circuit, noted, number, draw, lanes, from, *repeat,
+            alloc,
+            circuit,
+            noted,
+            number,
+            draw,
+            lanes,
+            from,
+            taken_together(*repeat),
         )?;
     }
     Ok(from)
@@ -240,6 +248,15 @@ pub fn pass_all<W: Word, D: Draw<W>>(
         lanes,
         repeats.as_slice(),
     )?;
-    pass_led(alloc, circuit, noted, number, draw, lanes, from, all_steps())?;
+    pass_led(
+        alloc,
+        circuit,
+        noted,
+        number,
+        draw,
+        lanes,
+        from,
+        all_steps(),
+    )?;
     Ok(())
 }
