@@ -1,13 +1,12 @@
 -- Folding: frames that steps can't tell apart flip the same, and so do lanes that are again as they were, if nothing is drawn.
-use Rattle.std.proofs.Common.{◌≡◌, ℕ, zero, suc, ◌+◌, ◌*◌, ◌<◌, ◌≤◌, refl, sym, ◌∙◌, ap, subst, Bool, true, false, ◌&&◌, List, [], ◌∷◌, ◌++◌, append-nil, append_assoc, length, nat_lt, arith}
+use Rattle.std.proofs.Common.{◌≡◌, ℕ, zero, suc, ◌+◌, ◌*◌, ◌<◌, ◌≤◌, refl, sym, ◌∙◌, ap, subst, true, false, ◌&&◌, List, [], ◌∷◌, ◌++◌, append-nil, append_assoc, length, nat_lt, arith}
 use Rattle.std.specs.Prelude.{None}
 use Rattle.std.specs.List.{list_any}
 use Rattle.std.proofs.lemmas.List.{length-append, length-replicate}
-use Rattle.stab_letters.specs.declared.letter.Letter.{Letter}
 use Rattle.stab_pauli.specs.Paulis.{Signed, single, strings_anticommute}
 use Rattle.stab_tableau.specs.Gates.{image, image_pair}
 use Rattle.stab_circuit.specs.Steps.{Step, rounds, one, two, controlled, collapse, product, detector, observable, makes, lookbacks, looks_too_far}
-use Rattle.stab_run.specs.Records.{looked_up, parity}
+use Rattle.stab_run.specs.Records.{looked_up}
 use Rattle.stab_run.specs.Runs.{when, flip_of, string_of}
 use Rattle.stab_run.specs.Points.{RunOutput, nothing, joined, coins_of, all_coins_of}
 use Rattle.stab_run.specs.RoundLaws.{copies}

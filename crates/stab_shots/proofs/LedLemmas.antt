@@ -1,9 +1,9 @@
 -- Led lanes: lanes that are again as they were at a mark go over the rounds that are left as they went over those since.
-use Rattle.std.proofs.Common.{◌≡◌, ℕ, ◌+◌, ◌-◌, ◌*◌, ◌<◌, ◌≤◌, refl, sym, ◌∙◌, ap, subst, Bool, false, List, [], ◌++◌, length, take, drop, slice_get, get_or, arith}
+use Rattle.std.proofs.Common.{◌≡◌, ℕ, ◌+◌, ◌-◌, ◌*◌, ◌<◌, ◌≤◌, refl, sym, ◌∙◌, ap, subst, Bool, false, List, ◌++◌, length, take, slice_get, get_or, arith}
 use Rattle.std.specs.Prelude.{None, if◌then◌else◌}
 use Rattle.std.proofs.lemmas.List.{length-map, take_at}
 use Rattle.stab_letters.specs.declared.letter.Letter.{Letter}
-use Rattle.stab_circuit.specs.Steps.{Step, rounds, looks_too_far}
+use Rattle.stab_circuit.specs.Steps.{Step, rounds}
 use Rattle.stab_circuit.specs.declared.circuit.repeats.Repeat.{Repeat}
 use Rattle.stab_circuit.specs.Repeats.{round_of, IsRepeat}
 use Rattle.stab_steps.specs.declared.records.Addition.{Addition}
@@ -30,7 +30,7 @@ use Rattle.stab_shots.specs.Noted.{lane_notes}
 use Rattle.stab_shots.specs.Differences.{Difference, frame_of_difference, next_coin, lane_difference, Follows}
 use Rattle.stab_shots.specs.Marks.{lengths_in, no_difference, AreLed, IsMarked, IsMark}
 use Rattle.stab_shots.proofs.FollowLemmas.{follows-append}
-use Rattle.stab_shots.proofs.FoldLemmas.{HasNone, AreAlike, follows-again}
+use Rattle.stab_shots.proofs.FoldLemmas.{HasNone, follows-again}
 
 -- an outcome that was not free has no string
 pub unnoted : (strings : List (List Letter)) (free : List Bool) (t : ℕ) → get_or free t false ≡ false → note_at strings free t ≡ None

@@ -2,7 +2,6 @@
 use Rattle.std.proofs.Common.{◌≡◌, ℕ, zero, suc, ◌+◌, ◌-◌, ◌*◌, ◌<◌, ◌≤◌, refl, sym, ◌∙◌, ap, subst, Bool, true, false, List, [], ◌∷◌, ◌++◌, append-nil, append_assoc, length, take, drop, map, min, get_or, ◌⊎◌, inl, inr, arith}
 use Rattle.std.proofs.lemmas.Bool.{cases_lt}
 use Rattle.std.proofs.lemmas.List.{length-append, length-map, length-drop, length-take, map-append, drop-map, drop-append-le, drop_all, take_at, get_or-map, get_or-drop, get_or-take, get_or_past, ext_get_or}
-use Rattle.stab_letters.specs.declared.letter.Letter.{Letter}
 use Rattle.stab_letters.specs.declared.letter.Letter.TheVariants.{I}
 use Rattle.stab_run.specs.Records.{ones}
 use Rattle.stab_run.specs.Points.{RunOutput, joined}
@@ -12,7 +11,7 @@ use Rattle.stab_steps.specs.declared.records.Lengths.{Lengths}
 use Rattle.stab_frames.proofs.OtherCoinLemmas.{ones-split}
 use Rattle.stab_shots.specs.declared.letters.Letters.{Letters}
 use Rattle.stab_shots.specs.declared.lanes.Lanes.{Lanes}
-use Rattle.stab_shots.specs.Lanes.{lane_bits, lane_letters, letter_in, lane_output}
+use Rattle.stab_shots.specs.Lanes.{lane_letters, letter_in, lane_output}
 use Rattle.stab_shots.specs.Marks.{times}
 
 -- a list this often
