@@ -129,25 +129,6 @@ counted-again bits old new from k period size is none = by_period (cases_lt 0 pe
         no_more : (n : ℕ) → n + k * 0 ≡ n
         no_more n = omega arith
 
--- of those from a place on, up to a number of them
-pub fixed-all : (bits behind these : List Bool) (from count : ℕ) → behind ≡ drop (min from (length bits)) bits → these ≡ take (min count (length behind)) behind
-    → ((t : ℕ) → t < length these → get_or these t false ≡ false) → (t : ℕ) → t < count → get_or bits (from + t) false ≡ false
-fixed-all bits behind these from count cut front none t lt = by_place (cases_lt (from + t) (length bits))
-  where
-    by_place : (from + t < length bits) ⊎ (length bits ≤ from + t) → get_or bits (from + t) false ≡ false
-    by_place (inr past) = get_or_past bits (from + t) false past
-    by_place (inl within) =
-        let start : min from (length bits) ≡ from = omega (arith, within) in
-        let rest : behind ≡ drop from bits = cut ∙ ap (λ n. drop n bits) start in
-        let size = ap length rest ∙ length-drop from bits in
-        let enough : t < min count (length behind) = omega (arith, within, size, lt) in
-        let long = ap length front ∙ length-take (min count (length behind)) behind in
-        sym (get_or-drop from bits t false)
-        ∙ ap (λ l. get_or l t false) (sym rest)
-        ∙ sym (get_or-take (min count (length behind)) behind t false enough)
-        ∙ ap (λ l. get_or l t false) (sym front)
-        ∙ none t (omega (arith, long, enough))
-
 -- letters that are the same one by one
 pub letters-same : {W : Type 0} (at : W → ℕ → Bool) (l : ℕ) (xs ys : List (Letters W)) → length xs ≡ length ys
     → ((q : ℕ) → q < length xs → get_or (lane_letters at l xs) q I ≡ get_or (lane_letters at l ys) q I) → lane_letters at l xs ≡ lane_letters at l ys

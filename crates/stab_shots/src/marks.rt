@@ -80,14 +80,15 @@ pub fn comes_again<W: Word>(mark: &Mark<W>, lanes: &Lanes<W>, reach: u32) -> boo
         && same_records(lanes.records.as_slice(), mark.lengths.records, reach)
 }
 
-/// Whether none of this many outcomes from one on is free.
+/// Whether none of this many outcomes from one on is free. All of them are to be noted.
 pub fn are_fixed(free: &[bool], from: usize, count: usize) -> bool
     ensures fixed { IsTrue result → (t : ℕ) → t < count → slice_index_or free.now (from + t) false ≡ false }
 {
-    let (_, behind) = free.split_at(from.min(free.len()));
-    let (these, _) = behind.split_at(count.min(behind.len()));
-    for flag in these {
-        if *flag {
+    if free.len() < from || free.len() - from < count {
+        return false;
+    }
+    for coin in from..from + count {
+        if free[coin] {
             return false;
         }
     }
