@@ -47,3 +47,4 @@ pub use stab_steps::{
     Addition, Coins, Lengths, ListCoins, Outputs, SeedCoins, apply_step, apply_step_with_exchange,
     apply_steps, flip, looked_up, observables, parity, seed_coins, write_product,
 };
+pub use together::taken_together;

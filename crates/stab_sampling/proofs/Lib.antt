@@ -1,4 +1,3 @@
 pub mod ShotLaws
 pub mod PackingLaws
 pub mod LineLaws
-pub mod SinglyLaws

@@ -1,2 +1,1 @@
 pub mod Packings
-pub mod Singly

@@ -6,7 +6,6 @@
 //! - `packed`: the bits of lanes in `01` and `b8`.
 //! - `lanes`: the bits of lanes in any format.
 //! - `bits`: what is shown of a shot.
-//! - `singly`: shots that go one after another, as long as each is little work.
 //! - `shots`: the shots of a circuit, written one after another.
 //! - `laws`: outputs of parts are joined to that of all shots.
 //!
@@ -25,7 +24,6 @@ mod lanes;
 pub mod laws;
 mod packed;
 mod shots;
-mod singly;
 mod widths;
 
 pub use bits::Shown;

@@ -1,8 +1,8 @@
 //! The shots of a circuit, written one after another.
 //!
-//! All shots of a list of coins are the same run, which is made once. Shots of a seed go one after another as long as that is less
-//! work than lanes are: most of a shot gives again what rounds before gave. Others are run by batches of lanes, all led by one
-//! run and its notes. If these take too much memory, each batch has a run made for it, which is noted by stretches.
+//! All shots of a list of coins are the same run, which is made once; so is a shot of a seed that is alone. More shots of a seed are
+//! run by batches of lanes, all led by one run and its notes. If these take too much memory, each batch has a run made for it,
+//! which is noted by stretches.
 ghost use Rattle.std.specs.Prelude.{◌≡◌, ℕ, ◌+◌, ◌<◌, ◌≤◌, None, IfOk, IfSome, IfErr};
 ghost use Rattle.stab_io.specs.Refusals.{whole};
 ghost use Rattle.stab_io.specs.declared.refusal.Refusal.TheVariants.{OutOfMemory};
@@ -18,8 +18,7 @@ ghost use Rattle.stab_sampling.specs.Sendings.{SendsUnflushed, shots_of, shown_b
 
 use crate::bits::{Shown, write_shown};
 use crate::lanes::send_lanes;
-use crate::singly::send_singly;
-use crate::widths::{share_of, shots_at_once};
+use crate::widths::shots_at_once;
 use stab_circuit::Circuit;
 use stab_io::{Fault, Output};
 use stab_jobs::{Shots, Source};
@@ -205,8 +204,7 @@ fn send_in_lanes<O: Output>(
     )
 }
 
-/// Runs this many shots of a seed from a first one on, and writes what is shown of each: one after another as long as that is
-/// less work than lanes are, and the others in lanes.
+/// Runs this many shots of a seed from a first one on, and writes what is shown of each: one by itself, more in lanes.
 fn send_seeded<O: Output>(
     alloc: Global,
     circuit: &Circuit,
@@ -221,17 +219,15 @@ fn send_seeded<O: Output>(
     requires in_range { first + shots ≤ shots_of_seed }
     ensures sends { SendsUnflushed (of_shots (λ shot. shown_bytes format shown (run_of (qubits_of (circuit_items circuit.now)) (seed_coin seed shot) (circuit_items circuit.now))) first shots) (O.seen out.old) (O.seen out.new) result }
 {
-    let lanes = shots_at_once(alloc, circuit, shots)?;
-    let share = share_of(circuit, shots, lanes);
-    let sent = send_singly(
-        alloc, circuit, out, format, shown, seed, first, shots, share,
-    )?;
-    if sent == shots {
+    if shots == 0 {
         return Ok(());
     }
-    let next = first + sent as u64;
-    let rest = shots - sent;
-    send_in_lanes(alloc, circuit, out, format, shown, seed, next, rest, lanes)
+    if shots == 1 {
+        let mut coins = SeedCoins::new(seed, first);
+        return send_copies(alloc, circuit, out, format, shown, &mut coins, 1);
+    }
+    let lanes = shots_at_once(alloc, circuit, shots)?;
+    send_in_lanes(alloc, circuit, out, format, shown, seed, first, shots, lanes)
 }
 
 /// Runs these shots of a circuit that nothing refuses, and writes what is shown of each, without a flush.

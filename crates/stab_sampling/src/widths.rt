@@ -60,35 +60,6 @@ fn most_lanes(bits: usize) -> usize
     64
 }
 
-/// A step that is carried out costs up to this many times what a pass of lanes over it costs. A coin that decides costs at least one
-/// part in this many of that pass: a frame goes over the rounds in which one does.
-const SINGLY: usize = 4;
-
-/// What a shot costs at most that is run by itself: its part of a pass of lanes, which goes over all steps.
-#[derive(Clone, Copy)]
-pub(crate) struct Share {
-    /// This many steps are carried out.
-    pub(crate) steps: usize,
-    /// This many coins decide.
-    pub(crate) coins: usize,
-}
-
-/// The share of each of this many shots, which go in this many lanes at once. A shot that is alone may carry out all steps.
-pub(crate) fn share_of(circuit: &Circuit, shots: usize, lanes: usize) -> Share {
-    let steps = circuit.steps();
-    let shots = shots.min(lanes).max(1);
-    if shots == 1 {
-        return Share {
-            steps,
-            coins: usize::MAX,
-        };
-    }
-    Share {
-        steps: steps / SINGLY / shots,
-        coins: steps.saturating_mul(SINGLY) / shots,
-    }
-}
-
 /// How many shots go through a circuit at once, if this many are asked for.
 pub(crate) fn shots_at_once(alloc: Global, circuit: &Circuit, shots: usize) -> Result<usize, Fault>
     requires checked { check_of (circuit_items circuit.now) ≡ None }

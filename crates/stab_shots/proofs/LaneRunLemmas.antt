@@ -39,7 +39,7 @@ no-more k = ap (λ m. replicate m false) {x = k} {y = 0 + k} (omega arith)
 one-more : (k : ℕ) → false ∷ replicate k false ≡ replicate (1 + k) false
 one-more k = ap (λ m. replicate m false) {x = suc k} {y = 1 + k} (omega arith)
 
-still-over : (n : ℕ) (notes : Notes) (xs : List Step) (c : ℕ) (f : Frame) → (flips_over n notes xs c f).free ≡ replicate (all_coins_of xs) false
+pub still-over : (n : ℕ) (notes : Notes) (xs : List Step) (c : ℕ) (f : Frame) → (flips_over n notes xs c f).free ≡ replicate (all_coins_of xs) false
 still-over n notes [] c f = refl
 still-over n notes (one g q ∷ xs) c f = still-over n notes xs (c + 0) (frame_after n notes (one g q) c f) ∙ no-more (all_coins_of xs)
 still-over n notes (two g p q ∷ xs) c f = still-over n notes xs (c + 0) (frame_after n notes (two g p q) c f) ∙ no-more (all_coins_of xs)

@@ -18,3 +18,6 @@ pub mod NoteLemmas
 pub mod NotedLemmas
 pub mod RecordingLemmas
 pub mod LaneRunLemmas
+pub mod FoldLemmas
+pub mod MarkLemmas
+pub mod LedLemmas

@@ -9,3 +9,4 @@ pub mod Noted
 pub mod Recordings
 pub mod References
 pub mod Differences
+pub mod Marks

@@ -1,4 +1,4 @@
-ghost use Rattle.std.specs.Prelude.{◌≡◌, ℕ, ◌<◌};
+ghost use Rattle.std.specs.Prelude.{◌≡◌, ℕ, ◌<◌, IsTrue};
 ghost use Rattle.stab_letters.specs.declared.letter.Letter.TheVariants;
 ghost use Rattle.stab_letters.specs.Letters.{letters_anticommute};
 ghost use Rattle.stab_tableau.specs.Gates.{letter_image, pair_letters, letter_at};
@@ -31,6 +31,13 @@ impl<W: Word> Letters<W> {
             x: W::all(false),
             z: W::all(false),
         }
+    }
+
+    /// Whether they are the same as others in all lanes.
+    pub fn is_same(&self, other: &Letters<W>) -> bool
+        ensures same { IsTrue result → (l : ℕ) → l < W.lanes → letter_in W.at l self.now ≡ letter_in W.at l other.now }
+    {
+        self.x.is_same(&other.x) && self.z.is_same(&other.z)
     }
 
     /// What a gate makes of the letters, up to signs.

@@ -19,8 +19,12 @@
 //! - `blocks`: the bits of 64 lanes as bytes, one lane after another.
 //! - `measure`: one measurement, on all lanes: the rule by which they differ from the run.
 //! - `step`, `steps`: one step of the run, and those of one instruction, on all lanes.
+//! - `part`: some steps of a circuit on all lanes.
 //! - `recording`: a run with all coins 0, and what is noted of the last steps that it went over.
 //! - `reference`: such a run and what is noted of all of it, to lead all batches of lanes. It carries out no round that comes again.
+//! - `marks`: what is kept of lanes after a round, and whether lanes are as they were then.
+//! - `again`: what lanes flipped in some rounds, appended again.
+//! - `rounds`: the rounds of a block on all lanes, which flip again what they flipped once they are as they were before.
 //! - `shots`, `flips`: what this many shots give, by the run and what the lanes flip.
 //! - `run`: all steps of a circuit, noted and led over by turns; or led over by a reference.
 //! - `batches`: shots of a seed, each with lists of its own.
@@ -32,6 +36,7 @@
 //! circuit and the coins of its shot.
 #![tactic(auto)]
 
+mod again;
 mod batches;
 mod blocks;
 mod coins;
@@ -40,10 +45,13 @@ mod flips;
 mod frames;
 mod lanes;
 mod letters;
+mod marks;
 mod measure;
+mod part;
 mod recording;
 mod reference;
 mod repeated;
+mod rounds;
 mod run;
 mod seeds;
 mod shots;

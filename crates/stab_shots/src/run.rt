@@ -17,71 +17,15 @@ ghost use Rattle.stab_frames.specs.Limits.{most_strings};
 use crate::coins::Draw;
 use crate::flips::shots_of;
 use crate::lanes::Lanes;
-use crate::measure::Noted;
+use crate::part::pass_part;
 use crate::recording::{Recording, shot_of};
-use crate::reference::{Reference, all_steps, most_noted};
+use crate::reference::{Reference, most_noted};
+use crate::rounds::pass_all;
 use crate::shots::Shots;
-use crate::steps::pass_steps;
 use crate::word::Word;
-use stab_circuit::{Circuit, Cursor};
+use stab_circuit::Circuit;
 use stab_io::{Fault, Refusal};
-use std::alloc::{AllocError, Global};
-
-/// Leads all lanes over the steps that a cursor has left, up to this many, from the first noted string on.
-fn pass_left<W: Word, D: Draw<W>>(
-    noted: Noted,
-    draw: &mut D,
-    lanes: &mut Lanes<W>,
-    cursor: &mut Cursor,
-    most: usize,
-) -> Result<(), AllocError>
-    requires all { HasAll noted }
-    requires begins { IsCounted noted 0 (length lanes.old.free.items) }
-    requires frames { length lanes.old.frames.letters.items ≡ noted.strings.now.qubits }
-    requires fits { All (StepFits noted.strings.now.qubits) cursor.old.left }
-    ensures coin { OnOk result (length lanes.new.free.items ≡ length lanes.old.free.items + all_coins_of (take most cursor.old.left)) }
-    ensures frames { length lanes.new.frames.letters.items ≡ length lanes.old.frames.letters.items }
-    ensures same_coins { D.sequences draw.new ≡ D.sequences draw.old }
-    ensures follows { OnOk result ((l : ℕ) → l < W.lanes → Follows noted.entry.strings.now.qubits (lane_notes noted.entry (D.sequences draw.old l)) (take most cursor.old.left) (lane_difference W.at l lanes.old) (lane_difference W.at l lanes.new)) }
-{
-    let mut number = 0;
-    let mut left = most;
-    while left > 0 {
-        let Some(steps) = cursor.next_steps(left) else {
-            return Ok(());
-        };
-        left -= steps.len();
-        pass_steps(noted, &mut number, draw, lanes, steps)?;
-    }
-    Ok(())
-}
-
-/// Leads all lanes over this many steps of a circuit that nothing refuses, from this one on, from the first noted string on.
-fn pass_part<W: Word, D: Draw<W>>(
-    alloc: Global,
-    circuit: &Circuit,
-    noted: Noted,
-    draw: &mut D,
-    lanes: &mut Lanes<W>,
-    from: usize,
-    count: usize,
-) -> Result<(), Refusal>
-    requires checked { check_within noted.strings.now.qubits (circuit_items circuit.now) ≡ None }
-    requires in_range { from ≤ length (unroll (circuit_items circuit.now)) }
-    requires all { HasAll noted }
-    requires begins { IsCounted noted 0 (length lanes.old.free.items) }
-    requires frames { length lanes.old.frames.letters.items ≡ noted.strings.now.qubits }
-    ensures coin { OnOk result (length lanes.new.free.items ≡ length lanes.old.free.items + all_coins_of (take count (drop from (unroll (circuit_items circuit.now))))) }
-    ensures frames { length lanes.new.frames.letters.items ≡ length lanes.old.frames.letters.items }
-    ensures same_coins { D.sequences draw.new ≡ D.sequences draw.old }
-    ensures follows { OnOk result ((l : ℕ) → l < W.lanes → Follows noted.entry.strings.now.qubits (lane_notes noted.entry (D.sequences draw.old l)) (take count (drop from (unroll (circuit_items circuit.now)))) (lane_difference W.at l lanes.old) (lane_difference W.at l lanes.new)) }
-    ensures fits { OnOk result (All (StepFits noted.entry.strings.now.qubits) (unroll (circuit_items circuit.now))) }
-    ensures err { IfErr result (λ r. r ≡ OutOfMemory) }
-{
-    let mut cursor = Cursor::at(alloc, circuit, from)?;
-    pass_left(noted, draw, lanes, &mut cursor, count)?;
-    Ok(())
-}
+use std::alloc::Global;
 
 /// Runs a circuit once in each lane by a reference of it, and puts what the shots give in place of what the lists had.
 fn run_noted<W: Word, C: Draw<W>>(
@@ -100,7 +44,8 @@ fn run_noted<W: Word, C: Draw<W>>(
 {
     let noted = reference.noted();
     let mut lanes = shots.lanes(alloc, n)?;
-    pass_part(alloc, circuit, noted, coins, &mut lanes, 0, all_steps())?;
+    let mut number = 0;
+    pass_all(alloc, circuit, noted, &mut number, coins, &mut lanes)?;
     *shots = shots_of(alloc, reference.shot(), lanes, circuit.observables())?;
     Ok(())
 }
@@ -133,7 +78,17 @@ fn pass_recorded<W: Word, D: Draw<W>>(
     while from < steps {
         let count = most.min(steps - from);
         recording.note(alloc, circuit, from, count)?;
-        pass_part(alloc, circuit, recording.noted(), draw, lanes, from, count)?;
+        let mut number = 0;
+        pass_part(
+            alloc,
+            circuit,
+            recording.noted(),
+            &mut number,
+            draw,
+            lanes,
+            from,
+            count,
+        )?;
         from += count;
     }
     Ok(())

@@ -51,6 +51,15 @@ impl<const N: usize> Word for Wide<N> {
         Wide { words }
     }
 
+    fn is_same(&self, other: &Wide<N>) -> bool {
+        for k in 0..N {
+            if self.words[k] != other.words[k] {
+                return false;
+            }
+        }
+        true
+    }
+
     fn bit(self, lane: usize) -> bool {
         self.words[lane / 64].bit(lane % 64)
     }

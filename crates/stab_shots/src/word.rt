@@ -1,4 +1,4 @@
-ghost use Rattle.std.specs.Prelude.{◌≡◌, refl, ℕ, ◌+◌, ◌*◌, ◌/◌, ◌%◌, ◌<◌, ◌≤◌, Bool};
+ghost use Rattle.std.specs.Prelude.{◌≡◌, refl, ℕ, ◌+◌, ◌*◌, ◌/◌, ◌%◌, ◌<◌, ◌≤◌, Bool, IsTrue};
 ghost use Rattle.stab_letters.specs.Letters.{◌⊕◌};
 ghost use Rattle.stab_shots.specs.Words.{word_bit};
 ghost use Rattle.stab_shots.specs.Bytes.{byte_at};
@@ -17,6 +17,10 @@ pub trait Word: Copy {
     /// In each lane whether the bits differ.
     fn xor(self, other: Self) -> Self
         ensures value { (l : ℕ) → l < lanes → at result l ≡ at self l ⊕ at other l };
+
+    /// Whether the bits are the same in all lanes.
+    fn is_same(&self, other: &Self) -> bool
+        ensures same { IsTrue result → (l : ℕ) → l < lanes → at self.now l ≡ at other.now l };
 
     /// The bit of a lane.
     fn bit(self, lane: usize) -> bool
@@ -43,6 +47,10 @@ impl Word for u64 {
 
     fn xor(self, other: u64) -> u64 {
         self ^ other
+    }
+
+    fn is_same(&self, other: &u64) -> bool {
+        *self == *other
     }
 
     fn bit(self, lane: usize) -> bool {

@@ -1,10 +1,11 @@
-//! Blocks whose rounds come again: what runs and sessions give of them, and where they are in the steps.
+//! Blocks whose rounds come again: what runs, shots and sessions give of them, and where they are in the steps.
 ghost use Rattle.std.specs.Prelude.{◌≤◌};
 ghost use Rattle.stab_run.specs.Limits.{most_stride};
 
 use stab_circuit::{Repeat, read_circuit};
 use stab_pauli::MemoryInput;
 use stab_session::{SeedCoins, Session, Shot, run_once};
+use stab_shots::run_shots;
 use std::alloc::Global;
 use std::test::Fail;
 
@@ -267,6 +268,30 @@ fn blocks_give_what_they_give_written_out(rt: HostRuntime) -> Result<(), Fail> {
         for number in 0..3 {
             same &= agrees(rt.alloc(), case, number)?;
         }
+    }
+    assert!(rt; same);
+    Ok(())
+}
+
+/// Whether shots of a block that go at once give what runs of the block written out give.
+fn shots_agree(alloc: Global, case: Case) -> Result<bool, Fail> {
+    let block = in_a_block(alloc, case)?;
+    let lines = written_out(alloc, case)?;
+    let circuit = read_circuit(alloc, &mut MemoryInput::new(block.as_slice()))?;
+    let shots = run_shots(alloc, &circuit, 12, 3, 0, 3)?;
+    let mut same = shots.len() == 3;
+    for number in 0..shots.len() {
+        let run = shot_of(alloc, lines.as_slice(), number as u64)?;
+        same &= are_same(&shots[number], &run);
+    }
+    Ok(same)
+}
+
+#[test]
+fn shots_of_blocks_give_what_runs_give_written_out(rt: HostRuntime) -> Result<(), Fail> {
+    let mut same = true;
+    for case in CASES {
+        same &= shots_agree(rt.alloc(), case)?;
     }
     assert!(rt; same);
     Ok(())

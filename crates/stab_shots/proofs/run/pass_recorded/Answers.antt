@@ -54,7 +54,7 @@ pass_part-requires g c =
       checked = subst (λ m. check_within m items ≡ None) (sym strings) c.requires.checked;
       in_range = omega (arith, total, inv.within);
       all = ap (λ (k : StringsState). length k.strings) lent.strings ∙ each ∙ ap ones (sym lent.free);
-      begins = sym ((λ i. ones (take (inv.coin i) (lent.free i))) ∙ noted.others);
+      counted = sym ((λ i. ones (take (inv.coin i) (lent.free i))) ∙ noted.others);
       frames = inv.frames ∙ c.requires.frames ∙ sym strings;
     }
 

@@ -3,7 +3,7 @@ use Rattle.stab_run.specs.Points.{all_coins_of}
 use Rattle.stab_run.specs.ProgramStates.{StepFits}
 use Rattle.stab_shots.specs.Noted.{IsCounted, lane_notes}
 use Rattle.stab_shots.specs.Differences.{Difference, lane_difference, Follows}
-use Rattle.stab_shots.proofs.run.pass_left.Given as goal
+use Rattle.stab_shots.proofs.part.pass_left.Given as goal
 
 abbrev pub invariant-loop-left : goal.invariant-loop-left
 invariant-loop-left g l = record {

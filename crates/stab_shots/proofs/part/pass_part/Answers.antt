@@ -7,7 +7,7 @@ use Rattle.stab_run.specs.ProgramStates.{StepFits}
 use Rattle.stab_laws.proofs.FitLemmas.{check-fits}
 use Rattle.stab_shots.specs.Noted.{lane_notes}
 use Rattle.stab_shots.specs.Differences.{lane_difference, Follows}
-use Rattle.stab_shots.proofs.run.pass_part.Goals as goal
+use Rattle.stab_shots.proofs.part.pass_part.Goals as goal
 
 pub pass_left-requires-clause-fits : goal.pass_left-requires-clause-fits
 pass_left-requires-clause-fits g c =

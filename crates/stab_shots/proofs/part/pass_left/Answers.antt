@@ -7,7 +7,7 @@ use Rattle.stab_laws.proofs.StepsLeftLemmas.{take-steps, take-none, take-empty}
 use Rattle.stab_shots.specs.Noted.{lane_notes}
 use Rattle.stab_shots.specs.Differences.{lane_difference, Follows}
 use Rattle.stab_shots.proofs.FollowLemmas.{follows-none, follows-steps}
-use Rattle.stab_shots.proofs.run.pass_left.Goals as goal
+use Rattle.stab_shots.proofs.part.pass_left.Goals as goal
 
 pub pass_steps-requires-clause-fits : goal.pass_steps-requires-clause-fits
 pass_steps-requires-clause-fits g c =
