@@ -1,13 +1,13 @@
 //! The coins that decide, and the steps at which they do.
-ghost use Rattle.std.specs.Prelude.{◌≡◌, ◌++◌, ◌∷◌, [], All, drop, length, map, slice_index_or, take, if◌then◌else◌, false, None, IfOk, IfErr, OnOk};
+ghost use Rattle.std.specs.Prelude.{◌≡◌, ◌+◌, ◌<◌, ◌^◌, ◌++◌, ◌∷◌, [], All, drop, length, map, slice_index_or, take, if◌then◌else◌, false, None, IfOk, IfErr, OnOk};
 ghost use Rattle.stab_io.specs.declared.refusal.Refusal.TheVariants.{OutOfMemory};
 ghost use Rattle.stab_circuit.specs.Steps.{check_of, unroll};
-ghost use Rattle.stab_circuit.specs.Cursors.{steps_shown, step_shown, IsApart};
+ghost use Rattle.stab_circuit.specs.Cursors.{step_shown, IsApart};
 ghost use Rattle.stab_circuit.specs.Views.{circuit_items};
 ghost use Rattle.stab_run.specs.Points.{all_coins_of, coins_of};
 ghost use Rattle.stab_results.specs.Formats.{one_places, one_places_from};
 ghost use Rattle.stab_coins.specs.Places.{step_of_coin};
-ghost use Rattle.stab_coins.specs.inner.Groups.{TakeCoins};
+ghost use Rattle.stab_coins.specs.inner.Groups.{coins_together};
 
 use stab_circuit::{Circuit, Cursor, Step, Steps};
 use stab_io::Refusal;
@@ -37,7 +37,7 @@ fn coins_of(step: Step) -> usize
 
 /// How many coins steps take that are given together: each of them one, or none takes any.
 fn coins_of_all(steps: Steps) -> usize
-    ensures value { TakeCoins (steps_shown steps.entry) result }
+    ensures value { result ≡ coins_together steps.entry }
 {
     match steps {
         Steps::Measurements(_, targets) => targets.len(),

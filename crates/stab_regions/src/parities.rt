@@ -73,7 +73,11 @@ impl Parities {
     {
         let most = self.numbers.len() + others.numbers.len();
         let mut numbers = Vec::with_capacity(alloc, most)?;
-        merge_into(&mut numbers, self.numbers.as_slice(), others.numbers.as_slice())?;
+        merge_into(
+            &mut numbers,
+            self.numbers.as_slice(),
+            others.numbers.as_slice(),
+        )?;
         Ok(Parities { numbers })
     }
 

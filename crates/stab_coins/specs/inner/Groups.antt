@@ -1,11 +1,15 @@
 -- Groups: how many coins steps take that are given together.
 -- Source: this project's own.
-use Rattle.std.specs.Prelude.{◌≡◌, ◌⊎◌, ◌×◌, ℕ, List, All, length}
-use Rattle.stab_circuit.specs.Steps.{Step}
+use Rattle.std.specs.Prelude.{ℕ, length}
+use Rattle.stab_circuit.specs.declared.steps.Steps.{Steps}
+use Rattle.stab_circuit.specs.declared.steps.Steps.TheVariants.{Gates, Pairs, Measurements, Detectors, Single}
+use Rattle.stab_circuit.specs.Cursors.{step_shown}
 use Rattle.stab_run.specs.Points.{coins_of}
 
--- steps take this many coins: each of them one, or none takes any
-abbrev pub TakeCoins : List Step → ℕ → Type 0
-TakeCoins xs count =
-    (All (λ x. coins_of x ≡ 0) xs × (count ≡ 0))
-    ⊎ (All (λ x. coins_of x ≡ 1) xs × (count ≡ length xs))
+-- how many coins steps take: each of some measurements takes one
+abbrev pub coins_together : Steps → ℕ
+coins_together (Gates g qubits) = 0
+coins_together (Pairs axis pairs) = 0
+coins_together (Measurements m targets) = length targets.now
+coins_together (Detectors ds) = 0
+coins_together (Single step) = coins_of (step_shown step)
