@@ -1,10 +1,18 @@
 -- Places of coins: those that flags show, one after another, and the steps that take them.
-use Rattle.std.proofs.Common.{◌≡◌, ℕ, zero, suc, ◌+◌, ◌-◌, ◌<◌, ◌≤◌, ◌==◌, refl, sym, ◌∙◌, ap, subst, Bool, true, false, ◌&&◌, nat_lt, List, [], ◌∷◌, ◌++◌, append-nil, length, take, drop, map, get_or, arith}
-use Rattle.std.specs.Prelude.{if◌then◌else◌}
+use Rattle.std.proofs.Common.{◌≡◌, ℕ, zero, suc, ◌+◌, ◌-◌, ◌<◌, ◌≤◌, ◌==◌, refl, sym, ◌∙◌, ap, ap₂, subst, Bool, true, false, ◌&&◌, nat_lt, List, [], ◌∷◌, ◌++◌, append-nil, append_assoc, length, take, drop, map, get_or, inl, inr, arith}
+use Rattle.std.specs.Prelude.{if◌then◌else◌, All, ◌⊎◌}
 use Rattle.std.proofs.lemmas.Bool.Decides.{nat_tests}
-use Rattle.std.proofs.lemmas.List.{length-append, map-append, length-drop, take_all}
+use Rattle.std.proofs.lemmas.List.{length-append, length-map, map-append, length-drop, length-take, take_all}
+use lib.Seq.{take-nil, get_or-drop}
+use Rattle.std.proofs.lemmas.List.Elements.{All-nil, All-cons, All-head, All-tail, All-map}
 use Rattle.stab_circuit.specs.Items.{Items}
-use Rattle.stab_circuit.specs.Steps.{Step, unroll, observables_of}
+use Rattle.stab_circuit.specs.Steps.{Step, one, detector, measured, controlled_step, unroll, observables_of}
+use Rattle.stab_circuit.specs.declared.steps.Steps.{Steps}
+use Rattle.stab_circuit.specs.declared.steps.Steps.TheVariants.{Gates, Pairs, Measurements, Detectors, Single}
+use Rattle.stab_circuit.specs.Cursors.{step_shown, steps_shown, lookbacks_of}
+use Rattle.stab_lines.specs.declared.axis.Axis.{Axis}
+use Rattle.stab_lines.specs.declared.control.ControlledPair.{ControlledPair}
+use Rattle.stab_lines.specs.declared.control.ControlledPair.TheVariants as pair
 use Rattle.stab_run.specs.Runs.{State, start, run_of}
 use Rattle.stab_run.specs.Points.{Point, origin, coins_of, all_coins_of, given, next_point, outputs}
 use Rattle.stab_laws.proofs.StateLemmas.{run-state}
@@ -16,6 +24,7 @@ use Rattle.stab_shots.specs.Units.{AreAscending, unit_coin}
 use Rattle.stab_shots.proofs.RecordingLemmas.{run-items}
 use Rattle.stab_coins.specs.Coins.{turned, zero_coins}
 use Rattle.stab_coins.specs.Places.{steps_before_coin, step_of_coin}
+use Rattle.stab_coins.specs.inner.Groups.{coins_together}
 
 -- the places of 1 bits
 
@@ -49,33 +58,33 @@ places-ascend place (true ∷ bits) (suc i) (suc j) lt within = places-ascend (p
 pub ascending : (bits : List Bool) → AreAscending (one_places bits)
 ascending bits = places-ascend 0 bits
 
-get_or-drop : (xs : List ℕ) (k i : ℕ) → get_or (drop k xs) i 0 ≡ get_or xs (k + i) 0
-get_or-drop xs zero i = ap (λ m. get_or xs m 0) (omega arith)
-get_or-drop [] (suc k) i = refl
-get_or-drop (x ∷ xs) (suc k) i = get_or-drop xs k i ∙ ap (λ m. get_or (x ∷ xs) m 0) {x = suc (k + i)} {y = suc k + i} (omega arith)
+number-drop : (xs : List ℕ) (k i : ℕ) → get_or (drop k xs) i 0 ≡ get_or xs (k + i) 0
+number-drop xs zero i = ap (λ m. get_or xs m 0) (omega arith)
+number-drop [] (suc k) i = refl
+number-drop (x ∷ xs) (suc k) i = number-drop xs k i ∙ ap (λ m. get_or (x ∷ xs) m 0) {x = suc (k + i)} {y = suc k + i} (omega arith)
 
 pub ascending-rest : (numbers : List ℕ) (k : ℕ) → AreAscending numbers → AreAscending (drop k numbers)
 ascending-rest numbers k up i j lt within =
     subst (λ x. x)
-    (λ r. sym (get_or-drop numbers k i) r < sym (get_or-drop numbers k j) r)
+    (λ r. sym (number-drop numbers k i) r < sym (number-drop numbers k j) r)
     (up (k + i) (k + j) (omega (arith, lt)) (omega (arith, within, length-drop k numbers)))
 
 pub at-rest : (numbers : List ℕ) (k l : ℕ) → get_or (drop k numbers) l 0 ≡ get_or numbers (k + l) 0
-at-rest numbers k l = get_or-drop numbers k l
+at-rest numbers k l = number-drop numbers k l
 
 -- the step that takes a coin
 
 pub step-at : (k : ℕ) (xs : List Step) (x : Step) (rest : List Step) → drop k xs ≡ x ∷ rest → coins_of x ≡ 1 → step_of_coin xs (all_coins_of (take k xs)) ≡ k
-step-at zero xs x rest e one =
+step-at zero xs x rest e takes =
     ap (λ ys. step_of_coin ys 0) e
-    ∙ ap (λ c. length (if nat_lt 0 c then [] else x ∷ steps_before_coin (0 - c) rest)) one
-step-at (suc k) [] x rest e one = absurd (cc)
-step-at (suc k) (y ∷ ys) x rest e one =
+    ∙ ap (λ c. length (if nat_lt 0 c then [] else x ∷ steps_before_coin (0 - c) rest)) takes
+step-at (suc k) [] x rest e takes = absurd (cc)
+step-at (suc k) (y ∷ ys) x rest e takes =
     let c = coins_of y in
     let r = all_coins_of (take k ys) in
     ap (λ b. length (if b then [] else y ∷ steps_before_coin ((c + r) - c) ys)) (not_less c r)
     ∙ ap (λ m. suc (length (steps_before_coin m ys))) (minus c r)
-    ∙ ap suc (step-at k ys x rest e one)
+    ∙ ap suc (step-at k ys x rest e takes)
   where
     not_less : (c r : ℕ) → nat_lt (c + r) c ≡ false
     not_less c r = grind (arith, nat_tests)
@@ -89,10 +98,6 @@ pub record AreGathered (free : List Bool) (xs : List Step) (number coin : ℕ) (
   pub numbers_are : numbers ≡ one_places (take coin free)
   pub steps_are : steps ≡ map (step_of_coin xs) (one_places (take coin free))
 
--- whether a step's coin decides
-abbrev pub decides : List Bool → Step → ℕ → Bool
-decides free x coin = (coins_of x == 1) && get_or free coin false
-
 coins-more : (k : ℕ) (xs : List Step) (x : Step) (rest : List Step) → drop k xs ≡ x ∷ rest → all_coins_of (take (suc k) xs) ≡ all_coins_of (take k xs) + coins_of x
 coins-more zero xs x rest e = ap (λ ys. all_coins_of (take 1 ys)) e ∙ omega arith
 coins-more (suc k) [] x rest e = absurd (cc)
@@ -101,56 +106,145 @@ coins-more (suc k) (y ∷ ys) x rest e = let h = coins-more k ys x rest e in ome
 next : (k : ℕ) → k + 1 ≡ suc k
 next k = omega arith
 
-none : (k : ℕ) → k + 0 ≡ k
-none k = omega arith
+-- the steps after the next
 
-module _ (free : List Bool) (xs : List Step) (number coin : ℕ) (x : Step) (rest : List Step) (at : drop number xs ≡ x ∷ rest) (is : coin ≡ all_coins_of (take number xs)) where
-  places-more : (c : ℕ) → coins_of x ≡ c → c ≤ 1
-      → one_places (take (coin + coins_of x) free) ≡ one_places (take coin free) ++ (if decides free x coin then coin ∷ [] else [])
-  places-more zero e few =
-      ap (λ c. one_places (take (coin + c) free)) e
-      ∙ ap (λ k. one_places (take k free)) (none coin)
-      ∙ sym (append-nil (one_places (take coin free)))
-      ∙ ap (λ c. one_places (take coin free) ++ (if (c == 1) && get_or free coin false then coin ∷ [] else [])) (sym e)
-  places-more (suc zero) e few =
-      ap (λ c. one_places (take (coin + c) free)) e
-      ∙ ap (λ k. one_places (take k free)) (next coin)
-      ∙ places-next 0 free coin
-      ∙ ap (λ k. one_places (take coin free) ++ (if get_or free coin false then k ∷ [] else [])) {x = 0 + coin} {y = coin} (omega arith)
-      ∙ ap (λ c. one_places (take coin free) ++ (if (c == 1) && get_or free coin false then coin ∷ [] else [])) (sym e)
-  places-more (suc (suc c)) e few = absurd (omega (arith, few))
+drop-suc : (k : ℕ) (xs : List Step) (x : Step) (rest : List Step) → drop k xs ≡ x ∷ rest → drop (suc k) xs ≡ rest
+drop-suc zero [] x rest e = absurd (cc)
+drop-suc zero (y ∷ ys) x rest e = ap (drop 1) e
+drop-suc (suc k) [] x rest e = absurd (cc)
+drop-suc (suc k) (y ∷ ys) x rest e = drop-suc k ys x rest e
 
-  step-here : (b : Bool) → decides free x coin ≡ b → map (step_of_coin xs) (if b then coin ∷ [] else []) ≡ (if b then number ∷ [] else [])
-  step-here false e = refl
-  step-here true e = ap (λ k. k ∷ []) (ap (step_of_coin xs) is ∙ step-at number xs x rest at (takes (coins_of x) refl (coins-one x)))
-    where
-      takes : (c : ℕ) → coins_of x ≡ c → c ≤ 1 → coins_of x ≡ 1
-      takes zero none' few =
-          let not' : false ≡ true = ap (λ c. (c == 1) && get_or free coin false) (sym none') ∙ e in
-          absurd (cc)
-      takes (suc zero) one few = one
-      takes (suc (suc c)) many few = absurd (omega (arith, few))
+drop-next : (k : ℕ) (xs : List Step) (x : Step) (rest : List Step) → drop k xs ≡ x ∷ rest → drop (k + 1) xs ≡ rest
+drop-next k xs x rest e = ap (λ m. drop m xs) (next k) ∙ drop-suc k xs x rest e
 
-  gathered-next : (numbers steps more further : List ℕ) → AreGathered free xs number coin numbers steps
-      → more ≡ numbers ++ (if decides free x coin then coin ∷ [] else []) → further ≡ steps ++ (if decides free x coin then number ∷ [] else [])
-      → AreGathered free xs (number + 1) (coin + coins_of x) more further
-  gathered-next numbers steps more further are puts goes =
-      let places = places-more (coins_of x) refl (coins-one x) in
-      record {
-        coin_is = ap (λ k. k + coins_of x) is ∙ sym (coins-more number xs x rest at) ∙ ap (λ k. all_coins_of (take k xs)) (sym (next number));
-        numbers_are = puts ∙ ap (λ l. l ++ (if decides free x coin then coin ∷ [] else [])) are.numbers_are ∙ sym places;
-        steps_are =
-            goes
-            ∙ (λ i. are.steps_are i ++ sym (step-here (decides free x coin) refl) i)
-            ∙ sym (map-append (step_of_coin xs) (one_places (take coin free)) (if decides free x coin then coin ∷ [] else []))
-            ∙ ap (map (step_of_coin xs)) (sym places);
-      }
+-- those after a group of steps
+pub drop-group : (k : ℕ) (xs ys rest : List Step) → drop k xs ≡ ys ++ rest → drop (k + length ys) xs ≡ rest
+drop-group k xs [] rest e = ap (λ m. drop m xs) {x = k + 0} {y = k} (omega arith) ∙ e
+drop-group k xs (y ∷ ys) rest e =
+    ap (λ m. drop m xs) {x = k + suc (length ys)} {y = k + 1 + length ys} (omega arith)
+    ∙ drop-group (k + 1) xs ys rest (drop-next k xs y (ys ++ rest) e)
 
-  pub gathered-with : (k : ℕ) → k ≡ coins_of x → (numbers steps more further : List ℕ) → AreGathered free xs number coin numbers steps
-      → more ≡ numbers ++ (if decides free x coin then coin ∷ [] else []) → further ≡ steps ++ (if decides free x coin then number ∷ [] else [])
-      → AreGathered free xs (number + 1) (coin + k) more further
-  gathered-with k e numbers steps more further are puts goes =
-      subst (λ m. AreGathered free xs (number + 1) (coin + m) more further) (sym e) (gathered-next numbers steps more further are puts goes)
+coins-after : (k : ℕ) (xs ys rest : List Step) → drop k xs ≡ ys ++ rest → all_coins_of (take (k + length ys) xs) ≡ all_coins_of (take k xs) + all_coins_of ys
+coins-after k xs [] rest e = ap (λ m. all_coins_of (take m xs)) {x = k + 0} {y = k} (omega arith) ∙ omega arith
+coins-after k xs (y ∷ ys) rest e =
+    ap (λ m. all_coins_of (take m xs)) {x = k + suc (length ys)} {y = k + 1 + length ys} (omega arith)
+    ∙ coins-after (k + 1) xs ys rest (drop-next k xs y (ys ++ rest) e)
+    ∙ ap (λ c. c + all_coins_of ys) (ap (λ m. all_coins_of (take m xs)) (next k) ∙ coins-more k xs y (ys ++ rest) e)
+    ∙ omega arith
+
+-- how many coins a group takes: each step one, or none any
+abbrev pub TakeCoins : List Step → ℕ → Type 0
+TakeCoins xs count =
+    (All (λ x. coins_of x ≡ 0) xs × (count ≡ 0))
+    ⊎ (All (λ x. coins_of x ≡ 1) xs × (count ≡ length xs))
+
+pub together : (steps : Steps) → TakeCoins (steps_shown steps) (coins_together steps)
+together (Gates g qubits) = inl (All-map (λ x. coins_of x ≡ 0) (one g) qubits.now (λ k d less. refl), refl)
+together (Pairs axis pairs) = inl (All-map (λ x. coins_of x ≡ 0) (controlled_step axis) pairs.now (λ k d less. by-pair axis _), refl)
+  where
+    by-pair : (axis : Axis) (p : ControlledPair) → coins_of (controlled_step axis p) ≡ 0
+    by-pair axis (pair.Qubits p) = refl
+    by-pair axis (pair.Record q k) = refl
+together (Measurements m targets) = inr (All-map (λ x. coins_of x ≡ 1) (measured m) targets.now (λ k d less. refl), sym (length-map targets.now (measured m)))
+together (Detectors ds) = inl (All-map (λ x. coins_of x ≡ 0) detector (lookbacks_of ds) (λ k d less. refl), refl)
+together (Single step) = by (coins_of (step_shown step)) refl (coins-one (step_shown step))
+  where
+    by : (c : ℕ) → coins_of (step_shown step) ≡ c → c ≤ 1 → TakeCoins (step_shown step ∷ []) (coins_of (step_shown step))
+    by zero e few = inl (All-cons (λ x. coins_of x ≡ 0) (step_shown step) [] e (All-nil (λ x. coins_of x ≡ 0)), e)
+    by (suc zero) e few = inr (All-cons (λ x. coins_of x ≡ 1) (step_shown step) [] e (All-nil (λ x. coins_of x ≡ 1)), e)
+    by (suc (suc c)) e few = absurd (omega (arith, few))
+
+coins-none : (ys : List Step) → All (λ x. coins_of x ≡ 0) ys → all_coins_of ys ≡ 0
+coins-none [] none = refl
+coins-none (y ∷ ys) none = ap₂ (λ a b. a + b) (All-head (λ x. coins_of x ≡ 0) y ys none) (coins-none ys (All-tail (λ x. coins_of x ≡ 0) y ys none))
+
+coins-each : (ys : List Step) → All (λ x. coins_of x ≡ 1) ys → all_coins_of ys ≡ length ys
+coins-each [] each = refl
+coins-each (y ∷ ys) each =
+    let first = All-head (λ x. coins_of x ≡ 1) y ys each in
+    let later = coins-each ys (All-tail (λ x. coins_of x ≡ 1) y ys each) in
+    omega (arith, first, later)
+
+-- the places of 1 bits in two parts
+in-parts : (c place k : ℕ) (bits : List Bool) → one_places_from place (take (k + c) bits) ≡ one_places_from place (take k bits) ++ one_places_from (place + k) (take c (drop k bits))
+in-parts c place zero bits =
+    ap (λ m. one_places_from place (take m bits)) {x = 0 + c} {y = c} (omega arith)
+    ∙ ap (λ p. one_places_from p (take c bits)) {x = place} {y = place + 0} (omega arith)
+in-parts c place (suc k) [] =
+    ap (λ m. one_places_from place (take m [])) {x = suc k + c} {y = suc (k + c)} (omega arith)
+    ∙ sym (ap (one_places_from (place + suc k)) (take-nil c))
+in-parts c place (suc k) (false ∷ bits) =
+    ap (λ m. one_places_from place (take m (false ∷ bits))) {x = suc k + c} {y = suc (k + c)} (omega arith)
+    ∙ in-parts c (place + 1) k bits
+    ∙ ap (λ p. one_places_from (place + 1) (take k bits) ++ one_places_from p (take c (drop k bits))) {x = place + 1 + k} {y = place + suc k} (omega arith)
+in-parts c place (suc k) (true ∷ bits) =
+    ap (λ m. one_places_from place (take m (true ∷ bits))) {x = suc k + c} {y = suc (k + c)} (omega arith)
+    ∙ ap (λ l. place ∷ l)
+    (in-parts c (place + 1) k bits
+    ∙ ap (λ p. one_places_from (place + 1) (take k bits) ++ one_places_from p (take c (drop k bits))) {x = place + 1 + k} {y = place + suc k} (omega arith))
+
+-- no more than one a step
+pub few-together : (steps : Steps) → coins_together steps ≤ length (steps_shown steps)
+few-together steps = by (together steps)
+  where
+    by : TakeCoins (steps_shown steps) (coins_together steps) → coins_together steps ≤ length (steps_shown steps)
+    by (inl (none, e)) = omega (arith, e)
+    by (inr (each, e)) = omega (arith, e)
+
+-- one more of the bits from a place on
+pub places-put : (start before after : List ℕ) (place at k : ℕ) (bits : List Bool) (here : Bool) → before ≡ start ++ one_places_from place (take k (drop at bits)) → here ≡ get_or bits (at + k) false
+    → after ≡ before ++ (if here then (place + k) ∷ [] else []) → after ≡ start ++ one_places_from place (take (k + 1) (drop at bits))
+places-put start before after place at k bits here is shows puts =
+    puts
+    ∙ (λ i. is i ++ (if (shows ∙ sym (get_or-drop at bits k false)) i then (place + k) ∷ [] else []))
+    ∙ append_assoc start (one_places_from place (take k (drop at bits))) (if get_or (drop at bits) k false then (place + k) ∷ [] else [])
+    ∙ ap (λ l. start ++ l) (sym (places-next place (drop at bits) k) ∙ ap (λ m. one_places_from place (take m (drop at bits))) (sym (next k)))
+
+-- the steps of a group that take the coins of 1 bits, if each takes one
+steps-taking : (xs ys rest : List Step) (number coin : ℕ) → drop number xs ≡ ys ++ rest → All (λ x. coins_of x ≡ 1) ys → coin ≡ all_coins_of (take number xs)
+    → (bits : List Bool) → length bits ≤ length ys → map (step_of_coin xs) (one_places_from coin bits) ≡ one_places_from number bits
+steps-taking xs ys rest number coin at each is [] few = refl
+steps-taking xs [] rest number coin at each is (b ∷ bits) few = absurd (omega (arith, few))
+steps-taking xs (y ∷ ys) rest number coin at each is (b ∷ bits) few =
+    by b
+    (steps-taking xs ys rest (number + 1) (coin + 1) (drop-next number xs y (ys ++ rest) at) (All-tail (λ x. coins_of x ≡ 1) y ys each)
+    ((λ i. is i + sym takes i) ∙ sym (coins-more number xs y (ys ++ rest) at) ∙ ap (λ m. all_coins_of (take m xs)) (sym (next number))) bits (omega (arith, few)))
+  where
+    takes : coins_of y ≡ 1
+    takes = All-head (λ x. coins_of x ≡ 1) y ys each
+
+    by : (b : Bool) → map (step_of_coin xs) (one_places_from (coin + 1) bits) ≡ one_places_from (number + 1) bits
+        → map (step_of_coin xs) (one_places_from coin (b ∷ bits)) ≡ one_places_from number (b ∷ bits)
+    by false later = later
+    by true later = ap₂ (λ k l. k ∷ l) (ap (step_of_coin xs) is ∙ step-at number xs y (ys ++ rest) at takes) later
+
+places-append : (k c : ℕ) (bits : List Bool) → one_places (take (k + c) bits) ≡ one_places (take k bits) ++ one_places_from k (take c (drop k bits))
+places-append k c bits = in-parts c 0 k bits ∙ ap (λ p. one_places (take k bits) ++ one_places_from p (take c (drop k bits))) {x = 0 + k} {y = k} (omega arith)
+
+-- what is gathered after a group of steps
+pub gathered-group : (free : List Bool) (xs ys rest : List Step) (number coin count : ℕ) (numbers steps more further : List ℕ) → drop number xs ≡ ys ++ rest → TakeCoins ys count
+    → AreGathered free xs number coin numbers steps → more ≡ numbers ++ one_places_from coin (take count (drop coin free)) → further ≡ steps ++ one_places_from number (take count (drop coin free))
+    → AreGathered free xs (number + length ys) (coin + count) more further
+gathered-group free xs ys rest number coin count numbers steps more further at (inl (none, zero')) are puts goes = record {
+  coin_is = ap₂ (λ a b. a + b) are.coin_is (zero' ∙ sym (coins-none ys none)) ∙ sym (coins-after number xs ys rest at);
+  numbers_are = puts ∙ ap (λ l. l ++ one_places_from coin (take count (drop coin free))) are.numbers_are ∙ sym (places-append coin count free);
+  steps_are =
+      goes
+      ∙ ap (λ c. steps ++ one_places_from number (take c (drop coin free))) zero'
+      ∙ append-nil steps
+      ∙ are.steps_are
+      ∙ ap (λ c. map (step_of_coin xs) (one_places (take c free))) {x = coin} {y = coin + count} (omega (arith, zero'));
+}
+gathered-group free xs ys rest number coin count numbers steps more further at (inr (each, all)) are puts goes = record {
+  coin_is = ap₂ (λ a b. a + b) are.coin_is (all ∙ sym (coins-each ys each)) ∙ sym (coins-after number xs ys rest at);
+  numbers_are = puts ∙ ap (λ l. l ++ one_places_from coin (take count (drop coin free))) are.numbers_are ∙ sym (places-append coin count free);
+  steps_are =
+      goes
+      ∙ ap₂ (λ a b. a ++ b) are.steps_are
+      (sym (steps-taking xs ys rest number coin at each are.coin_is (take count (drop coin free)) (omega (arith, all, length-take count (drop coin free)))))
+      ∙ sym (map-append (step_of_coin xs) (one_places (take coin free)) (one_places_from coin (take count (drop coin free))))
+      ∙ ap (map (step_of_coin xs)) (sym (places-append coin count free));
+}
 
 -- all are gathered when no step is left
 pub gathered-all : (free : List Bool) (xs : List Step) (number coin : ℕ) (numbers steps : List ℕ) → drop number xs ≡ [] → length free ≡ all_coins_of xs
@@ -198,22 +292,11 @@ flags-of-run n coins items =
     (sym (run-items n coins items (unroll items) (observables_of items) refl refl) ∙ run-state n coins (unroll items) (start (observables_of items)))
     ∙ flags-counted n coins (unroll items) origin
 
--- the steps after the next
-
-drop-suc : (k : ℕ) (xs : List Step) (x : Step) (rest : List Step) → drop k xs ≡ x ∷ rest → drop (suc k) xs ≡ rest
-drop-suc zero [] x rest e = absurd (cc)
-drop-suc zero (y ∷ ys) x rest e = ap (drop 1) e
-drop-suc (suc k) [] x rest e = absurd (cc)
-drop-suc (suc k) (y ∷ ys) x rest e = drop-suc k ys x rest e
-
-pub drop-next : (k : ℕ) (xs : List Step) (x : Step) (rest : List Step) → drop k xs ≡ x ∷ rest → drop (k + 1) xs ≡ rest
-drop-next k xs x rest e = ap (λ m. drop m xs) (next k) ∙ drop-suc k xs x rest e
-
 -- the coin that is 1 in a lane
 pub unit-turned : (numbers : List ℕ) (first l s : ℕ) → first + l < length numbers
     → unit_coin (drop first numbers) l s ≡ turned (get_or numbers (first + l) 0) zero_coins s
 unit-turned numbers first l s within =
-    (λ i. is_less i && ((get_or-drop numbers first l i) == s))
+    (λ i. is_less i && ((number-drop numbers first l i) == s))
     ∙ either (get_or numbers (first + l) 0) s
     ∙ sym (parity-false (s == get_or numbers (first + l) 0))
   where

@@ -3,3 +3,4 @@ pub mod Tables
 pub mod CoinLaws
 pub mod Places
 pub mod Runs
+pub mod inner

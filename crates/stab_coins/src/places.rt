@@ -1,16 +1,20 @@
 //! The coins that decide, and the steps at which they do.
-ghost use Rattle.std.specs.Prelude.{◌≡◌, ◌==◌, ◌&&◌, ◌++◌, ◌∷◌, [], All, length, map, slice_index_or, if◌then◌else◌, false, None, IfOk, IfErr, OnOk};
+ghost use Rattle.std.specs.Prelude.{◌≡◌, ◌+◌, ◌<◌, ◌^◌, ◌++◌, ◌∷◌, [], All, drop, length, map, slice_index_or, take, if◌then◌else◌, false, None, IfOk, IfErr, OnOk};
 ghost use Rattle.stab_io.specs.declared.refusal.Refusal.TheVariants.{OutOfMemory};
 ghost use Rattle.stab_circuit.specs.Steps.{check_of, unroll};
 ghost use Rattle.stab_circuit.specs.Cursors.{step_shown, IsApart};
 ghost use Rattle.stab_circuit.specs.Views.{circuit_items};
 ghost use Rattle.stab_run.specs.Points.{all_coins_of, coins_of};
-ghost use Rattle.stab_results.specs.Formats.{one_places};
+ghost use Rattle.stab_results.specs.Formats.{one_places, one_places_from};
 ghost use Rattle.stab_coins.specs.Places.{step_of_coin};
+ghost use Rattle.stab_coins.specs.inner.Groups.{coins_together};
 
-use stab_circuit::{Circuit, Cursor, Step};
+use stab_circuit::{Circuit, Cursor, Step, Steps};
 use stab_io::Refusal;
 use std::alloc::{AllocError, Global};
+
+/// How many steps are passed together at most: as many as are given together.
+const MOST_TOGETHER: usize = usize::MAX;
 
 /// The coins that decide, in order.
 #[derive(Drop)]
@@ -31,18 +35,22 @@ fn coins_of(step: Step) -> usize
     }
 }
 
+/// How many coins steps take that are given together: each of them one, or none takes any.
+fn coins_of_all(steps: Steps) -> usize
+    ensures value { result ≡ coins_together steps.entry }
+{
+    match steps {
+        Steps::Measurements(_, targets) => targets.len(),
+        Steps::Single(step) => coins_of(step),
+        Steps::Gates(..) | Steps::Pairs(..) | Steps::Detectors(_) => 0,
+    }
+}
+
 /// Whether the coin of a number decides.
 fn is_free(free: &[bool], coin: usize) -> bool
     ensures value { result ≡ slice_index_or free.now coin false }
 {
     free.get(coin).copied().unwrap_or(false)
-}
-
-/// Whether the coin of a number decides, which is the next coin if a step takes this many.
-fn decides(coins: usize, free: &[bool], coin: usize) -> bool
-    ensures value { result ≡ ((coins == 1) && slice_index_or free.now coin false) }
-{
-    coins == 1 && is_free(free, coin)
 }
 
 /// Puts a number after others, if it is to be put.
@@ -53,6 +61,29 @@ fn push_if<T: Copy + Drop>(numbers: &mut Vec<T>, here: bool, number: T) -> Resul
         numbers.push(number)?;
     }
     Ok(())
+}
+
+impl CoinPlaces {
+    /// Puts those of the next coins after others that decide, by a flag for each coin number. Steps from a number on take one of them each.
+    fn push(
+        &mut self,
+        free: &[bool],
+        coin: usize,
+        number: usize,
+        count: usize,
+    ) -> Result<(), AllocError>
+        requires few_coins { coin + count < 2 ^ 63 }
+        requires few_steps { number + count < 2 ^ 63 }
+        ensures numbers { OnOk result (self.new.numbers.items ≡ self.old.numbers.items ++ one_places_from coin (take count (drop coin free.now))) }
+        ensures steps { OnOk result (self.new.steps.items ≡ self.old.steps.items ++ one_places_from number (take count (drop coin free.now))) }
+    {
+        for taken in 0..count {
+            let here = is_free(free, coin + taken);
+            push_if(&mut self.numbers, here, (coin + taken) as u64)?;
+            push_if(&mut self.steps, here, number + taken)?;
+        }
+        Ok(())
+    }
 }
 
 /// The coins of a circuit that decide, by a flag for each of its coin numbers.
@@ -68,18 +99,18 @@ pub(crate) fn coin_places(
     ensures apart { IfOk result (λ p. All IsApart (unroll (circuit_items circuit.now))) }
     ensures err { IfErr result (λ r. r ≡ OutOfMemory) }
 {
-    let mut numbers = Vec::new(alloc);
-    let mut steps = Vec::new(alloc);
+    let mut places = CoinPlaces {
+        numbers: Vec::new(alloc),
+        steps: Vec::new(alloc),
+    };
     let mut cursor = Cursor::at(alloc, circuit, 0)?;
     let mut coin = 0;
     let mut number = 0;
-    'steps: while let Some(step) = cursor.next() {
-        let coins = coins_of(step);
-        let here = decides(coins, free, coin);
-        push_if(&mut numbers, here, coin as u64)?;
-        push_if(&mut steps, here, number)?;
+    'steps: while let Some(steps) = cursor.next_steps(MOST_TOGETHER) {
+        let coins = coins_of_all(steps);
+        places.push(free, coin, number, coins)?;
         coin += coins;
-        number += 1;
+        number += steps.len();
     }
-    Ok(CoinPlaces { numbers, steps })
+    Ok(places)
 }

@@ -13,7 +13,6 @@ use Rattle.stab_tableau.proofs.OneLetterLemmas.{one_letter-anticommute}
 use Rattle.stab_circuit.specs.Items.{Items}
 use Rattle.stab_circuit.specs.Steps.{unroll, detectors_of}
 use Rattle.stab_run.specs.ProgramStates.{StepFits}
-use Rattle.stab_regions.specs.Ascending.{AscendsFrom as Ascends}
 use Rattle.stab_regions.specs.Rows.{odd, row, bits_at}
 use Rattle.stab_regions.specs.Parities.{parity_region}
 use Rattle.stab_regions.specs.Faults.{FaultPlace, in_front, fault_on, faults_of, fault_at, numbers_where, bits_in, IsSure, IsFaultTable, flips, flipped}
@@ -22,8 +21,6 @@ use Rattle.stab_regions.proofs.ShowLemmas.{bits-letter}
 use Rattle.stab_regions.proofs.MoveLemmas.{long-parity}
 use Rattle.stab_regions.proofs.AscentLemmas.{ascending-is, ascends-below, where-same}
 use Rattle.stab_regions.proofs.FaultSumLemmas.{fault-fits, odd-where, row-names}
-use Rattle.stab_distance.specs.Ascending.{AscendsFrom}
-use Rattle.stab_distance.specs.Tables.{odd as names}
 use Rattle.stab_errors.specs.Errors.{faults_in}
 use Rattle.stab_errors.specs.Placed.{letter_at, fault_shown, error_shown}
 use Rattle.stab_errors.specs.ErrorTables.{IsErrorTable, flip_together, flipped_by}
@@ -34,16 +31,6 @@ use Rattle.stab_errors.specs.declared.placed.PlacedLetter.{PlacedLetter}
 use Rattle.stab_errors.specs.declared.placed.Error.{Error as ErrorValue}
 use Rattle.stab_errors.specs.declared.placed.Error.TheVariants as error
 use Rattle.stab_errors.proofs.FitLemmas.{Fits, errors-add}
-
--- lists, and rows that two crates say in the same words
-
-pub names-odd : (i : ℕ) (ks : List ℕ) → names i ks ≡ odd i ks
-names-odd i [] = refl
-names-odd i (k ∷ ks) = ap (λ b. (k == i) ⊕ b) (names-odd i ks)
-
-ascends-same : (m : ℕ) (ks : List ℕ) → AscendsFrom m ks → Ascends m ks
-ascends-same m [] a = a
-ascends-same m (k ∷ ks) a = (a.0, ascends-same (k + 1) ks a.1)
 
 -- the first after this many
 pub dropped-first : {A : Type 0} (k : ℕ) (xs : List A) (x d : A) (rest : List A) → drop k xs ≡ x ∷ rest → (k < length xs) × (slice_index_or xs k d ≡ x)
@@ -209,18 +196,18 @@ module _ (n : ℕ) (everywhere : Bool) (items : Items) (sure : List Bool) (rows 
     tells : (m : ℕ) → m < bits_in items → (b : Bool) → slice_index_or sure m false ≡ b
         → odd m r ≡ (slice_index_or sure m false && flip_together n items coins (faults_in (error_shown e)) m)
     tells m inside true e_sure =
-        sym (names-odd m r) ∙ is.value m ∙ sym (error-flips m inside ((table.are_sure.exact m inside).0 e_sure) coins e stands)
+        is.value m ∙ sym (error-flips m inside ((table.are_sure.exact m inside).0 e_sure) coins e stands)
         ∙ sym (set (slice_index_or sure m false) (flip_together n items coins (faults_in (error_shown e)) m) e_sure)
     tells m inside false e_sure =
-        sym (names-odd m r) ∙ is.value m ∙ error-without m (λ t. e_sure) e
+        is.value m ∙ error-without m (λ t. e_sure) e
         ∙ sym (unset (slice_index_or sure m false) (flip_together n items coins (faults_in (error_shown e)) m) e_sure)
 
     past : (m : ℕ) → bits_in items ≤ m → odd m r ≡ false
-    past m ge = sym (names-odd m r) ∙ is.value m ∙ error-without m (λ inside. absurd (omega (arith, inside, ge))) e
+    past m ge = is.value m ∙ error-without m (λ inside. absurd (omega (arith, inside, ge))) e
 
     row-is : r ≡ flipped_by n items sure coins (error_shown e)
     row-is =
-        ascending-is (bits_in items) 0 r (ascends-below 0 (0 + bits_in items) r (ascends-same 0 r is.ascending) (λ m ge. past m (omega (arith, ge))))
+        ascending-is (bits_in items) 0 r (ascends-below 0 (0 + bits_in items) r is.ascending (λ m ge. past m (omega (arith, ge))))
         ∙ where-same (λ m. odd m r) (λ m. slice_index_or sure m false && flip_together n items coins (faults_in (error_shown e)) m) 0 (bits_in items)
         (λ m ge inside. tells m (omega (arith, inside)) (slice_index_or sure m false) refl)
 

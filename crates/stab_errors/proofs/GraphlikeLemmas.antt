@@ -10,7 +10,7 @@ use Rattle.stab_circuit.specs.Items.{Items}
 use Rattle.stab_regions.specs.Faults.{bits_in, IsSure}
 use Rattle.stab_distance.specs.declared.answer.Answer.{Answer}
 use Rattle.stab_distance.specs.declared.answer.Answer.TheVariants.{Least, NoneWithin, NoneAtAll}
-use Rattle.stab_distance.specs.Tables.{odd as names, row}
+use Rattle.stab_distance.specs.Tables.{odd, row}
 use Rattle.stab_distance.specs.Graphlike.{IsGraphlike, IsGraphlikeError, IsLeastGraphlike, IsGraphlikeAnswer}
 use Rattle.stab_distance.proofs.PartLemmas.{graphlike-up_to}
 use Rattle.stab_errors.specs.Errors.{Error}
@@ -33,10 +33,10 @@ module _ (n : ℕ) (items : Items) (t : ErrorTableState) (table : IsErrorTable n
 
   -- a deterministic detector that an error flips by runs is named by its row
   run-names : (coins : ℕ → Bool) (k d : ℕ) → Inside k → d < bits_in items → IsSure n items d
-      → bit_with n items coins (error_at t.errors k ∷ []) d ⊕ bit_without n items coins d ≡ names d (row rows k)
+      → bit_with n items coins (error_at t.errors k ∷ []) d ⊕ bit_without n items coins d ≡ odd d (row rows k)
   run-names coins k d less inside is_sure =
       together n items t table coins (k ∷ []) d (one k less) inside ((table.are_sure.exact d inside).1 is_sure)
-      ∙ parity-false (names d (row rows k))
+      ∙ parity-false (odd d (row rows k))
 
   pub row-two : (k : ℕ) → Inside k → Graphlike k → FlipsTwo n items (error_at t.errors k)
   row-two k less graphlike = (
@@ -54,9 +54,9 @@ module _ (n : ℕ) (items : Items) (t : ErrorTableState) (table : IsErrorTable n
       coins : ℕ → Bool
       coins = λ j. false
 
-      by_run : (d : ℕ) → d < t.table.detectors → names d (row rows k) ≡ true → (d ≡ two.0) ⊎ (d ≡ two.1)
+      by_run : (d : ℕ) → d < t.table.detectors → odd d (row rows k) ≡ true → (d ≡ two.0) ⊎ (d ≡ two.1)
       by_run d before named =
-          let is = sure-number n items t table (k ∷ []) d (one k less) (parity-false (names d (row rows k)) ∙ named) in
+          let is = sure-number n items t table (k ∷ []) d (one k less) (parity-false (odd d (row rows k)) ∙ named) in
           let is_sure = (table.are_sure.exact d is.0).0 is.1 in
           two.2 coins d (omega (arith, before, table.detectors)) is_sure
           (other-bits (bit_with n items coins (error_at t.errors k ∷ []) d) (bit_without n items coins d) (run-names coins k d less is.0 is_sure ∙ named))

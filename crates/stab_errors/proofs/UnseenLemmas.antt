@@ -12,12 +12,12 @@ use Rattle.stab_letters.specs.declared.letter.Letter.TheVariants.{I}
 use Rattle.stab_regions.specs.Rows.{odd}
 use Rattle.stab_regions.specs.Faults.{bits_in, IsSure, fault_on, in_front}
 use Rattle.stab_regions.proofs.FaultSumLemmas.{odd-where}
-use Rattle.stab_distance.specs.Tables.{odd as names, row, flips}
+use Rattle.stab_distance.specs.Tables.{row, flips}
 use Rattle.stab_distance.specs.LogicalErrors.{IsLogicalError, IsLeast, HasNoneWithin, HasNone}
 use Rattle.stab_errors.specs.Errors.{Error, letter, faults_in}
 use Rattle.stab_errors.specs.ErrorTables.{ErrorTableState, IsErrorTable, flip_together, flipped_by, flip_each}
 use Rattle.stab_errors.specs.Unseen.{AreUnseen, AreUnseenOf, AreLeastUnseen, NoneUnseen, NoneUnseenWithin, error_at, errors_at_numbers, bit_with, bit_without}
-use Rattle.stab_errors.proofs.FlipLemmas.{names-odd, odd-without, set, unset}
+use Rattle.stab_errors.proofs.FlipLemmas.{odd-without, set, unset}
 
 -- bits that differ or not
 
@@ -72,17 +72,15 @@ module _ (n : ℕ) (items : Items) (t : ErrorTableState) (table : IsErrorTable n
   -- what a row names
 
   row-names : (coins : ℕ → Bool) (k i : ℕ) → Inside k → i < bits_in items → slice_index_or t.sure i false ≡ true
-      → names i (row rows k) ≡ flip_together n items coins (faults_in (error_at t.errors k)) i
+      → odd i (row rows k) ≡ flip_together n items coins (faults_in (error_at t.errors k)) i
   row-names coins k i less inside is_sure =
-      names-odd i (row rows k)
-      ∙ ap (odd i) (row-of coins k less)
+      ap (odd i) (row-of coins k less)
       ∙ odd-where (property coins k) 0 (bits_in items) i (omega arith) (omega (arith, inside))
       ∙ set (slice_index_or t.sure i false) (flip_together n items coins (faults_in (error_at t.errors k)) i) is_sure
 
-  row-without : (k i : ℕ) → Inside k → (i < bits_in items → slice_index_or t.sure i false ≡ false) → names i (row rows k) ≡ false
+  row-without : (k i : ℕ) → Inside k → (i < bits_in items → slice_index_or t.sure i false ≡ false) → odd i (row rows k) ≡ false
   row-without k i less without =
-      names-odd i (row rows k)
-      ∙ ap (odd i) (row-of (λ j. false) k less)
+      ap (odd i) (row-of (λ j. false) k less)
       ∙ odd-without (property (λ j. false) k) (bits_in items) i
       (λ inside. unset (slice_index_or t.sure i false) (flip_together n items (λ j. false) (faults_in (error_at t.errors k)) i) (without inside))
 

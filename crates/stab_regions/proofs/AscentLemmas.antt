@@ -7,7 +7,7 @@ use Rattle.stab_letters.specs.Letters.{◌⊕◌}
 use Rattle.stab_regions.specs.Rows.{odd}
 use Rattle.stab_regions.specs.Faults.{numbers_where}
 use Rattle.stab_regions.specs.inner.StoredRows.{is_kept, kept_of}
-use Rattle.stab_regions.specs.Ascending.{AscendsFrom}
+use Rattle.stab_distance.specs.Ascending.{AscendsFrom}
 
 -- numbers ascend, from one on up to below another
 abbrev pub Ascends : (from below : ℕ) → List ℕ → Type 0

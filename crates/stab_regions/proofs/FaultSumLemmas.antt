@@ -14,7 +14,7 @@ use Rattle.stab_run.specs.ProgramStates.{StepFits}
 use Rattle.stab_regions.specs.Rows.{odd, row}
 use Rattle.stab_regions.specs.Faults.{Site, FaultPlace, in_front, fault_on, faults_on, faults_from, faults_of, sites_at, numbers_where, bits_in, IsSure, IsFaultTable, flips, flipped, fault_at, RowsAdd}
 use Rattle.stab_regions.specs.FaultLaws.{FaultFits, flips_together, FaultsAdd}
-use Rattle.stab_regions.proofs.RowLemmas.{odd-append}
+use Rattle.stab_distance.proofs.Totals.{odd-append}
 use Rattle.stab_regions.proofs.InsertedLemmas.{faults-within}
 
 -- a list of the numbers with a property names just those

@@ -3,7 +3,6 @@ mod LookRowLemmas
 mod PairLemmas
 mod MultiplyLemmas
 mod GateLemmas
-mod AscendingLemmas
 mod FactorLemmas
 mod RowLemmas
 mod SignLemmas

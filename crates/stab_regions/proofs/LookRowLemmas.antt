@@ -4,7 +4,7 @@ use Rattle.std.specs.Prelude.{◌==◌}
 use Rattle.std.proofs.Math.Seq.{take-suc}
 use Rattle.stab_letters.specs.Letters.{◌⊕◌}
 use Rattle.stab_regions.specs.Rows.{odd, ShowsLooks}
-use Rattle.stab_regions.proofs.RowLemmas.{odd-append}
+use Rattle.stab_distance.proofs.Totals.{odd-append}
 
 -- one parity alone
 

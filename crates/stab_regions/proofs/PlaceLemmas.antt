@@ -12,7 +12,7 @@ use Rattle.stab_regions.specs.declared.regions.Regions.{Regions}
 use Rattle.stab_regions.specs.Regions.{region_of, keep_region, asks_nothing, asks_observable}
 use Rattle.stab_regions.specs.Tables.{steps_before_detector, named_by}
 use Rattle.stab_regions.specs.Parities.{detectors_before, parity_region, parity_kept}
-use Rattle.stab_regions.specs.Ascending.{IsAscending}
+use Rattle.stab_distance.specs.Ascending.{IsAscending}
 use Rattle.stab_regions.specs.Rows.{odd, row, ShowsRegion}
 use Rattle.stab_regions.specs.inner.RegionsAt.{Shows, IsRegionsAt, AreFlipped, TellSure}
 use Rattle.stab_regions.proofs.FactorLemmas.{blank-at}

@@ -1,5 +1,4 @@
 pub mod Regions
-pub mod Ascending
 pub mod Rows
 pub mod Frames
 pub mod Laws

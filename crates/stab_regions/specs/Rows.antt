@@ -7,12 +7,8 @@ use Rattle.stab_letters.specs.Letters.{◌⊕◌, letters_anticommute}
 use Rattle.stab_pauli.specs.Paulis.{Signed, single}
 use Rattle.stab_tableau.specs.Gates.{letter_at}
 use Rattle.stab_circuit.specs.Steps.{Step}
+pub use Rattle.stab_distance.specs.Tables.{odd}
 use Rattle.stab_regions.specs.Regions.{Region, times_where, region_before}
-
--- whether a list names a number an odd number of times: for a list in which no number occurs twice, whether it names it
-abbrev pub odd : ℕ → List ℕ → Bool
-odd i [] = false
-odd i (k ∷ ks) = (k == i) ⊕ odd i ks
 
 -- a row; rows that are not there are empty
 abbrev pub row : List (List ℕ) → ℕ → List ℕ

@@ -1,8 +1,4 @@
-ghost use Rattle.std.specs.Prelude.{◌≡◌, ℕ, IfOk};
-ghost use Rattle.stab_letters.specs.Letters.{◌⊕◌};
-ghost use Rattle.stab_regions.specs.Ascending.{IsAscending};
-ghost use Rattle.stab_regions.specs.Rows.{odd};
-
+use stab_distance::merge_into;
 use std::alloc::{AllocError, Global};
 use std::marker::Model;
 
@@ -14,7 +10,7 @@ pub struct Parities {
 
 impl Model for Parities {
     ghost use Rattle.std.specs.Prelude.{ℕ, List};
-    ghost use Rattle.stab_regions.specs.Ascending.{IsAscending};
+    ghost use Rattle.stab_distance.specs.Ascending.{IsAscending};
 
     ghost Value = { List ℕ };
 
@@ -26,7 +22,7 @@ impl Model for Parities {
 impl Parities {
     ghost use Rattle.std.specs.Prelude.{◌≡◌, ℕ, false, [], ◌∷◌, nat_eq, length, IfOk};
     ghost use Rattle.stab_letters.specs.Letters.{◌⊕◌};
-    ghost use Rattle.stab_regions.specs.Ascending.{IsAscending};
+    ghost use Rattle.stab_distance.specs.Ascending.{IsAscending};
     ghost use Rattle.stab_regions.specs.Rows.{odd};
 
     /// None, which takes no memory.
@@ -75,7 +71,13 @@ impl Parities {
     pub fn merged(&self, alloc: Global, others: &Parities) -> Result<Parities, AllocError>
         ensures odd { IfOk result (λ p. (i : ℕ) → odd i p ≡ odd i self.now ⊕ odd i others.now) }
     {
-        let numbers = merge(alloc, self.numbers.as_slice(), others.numbers.as_slice())?;
+        let most = self.numbers.len() + others.numbers.len();
+        let mut numbers = Vec::with_capacity(alloc, most)?;
+        merge_into(
+            &mut numbers,
+            self.numbers.as_slice(),
+            others.numbers.as_slice(),
+        )?;
         Ok(Parities { numbers })
     }
 
@@ -88,32 +90,4 @@ impl Parities {
         }
         self.merged(alloc, others)
     }
-}
-
-/// The numbers of one list or the other, and not of both, in increasing order.
-fn merge(alloc: Global, left: &[u32], right: &[u32]) -> Result<Vec<u32>, AllocError>
-    requires left { IsAscending left.now }
-    requires right { IsAscending right.now }
-    ensures ascending { IfOk result (λ v. IsAscending v.items) }
-    ensures odd { IfOk result (λ v. (i : ℕ) → odd i v.items ≡ odd i left.now ⊕ odd i right.now) }
-{
-    let mut merged = Vec::with_capacity(alloc, left.len() + right.len())?;
-    let mut a = 0;
-    let mut b = 0;
-    'heads: while a < left.len() && b < right.len() {
-        let (x, y) = (left[a], right[b]);
-        if x < y {
-            merged.push(x)?;
-            a += 1;
-        } else if y < x {
-            merged.push(y)?;
-            b += 1;
-        } else {
-            a += 1;
-            b += 1;
-        }
-    }
-    merged.extend_from_slice(left.split_at(a).1)?;
-    merged.extend_from_slice(right.split_at(b).1)?;
-    Ok(merged)
 }

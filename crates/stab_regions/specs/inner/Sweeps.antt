@@ -6,7 +6,7 @@ use Rattle.stab_letters.specs.declared.letter.Letter.TheVariants as letter
 use Rattle.stab_circuit.specs.Steps.{Step, one, two, controlled, collapse, product, detector, observable, detectors_of}
 use Rattle.stab_circuit.specs.Cursors.{IsApart}
 use Rattle.stab_run.specs.ProgramStates.{StepFits}
-use Rattle.stab_regions.specs.Ascending.{IsAscending}
+use Rattle.stab_distance.specs.Ascending.{IsAscending}
 use Rattle.stab_regions.specs.Rows.{odd}
 use Rattle.stab_regions.specs.Parities.{parity_flips}
 use Rattle.stab_regions.specs.Faults.{Site}

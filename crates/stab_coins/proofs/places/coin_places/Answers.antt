@@ -1,22 +1,51 @@
-use Rattle.std.proofs.Common.{◌≡◌, ◌==◌, ◌&&◌, ◌++◌, ◌∷◌, [], suc, sym, ◌∙◌, ap, refl, length, get_or, false, arith}
-use Rattle.std.specs.Prelude.{if◌then◌else◌}
+use Rattle.std.proofs.Common.{◌≡◌, [], ◌+◌, sym, ◌∙◌, ap, subst, refl, length, drop, ◌++◌, arith}
+use Rattle.std.proofs.lemmas.List.{length-append}
 use Rattle.stab_circuit.specs.Steps.{unroll}
-use Rattle.stab_circuit.specs.Cursors.{step_shown}
+use Rattle.stab_circuit.specs.Cursors.{steps_shown}
 use Rattle.stab_circuit.specs.Views.{circuit_items}
-use Rattle.stab_laws.proofs.CoinLemmas.{coins-few, coins-one}
+use Rattle.stab_coins.specs.inner.Groups.{coins_together}
+use Rattle.stab_laws.proofs.CoinLemmas.{coins-few}
 use Rattle.stab_laws.proofs.FitLemmas.{check-steps}
-use Rattle.stab_coins.proofs.PlaceLemmas.{gathered-with, gathered-all, drop-next}
+use Rattle.stab_coins.proofs.PlaceLemmas.{AreGathered, TakeCoins, together, few-together, drop-group, gathered-group, gathered-all}
 use Rattle.stab_coins.proofs.places.coin_places.Goals as goal
 
 pub steps-init : goal.steps-init
 steps-init c =
-    let numbers : c.new-numbers.result.items ≡ [] = cc in
-    let steps : c.new-steps.result.items ≡ [] = cc in
+    let numbers : c.new.result.items ≡ [] = cc in
+    let steps : c.new-2.result.items ≡ [] = cc in
     record {
       left = sym c.in_ok-cursor.ensures.steps;
       count = omega (arith, ap length c.in_ok-cursor.ensures.steps);
       gathered = record { coin_is = refl; numbers_are = numbers; steps_are = steps };
     }
+
+pub push-requires-clause-few_coins : goal.push-requires-clause-few_coins
+push-requires-clause-few_coins c =
+    let items = circuit_items c.args.circuit.now in
+    let group = steps_shown c.in-Some.steps in
+    omega (
+      arith,
+      c.steps.invariant.count,
+      c.steps.invariant.gathered.coin_is,
+      coins-few c.steps.number (unroll items),
+      check-steps items c.requires.checked,
+      c.coins_of_all-coins.ensures.value,
+      few-together c.in-Some.steps,
+      ap length c.in-Some.ensures.some,
+      length-append group c.next_steps.new.self.left,
+    )
+
+pub push-requires-clause-few_steps : goal.push-requires-clause-few_steps
+push-requires-clause-few_steps c =
+    omega (
+      arith,
+      c.steps.invariant.count,
+      check-steps (circuit_items c.args.circuit.now) c.requires.checked,
+      c.coins_of_all-coins.ensures.value,
+      few-together c.in-Some.steps,
+      ap length c.in-Some.ensures.some,
+      length-append (steps_shown c.in-Some.steps) c.next_steps.new.self.left,
+    )
 
 pub overflow_add-coin : goal.overflow_add-coin
 overflow_add-coin c =
@@ -28,29 +57,39 @@ overflow_add-coin c =
         c.steps.invariant.gathered.coin_is,
         coins-few c.steps.number (unroll items),
         check-steps items c.requires.checked,
-        c.coins_of-coins.ensures.value,
-        coins-one (step_shown c.in-Some.step),
+        c.coins_of_all-coins.ensures.value,
+        few-together c.in-Some.steps,
+        ap length c.in-Some.ensures.some,
+        length-append (steps_shown c.in-Some.steps) c.next_steps.new.self.left,
       );
     }
 
 pub overflow_add-number : goal.overflow_add-number
-overflow_add-number c = record { fits = omega (arith, c.steps.invariant.count, check-steps (circuit_items c.args.circuit.now) c.requires.checked) }
+overflow_add-number c = record {
+  fits = omega (
+    arith,
+    c.steps.invariant.count,
+    check-steps (circuit_items c.args.circuit.now) c.requires.checked,
+    c.len-number.ensures.value,
+    ap length c.in-Some.ensures.some,
+    length-append (steps_shown c.in-Some.steps) c.next_steps.new.self.left,
+  );
+}
 
 pub steps-preserved : goal.steps-preserved
 steps-preserved c =
     let xs = unroll (circuit_items c.args.circuit.now) in
-    let x = step_shown c.in-Some.step in
-    let at = c.steps.invariant.left ∙ c.in-Some.ensures.some in
-    let coins = c.coins_of-coins.ensures.value in
-    let here = c.decides-here.ensures.value ∙ ap (λ k. (k == 1) && get_or c.args.free.now c.steps.coin false) coins in
-    let one_less : length c.steps.cursor.left ≡ suc (length c.next.new.self.left) = ap length c.in-Some.ensures.some in
+    let group = steps_shown c.in-Some.steps in
+    let rest = c.next_steps.new.self.left in
+    let at : drop c.steps.number xs ≡ group ++ rest = c.steps.invariant.left ∙ c.in-Some.ensures.some in
+    let coins : c.coins_of_all-coins.result ≡ coins_together c.in-Some.steps = c.coins_of_all-coins.ensures.value in
+    let long : c.len-number.result ≡ length group = c.len-number.ensures.value in
     record {
-      left = drop-next c.steps.number xs x c.next.new.self.left at;
-      count = omega (arith, c.steps.invariant.count, one_less);
-      gathered = gathered-with c.args.free.now xs c.steps.number c.steps.coin x c.next.new.self.left at c.steps.invariant.gathered.coin_is c.coins_of-coins.result coins _ _ _ _
-          c.steps.invariant.gathered
-          (c.in_ok-push_if.ensures.value ∙ ap (λ b. c.steps.numbers.items ++ (if b then c.steps.coin ∷ [] else [])) here)
-          (c.in_ok-push_if-2.ensures.value ∙ ap (λ b. c.steps.steps.items ++ (if b then c.steps.number ∷ [] else [])) here);
+      left = ap (λ k. drop (c.steps.number + k) xs) long ∙ drop-group c.steps.number xs group rest at;
+      count = omega (arith, c.steps.invariant.count, long, ap length c.in-Some.ensures.some, length-append group rest);
+      gathered = subst (λ k. AreGathered c.args.free.now xs (c.steps.number + k) (c.steps.coin + c.coins_of_all-coins.result) c.push.new.self.numbers.items c.push.new.self.steps.items) (sym long)
+          (gathered-group c.args.free.now xs group rest c.steps.number c.steps.coin c.coins_of_all-coins.result _ _ _ _ at
+          (subst (λ k. TakeCoins group k) (sym coins) (together c.in-Some.steps)) c.steps.invariant.gathered c.in_ok-push.ensures.numbers c.in_ok-push.ensures.steps);
     }
 
 pub returns-clause-numbers : goal.returns-clause-numbers

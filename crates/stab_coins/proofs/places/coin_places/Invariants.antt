@@ -8,7 +8,7 @@ abbrev pub invariant-steps : goal.invariant-steps
 invariant-steps l = record {
   left : drop l.number (unroll (circuit_items l.circuit)) ≡ l.cursor.left;
   count : l.number + length l.cursor.left ≡ length (unroll (circuit_items l.circuit));
-  gathered : AreGathered l.free (unroll (circuit_items l.circuit)) l.number l.coin l.numbers.items l.steps.items;
+  gathered : AreGathered l.free (unroll (circuit_items l.circuit)) l.number l.coin l.places.numbers.items l.places.steps.items;
 }
 
 abbrev pub decreases-steps : goal.decreases-steps

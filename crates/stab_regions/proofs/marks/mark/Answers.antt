@@ -2,7 +2,7 @@ use Rattle.std.proofs.Common.{◌≡◌, ◌∙◌, ap, arith, Bool, false, ◌|
 use Rattle.std.specs.Prelude.{◌==◌, slice_index_or}
 use Rattle.std.specs.List.{list_any}
 use Rattle.std.proofs.Math.Seq.{take-length}
-use Rattle.stab_regions.proofs.AscendingLemmas.{named-ascending}
+use Rattle.stab_distance.proofs.AscendingLemmas.{named-ascending}
 use Rattle.stab_regions.proofs.marks.mark.Goals as goal
 
 pub returns-clause-value : goal.returns-clause-value
