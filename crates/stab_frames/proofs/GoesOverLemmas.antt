@@ -19,6 +19,7 @@ use Rattle.stab_steps.specs.Runs.{when, string_of, flip_of}
 use Rattle.stab_steps.specs.Points.{coins_of, all_coins_of, nothing, joined}
 use Rattle.stab_steps.specs.ProgramStates.{StepFits}
 use Rattle.stab_steps.proofs.TargetLemmas.{coins-measured}
+use Rattle.stab_steps.proofs.RunLemmas.{joined-nothing}
 use Rattle.stab_laws.proofs.CoinLemmas.{coins-append}
 use Rattle.stab_frames.specs.Frames.{Frame, plus, times_where}
 use Rattle.stab_frames.specs.Notes.{Notes, notes_of}
@@ -28,7 +29,7 @@ use Rattle.stab_frames.specs.Walks.{WalkState, frame_at, IsPlaced}
 use Rattle.stab_frames.specs.inner.Draws.{is_inverted, IsDrawn, AreDrawn}
 use Rattle.stab_frames.specs.inner.Passes.{PassesWith, IsTold, AreTold, IsPassed, GoesOver, GoesFreely, Goes}
 use Rattle.stab_frames.proofs.PassLemmas.{over-none, over-step, over-append, told-append}
-use Rattle.stab_frames.proofs.MeasuredPassLemmas.{passes-letters, passes-flips, told-unmeasured, told-measured, passes-collapse, passes-product}
+use Rattle.stab_frames.proofs.MeasuredPassLemmas.{told-unmeasured, told-measured, passes-collapse, passes-product}
 
 -- over none, one step, and steps one after another
 
@@ -138,11 +139,13 @@ module _ (n : ℕ) (strings : List (List Letter)) (free : List Bool) (draw : Boo
       size
 
   -- over a step that measures nothing
-  goes-unmeasured : (x : Step) (old new : WalkState) → coins_of x ≡ 0 → ((notes : Notes) → PassesWith n notes x old new) → new.coin ≡ old.coin → IsPlaced free new
-      → length new.letters ≡ n → GoesOver n strings free draw (x ∷ []) old new
-  goes-unmeasured x old new ec passes coin placed size =
-      goes-step x old new (λ changes drawn. passes (notes_of (note_at strings free) changes)) (λ changes drawn. told-unmeasured n strings free changes x old.coin old.letters ec)
-      (omega (arith, coin, ec)) placed size
+  goes-unmeasured : (x : Step) (old new : WalkState) → coins_of x ≡ 0 → ((notes : Notes) → new.letters ≡ letters_after n notes x old.coin (frame_at 0 old))
+      → ((notes : Notes) → new.flips ≡ joined old.flips (flips_given n notes x old.coin (frame_at 0 old))) → new.coin ≡ old.coin → IsPlaced free new → length new.letters ≡ n
+      → GoesOver n strings free draw (x ∷ []) old new
+  goes-unmeasured x old new ec letters flips coin placed size =
+      let after : new.coin ≡ old.coin + coins_of x = omega (arith, coin, ec) in
+      goes-step x old new (λ changes drawn. record { letters = letters (notes_of (note_at strings free) changes); flips = flips (notes_of (note_at strings free) changes); coin = after })
+      (λ changes drawn. told-unmeasured n strings free changes x old.coin old.letters ec) after placed size
 
 -- on as many qubits, with what is drawn
 pub goes-same : (n m : ℕ) (strings : List (List Letter)) (free : List Bool) (draw draws : Bool → ℕ → Bool) (xs : List Step) (old new : WalkState) → m ≡ n → draw ≡ draws
@@ -171,7 +174,8 @@ pub freely-letters : (n : ℕ) (x : Step) (old new : WalkState) (letters : List 
     → ((notes : Notes) → letters ≡ letters_after n notes x old.coin (frame_at 0 old)) → ((notes : Notes) → flips_given n notes x old.coin (frame_at 0 old) ≡ nothing)
     → coins_of x ≡ 0 → GoesFreely n (x ∷ []) old new
 freely-letters n x old new letters e size el ef ec = λ strings free draw placed.
-    goes-unmeasured n strings free draw x old new ec (λ notes. passes-letters n notes x old new letters e (el notes) (ef notes) ec)
+    goes-unmeasured n strings free draw x old new ec (λ notes. ap (λ (w : WalkState). w.letters) e ∙ el notes)
+    (λ notes. ap (λ (w : WalkState). w.flips) e ∙ sym (joined-nothing old.flips) ∙ ap (joined old.flips) (sym (ef notes)))
     (ap (λ (w : WalkState). w.coin) e) (subst (IsPlaced free) (sym e) placed) size
 
 pub freely-gate : (n : ℕ) (g : Gate) (q r : ℕ) (old new : WalkState) → q ≡ r → new ≡ record old { letters = (image g q (plus old.letters)).letters }
@@ -193,8 +197,7 @@ freely-controlled n axis p k q l j r old new is el ej er e size size_new =
 pub freely-detector : (n : ℕ) (ks : List ℕ) (old new : WalkState) → new ≡ record old { flips = joined old.flips (record nothing { detectors = parity old.flips.records ks ∷ [] }) }
     → length new.letters ≡ n → GoesFreely n (detector ks ∷ []) old new
 freely-detector n ks old new e size = λ strings free draw placed.
-    goes-unmeasured n strings free draw (detector ks) old new refl
-    (λ notes. passes-flips n notes (detector ks) old new (record nothing { detectors = parity old.flips.records ks ∷ [] }) e refl refl refl)
+    goes-unmeasured n strings free draw (detector ks) old new refl (λ notes. ap (λ (w : WalkState). w.letters) e) (λ notes. ap (λ (w : WalkState). w.flips) e)
     (ap (λ (w : WalkState). w.coin) e) (subst (IsPlaced free) (sym e) placed) size
 
 -- an addition to an observable, which measures nothing either
@@ -202,8 +205,7 @@ pub freely-observable : (n j : ℕ) (ks : List ℕ) (old new : WalkState)
     → new ≡ record old { flips = joined old.flips (record nothing { additions = record { observable = j; bit = parity old.flips.records ks } ∷ [] }) }
     → length new.letters ≡ n → GoesFreely n (observable j ks ∷ []) old new
 freely-observable n j ks old new e size = λ strings free draw placed.
-    goes-unmeasured n strings free draw (observable j ks) old new refl
-    (λ notes. passes-flips n notes (observable j ks) old new (record nothing { additions = record { observable = j; bit = parity old.flips.records ks } ∷ [] }) e refl refl refl)
+    goes-unmeasured n strings free draw (observable j ks) old new refl (λ notes. ap (λ (w : WalkState). w.letters) e) (λ notes. ap (λ (w : WalkState). w.flips) e)
     (ap (λ (w : WalkState). w.coin) e) (subst (IsPlaced free) (sym e) placed) size
 
 -- steps that need no strings, one after another

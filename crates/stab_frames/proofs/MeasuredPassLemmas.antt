@@ -1,5 +1,5 @@
 -- Measured passes: what a frame's way over one step, as programs go it, comes to.
-use Rattle.std.proofs.Common.{◌≡◌, ℕ, ◌+◌, ◌<◌, refl, sym, ◌∙◌, ap, subst, Bool, true, false, ◌&&◌, List, [], ◌∷◌, ◌++◌, append-nil, length, get_or, arith}
+use Rattle.std.proofs.Common.{◌≡◌, ℕ, ◌+◌, ◌<◌, refl, sym, ◌∙◌, ap, subst, Bool, true, false, ◌&&◌, List, [], ◌∷◌, ◌++◌, append-nil, length, get_or}
 use Rattle.std.specs.Prelude.{Option, Some, None, IfSome}
 use Rattle.std.proofs.Math.Bool.{beq}
 use Rattle.stab_letters.specs.declared.letter.Letter.{Letter}
@@ -9,49 +9,15 @@ use Rattle.stab_lines.specs.declared.product.Factor.{Factor}
 use Rattle.stab_circuit.specs.Steps.{Step, collapse, product}
 use Rattle.stab_steps.specs.Runs.{when, string_of, flip_of, measured_by}
 use Rattle.stab_steps.specs.Points.{RunOutput, nothing, joined, coins_of}
-use Rattle.stab_steps.proofs.RunLemmas.{joined-nothing, joined-assoc}
+use Rattle.stab_steps.proofs.RunLemmas.{joined-assoc}
 use Rattle.stab_frames.specs.Frames.{times_where}
 use Rattle.stab_frames.specs.Notes.{Notes}
-use Rattle.stab_frames.specs.FrameSteps.{flipped_by, letters_by, letters_after, flips_given}
+use Rattle.stab_frames.specs.FrameSteps.{flipped_by, letters_by}
 use Rattle.stab_frames.specs.KeptStrings.{note_at}
-use Rattle.stab_frames.specs.Walks.{WalkState, frame_at, IsPlaced}
+use Rattle.stab_frames.specs.Walks.{WalkState, IsPlaced}
 use Rattle.stab_frames.specs.inner.Passes.{PassesWith, IsPassed, IsPassedWith, IsTold, IsToldBy, flip_by, letters_for, one_coin}
 use Rattle.stab_frames.proofs.RunNoteLemmas.{unmeasured}
 use Rattle.stab_frames.proofs.FreeLemmas.{note-none, note-some, some-none}
-
--- steps that measure nothing and flip nothing that they give
-
-pub passes-letters : (n : ℕ) (notes : Notes) (x : Step) (old new : WalkState) (letters : List Letter)
-    → new ≡ record old { letters = letters }
-    → letters ≡ letters_after n notes x old.coin (frame_at 0 old)
-    → flips_given n notes x old.coin (frame_at 0 old) ≡ nothing
-    → coins_of x ≡ 0
-    → PassesWith n notes x old new
-passes-letters n notes x old new letters e el ef ec = record {
-  letters = ap (λ (w : WalkState). w.letters) e ∙ el;
-  flips = ap (λ (w : WalkState). w.flips) e ∙ sym (joined-nothing old.flips) ∙ ap (joined old.flips) (sym ef);
-  coin = ap (λ (w : WalkState). w.coin) e ∙ none old.coin ∙ ap (λ c. old.coin + c) (sym ec);
-}
-  where
-    none : (k : ℕ) → k ≡ k + 0
-    none k = omega arith
-
--- steps that measure nothing and flip something that they give
-
-pub passes-flips : (n : ℕ) (notes : Notes) (x : Step) (old new : WalkState) (flips : RunOutput)
-    → new ≡ record old { flips = joined old.flips flips }
-    → letters_after n notes x old.coin (frame_at 0 old) ≡ old.letters
-    → flips_given n notes x old.coin (frame_at 0 old) ≡ flips
-    → coins_of x ≡ 0
-    → PassesWith n notes x old new
-passes-flips n notes x old new flips e el ef ec = record {
-  letters = ap (λ (w : WalkState). w.letters) e ∙ sym el;
-  flips = ap (λ (w : WalkState). w.flips) e ∙ ap (joined old.flips) (sym ef);
-  coin = ap (λ (w : WalkState). w.coin) e ∙ none old.coin ∙ ap (λ c. old.coin + c) (sym ec);
-}
-  where
-    none : (k : ℕ) → k ≡ k + 0
-    none k = omega arith
 
 -- measurements
 
