@@ -227,7 +227,9 @@ fn send_seeded<O: Output>(
         return send_copies(alloc, circuit, out, format, shown, &mut coins, 1);
     }
     let lanes = shots_at_once(alloc, circuit, shots)?;
-    send_in_lanes(alloc, circuit, out, format, shown, seed, first, shots, lanes)
+    send_in_lanes(
+        alloc, circuit, out, format, shown, seed, first, shots, lanes,
+    )
 }
 
 /// Runs these shots of a circuit that nothing refuses, and writes what is shown of each, without a flush.

@@ -1,7 +1,7 @@
 -- Marks: lists that are given again, flags of which none is 1, and letters that are the same one by one.
-use Rattle.std.proofs.Common.{◌≡◌, ℕ, zero, suc, ◌+◌, ◌-◌, ◌*◌, ◌<◌, ◌≤◌, refl, sym, ◌∙◌, ap, subst, Bool, true, false, List, [], ◌∷◌, ◌++◌, append-nil, append_assoc, length, take, drop, map, min, get_or, ◌⊎◌, inl, inr, arith}
+use Rattle.std.proofs.Common.{◌≡◌, ℕ, zero, suc, ◌+◌, ◌-◌, ◌*◌, ◌<◌, ◌≤◌, refl, sym, ◌∙◌, ap, subst, Bool, true, false, List, [], ◌∷◌, ◌++◌, append-nil, append_assoc, length, take, drop, map, get_or, ◌⊎◌, inl, inr, arith}
 use Rattle.std.proofs.lemmas.Bool.{cases_lt}
-use Rattle.std.proofs.lemmas.List.{length-append, length-map, length-drop, length-take, map-append, drop-map, drop-append-le, drop_all, take_at, get_or-map, get_or-drop, get_or-take, get_or_past, ext_get_or}
+use Rattle.std.proofs.lemmas.List.{length-append, length-map, length-drop, map-append, drop-map, drop-append-le, drop_all, take_at, get_or-map, get_or-drop, ext_get_or}
 use Rattle.stab_letters.specs.declared.letter.Letter.TheVariants.{I}
 use Rattle.stab_run.specs.Records.{ones}
 use Rattle.stab_run.specs.Points.{RunOutput, joined}

@@ -1,9 +1,27 @@
+use Rattle.std.proofs.Common.{◌≡◌, ℕ, ◌+◌, Bool, List, arith, ap, sym, subst, ◌∙◌}
 use Rattle.std.specs.Result.{IsErrAnd}
-use Rattle.std.proofs.Common.{◌≡◌, subst}
+use Rattle.stab_circuit.specs.Steps.{qubits_of}
+use Rattle.stab_circuit.specs.Views.{circuit_items}
+use Rattle.stab_run.specs.Coins.{Seeded, seed_coin}
+use Rattle.stab_run.specs.Runs.{run_of}
 use Rattle.stab_tables.proofs.SendingLaws.{sends_none}
+use Rattle.stab_sampling.specs.Outputs.{of_shots}
+use Rattle.stab_sampling.specs.Sendings.{SendsUnflushed, shown_bytes}
 use Rattle.stab_sampling.proofs.shots.send_seeded.Goals as goal
 
 pub returns-in_err-lanes : goal.returns-in_err-lanes
 returns-in_err-lanes g c = record {
   sends = sends_none (g.O.Output.seen c.args.out.now) _ c.from_residual.result (subst (λ f. IsErrAnd c.from_residual.result (λ y. y ≡ f)) c.in_err-lanes.ensures.err c.from_residual.ensures.1);
 }
+
+pub returns-then-shots-eq1 : goal.returns-then-shots-eq1
+returns-then-shots-eq1 g c =
+    let items = circuit_items c.args.circuit.now in
+    let bytes : (ℕ → Bool) → List ℕ = λ coins. shown_bytes c.args.format c.args.shown (run_of (qubits_of items) coins items) in
+    record {
+      sends = subst (λ k. SendsUnflushed (of_shots (λ shot. bytes (seed_coin c.args.seed shot)) c.args.first k) (g.O.Output.seen c.args.out.now) (g.O.Output.seen c.send_copies.new.out) c.send_copies.result)
+          (sym c.if-shots-eq1.true)
+          (subst (λ coins. SendsUnflushed (of_shots (λ shot. bytes coins) c.args.first 1) (g.O.Output.seen c.args.out.now) (g.O.Output.seen c.send_copies.new.out) c.send_copies.result)
+          (ap (λ (s : Seeded). seed_coin s.seed s.shot) c.new-coins.ensures.value ∙ ap (seed_coin c.args.seed) {x = c.args.first} {y = c.args.first + 0} (omega arith))
+          (c.send_copies.ensures.sends c.args.first));
+    }
