@@ -4,17 +4,15 @@ import copy
 from collections.abc import Callable, Sequence
 from dataclasses import dataclass
 
-from . import faults, formats, numbers, printing, states
+from . import formats, numbers, printing, states, sums
 from .numbers import Step
-from .reading import MOST_BYTES, MOST_DEPTH, REFUSALS, SPACING, Block, Item, Items, Refused, content_of, is_digits, item_of, product_of
-from .states import Amplitudes, Run
+from .reading import (
+    MOST_BYTES, MOST_DEPTH, REFUSALS, SPACING, Block, Item, Items, Path, Refused, block_at, content_of, is_digits, item_at, item_of, product_of)
+from .states import Run, State
 
 MOST_LINE = 65_536
 MOST_PLACE_DIGITS = 18
 MOST_PLACE_NUMBERS = 17
-
-# The place of an item, and the places of the blocks around it, the outermost first.
-Path = list[int]
 
 
 def depth(items: Items) -> int:
@@ -43,16 +41,6 @@ def first_word(text: bytes) -> tuple[bytes, bytes]:
     """The first word of a text, and what follows it without the spacing in front."""
     end = next((at for at, byte in enumerate(text) if byte in SPACING), len(text))
     return text[:end], text[end:].lstrip(SPACING)
-
-
-def block_at(items: Items, place: int) -> Block:
-    """The block in a place: 12 and 17 if there is none."""
-    if place >= len(items):
-        raise Refused(12)
-    block = items[place]
-    if not isinstance(block, Block):
-        raise Refused(17)
-    return block
 
 
 def changed(items: Items, path: Path, change: Callable[[Items, int], Items]) -> Items:
@@ -90,27 +78,17 @@ def split(items: Items, path: Path, number: int) -> Items:
     return changed(items, path, cut)
 
 
-def item_at(items: Items, path: Path) -> Item:
-    """The item at a path: 12 and 17 along it."""
-    place, *inner = path
-    if inner:
-        return item_at(block_at(items, place).body, inner)
-    if place >= len(items):
-        raise Refused(12)
-    return items[place]
-
-
 def steps_before(items: Items, path: Path) -> list[Step]:
     """The unrolled steps before a place, in the first round of each block around it."""
     place, *inner = path
-    before = list(numbers.unroll(items[:place]))
+    before = numbers.unroll(items[:place])
     return before + steps_before(block_at(items, place).body, inner) if inner else before
 
 
 def place_numbers(steps: Sequence[Step]) -> tuple[int, ...]:
     """How many steps, records, detectors and coins."""
-    kinds = [step[0] for step in steps]
-    return len(steps), sum(map(numbers.records_of, steps)), kinds.count("detector"), kinds.count("collapse") + kinds.count("product")
+    detectors = sum(step[0] == "detector" for step in steps)
+    return len(steps), sum(map(numbers.records_of, steps)), detectors, sum(map(numbers.uses_coin, steps))
 
 
 def string_of_word(word: bytes, qubits: int) -> tuple[bool, str]:
@@ -125,7 +103,7 @@ def string_of_word(word: bytes, qubits: int) -> tuple[bool, str]:
     if any(qubit >= qubits for _, qubit, _ in factors):
         raise Refused(6)
     negative ^= sum(inverted for *_, inverted in factors) % 2 == 1
-    return negative, states.string_of([(letter, qubit) for letter, qubit, _ in factors], qubits)
+    return negative, states.letters_on([(letter, qubit) for letter, qubit, _ in factors], qubits)
 
 
 def changed_places(old: Sequence[int], new: Sequence[int]) -> list[int]:
@@ -143,11 +121,13 @@ class Session:
     A framed one keeps the bits at the mark too; the first mark is at the opening.
     """
 
-    def __init__(self, items: Items, qubits: int, coins: Callable[[int], Sequence[int]] = lambda steps: [], framed: bool = False) -> None:
+    def __init__(self, items: Items, qubits: int, coin: Callable[[int], int] = lambda number: 0, framed: bool = False) -> None:
         self.items = items
         self.qubits = qubits
-        self.coins = coins
+        self.coin = coin
         self.framed = framed
+        # The last run, and the items that it is of.
+        self.ran: tuple[Items, Run[State]] | None = None
         self.replies: list[bytes] = []
         self.refused = False
         if framed:
@@ -179,9 +159,10 @@ class Session:
             raise Refused(14)
         self.change(path, kind, item_of(text))
 
-    def run(self) -> Run[Amplitudes]:
-        steps = numbers.summary(self.items)[0]
-        return Run(Amplitudes(self.qubits), numbers.observables(self.items), numbers.unroll(self.items), self.coins(steps))
+    def run(self) -> Run[State]:
+        if self.ran is None or self.ran[0] is not self.items:
+            self.ran = self.items, states.run_of(self.items, self.qubits, self.coin)
+        return self.ran[1]
 
     def show(self, what: bytes) -> None:
         if what == b"circuit":
@@ -194,14 +175,11 @@ class Session:
                 b"measurements": run.records, b"free": run.free, b"detectors": run.detectors, b"observables": run.observables}
             self.reply(formats.shot("01", bits[what]))
         elif what == b"deterministic" and self.framed:
-            self.reply(self.deterministic())
+            self.reply(sums.deterministic(self.items, "01"))
         elif self.framed:
             self.show_framed(*first_word(what))
         else:
             raise Refused(13)
-
-    def deterministic(self) -> bytes:
-        return faults.deterministic(self.items, "01")
 
     def numbers(self) -> bytes:
         run = self.run()
@@ -256,7 +234,7 @@ class Session:
         """The number of the first step of an item, and how many it has, and the same of records, detectors and coins."""
         item = item_at(self.items, path)
         firsts = place_numbers(steps_before(self.items, path))
-        counts = place_numbers(list(numbers.unroll([item])))
+        counts = place_numbers(numbers.unroll([item]))
         self.reply(" ".join(f"{first} {count}" for first, count in zip(firsts, counts)).encode() + b"\n")
 
     def show_sign(self, word: bytes) -> None:
