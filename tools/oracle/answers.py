@@ -15,7 +15,7 @@ from .states import TooLarge, coins_of_list
 
 NO_MARKS = b"stabsim: no place is marked by I; --everywhere asks for all places\n"
 COUNTED = ("qubits", "items", "steps", "records", "detectors", "observables", "coins")
-# Where batches of shots may end. Of so many shots that such an end is among them, those around it are compared.
+# Where batches of shots may end. Of more shots than the first batch has, those around each end are compared.
 EDGES = (64, 128, 256, 320, 384, 448, 512, 1024, 1280, 2048)
 
 # Options by their names, with a value, or whether a flag is given.
