@@ -317,8 +317,10 @@ def is_small(items: Items, qubits: int) -> bool:
 def run_of(items: Items, qubits: int, coin: Callable[[int], int]) -> Run[State]:
     """The run of items on this many qubits. `TooLarge` if it would take long."""
     refuse_if_large(items, qubits)
-    kind: Callable[[int], State] = Amplitudes if is_small(items, qubits) else Rows
-    return Run(kind(qubits), numbers.observables(items), numbers.unroll(items), coin)
+    state: State = Rows(qubits)
+    if is_small(items, qubits):
+        state = Amplitudes(qubits)
+    return Run(state, numbers.observables(items), numbers.unroll(items), coin)
 
 
 def rows_text(state: State) -> bytes:
