@@ -9,7 +9,6 @@ cd "$top" || exit 2
 # are processors, and those that take longest begin first. What the gate printed is in the file $told/gate.
 steps='tools/try_python.sh
 tools/check_shipped.py
-tools/try_scaling.sh
 tools/fuzz.py --states
 tools/fuzz.py --edits
 tools/refuse.sh
