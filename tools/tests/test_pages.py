@@ -13,11 +13,10 @@ from pathlib import Path
 import count_definitions
 from pages import DOCS, PAGES, files_of_git, name_of, prose, quoted, text_of
 from program import TOP
+from sources import functions_of, sources_of
 
 PROVED, BELIEVE = DOCS / "trust" / "proved.md", DOCS / "trust" / "believe.md"
 FILE = re.compile(r"[\w./-]+\.(?:rt|antt|md|py|sh|rows|stim|script)")
-FUNCTION = re.compile(r"\s*(?:pub(?:\([^)]*\))? )?fn (\w+)")
-CLAUSE = re.compile(r"\s*(?:requires|ensures)\*? (\w+) \{")
 WORDS_WITHOUT_CONTENTS = 1500
 MOST_WORDS_OF_A_PAGE = 1500
 LONGER = {"docs/trust/proved.md": 2100, "docs/trust/believe.md": 2600, "docs/trust/tested.md": 1700, "docs/DECISIONS.md": 2200}
@@ -65,14 +64,8 @@ def expect_none(found: Iterable[object]) -> None:
 def clauses() -> dict[str, set[str]]:
     """The labels of the clauses of all functions of a name; a law has its own name as its label."""
     found: dict[str, set[str]] = {}
-    for file in TOP.glob("crates/*/src/**/*.rt"):
-        name = ""
-        for line in text_of(file).split("\n"):
-            if function := FUNCTION.match(line):
-                name = function[1]
-                found.setdefault(name, {name})
-            elif clause := CLAUSE.match(line):
-                found.setdefault(name, set()).add(clause[1])
+    for function in (it for file in sources_of() for it in functions_of(file)):
+        found.setdefault(function.name, {function.name}).update(function.requires, function.ensures)
     return found
 
 
