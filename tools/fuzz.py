@@ -2,7 +2,7 @@
 """Runs the built program on random and damaged circuits and edit scripts, and compares it with an oracle of its own.
 
     tools/fuzz.py --seconds 60
-    tools/fuzz.py --laws --seconds 20
+    tools/fuzz.py --large --seconds 20
     tools/fuzz.py --faults --seconds 20
     tools/fuzz.py --codes --seconds 20
     tools/fuzz.py --states
@@ -12,7 +12,7 @@ The oracle (`tools/oracle`) is written from the definitions: it reads texts and 
 by the matrices of gates, and writes the result formats. More qubits are signed strings that stabilise, of which the signs are sums of
 coins and of the letters that faults put in; so one run says which bits are deterministic, and what each coin and each fault flips.
 `tools/oracle/families.py` says what the random cases are. The first difference is cut down to a small text and printed with its seed,
-and the status is then 1. The status is also 1 if some family was never compared, even in some minutes more. With `--laws` only circuits
+and the status is then 1. The status is also 1 if some family was never compared, even in some minutes more. With `--large` only circuits
 that are large in some way are tried, one family after another, and with `--faults` only tables of faults and of deterministic bits. The
 same seed makes the same cases. `tools/oracle/code_cases.py` and the files beside it say what the cases of `--codes`, `--states` and
 `--edits` are; each that goes wrong is reported.
@@ -77,7 +77,7 @@ def cut_down(program: Program, case: Case) -> Case:
         return program.difference(Case(case.command, text, case.settings, script))[0]
 
     script, text = case.script, case.text
-    if text.count(b"\n") > MOST_LINES:
+    if case.shorter or text.count(b"\n") > MOST_LINES:
         return case
     if script is not None:
         script = without_lines(script, lambda fewer: differs(text, fewer))
@@ -129,7 +129,7 @@ def main() -> int:
     words = argparse.ArgumentParser(description=__doc__, formatter_class=argparse.RawDescriptionHelpFormatter)
     words.add_argument("--seconds", type=float, default=60, help="how long to go on (default 60)")
     words.add_argument("--seed", type=int, default=0, help="the seed of the first case (default 0)")
-    words.add_argument("--laws", action="store_true", help="try large circuits alone")
+    words.add_argument("--large", action="store_true", help="try large circuits alone")
     words.add_argument("--faults", action="store_true", help="try tables of faults and of deterministic bits alone")
     words.add_argument("--states", action="store_true", help="try states beside amplitudes, each case once")
     words.add_argument("--edits", action="store_true", help="try each edit beside a session opened anew, each case once")
@@ -144,7 +144,7 @@ def main() -> int:
             return try_each("edits", edit_cases.cases(program.run))
         if asked.codes:
             return try_each("codes", code_cases.cases(lambda case: program.difference(case)[0], asked.seconds, asked.seed))
-        if asked.laws:
+        if asked.large:
             return try_random(asked, program, lambda seed, _: LARGE[seed % len(LARGE)], LARGE)
         if asked.faults:
             return try_random(asked, program, lambda *_: "with sure parities", ["with sure parities"])

@@ -12,7 +12,7 @@ tools/check_shipped.py
 tools/fuzz.py --states
 tools/fuzz.py --edits
 tools/refuse.sh
-tools/fuzz.py --laws --seconds 9
+tools/fuzz.py --large --seconds 7
 tools/fuzz.py --seconds 8
 tools/fuzz.py --faults --seconds 4
 tools/fuzz.py --codes --seconds 3

@@ -24,12 +24,13 @@ Settings = dict[str, Any]
 
 @dataclass(frozen=True)
 class Case:
-    """A command, its options, the circuit that it reads, and its script if it has one."""
+    """A command, its options, the circuit that it reads, its script if it has one, and a shorter text of the same steps if there is one."""
 
     command: str
     text: bytes
     settings: tuple[tuple[str, Any], ...] = ()
     script: bytes | None = None
+    shorter: bytes | None = None
 
     @cached_property
     def words(self) -> list[str]:
@@ -163,7 +164,7 @@ def items_of_circuit(text: bytes) -> Items:
 
 def answer_or_refusal(case: Case, answer: Callable[[Items, Case], Ended]) -> Ended | None:
     try:
-        return answer(items_of_circuit(case.text), case)
+        return answer(items_of_circuit(case.shorter or case.text), case)
     except Refused as refused:
         return 1, b"", refused.told()
     except sums.NotSure as unsure:
@@ -209,12 +210,11 @@ def apart(written: bytes, form: str, number: int) -> list[bytes]:
 def wrong_shots(case: Case, answer: Ended) -> Wrong:
     """Of many shots the first and the last, and those around each edge, are what each is by itself."""
     number, written = case.setting("shots"), apart(answer[1], case.setting("out_format"), case.setting("shots"))
-    if (answer[0], answer[2], len(written), b"".join(written)) != (0, b"", number, answer[1]):
-        return f"status {answer[0]}, {len(written)} shots of {number}, {answer[2]!r}"
-    around = {0, 1, number - 1, *(shot for edge in EDGES for shot in range(edge - 2, edge + 2) if shot < number)}
-    chosen = sorted(around)
+    chosen = sorted({0, 1, number - 1, *(shot for edge in EDGES for shot in range(edge - 2, edge + 2) if shot < number)})
     right = answer_or_refusal(case, lambda items, case: (0, b"".join(some_shots(items, case, chosen)), b""))
-    found = 0, b"".join(written[shot] for shot in chosen), b""
+    found = answer
+    if (answer[0], len(written), b"".join(written)) == (0, number, answer[1]):
+        found = answer[0], b"".join(written[shot] for shot in chosen), answer[2]
     return None if right in (None, found) else f"shots {chosen}\nthe program: {found}\nthe definitions: {right}"
 
 
@@ -228,8 +228,9 @@ def judge(case: Case, answer: Ended) -> tuple[Wrong, str]:
     if right is None:
         return None if answer[0] in (0, 1, 3) else f"status {answer[0]} for a circuit too large for the oracle", "too large for the oracle"
     if case.command == "check" and right[0]:
-        # What is wrong is explained, in words that the definitions do not have.
-        right = right[0], answer[1] if answer[1].endswith(b".\n") else b"an explanation", right[2]
+        # What is wrong is explained, in words that the definitions do not have; lines in place of an instruction may end them.
+        is_explained = answer[1].endswith(b".\n") or b" write:\n    " in answer[1]
+        right = right[0], answer[1] if is_explained else b"an explanation", right[2]
     return None if answer == right else f"the program: {answer}\nthe definitions: {right}", "refused" if right[0] else "run"
 
 

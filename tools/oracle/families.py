@@ -1,6 +1,7 @@
 """Random cases of the fuzzer, by families: small circuits, damaged ones, edit scripts, and circuits that are large in some way."""
 
 from collections.abc import Callable
+from dataclasses import replace
 from random import Random
 
 from . import distance_making, fault_making, making, printing, script_making
@@ -133,7 +134,8 @@ def blocks(dice: Random) -> list[Case]:
     """What a long block gives, whose rounds may come again, and its lines as often as it counts."""
     _, block, lines = long_block(dice)
     seed, shots = dice.randrange(2**32), dice.randint(1, 4)
-    return [random_case(dice, command, text, seed=seed, coins=None, shots=shots) for command in BITS for text in (block, lines)]
+    cases = [random_case(dice, command, block, seed=seed, coins=None, shots=shots) for command in BITS]
+    return cases + [replace(case, text=lines, shorter=block) for case in cases]
 
 
 def written_out(items: Items) -> bytes:
@@ -152,7 +154,8 @@ def sessions_on_blocks(dice: Random) -> list[Case]:
         script = f"insert {dice.randint(0, len(session.items))} {dice.choice(MEASURED)} {dice.randrange(n)}\n".encode()
         play(session, script)
     script += script_making.edits(dice, session, dice.randint(0, 4))
-    return [Case("edit", block, settings, script + LISTS), Case("edit", written_out(session.items), settings, LISTS)]
+    left = written_out(session.items)
+    return [Case("edit", block, settings, script + LISTS), Case("edit", left, settings, LISTS, printing.printed(session.items))]
 
 
 def changed(dice: Random, maker: Maker, lines: list[str]) -> list[str]:

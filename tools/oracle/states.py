@@ -24,6 +24,7 @@ SignedRows = list[tuple[int, str]]
 
 # A letter that flips the outcome of a measurement of a letter.
 FLIPS = {"X": "Z", "Y": "X", "Z": "X"}
+LETTER_OF_DIGIT = str.maketrans("0123", "IXZY")
 # The most qubits whose amplitudes are kept, and the most steps that these go through.
 FEW_QUBITS, FEW_STEPS = 4, 300
 # How many steps, each by the number of qubits, a run has at most.
@@ -153,8 +154,19 @@ class String:
         assert turns in (0, 2)
         return self.sign ^ turns // 2
 
+    def bits(self, n: int) -> int:
+        """The bits of x and then those of z, the first of which that is 1 is its lead."""
+        return self.x | self.z << n
+
     def letters(self, n: int) -> str:
-        return "".join("IXZY"[(self.x >> qubit & 1) + 2 * (self.z >> qubit & 1)] for qubit in range(n))
+        # A decimal digit for each qubit.
+        digits = int(f"{self.x:b}") + 2 * int(f"{self.z:b}")
+        return f"{digits:0{n}}"[::-1].translate(LETTER_OF_DIGIT)
+
+
+def first_bit(number: int) -> int:
+    """The place of the lowest bit that is 1."""
+    return (number & -number).bit_length() - 1
 
 
 def string_of(factors: Factors, sign: int = 0) -> String:
@@ -233,16 +245,17 @@ class Rows:
         return coin, True
 
     def reduced_rows(self) -> SignedRows:
-        left, done = list(self.stabilisers), list[String]()
-        for lead in range(2 * self.n):
-            bits = [(row.x if lead < self.n else row.z) >> lead % self.n & 1 for row in left]
-            if 1 not in bits:
-                continue
-            pivot = left[bits.index(1)]
-            left = [row.times(pivot) if bit else row for row, bit in zip(left, bits) if row is not pivot]
-            has_lead = ((row.x if lead < self.n else row.z) >> lead % self.n & 1 for row in done)
-            done = [row.times(pivot) if bit else row for row, bit in zip(done, has_lead)] + [pivot]
-        return [(row.negative(), row.letters(self.n)) for row in done]
+        by_lead: dict[int, String] = {}
+        for row in self.stabilisers:
+            while (lead := first_bit(row.bits(self.n))) in by_lead:
+                row = row.times(by_lead[lead])
+            by_lead[lead] = row
+        leads = sum(1 << lead for lead in by_lead)
+        # Those of later leads have no other lead already.
+        for lead in sorted(by_lead, reverse=True):
+            while others := by_lead[lead].bits(self.n) & leads & ~(1 << lead):
+                by_lead[lead] = by_lead[lead].times(by_lead[first_bit(others)])
+        return [(row.negative(), row.letters(self.n)) for _, row in sorted(by_lead.items())]
 
 
 def coins_of_list(coins: Sequence[int]) -> Callable[[int], int]:

@@ -8,7 +8,7 @@ from .numbers import Step
 from .printing import arguments_text
 from .reading import Items, Operation
 from .reading import item_at
-from .states import Rows, Run, refuse_if_large
+from .states import Rows, Run, first_bit, refuse_if_large
 
 # A letter that is put in: how many steps are in front of it, the letter and the qubit.
 Placed = tuple[int, str, int]
@@ -77,7 +77,7 @@ class Sums:
         """Raises `NotSure` of the first bit that some coin decides, with its first coin."""
         for bit in (bit for bit, sure in enumerate(self.sure) if not sure):
             named = f"detector {bit}" if bit < len(self.paths) else f"observable {bit - len(self.paths)}"
-            coin = (self.bits[bit] >> 1 & -(self.bits[bit] >> 1)).bit_length() - 1
+            coin = first_bit(self.bits[bit] >> 1)
             where = self.coin_places[coin][1]
             raise NotSure(f"stabsim: {named}, item {self.path(bit)}, is not the same for all coins: c{coin}@{where} decides it\n".encode())
 

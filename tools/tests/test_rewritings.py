@@ -55,8 +55,8 @@ def of_lines(lines: list[str], size: int) -> Matrix:
 @pytest.mark.parametrize("name", ON_ONE)
 def test_lines_turn_letters_as_the_gate_does(name: str) -> None:
     done = of_lines(lines_for(f"{name} 0"), 1)
-    for letter, (sign, turned) in zip("XZ", ON_ONE[name]):
-        assert are_same(times(times(done, LETTERS[letter]), adjoint(done)), scaled(-1 if sign == "-" else 1, LETTERS[turned]))
+    for letter, signed in zip("XZ", ON_ONE[name]):
+        assert are_same(times(times(done, LETTERS[letter]), adjoint(done)), scaled(-1 if signed[0] == "-" else 1, LETTERS[signed[1]]))
 
 
 @pytest.mark.parametrize("instruction", OTHERS)
