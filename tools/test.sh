@@ -12,9 +12,9 @@ tools/check_shipped.py
 tools/fuzz.py --states
 tools/fuzz.py --edits
 tools/refuse.sh
-tools/fuzz.py --large --seconds 7
+tools/fuzz.py --large --seconds 10
 tools/fuzz.py --seconds 8
-tools/fuzz.py --faults --seconds 4
+tools/fuzz.py --faults --seconds 3
 tools/fuzz.py --codes --seconds 3
 tools/wrong_bodies.py "$told/gate"
 tools/check_version.sh'

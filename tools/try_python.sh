@@ -13,4 +13,4 @@ export STABSIM
 if "$python" -c 'import xdist' 2>/dev/null; then
     set -- -n "$(nproc)" --dist loadgroup
 fi
-exec "$python" -B -m pytest -q -p no:cacheprovider "$@" "$tools/tests" "$tools/../python/tests"
+exec "$python" -B -m pytest -q -rs -p no:cacheprovider "$@" "$tools/tests" "$tools/../python/tests"

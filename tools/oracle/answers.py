@@ -8,7 +8,7 @@ from typing import Any
 
 from . import formats, numbers, scripts, states, sums
 from .coins import coins_of_seed
-from .distances import Asked, Distance
+from .distances import Distance
 from .program_runs import Ended, Wrong
 from .reading import Items, Refused, items_of
 from .states import TooLarge, coins_of_list
@@ -183,20 +183,11 @@ def expected(case: Case) -> Ended | None:
     return expected_at_any_stride(replace(case, settings=tuple(it for it in case.settings if it[0] != "stride")))
 
 
-def wrong_distance(case: Case, answer: Ended) -> Wrong:
-    """The answer is an unseen set of errors, and no set of fewer is unseen, as far as all sets are tried."""
-    def judged(items: Items, case: Case) -> Ended:
-        found = Distance(items, Asked(case.setting("everywhere", False), case.setting("letters", "XYZ"), case.setting("most"),
-                                      case.setting("graphlike", False)))
-        wrong = found.wrong(answer[1])
-        if wrong:
-            raise ValueError(wrong)
-        return 0, answer[1], answer[2]
-    try:
-        right = answer_or_refusal(case, judged)
-    except ValueError as wrong:
-        return str(wrong)
-    return None if right in (None, answer) else f"the definitions: {right}"
+def distance(items: Items, case: Case, answer: Ended) -> Ended:
+    """The answer, if it is an unseen set of errors and no set of fewer is unseen, as far as all sets are tried; else what is wrong with it."""
+    found = Distance(items, case.setting("everywhere", False), case.setting("letters", "XYZ"), case.setting("graphlike", False))
+    wrong = found.wrong(answer[1], case.setting("most"))
+    return 0, wrong.encode() if wrong else answer[1], answer[2]
 
 
 def apart(written: bytes, form: str, number: int) -> list[bytes]:
@@ -220,11 +211,10 @@ def wrong_shots(case: Case, answer: Ended) -> Wrong:
 
 def judge(case: Case, answer: Ended) -> tuple[Wrong, str]:
     """What is wrong with the program's answer, or None; and what it was compared with."""
-    if case.command == "distance":
-        return wrong_distance(case, answer), "run"
     if case.setting("shots", 1) > EDGES[0] - 2:
         return wrong_shots(case, answer), "run"
-    right = expected(case)
+    is_distance = case.command == "distance"
+    right = answer_or_refusal(case, lambda items, case: distance(items, case, answer)) if is_distance else expected(case)
     if right is None:
         return None if answer[0] in (0, 1, 3) else f"status {answer[0]} for a circuit too large for the oracle", "too large for the oracle"
     if case.command == "check" and right[0]:

@@ -31,17 +31,6 @@ class Error:
     letters: tuple[Placed, ...]
 
 
-@dataclass(frozen=True)
-class Asked:
-    """Of which errors a distance is asked for, and up to how many; `graphlike`: only of those that flip at most two detectors, after
-    any other gave way to its parts."""
-
-    everywhere: bool = False
-    letters: str = "XYZ"
-    most: int | None = None
-    graphlike: bool = False
-
-
 def error_of(path: str, placed: Sequence[Placed]) -> Error:
     """The error of letters that go wrong at once."""
     return Error(placed[0][0], path, "*".join(f"{letter}{qubit}" for _, letter, qubit in placed), tuple(placed))
@@ -125,20 +114,21 @@ def parts_of(error: Error) -> list[Error]:
 class Distance:
     """The errors of a circuit, what each flips, and the smallest number of them that are unseen, if it is at most `MOST_ERRORS`.
 
-    `NotSure` if a bit is not deterministic.
+    Of letters everywhere, or at marked places; `graphlike`: only of errors that flip at most two detectors, after any other gave way to
+    its parts. `NotSure` if a bit is not deterministic.
     """
 
-    def __init__(self, items: Items, asked: Asked) -> None:
-        self.asked = asked
-        errors = list((errors_everywhere if asked.everywhere else errors_marked)(items, asked.letters))
+    def __init__(self, items: Items, everywhere: bool, letters: str, graphlike: bool) -> None:
+        self.graphlike = graphlike
+        errors = list((errors_everywhere if everywhere else errors_marked)(items, letters))
         parts = [part for error in errors for part in parts_of(error)]
-        letters = list({letter: None for error in errors + parts for letter in error.letters})
-        self.sums = Sums(items, letters)
+        placed = list({it: None for error in errors + parts for it in error.letters})
+        self.sums = Sums(items, placed)
         self.sums.need_sure()
-        flips = {letter: sum(flip << bit for bit, flip in enumerate(self.sums.flipped(number))) for number, letter in enumerate(letters)}
+        flips = {letter: sum(flip << bit for bit, flip in enumerate(self.sums.flipped(number))) for number, letter in enumerate(placed)}
         rows = {error: reduce(xor, (flips[letter] for letter in error.letters)) for error in errors + parts}
         self.rows = {error: rows[error] for error in errors}
-        if asked.graphlike:
+        if graphlike:
             split = [part for error in self.rows if not self.is_graphlike(rows[error]) for part in parts_of(error)]
             self.rows = {error: rows[error] for error in [*self.rows, *split] if self.is_graphlike(rows[error])}
         self.least = self.least_unseen()
@@ -164,11 +154,10 @@ class Distance:
         named = [self.sums.name(bit) for bit in range(len(self.sums.bits)) if self.rows[error] >> bit & 1]
         return " ".join([str(error.before), error.path, error.name, *named])
 
-    def wrong(self, answer: bytes) -> str | None:
-        """What is wrong of what the command `distance` wrote, if anything is."""
+    def wrong(self, answer: bytes, most: int | None) -> str | None:
+        """What is wrong of what the command `distance` wrote of up to this many errors, if anything is."""
         first, *lines = answer.decode().split("\n")[:-1]
-        most = self.asked.most
-        of_which = " of graph-like errors" if self.asked.graphlike else ""
+        of_which = " of graph-like errors" if self.graphlike else ""
         if first == f"none{of_which}":
             return None if self.least is None else f"none, but {self.least} errors are unseen"
         if first == f"none up to {most}{of_which}" and most is not None:
