@@ -8,7 +8,6 @@ import threading
 import time
 from typing import NamedTuple
 
-import build_order
 import build_program
 import pytest
 
@@ -40,9 +39,9 @@ ALL_BUILT = "left low right top "
 
 
 def test_crates_come_in_order() -> None:
-    crates = build_order.stands_on("app", build_order.crates_in(CRATES))
+    crates = build_program.stands_on("app", build_program.crates_in(CRATES))
     assert list(crates.items()) == list(IN_ORDER.items())
-    assert build_order.chains(crates, LINES) == {"low": 10, "left": 4, "right": 7, "top": 2, "app": 1}
+    assert build_program.chains(crates, LINES) == {"low": 10, "left": 4, "right": 7, "top": 2, "app": 1}
 
 
 @pytest.mark.parametrize("ready, running, processors, memory, starts", [
@@ -53,7 +52,7 @@ def test_crates_come_in_order() -> None:
     ("ab", {"c": 3}, 4, AMPLE, {"a": 1}),
     ("a", {"c": 4}, 4, AMPLE, {}),
     ("", {}, 4, AMPLE, {}),
-    ("a", {}, 64, AMPLE, {"a": build_order.MOST_JOBS}),
+    ("a", {}, 64, AMPLE, {"a": build_program.MOST_JOBS}),
     # A crate of two jobs holds 4.5 GB, and one of one job 3 GB.
     ("a", {}, 4, 5 * GIGABYTE, {"a": 2}),
     ("ab", {}, 4, 7 * GIGABYTE, {"a": 2}),
@@ -62,12 +61,12 @@ def test_crates_come_in_order() -> None:
     ("a", {"b": 1}, 4, GIGABYTE, {}),
 ])
 def test_crates_share_processors_and_memory(ready: str, running: dict[str, int], processors: int, memory: int, starts: dict[str, int]) -> None:
-    assert build_order.next_starts([*ready], running, processors, memory) == starts
+    assert build_program.next_starts([*ready], running, processors, memory) == starts
 
 
 @pytest.mark.parametrize("threads, jobs", [([[0]], 1), ([[0], [1]], 2), ([[0, 1]], 1), ([[0, 1], [2, 3]], 3), ([[0, 1], [2]], 2)])
 def test_threads_of_one_core_count_less(threads: list[list[int]], jobs: int) -> None:
-    assert build_order.worth(threads) == jobs
+    assert build_program.worth(threads) == jobs
 
 
 class Built(NamedTuple):
