@@ -19,7 +19,9 @@ import subprocess
 import sys
 import tempfile
 import time
+from collections.abc import Callable
 from pathlib import Path
+from typing import Any
 
 from program import TOP, find_program
 from stabsim import codes
@@ -226,25 +228,28 @@ def time_crate(_: argparse.Namespace, folder: Path) -> None:
     bench("faults", *(made("surface_code", distance, f"_rounds_{distance}") for distance in (7, 21)))
 
 
+NUMBER = {"type": int, "metavar": "N"}
+# What is measured, and with which options.
+KINDS: dict[str, tuple[Callable[[argparse.Namespace, Path], None], dict[str, dict[str, Any]]]] = {
+    "shots": (time_shots, {}),
+    "further": (time_further_shots, {"circuits": {"nargs": "+", "type": Path, "metavar": "CIRCUIT"}}),
+    "hour": (time_an_hour, {"--seconds": {"type": float, "default": 5, "help": "how long a run takes at least (default 5)"}}),
+    "limits": (time_limits, {"--repeats": NUMBER | {"default": 3, "help": "how many runs of each text (default 3)"}}),
+    "page": (time_page, {"--edits": NUMBER | {"default": 9}, "--distance": NUMBER, "--rounds": NUMBER,
+                         "--frames": NUMBER | {"help": "measures N frames of a zoom, and of a pan, and nothing else"}}),
+    "crate": (time_crate, {}),
+}
+
+
 def main() -> None:
     words = argparse.ArgumentParser(description=__doc__, formatter_class=argparse.RawDescriptionHelpFormatter)
     kinds = words.add_subparsers(required=True, metavar="WHAT")
-    for name, measure in (("shots", time_shots), ("further", time_further_shots), ("hour", time_an_hour), ("limits", time_limits),
-                          ("page", time_page), ("crate", time_crate)):
+    for name, (measure, options) in KINDS.items():
         kind = kinds.add_parser(name, description=measure.__doc__)
         kind.set_defaults(measure=measure)
         kind.add_argument("--program", type=Path, help="the program in place of the built one")
-        if name == "further":
-            kind.add_argument("circuits", nargs="+", type=Path, metavar="CIRCUIT")
-        elif name == "hour":
-            kind.add_argument("--seconds", type=float, default=5, help="how long a run takes at least (default 5)")
-        elif name == "limits":
-            kind.add_argument("--repeats", type=int, default=3, help="how many runs of each text (default 3)")
-        elif name == "page":
-            kind.add_argument("--edits", type=int, default=9)
-            kind.add_argument("--distance", type=int)
-            kind.add_argument("--rounds", type=int)
-            kind.add_argument("--frames", type=int, metavar="N", help="measures N frames of a zoom, and of a pan, and nothing else")
+        for option, more in options.items():
+            kind.add_argument(option, **more)
     asked = words.parse_args()
     asked.program = asked.program or find_program()
     with tempfile.TemporaryDirectory() as folder:

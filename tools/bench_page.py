@@ -6,14 +6,14 @@ milliseconds of each step of the way, by the middle one of the edits, and the be
 that a click on a detector asks for. The clock is the browser's.
 """
 
+import contextlib
 import statistics
 import time
-from collections.abc import Iterable
 from pathlib import Path
 from typing import Any
 
 import stabsim
-from browser import Page, open_browser
+from browser import Page, opened_browser
 from stabsim import codes
 
 # The clock that reads when a question left, when the first event came, and when its picture was on the screen.
@@ -117,68 +117,55 @@ Promise.all(["main", "circuit", "places", "moments"].map((name) => import(`/stat
 STEPS = [("to send", "pressed", "sent"), ("server", "sent", "heard"), ("views", "heard", "framed"), ("paint", "framed", "painted"), ("all", "pressed", "painted")]
 
 
-def say(name: str, times: Iterable[float]) -> None:
-    spent = sorted(times)
-    print(f"    {name:8} {statistics.median(spent):6.1f} ms  ({spent[0]:.1f} to {spent[-1]:.1f})")
+def spread(times: list[float]) -> str:
+    return f"{statistics.median(times):6.1f} ms  ({min(times):.1f} to {max(times):.1f})"
 
 
-def measure_size(driver: Any, folder: Path, distance: int, rounds: int, edits: int) -> None:
-    file = folder / "surface_code.stim"
+def open_page(page: Any) -> float:
+    """Opens the page, and says after how many seconds its first picture is there."""
+    begun = time.perf_counter()
+    page.browser.get(page.address)
+    while not page.browser.execute_script("return document.body.dataset.shown"):
+        time.sleep(0.005)
+    return time.perf_counter() - begun
+
+
+def measure_size(driver: Any, file: Path, distance: int, rounds: int, edits: int) -> None:
     file.write_text(codes.surface_code(distance, rounds, written_out=True))
     begun = time.perf_counter()
-    page = Page(driver, folder, None, str(file))
-    started = time.perf_counter() - begun
-    begun = time.perf_counter()
-    driver.get(page.address)
-    while not driver.execute_script("return document.body.dataset.shown"):
-        time.sleep(0.005)
-    print(f"distance {distance}, {rounds} rounds: served after {started:.2f} s, first picture {time.perf_counter() - begun:.2f} s later")
-    time.sleep(3)
-    last = page.ask("page.moments() - 1")
-    # The data qubit in the middle of the code: its coordinates are the distance, which is odd as those of all data qubits.
-    qubit = stabsim.Circuit.from_file(file).qubit_coordinates().tolist().index([distance, distance])
-    times = []
-    for number in range(edits):
-        times.append(driver.execute_async_script(TYPE, qubit, (number + 1) * last // (edits + 1)))
-        time.sleep(1)
-        driver.execute_async_script(TYPE, qubit, -1)
-        time.sleep(1)
-    for name, first, then in STEPS:
-        say(name, (one[then] - one[first] for one in times))
-    say("region", [driver.execute_async_script(REGION, f"D{number}") for number in range(distance, distance + edits)])
-    print(f"    bytes of the event: {max(one['bytes'] for one in times)}")
-    page.close()
+    with contextlib.closing(Page(driver, file.parent, None, str(file))) as page:
+        started = time.perf_counter() - begun
+        print(f"distance {distance}, {rounds} rounds: served after {started:.2f} s, first picture {open_page(page):.2f} s later")
+        time.sleep(3)
+        last = page.ask("page.moments() - 1")
+        # The data qubit in the middle of the code: its coordinates are the distance, which is odd as those of all data qubits.
+        qubit = stabsim.Circuit.from_file(file).qubit_coordinates().tolist().index([distance, distance])
+        times = []
+        for number in range(edits):
+            times.append(driver.execute_async_script(TYPE, qubit, (number + 1) * last // (edits + 1)))
+            time.sleep(1)
+            driver.execute_async_script(TYPE, qubit, -1)
+            time.sleep(1)
+        for name, first, then in STEPS:
+            print(f"    {name:8} {spread([one[then] - one[first] for one in times])}")
+        regions = [driver.execute_async_script(REGION, f"D{number}") for number in range(distance, distance + edits)]
+        print(f"    region   {spread(regions)}")
+        print(f"    bytes of the event: {max(one['bytes'] for one in times)}")
 
 
 def measure_frames(folder: Path, count: int) -> None:
     """Zooms and pans a picture of 2,044 qubits, four surface codes of distance 16, by a step in each of this many frames."""
-    driver = open_browser()
-    try:
-        driver.set_window_size(1920, 1080)
-        driver.set_script_timeout(600)
-        page = Page(driver, folder, None)
-        driver.get(page.address)
-        while not driver.execute_script("return document.body.dataset.shown"):
-            time.sleep(0.05)
+    with opened_browser() as driver, contextlib.closing(Page(driver, folder, None)) as page:
+        open_page(page)
         found = driver.execute_async_script(FRAMES, codes.surface_code(16, 1), count)
         if "fault" in found:
             raise RuntimeError(found["fault"])
         for name in ("zoomed", "panned"):
-            spent = sorted(found[name])
-            print(f"{found['qubits']} qubits, {name}: {1000 * len(spent) / sum(spent):.1f} frames a second, "
-                  f"{statistics.median(spent):.1f} ms ({spent[0]:.1f} to {spent[-1]:.1f})")
-        page.close()
-    finally:
-        driver.quit()
+            spent = found[name]
+            print(f"{found['qubits']} qubits, {name}: {1000 * len(spent) / sum(spent):.1f} frames a second, {spread(spent)}")
 
 
 def measure(folder: Path, sizes: list[tuple[int, int]], edits: int) -> None:
-    driver = open_browser()
-    try:
-        driver.set_window_size(1920, 1080)
-        driver.set_script_timeout(600)
-        driver.execute_cdp_cmd("Page.addScriptToEvaluateOnNewDocument", {"source": CLOCK})
+    with opened_browser(before=CLOCK) as driver:
         for distance, rounds in sizes:
-            measure_size(driver, folder, distance, rounds, edits)
-    finally:
-        driver.quit()
+            measure_size(driver, folder / "surface_code.stim", distance, rounds, edits)

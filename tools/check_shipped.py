@@ -17,9 +17,9 @@ import sys
 import tempfile
 from pathlib import Path
 
-from build_order import Crates, crates_in, stands_on
+from build_program import Crates, crates_in, stands_on
+from program import TOP
 
-TOP = Path(__file__).resolve().parent.parent
 PROGRAMS = Path("python/stabsim/programs")
 PROGRAM = "stabsim"
 V2, V3 = "stabsim-x86-64-v2", "stabsim-x86-64-v3"

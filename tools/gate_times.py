@@ -15,115 +15,92 @@ last look at it, a quarter of a second in the middle; the sum of the whole run i
 - wrong bodies: the checks of the crate with its must-fail edits, and one of it unchanged over the work
   that these left.
 """
+
 import os
 import signal
 import subprocess
 import sys
 import time
+from collections import defaultdict
+from pathlib import Path
 
 BETWEEN_LOOKS = 0.5
 TICKS = os.sysconf("SC_CLK_TCK")
 KINDS = ("proof", "tests", "wrong bodies")
 
-
-def processes():
-    """Each process that there is: its parent, when it began, and its own processor seconds."""
-    found = {}
-    for name in os.listdir("/proc"):
-        if name.isdigit():
-            try:
-                with open(f"/proc/{name}/stat", "rb") as file:
-                    text = file.read()
-            except OSError:
-                continue
-            # The second field is a name in brackets, which may hold anything.
-            fields = text[text.rindex(b")") + 2 :].split()
-            found[int(name)] = int(fields[1]), int(fields[19]), (int(fields[11]) + int(fields[12])) / TICKS
-    return found
+# A crate and a kind of work.
+Work = tuple[str, str]
 
 
-def below(top, found):
-    """The processes that this one started, and those that they started, each after its parent."""
-    children = {}
-    for process, (parent, _, _) in found.items():
-        children.setdefault(parent, []).append(process)
-    order = list(children.get(top, []))
-    for process in order:
-        order += children.get(process, [])
-    return order
-
-
-def work_of(process):
-    """The crate and the kind of work, if the process is the prover's."""
+def stat_of(process: int) -> tuple[int, int, float] | None:
+    """A process's parent, when it began, and its own processor seconds."""
     try:
-        with open(f"/proc/{process}/cmdline", "rb") as file:
-            words = os.fsdecode(file.read()).split("\0")
-        folder = os.path.basename(os.readlink(f"/proc/{process}/cwd"))
+        text = Path(f"/proc/{process}/stat").read_bytes()
     except OSError:
         return None
-    if os.path.basename(words[0]) != "rattle" or "--crate-name" not in words:
+    # The second field is a name in brackets, which may hold anything.
+    fields = text[text.rindex(b")") + 2 :].split()
+    return int(fields[1]), int(fields[19]), (int(fields[11]) + int(fields[12])) / TICKS
+
+
+def work_of(process: int) -> Work | None:
+    """The crate and the kind of work, if the process is the prover's."""
+    try:
+        words = os.fsdecode(Path(f"/proc/{process}/cmdline").read_bytes()).split("\0")
+        folder = Path(f"/proc/{process}/cwd").readlink().name
+    except OSError:
         return None
-    crate = words[words.index("--crate-name") + 1]
+    if Path(words[0]).name != "rattle" or "--crate-name" not in words:
+        return None
     # rt checks a crate with an edit in a folder of its own.
-    if folder.startswith("rt-edit-"):
-        return crate, "wrong bodies"
-    return crate, "tests" if "--test" in words else "proof"
+    kind = "wrong bodies" if folder.startswith("rt-edit-") else "tests" if "--test" in words else "proof"
+    return words[words.index("--crate-name") + 1], kind
 
 
 class Watch:
-    """What the looks saw: for each process its work, and its processor seconds at the last look."""
+    """What the looks saw: for each process, by its number and when it began, its work and its processor seconds at the last look."""
 
-    def __init__(self, top):
+    def __init__(self, top: int) -> None:
         self.top = top
-        self.works = {}
-        self.seconds = {}
+        self.works: dict[tuple[int, int], Work] = {}
+        self.seconds: dict[tuple[int, int], float] = {}
 
-    def look(self):
-        found = processes()
-        for process in below(self.top, found):
-            parent, began, seconds = found[process]
-            # A number can be given to another process, which begins at another time.
-            key = process, began
-            if self.works.get(key) is None:
-                above = (parent, found[parent][1]) if parent in found else None
-                self.works[key] = work_of(process) or self.works.get(above)
-            self.seconds[key] = seconds
+    def look(self) -> None:
+        found = {it: stat for it in map(int, filter(str.isdigit, os.listdir("/proc"))) if (stat := stat_of(it))}
+        for process, (_, began, seconds) in found.items():
+            line = [process]
+            while line[-1] in found and line[-1] != self.top:
+                line.append(found[line[-1]][0])
+            if line[-1] == self.top and process != self.top:
+                key = process, began
+                # A process that is not the prover works for the one that started it.
+                work = self.works.get(key) or next((work for it in line[:-1] if (work := work_of(it))), None)
+                if work:
+                    self.works[key], self.seconds[key] = work, seconds
 
-    def table(self):
+    def table(self) -> dict[Work, float]:
         """The seconds of each crate and kind of work."""
-        sums = {}
+        sums: dict[Work, float] = defaultdict(float)
         for key, work in self.works.items():
-            if work is not None:
-                sums[work] = sums.get(work, 0) + self.seconds[key]
+            sums[work] += self.seconds[key]
         return sums
 
 
-def edits_of(crate):
-    """How many must-fail edits the crate has."""
-    try:
-        return sum(name.endswith(".edit") for name in os.listdir(f"crates/{crate}/must-fail"))
-    except OSError:
-        return 0
-
-
-def report(sums, total, minutes):
-    """The table, in the layout of the documents."""
-    crates = sorted({crate for crate, _ in sums})
-    rows = [[crate] + [sums.get((crate, kind), 0) for kind in KINDS] for crate in crates]
-    rows.sort(key=lambda row: -sum(row[1:]))
-    columns = [sum(row[i] for row in rows) for i in (1, 2, 3)]
+def report(sums: dict[Work, float], total: float, minutes: float) -> None:
+    """Prints the table, in the layout of the documents."""
+    edits = {crate: len([*Path(f"crates/{crate}/must-fail").glob("*.edit")]) for crate, _ in sums}
+    rows = [(f"`{crate}`", [sums[crate, kind] for kind in KINDS], number) for crate, number in sorted(edits.items())]
+    rows.sort(key=lambda row: -sum(row[1]))
+    columns = [sum(row[1][i] for row in rows) for i in range(len(KINDS))]
     print("\n| Crate | Proof, s | Tests, s | Wrong bodies, s | Their number | Sum, s |\n|---|---|---|---|---|---|")
-    for crate, *seconds in rows:
-        told = " | ".join(f"{it:,.0f}" for it in seconds)
-        print(f"| `{crate}` | {told} | {edits_of(crate)} | {sum(seconds):,.0f} |")
+    for name, seconds, number in rows:
+        print("| " + " | ".join([name, *(f"{it:,.0f}" for it in seconds), str(number), f"{sum(seconds):,.0f}"]) + " |")
     print(f"| rest | | | | | {total - sum(columns):,.0f} |")
-    told = " | ".join(f"{it:,.0f}" for it in columns)
-    print(f"| all | {told} | {sum(edits_of(crate) for crate in crates)} | {total:,.0f} |")
-    processors = len(os.sched_getaffinity(0))
-    print(f"\n{total / 60:.1f} processor minutes, {minutes:.1f} minutes by the clock, on {processors} processors")
+    print("| " + " | ".join(["all", *(f"{it:,.0f}" for it in columns), str(sum(edits.values())), f"{total:,.0f}"]) + " |")
+    print(f"\n{total / 60:.1f} processor minutes, {minutes:.1f} minutes by the clock, on {len(os.sched_getaffinity(0))} processors")
 
 
-def main():
+def main() -> int:
     began = time.monotonic()
     try:
         run = subprocess.Popen(["rt", *(sys.argv[1:] or ["ci"])])
@@ -135,12 +112,11 @@ def main():
     for each in (signal.SIGTERM, signal.SIGHUP):
         signal.signal(each, lambda number, _: run.send_signal(number))
     watch = Watch(run.pid)
-    while True:
+    ended = 0
+    while not ended:
         watch.look()
         ended, status, usage = os.wait4(run.pid, os.WNOHANG)
-        if ended:
-            break
-        time.sleep(BETWEEN_LOOKS)
+        time.sleep(0 if ended else BETWEEN_LOOKS)
     run.returncode = os.waitstatus_to_exitcode(status)
     sys.stdout.flush()
     report(watch.table(), usage.ru_utime + usage.ru_stime, (time.monotonic() - began) / 60)

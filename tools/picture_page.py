@@ -12,30 +12,14 @@ import argparse
 import contextlib
 import pathlib
 import tempfile
-from collections.abc import Iterator
 
-from browser import Page, open_browser
+from browser import Page, opened_browser
 from program import TOP
 from stabsim import codes
 
 # The tick and the qubit at which the X is put in; and the tick, the qubit, the detector and the item of the colour code.
 TICK, QUBIT = 11, 27
 PRODUCTS, FACE, DETECTOR, ITEM = 3, 10, "D22", 34
-
-
-@contextlib.contextmanager
-def opened(file: pathlib.Path, colours: str, size: tuple[int, int]) -> Iterator[Page]:
-    """The page of a circuit in a browser of some size, in light or dark colours."""
-    driver = open_browser()
-    page = Page(driver, file.parent, None, str(file))
-    try:
-        driver.execute_cdp_cmd("Emulation.setDeviceMetricsOverride", {"width": size[0], "height": size[1], "deviceScaleFactor": 1, "mobile": False})
-        driver.execute_cdp_cmd("Emulation.setEmulatedMedia", {"features": [{"name": "prefers-color-scheme", "value": colours}]})
-        page.open()
-        yield page
-    finally:
-        driver.quit()
-        page.close()
 
 
 def settle(page: Page) -> None:
@@ -81,9 +65,11 @@ def main() -> None:
         for name, colours, called, code, act in pictures:
             file = pathlib.Path(folder) / called
             file.write_text(code)
-            with opened(file, colours, (asked.width, asked.height)) as page:
+            with (opened_browser(asked.width, asked.height, colours) as driver,
+                  contextlib.closing(Page(driver, file.parent, None, str(file))) as page):
+                page.open()
                 act(page)
-                page.browser.save_screenshot(str(asked.folder / name))
+                driver.save_screenshot(str(asked.folder / name))
 
 
 if __name__ == "__main__":

@@ -15,277 +15,234 @@ it wrote is a prefix of its whole output; and its fault line is one that docs/us
 run, and ends with 1 if something is wrong. It needs cc, and the programs: tools/refuse.sh builds them if they are missing.
 """
 
+import itertools
 import os
-import pathlib
 import re
 import resource
+import shutil
 import subprocess
 import sys
 import tempfile
+from collections import Counter
 from collections.abc import Iterator
-from typing import NamedTuple
+from pathlib import Path
+from typing import Any
 
-from program import find_program
+from program import TOP, find_program
 
-TOP = pathlib.Path(__file__).resolve().parent.parent
-PROGRAM = find_program()
-CALLS = TOP / "crates" / "tests_refusals" / "out" / "tests_refusals"
+CALLS = TOP / "crates/tests_refusals/out/tests_refusals"
 TIME_LIMIT = 60
+MOST_REQUESTS = 100_000
+LITTLE_ROOM = 100 * 2**20
+OUT_OF_MEMORY = b"stabsim: refused 20 OutOfMemory\n"
 FAULT_LINE = re.compile(rb"stabsim: (line [1-9][0-9]*: )?refused [0-9]+ [A-Za-z]+\n")
-CIRCUIT = TOP / "examples" / "repetition_code.stim"
-BELL = TOP / "examples" / "bell.stim"
 # What standard input has; `edit` alone reads it, since the others have --in.
-SCRIPT = (TOP / "examples" / "inserted_x.script").read_bytes() + b"show stabilisers\nshow circuit\ninsert 0 REPEAT 2 {\nX 0\n}\n"
-# Edits of the Bell pair: an X in front of its measurement, and its first gate taken out.
-BELL_SCRIPT = b"insert 2 X 1\nshow measurements\ndelete 0\nshow measurements\nshow free\n"
+SCRIPT = (TOP / "examples/inserted_x.script").read_bytes() + b"show stabilisers\nshow circuit\ninsert 0 REPEAT 2 {\nX 0\n}\n"
+ALL = " ".join(map(str, range(1024)))
+# Files beside copies of the examples: edits of a Bell pair, coins, rounds that come again, of which few shots go one after another, circuits
+# of which `check` explains the fault by its line and by its item, a pair with a record and a parity of records for detectors, a zero
+# with a marked place in front of its measurement, and a million steps.
+FILES = {
+    "bell.script": "insert 2 X 1\nshow measurements\ndelete 0\nshow measurements\nshow free\n",
+    "some.coins": "0110\n",
+    "again.stim": "H 0\nM 0\nREPEAT 700 {\nX 1\nM 0 1\nDETECTOR rec[-1]\n}\n",
+    "far.stim": "M 0\nREPEAT 3 {\n    M 1\n    DETECTOR rec[-3]\n}\n",
+    "line.stim": "H 0\nMPP X0*Z1 X0*Y0\n",
+    "parities.stim": "H 0\nCX 0 1\nM 0 1\nDETECTOR rec[-1]\nDETECTOR rec[-1] rec[-2]\nOBSERVABLE_INCLUDE(0) rec[-2]\n",
+    "marked.stim": "R 0\nI 0\nM 0\nDETECTOR rec[-1]\nOBSERVABLE_INCLUDE(0) rec[-1]\n",
+    "large.stim": f"R {ALL}\nREPEAT 511 {{\nH {ALL}\nM {ALL}\n}}\n",
+}
+# Runs in the folder of these files. Those that are refused anyway end with the status at their end; a script is after <. More than
+# 64 shots are run by lanes.
+RUNS = """\
+sample --shots 3 --in repetition_code.stim
+sample --out_format dets --coins 0110 --in five_qubit_code.stim
+sample --seed 7 --in bell.stim
+sample --shots 65 --seed 7 --in bell.stim
+sample --shots 1025 --seed 7 --in bell.stim
+detect --append_observables --out_format hits --in surface_code.stim
+stabilisers --in steane_code.stim
+check --in repetition_code.stim
+deterministic --out_format dets --in repetition_code.stim
+faults --everywhere --in repetition_code.stim
+faults --everywhere --out_format b8 --in teleportation.stim
+coins --in teleportation.stim
+coins --out_format hits --in bell.stim
+distance --everywhere --in repetition_code.stim
+distance --everywhere --graphlike --in repetition_code.stim
+edit --stride 4 --in repetition_code.stim
+edit --stride 2 --seed 7 --in bell.stim < bell.script
+sample --shots none = 2
+--help
+sample --coins_in some.coins --in five_qubit_code.stim
+sample --shots 3 --seed 7 --in again.stim
+check --in far.stim = 1
+check --in line.stim = 1
+detect --append_observables --out_format dets --in parities.stim --shots 2 --seed 7
+detect --append_observables --out_format dets --in parities.stim --shots 12 --coins 1011 --out=shots
+deterministic --in parities.stim
+deterministic --explain --in parities.stim
+faults --in marked.stim
+faults --out_format 01 --in marked.stim
+distance --in marked.stim
+"""
+
+Done = subprocess.CompletedProcess[bytes]
 
 
-class Run(NamedTuple):
-    """A run of the program, and the status that it ends with if nothing is refused."""
+class Tries:
+    """A folder with the files, the program, the library that refuses, and what was found wrong."""
 
-    words: list[str]
-    status: int = 0
-    script: bytes = SCRIPT
-    out: pathlib.Path | None = None  # the file of --out among the words
+    def __init__(self, folder: Path) -> None:
+        self.folder = folder / "files"
+        shutil.copytree(TOP / "examples", self.folder)
+        for name, text in FILES.items():
+            (self.folder / name).write_text(text)
+        self.program, self.library, self.told = find_program(), folder / "refuse.so", folder / "told"
+        subprocess.run(["cc", "-O2", "-shared", "-fPIC", "-o", self.library, TOP / "tools/refuse.c"], check=True)
+        self.wrong = 0
 
+    def expect(self, holds: object, what: str) -> None:
+        if not holds:
+            self.wrong += 1
+            print(what, file=sys.stderr)
 
-RUNS = [
-    Run(["sample", "--shots", "3", "--in", str(CIRCUIT)]),
-    Run(["sample", "--out_format", "dets", "--coins", "0110", "--in", str(TOP / "examples" / "five_qubit_code.stim")]),
-    Run(["sample", "--seed", "7", "--in", str(BELL)]),
-    # More than 64 shots are run by lanes.
-    Run(["sample", "--shots", "65", "--seed", "7", "--in", str(BELL)]),
-    Run(["sample", "--shots", "1025", "--seed", "7", "--in", str(BELL)]),
-    Run(["detect", "--append_observables", "--out_format", "hits", "--in", str(TOP / "examples" / "surface_code.stim")]),
-    Run(["stabilisers", "--in", str(TOP / "examples" / "steane_code.stim")]),
-    Run(["check", "--in", str(CIRCUIT)]),
-    Run(["deterministic", "--out_format", "dets", "--in", str(CIRCUIT)]),
-    Run(["faults", "--everywhere", "--in", str(CIRCUIT)]),
-    Run(["faults", "--everywhere", "--out_format", "b8", "--in", str(TOP / "examples" / "teleportation.stim")]),
-    Run(["coins", "--in", str(TOP / "examples" / "teleportation.stim")]),
-    Run(["coins", "--out_format", "hits", "--in", str(BELL)]),
-    Run(["distance", "--everywhere", "--in", str(CIRCUIT)]),
-    Run(["distance", "--everywhere", "--graphlike", "--in", str(CIRCUIT)]),
-    Run(["edit", "--stride", "4", "--in", str(CIRCUIT)]),
-    Run(["edit", "--stride", "2", "--seed", "7", "--in", str(BELL)], script=BELL_SCRIPT),
-    Run(["sample", "--shots", "none"], status=2),
-    Run(["--help"]),
-]
+    def run(self, words: list[str], script: bytes = SCRIPT, **more: Any) -> Done:
+        """A run of the program; what it wrote to its file, which was not there before, counts as output."""
+        out = next((self.folder / it.removeprefix("--out=") for it in words if it.startswith("--out=")), None)
+        if out:
+            out.unlink(missing_ok=True)
+        more = {"stdout": subprocess.PIPE} | more
+        done = subprocess.run([self.program, *words], cwd=self.folder, input=script, stderr=subprocess.PIPE, timeout=TIME_LIMIT, check=False, **more)
+        if out and out.exists():
+            done.stdout += out.read_bytes()
+        return done
 
-wrong = []
+    def variables(self, number: int, onwards: bool) -> dict[str, str]:
+        """What refuses the request of a number, or all from it on."""
+        self.told.unlink(missing_ok=True)
+        names = {"LD_PRELOAD": str(self.library), "REFUSE": str(number), "TOLD": str(self.told)}
+        return names | ({"REFUSE_ON": "1"} if onwards else {})
 
+    def look(self, what: str, done: Done, whole: Done) -> None:
+        """A run that was refused memory: it ended as if nothing had been refused, or with 1, a prefix and the line that reports it.
 
-def run(words, **more):
-    more = {"input": SCRIPT, "stdout": subprocess.PIPE} | more
-    return subprocess.run([str(PROGRAM), *words], stderr=subprocess.PIPE, timeout=TIME_LIMIT, check=False, **more)
+        If a circuit is refused anyway, a prefix of what `check` explains and the line of its own fault will do too.
+        """
+        self.expect(done.returncode in (whole.returncode, 1), f"{what}: status {done.returncode}")
+        if done.returncode == whole.returncode != 1:
+            self.expect((done.stdout, done.stderr) == (whole.stdout, whole.stderr), f"{what}: other bytes, although the status is that of no refusal")
+            return
+        lines = [OUT_OF_MEMORY, *([whole.stderr] if whole.returncode == 1 else [])]
+        self.expect(whole.stdout.startswith(done.stdout), f"{what}: what was written is no prefix")
+        self.expect(done.stderr in lines, f"{what}: told {done.stderr!r}")
 
+    def refuse_each(self, what: str, onwards: bool) -> None:
+        """Refuses each request of a run in turn, and prints how many runs were refused one, and how many of them answered 20."""
+        line, _, status = what.partition(" = ")
+        line, _, file = line.partition(" < ")
+        words, script = line.split(), (self.folder / file).read_bytes() if file else SCRIPT
+        whole = self.run(words, script)
+        self.expect(whole.returncode == int(status or 0), f"{what}: status {whole.returncode} though nothing was refused")
+        self.expect("--out=" not in what or whole.stdout, f"{what}: no output")
+        refused = answered = 0
+        for number in range(1, MOST_REQUESTS):
+            done = self.run(words, script, env=self.variables(number, onwards))
+            if not self.told.exists():
+                self.expect(done.stdout == whole.stdout, f"{what}: other bytes though nothing was refused")
+                break
+            refused += 1
+            answered += done.stderr == OUT_OF_MEMORY
+            self.look(what, done, whole)
+        else:
+            self.expect(False, f"{what}: no end of requests")
+        self.expect(refused and answered, f"{what}: no request was refused, or no run answered 20")
+        print(f"{what}, {'from one on' if onwards else 'one'}: {refused} runs with memory refused, {answered} answered 20")
 
-def run_anew(it: Run, **more) -> subprocess.CompletedProcess:
-    """Runs it; what it wrote to its file, which was not there before, counts as output."""
-    if it.out is None:
-        return run(it.words, input=it.script, **more)
-    it.out.unlink(missing_ok=True)
-    done = run(it.words, input=it.script, **more)
-    if it.out.exists():
-        done.stdout += it.out.read_bytes()
-    return done
+    def run_calls(self, number: int, onwards: bool) -> tuple[list[str], list[bool]]:
+        """What the program of calls says if this request of each call is refused, and for each call whether one was."""
+        variables = self.variables(number, onwards) | {"WINDOWS": "1"}
+        done = subprocess.run([CALLS], env=variables, capture_output=True, text=True, timeout=TIME_LIMIT, check=False)
+        self.expect(done.returncode == 0, f"the calls: status {done.returncode}, told {done.stderr!r}")
+        return done.stdout.splitlines(), [it == "r" for it in self.told.read_text()]
 
+    def count_calls(self, onwards: bool) -> Counter[str]:
+        """For each call, in how many runs it was refused a request; each time it has to end as a refused call does."""
+        whole, _ = self.run_calls(0, False)
+        counts: Counter[str] = Counter()
+        for number in range(1, MOST_REQUESTS):
+            lines, refused = self.run_calls(number, onwards)
+            self.expect(len(lines) == len(whole), f"the calls: {len(lines)} lines where there are to be {len(whole)}")
+            for line, is_refused in zip(lines, refused):
+                name, ending = line.rsplit(": ", 1)
+                wanted = "refused, as before, gave" if is_refused else "gave"
+                self.expect(ending == wanted, f"request {number}{' and on' * onwards}: {line}, and not {wanted}")
+                counts[name] += is_refused
+            if not any(refused):
+                self.expect(len(refused) == len(whole), f"the calls: {len(whole)} lines of {len(refused)} calls")
+                return counts
+        self.expect(False, "the calls: no end of requests")
+        return counts
 
-def expect(holds, what):
-    if not holds:
-        wrong.append(what)
-        print(what, file=sys.stderr)
+    def try_calls(self) -> None:
+        once, onwards = self.count_calls(False), self.count_calls(True)
+        for name in once:
+            self.expect(once[name] > 0 and onwards[name] > 0, f"{name}: no request was refused")
+            print(f"{name}: refused {once[name]} times one request, {onwards[name]} times all from one on; each answered 20")
 
+    def expect_fault(self, what: str, done: Done, number: int, path: str | None = None) -> None:
+        """A run that ended with this fault: its line, and a second one of a path that can't be opened, read or made."""
+        first, *more = done.stderr.splitlines(keepends=True) or [b""]
+        self.expect(done.returncode == 1, f"{what}: status {done.returncode}")
+        self.expect(FAULT_LINE.fullmatch(first) and f"refused {number} ".encode() in first, f"{what}: told {done.stderr!r}")
+        named = [f"stabsim: {path}: ".encode()] if path else []
+        is_told = len(more) == len(named) and all(line.startswith(name) for line, name in zip(more, named))
+        self.expect(is_told, f"{what}: told {done.stderr!r}, and of {path} alone")
 
-def look(done, words, whole, line):
-    """A run that was refused memory: it ended as if nothing had been refused, or with 1, a prefix and the line that reports it.
+    def failing_files(self) -> Iterator[tuple[str, list[str], int, str]]:
+        """What is wrong with a file, the words that name it, the fault that it comes to, and the path that is named."""
+        given, inside = ["--in", "repetition_code.stim"], "none/shots"
+        yield "a folder for --in", ["--in", "."], 15, "."
+        yield "no file for --in", ["--in", "none"], 15, "none"
+        yield "a file whose reads fail", ["--in", "/proc/self/mem"], 15, "/proc/self/mem"
+        # Who may read all files may read this one.
+        if os.geteuid() != 0:
+            (self.folder / "far.stim").chmod(0)
+            yield "a file that may not be read", ["--in", "far.stim"], 15, "far.stim"
+        yield "a folder for --out", [*given, "--out", "."], 16, "."
+        yield "no folder for --out", [*given, "--out", inside], 16, inside
 
-    If a circuit is refused anyway, a prefix of what `check` explains and the line of its own fault will do too.
-    """
-    expect(done.returncode in (whole.returncode, 1), f"{words}: status {done.returncode}")
-    if whole.returncode == 1:
-        expect(whole.stdout.startswith(done.stdout), f"{words}: what was written is no prefix")
-        expect(done.stderr in (line, whole.stderr), f"{words}: told {done.stderr!r}")
-    elif done.returncode == whole.returncode:
-        same = (done.stdout, done.stderr) == (whole.stdout, whole.stderr)
-        expect(same, f"{words}: other bytes, although the status is that of no refusal")
-    else:
-        expect(whole.stdout.startswith(done.stdout), f"{words}: what was written is no prefix")
-        expect(done.stderr == line, f"{words}: told {done.stderr!r}")
+    def try_devices(self) -> None:
+        sample = ["sample", "--in", "repetition_code.stim"]
+        many = [*sample, "--shots", "100000"]
+        with open("/dev/full", "wb") as full:
+            for words in (sample, many, ["edit", "--in", "repetition_code.stim"]):
+                self.expect_fault(f"a full disk, {words}", self.run(words, stdout=full), 16)
+        with subprocess.Popen(["head", "-c", "5"], stdin=subprocess.PIPE, stdout=subprocess.DEVNULL) as reader:
+            self.expect_fault("a closed pipe", self.run(many, stdout=reader.stdin), 16)
+        files = list(self.failing_files())
+        for what, words, number, path in files:
+            self.expect_fault(what, self.run(["sample", *words]), number, path)
+        print(f"{4 + len(files)} devices failed")
 
-
-def refuse_each(library: pathlib.Path, folder: pathlib.Path, it: Run, onwards: bool) -> tuple[int, int]:
-    """Refuses each request of a run in turn; how many runs were refused one, and how many of them answered 20."""
-    words, whole = it.words, run_anew(it)
-    expect(whole.returncode == it.status, f"{words}: status {whole.returncode} though nothing was refused")
-    expect(it.out is None or whole.stdout, f"{words}: no output")
-    line = b"stabsim: refused 20 OutOfMemory\n"
-    refused = answered = 0
-    for number in range(1, 100_000):
-        told = folder / "told"
-        told.unlink(missing_ok=True)
-        names = {"LD_PRELOAD": str(library), "REFUSE": str(number), "TOLD": str(told)}
-        done = run_anew(it, env=names | ({"REFUSE_ON": "1"} if onwards else {}))
-        if not told.exists():
-            expect(done.stdout == whole.stdout, f"{words}: other bytes though nothing was refused")
-            return refused, answered
-        refused += 1
-        answered += done.stderr == line
-        look(done, words, whole, line)
-    expect(False, f"{words}: no end of requests")
-    return refused, answered
-
-
-def run_calls(library, folder, number, onwards):
-    """What the program of calls says if this request of each call is refused, and for each call whether one was."""
-    told = folder / "told"
-    told.unlink(missing_ok=True)
-    names = {"LD_PRELOAD": str(library), "WINDOWS": "1", "REFUSE": str(number), "TOLD": str(told)}
-    done = subprocess.run([str(CALLS)], env=names | ({"REFUSE_ON": "1"} if onwards else {}), capture_output=True,
-                          text=True, timeout=TIME_LIMIT, check=False)
-    expect(done.returncode == 0, f"the calls: status {done.returncode}, told {done.stderr!r}")
-    return done.stdout.splitlines(), [it == "r" for it in told.read_text()]
-
-
-def count_calls(library, folder, onwards):
-    """For each call, in how many runs it was refused a request; each time it has to end as a refused call does."""
-    whole, _ = run_calls(library, folder, 0, False)
-    counts = {}
-    for number in range(1, 100_000):
-        lines, refused = run_calls(library, folder, number, onwards)
-        expect(len(lines) == len(whole), f"the calls: {len(lines)} lines where there are to be {len(whole)}")
-        for line, is_refused in zip(lines, refused):
-            name, ending = line.rsplit(": ", 1)
-            wanted = "refused, as before, gave" if is_refused else "gave"
-            expect(ending == wanted, f"request {number}{' and on' * onwards}: {line}, and not {wanted}")
-            counts[name] = counts.get(name, 0) + is_refused
-        if not any(refused):
-            expect(len(refused) == len(whole), f"the calls: {len(whole)} lines of {len(refused)} calls")
-            return counts
-    expect(False, "the calls: no end of requests")
-    return counts
-
-
-def try_calls(library, folder):
-    once, onwards = count_calls(library, folder, False), count_calls(library, folder, True)
-    for name in once:
-        expect(once[name] > 0 and onwards[name] > 0, f"{name}: no request was refused")
-        print(f"{name}: refused {once[name]} times one request, {onwards[name]} times all from one on; each answered 20")
-
-
-def runs_with_files(folder: pathlib.Path) -> Iterator[Run]:
-    """Runs of files that are made for them: coins, rounds that come again, of which few shots go one after another, and circuits
-    that `check` explains the fault of, by its line and by its item."""
-    coins, far, line, again = folder / "some.coins", folder / "far.stim", folder / "line.stim", folder / "again.stim"
-    coins.write_text("0110\n")
-    far.write_text("M 0\nREPEAT 3 {\n    M 1\n    DETECTOR rec[-3]\n}\n")
-    line.write_text("H 0\nMPP X0*Z1 X0*Y0\n")
-    again.write_text("H 0\nM 0\nREPEAT 700 {\nX 1\nM 0 1\nDETECTOR rec[-1]\n}\n")
-    yield Run(["sample", "--coins_in", str(coins), "--in", str(TOP / "examples" / "five_qubit_code.stim")])
-    yield Run(["sample", "--shots", "3", "--seed", "7", "--in", str(again)])
-    yield Run(["check", "--in", str(far)], status=1)
-    yield Run(["check", "--in", str(line)], status=1)
+    def try_little_room(self) -> None:
+        """A million steps within 100 MiB of addresses: run, or refused with 20."""
+        words = ["sample", "--in", "large.stim"]
+        done = self.run(words, preexec_fn=lambda: resource.setrlimit(resource.RLIMIT_AS, (LITTLE_ROOM, LITTLE_ROOM)))
+        self.look("100 MiB", done, self.run(words))
+        print(f"a million steps within 100 MiB of addresses: status {done.returncode}")
 
 
-def runs_of_parities(folder: pathlib.Path) -> Iterator[Run]:
-    """Runs of a Bell pair with a record and a parity of records for detectors, and a record for an observable; one writes a file."""
-    parities, out = folder / "parities.stim", folder / "shots"
-    parities.write_text("H 0\nCX 0 1\nM 0 1\nDETECTOR rec[-1]\nDETECTOR rec[-1] rec[-2]\nOBSERVABLE_INCLUDE(0) rec[-2]\n")
-    detect = ["detect", "--append_observables", "--out_format", "dets", "--in", str(parities)]
-    yield Run([*detect, "--shots", "2", "--seed", "7"])
-    yield Run([*detect, "--shots", "12", "--coins", "1011", f"--out={out}"], out=out)
-    yield Run(["deterministic", "--in", str(parities)])
-    yield Run(["deterministic", "--explain", "--in", str(parities)])
-
-
-def runs_of_marks(folder: pathlib.Path) -> Iterator[Run]:
-    """Runs of a zero with a marked place in front of its measurement, whose record is a detector and an observable."""
-    marked = folder / "marked.stim"
-    marked.write_text("R 0\nI 0\nM 0\nDETECTOR rec[-1]\nOBSERVABLE_INCLUDE(0) rec[-1]\n")
-    yield Run(["faults", "--in", str(marked)])
-    yield Run(["faults", "--out_format", "01", "--in", str(marked)])
-    yield Run(["distance", "--in", str(marked)])
-
-
-def try_memory(library: pathlib.Path, folder: pathlib.Path) -> None:
-    """Refuses each request of each run, and prints how many were refused."""
-    for it in [*RUNS, *runs_with_files(folder), *runs_of_parities(folder), *runs_of_marks(folder)]:
-        for onwards in (False, True):
-            refused, answered = refuse_each(library, folder, it, onwards)
-            expect(refused > 0, f"{it.words}: no request was refused")
-            expect(answered > 0, f"{it.words}: no run answered 20")
-            how = "from one on" if onwards else "one"
-            named = " ".join(pathlib.Path(word).name for word in it.words)
-            print(f"{named}, {how}: {refused} runs with memory refused, {answered} answered 20")
-
-
-def expect_fault(what, done, number, path=None):
-    """A run that ended with this fault: its line, and a second one of a path that can't be opened, read or made."""
-    first, *more = done.stderr.splitlines(keepends=True) or [b""]
-    expect(done.returncode == 1, f"{what}: status {done.returncode}")
-    expect(FAULT_LINE.fullmatch(first) is not None and f"refused {number} ".encode() in first, f"{what}: told {done.stderr!r}")
-    if path is None:
-        expect(not more, f"{what}: told more: {done.stderr!r}")
-    else:
-        is_named = len(more) == 1 and more[0].startswith(f"stabsim: {path}: ".encode())
-        expect(is_named, f"{what}: told {done.stderr!r}, and not of {path}")
-
-
-def failing_files(folder):
-    """What is wrong with a file, the words that name it, the fault that it comes to, and the path that is named."""
-    closed, missing, inside = folder / "closed.stim", folder / "none", folder / "none" / "shots"
-    closed.write_text("M 0\n")
-    closed.chmod(0)
-    yield "a folder for --in", ["--in", str(folder)], 15, folder
-    yield "no file for --in", ["--in", str(missing)], 15, missing
-    yield "a file whose reads fail", ["--in", "/proc/self/mem"], 15, "/proc/self/mem"
-    if os.geteuid() != 0:  # who may read all files may read this one
-        yield "a file that may not be read", ["--in", str(closed)], 15, closed
-    yield "a folder for --out", ["--in", str(CIRCUIT), "--out", str(folder)], 16, folder
-    yield "no folder for --out", ["--in", str(CIRCUIT), "--out", str(inside)], 16, inside
-
-
-def try_devices(folder):
-    sample = ["sample", "--in", str(CIRCUIT)]
-    many = sample + ["--shots", "100000"]
-    with open("/dev/full", "wb") as full:
-        expect_fault("a full disk", run(sample, stdout=full), 16)
-        expect_fault("a full disk, many shots", run(many, stdout=full), 16)
-        expect_fault("a full disk, replies", run(["edit", "--in", str(CIRCUIT)], stdout=full), 16)
-    with subprocess.Popen(["head", "-c", "5"], stdin=subprocess.PIPE, stdout=subprocess.DEVNULL) as reader:
-        expect_fault("a closed pipe", run(many, stdout=reader.stdin), 16)
-    files = list(failing_files(folder))
-    for what, words, number, path in files:
-        expect_fault(what, run(["sample", *words]), number, path)
-    return 4 + len(files)
-
-
-def little_room():
-    resource.setrlimit(resource.RLIMIT_AS, (100 * 2**20, 100 * 2**20))
-
-
-def try_little_room(folder):
-    """A million steps within 100 MiB of addresses: run, or refused with 20."""
-    large = folder / "large.stim"
-    large.write_text("R " + " ".join(map(str, range(1024))) + "\nREPEAT 511 {\nH " + " ".join(map(str, range(1024)))
-                     + "\nM " + " ".join(map(str, range(1024))) + "\n}\n")
-    whole = run(["sample", "--in", str(large)])
-    done = run(["sample", "--in", str(large)], preexec_fn=little_room)
-    look(done, ["100 MiB"], whole, b"stabsim: refused 20 OutOfMemory\n")
-    print(f"a million steps within 100 MiB of addresses: status {done.returncode}")
-
-
-def main():
-    with tempfile.TemporaryDirectory() as made:
-        folder = pathlib.Path(made)
-        library = folder / "refuse.so"
-        subprocess.run(["cc", "-O2", "-shared", "-fPIC", "-o", library, TOP / "tools" / "refuse.c"], check=True)
-        try_calls(library, folder)
-        try_memory(library, folder)
-        print(f"{try_devices(folder)} devices failed")
-        try_little_room(folder)
-    print(f"{len(wrong)} wrong")
-    return 1 if wrong else 0
+def main() -> int:
+    with tempfile.TemporaryDirectory() as folder:
+        tries = Tries(Path(folder))
+        tries.try_calls()
+        for what, onwards in itertools.product(RUNS.splitlines(), (False, True)):
+            tries.refuse_each(what, onwards)
+        tries.try_devices()
+        tries.try_little_room()
+    print(f"{tries.wrong} wrong")
+    return 1 if tries.wrong else 0
 
 
 if __name__ == "__main__":

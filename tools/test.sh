@@ -7,26 +7,17 @@ cd "$top" || exit 2
 
 # The steps after the gate, a line each: a command, from the top of the repository. They run side by side, as many as there
 # are processors, and those that take longest begin first. What the gate printed is in the file $told/gate.
-steps='tools/check_shipped.py
-tools/try_release.py
-tools/try_python.sh
-tools/try_docs.sh
-tools/try_scaling.sh
+steps='tools/try_python.sh
+tools/check_shipped.py
 tools/fuzz.py --states
-tools/try_rewritings.py
 tools/fuzz.py --edits
 tools/refuse.sh
-tools/fuzz.py --codes --seconds 3
+tools/fuzz.py --large --seconds 10
 tools/fuzz.py --seconds 8
-tools/fuzz.py --laws --seconds 5
-tools/fuzz.py --faults --seconds 8
+tools/fuzz.py --faults --seconds 3
+tools/fuzz.py --codes --seconds 3
 tools/wrong_bodies.py "$told/gate"
-tools/try_build.py
-tools/try_start.py
-tools/check_version.sh
-tools/check_words.py
-tools/check_gates.py
-tools/check_pages.py'
+tools/check_version.sh'
 
 # Runs a step, after its number, and keeps what it said and how it ended.
 run_step='

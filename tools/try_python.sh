@@ -1,6 +1,6 @@
 #!/bin/sh
-# Runs the tests of the package python/, and those of tools/ on the program, its files and streams, with the program of the sources as
-# they are. If no Python has what they need, it says so, and skips them.
+# Runs the tests of the package python/, and those of tools/tests on the program, its start and packages, and the pages, with the
+# program of the sources as they are. If no Python has what they need, it says so, and skips them.
 set -eu
 tools=$(CDPATH='' cd -- "$(dirname -- "$0")" && pwd)
 if ! python=$("$tools/find_python.sh"); then
@@ -13,4 +13,4 @@ export STABSIM
 if "$python" -c 'import xdist' 2>/dev/null; then
     set -- -n "$(nproc)" --dist loadgroup
 fi
-exec "$python" -B -m pytest -q -p no:cacheprovider "$@" "$tools/../python/tests" "$tools/tests"
+exec "$python" -B -m pytest -q -rs -p no:cacheprovider "$@" "$tools/tests" "$tools/../python/tests"

@@ -18,13 +18,15 @@ import sys
 from pathlib import Path
 from typing import NamedTuple
 
-TOP = Path(__file__).resolve().parent.parent
-PAGE = TOP / "docs" / "trust" / "tested.md"
+from pages import DOCS, name_of
+from program import TOP
+from sources import Function, functions_of, sources_of
+
+PAGE = DOCS / "trust" / "tested.md"
 MARKS = "<!-- begin of the table -->\n", "<!-- end of the table -->\n"
 REFUSED = re.compile(r"rt: must-fail (\w+)/([\w.-]+)\.edit: refused, as it must be: (.*)")
 IN_PROOFS = re.compile(r"\./proofs/(\S+)/\w+\.antt:\d+:\d+: error: `([^`]*)`")
 IN_SOURCE = re.compile(r"note: src/(\S+)\.rt:(\d+):\d+: (.*)")
-CLAUSE = re.compile(r" *ensures\*? (\w+) \{")
 
 
 class Clause(NamedTuple):
@@ -45,84 +47,49 @@ def clause_of(edit: Path) -> Clause | None:
     return Clause(found[1], found[2] or "", found[3]) if found else None
 
 
-def labels(lines: list[str], start: int) -> list[str]:
-    """The labels of the clauses of the function that begins on this line."""
-    found = []
-    for line in lines[start:]:
-        clause = CLAUSE.match(line)
-        if clause:
-            found.append(clause[1])
-        elif line.strip() == "{" or line.endswith(";"):
-            break
-    return found
+def function_at(file: Path, number: int) -> Function | None:
+    """The function that this line, or its attribute, is in."""
+    return next((it for it in reversed(functions_of(file)) if it.start <= number), None)
 
 
-def labels_in_traits(function: str) -> list[str]:
-    """The labels of a method that a trait of the repository states."""
-    for file in sorted(TOP.glob("crates/*/src/**/*.rt")):
-        is_trait = False
-        lines = file.read_text(encoding="utf-8").split("\n")
-        for number, line in enumerate(lines):
-            if re.match(r"\S", line):
-                is_trait = "trait " in line or is_trait and not line.startswith("}")
-            if is_trait and re.match(rf" +fn {function}\b", line):
-                return labels(lines, number)
-    return []
-
-
-def function_at(lines: list[str], number: int) -> tuple[str, str, int]:
-    """The type, the name and the first line of the function that this line, or its attribute, is in."""
-    while lines[number].lstrip().startswith("#["):
-        number += 1
-    for start in range(number, -1, -1):
-        name = re.match(r"( *)(?:pub(?:\([^)]*\))? )?fn (\w+)", lines[start])
-        if name:
-            above = (re.match(r"impl.*?(\w+)(?:<[^{]*>)? \{", line) for line in reversed(lines[:start]))
-            owner = next(it[1] for it in above if it) if name[1] else ""
-            return owner, name[2], start
-    return "", "", number
-
-
-def refused_in(crate: str, told: str) -> tuple[str, str, list[str], str] | None:
-    """The type, the name and the labels of the function whose goal is reported, and that goal."""
-    in_proofs, in_source = IN_PROOFS.match(told), IN_SOURCE.match(told)
+def function_in(crate: str, path: str) -> Function | None:
+    """The function whose proofs have this path: its modules, then its type, if any, and its name."""
+    *modules, name = path.split("/")
     source = TOP / "crates" / crate / "src"
-    if in_source:
-        lines = (source / f"{in_source[1]}.rt").read_text(encoding="utf-8").split("\n")
-        owner, function, start = function_at(lines, int(in_source[2]) - 1)
-        goal = re.search(r"\(`([^`]*)", in_source[3])
-        return owner, function, labels(lines, start), goal[1] if goal else ""
-    if not in_proofs:
-        return None
-    *modules, function = in_proofs[1].split("/")
     files = ["/".join(modules[:end]) for end in range(len(modules), 0, -1)] + ["lib"]
     file = next(it for it in files if (source / f"{it}.rt").is_file())
     owner = "".join(modules[file.count("/") + 1 :])
-    # A type's calls may be in files of its module's folder too.
-    for path in [source / f"{file}.rt", *sorted((source / file).glob("*.rt"))]:
-        lines = path.read_text(encoding="utf-8").split("\n")
-        for number, line in enumerate(lines):
-            if re.match(rf" *(pub(\([^)]*\))? )?fn {function}\b", line):
-                found = function_at(lines, number)
-                # The proofs of a trait's impl are under the names of type and trait in one.
-                if owner.startswith(found[0]):
-                    return *found[:2], labels(lines, number), in_proofs[2]
-    return owner, function, [], in_proofs[2]
+    # A type's calls may be in files of its module's folder too. The proofs of a trait's impl are under the names of type and trait in one.
+    paths = [source / f"{file}.rt", *sorted((source / file).glob("*.rt"))]
+    # A name may have a + in front.
+    found = [it for path in paths for it in functions_of(path) if it.name == name.removeprefix("+") and owner.startswith(it.type)]
+    return found[0] if found else Function(0, owner, name, False)
+
+
+def labels_of(function: Function) -> list[str]:
+    """The labels of what a function ensures; of a method without any those that a trait of the repository states."""
+    stated = (it.ensures for file in sources_of() for it in functions_of(file) if it.in_trait and it.name == function.name)
+    return function.ensures or next(stated, [])
 
 
 def refuser(crate: str, told: str) -> Clause | str:
     """The clause that refused a wrong body, or else what is printed."""
-    found = refused_in(crate, told)
-    if not found:
+    if in_source := IN_SOURCE.match(told):
+        function = function_at(TOP / "crates" / crate / "src" / f"{in_source[1]}.rt", int(in_source[2]) - 1)
+        reported = re.search(r"\(`([^`]*)", in_source[3])
+        goal = reported[1] if reported else ""
+    elif in_proofs := IN_PROOFS.match(told):
+        function, goal = function_in(crate, in_proofs[1]), in_proofs[2]
+    else:
         return told
-    owner, function, own, goal = found
-    own = own or labels_in_traits(function)
-    named = re.fullmatch(r"returns.*-clause-(\w+)", goal)
-    if named:
-        return Clause(named[1], owner, function)
+    if function is None:
+        return told
+    own = labels_of(function)
+    if named := re.fullmatch(r"returns.*-clause-(\w+)", goal):
+        return Clause(named[1], function.type, function.name)
     if goal.startswith("returns") and "-clause-" not in goal and len(own) == 1:
-        return Clause(own[0], owner, function)
-    return f"goal `{goal}` of `{owner + '::' if owner else ''}{function}`"
+        return Clause(own[0], function.type, function.name)
+    return f"goal `{goal}` of `{function.full_name()}`"
 
 
 def table(bodies: dict[tuple[str, str], Clause | None]) -> str:
@@ -164,7 +131,7 @@ def main(words: list[str]) -> int:
         return 2
     faults = faults_in(Path(words[0]).read_text(encoding="utf-8"), words[1:], bodies)
     if written != page:
-        faults.append(f"{PAGE.relative_to(TOP)}: its table is stale: run tools/wrong_bodies.py --page")
+        faults.append(f"{name_of(PAGE)}: its table is stale: run tools/wrong_bodies.py --page")
     for fault in faults:
         print(f"wrong_bodies: {fault}", file=sys.stderr)
     return 1 if faults else 0

@@ -1,15 +1,16 @@
-"""Circuits of codes and dense random ones beside the oracle's rows, which reach any number of qubits.
+"""Circuits of codes and dense random ones, large for the oracle.
 
-For the circuits of stabsim.codes the rows say that each detector and the observable is 0 for all random bits, that there are as many
+For the circuits of stabsim.codes the oracle says that each detector and the observable is 0 for all random bits, that there are as many
 detectors as there should be, that the first line says the right numbers, that each bit flip of a data qubit is seen by one or two
 detectors of the next round, or up to three in a colour code, and that bit flips from side to side are seen by the observable alone.
-For these circuits, for the examples and for dense ones the program has to give what the rows say: which coins decide, each record,
-detector and observable as a sum of coins, which of them are deterministic, and what some faults flip.
+For these circuits, for the examples and for dense ones the program has to give what the oracle does: which coins decide, each record,
+detector and observable by coins, which of them are deterministic, and what each fault flips.
 """
 
 import re
 import time
-from collections.abc import Iterator, Sequence
+from collections.abc import Callable, Iterator, Sequence
+from functools import reduce
 from pathlib import Path
 from random import Random
 
@@ -18,11 +19,10 @@ from stabsim.codes import surface
 from stabsim.codes.text import Memory
 
 from . import numbers
-from .formats import shot
-from .program_runs import Program, Wrong, difference
+from .answers import Case
+from .program_runs import Wrong, difference
 from .reading import items_of
-from .rows import Rows, run_of, value
-from .states import Run
+from .sums import Sums
 
 EXAMPLES = Path(__file__).resolve().parent.parent.parent / "examples"
 ROUNDS = 3
@@ -31,59 +31,30 @@ CODES = {
     "repetition code": codes.repetition_code(5, ROUNDS), "colour code": codes.colour_code(5, ROUNDS),
     "Bacon-Shor code": codes.bacon_shor_code(3, ROUNDS), "Steane code": codes.steane_code(ROUNDS),
 }
-# How many faults of a circuit are looked at.
-MOST_FAULTS = 4
+
+Judge = Callable[[Case], Wrong]
 
 
-def run_of_text(text: str) -> Run[Rows]:
+def sums_of(text: str) -> Sums:
     items = items_of(text.encode())
     numbers.check(items)
-    return run_of(items)
+    return Sums(items)
 
 
-def written_by(run: Program, words: Sequence[str], text: str, script: bytes | None = None) -> bytes:
-    """What the program writes, or how it ended."""
-    status, written, told = run(list(words), text.encode(), script)
-    return written if (status, told) == (0, b"") else f"status {status}, {told!r}".encode()
+def circuit(judge: Judge, name: str, text: str, dice: Random) -> Iterator[Wrong]:
+    """What the program gives of a circuit with random coins."""
+    coins = "".join(dice.choice("01") for _ in sums_of(text).coin_places)
+    given = ("coins", coins)
+    for case in (Case("edit", text.encode(), (given,), b"show free\n"), Case("sample", text.encode(), (given,)),
+                 Case("detect", text.encode(), (given, ("append_observables", True))), Case("deterministic", text.encode()),
+                 Case("faults", text.encode(), (("everywhere", True), ("sure_only", True)))):
+        wrong = judge(case)
+        yield wrong and f"{name}, {case.words}: {wrong}\n{text}"
 
 
-def circuit(run: Program, name: str, text: str, dice: Random) -> Wrong:
-    """What the program gives of a circuit with random coins, and what the rows say."""
-    ran = run_of_text(text)
-    coins = [dice.randrange(2) for _ in ran.free]
-    chosen = sum(coin << place for place, coin in enumerate(coins))
-    word = ["--coins", "".join(map(str, coins))]
-
-    def line(sums: Sequence[int]) -> bytes:
-        return shot("01", [value(it, chosen) for it in sums])
-
-    found = {
-        "free": written_by(run, ["edit", *word], text, b"show free\n"), "sample": written_by(run, ["sample", *word], text),
-        "detect": written_by(run, ["detect", "--append_observables", *word], text), "deterministic": written_by(run, ["deterministic"], text),
-    }
-    wanted = {"free": shot("01", ran.free), "sample": line(ran.records), "detect": line(ran.bits()),
-              "deterministic": shot("01", [bit < 2 for bit in ran.bits()])}
-    return difference(f"{name}, coins {word[1]}", found, wanted) or faults(run, name, text, ran, dice)
-
-
-def faults(run: Program, name: str, text: str, ran: Run[Rows], dice: Random) -> Wrong:
-    """Some lines of `faults`, and what a run flips that has the fault in it."""
-    items = items_of(text.encode())
-    steps = list(numbers.unroll(items))
-    lines = written_by(run, ["faults", "--everywhere", "--sure_only"], text).decode().splitlines()
-    for line in dice.sample(lines, min(MOST_FAULTS, len(lines))):
-        before, _, place, *flipped = line.split(" ")
-        other = run_of(items, [*steps[: int(before)], ("gate", place[0], int(place[1:])), *steps[int(before) :]])
-        names = [f"D{number}" for number in range(len(ran.detectors))] + [f"L{number}" for number in range(len(ran.observables))]
-        wanted = [it for it, one, two in zip(names, ran.bits(), other.bits()) if one < 2 and one != two]
-        if flipped != wanted:
-            return f"{name}: the program says {line}, and the rows say {wanted}\n{text}"
-    return None
-
-
-def dense(run: Program, dice: Random) -> Wrong:
+def dense(judge: Judge, dice: Random) -> Iterator[Wrong]:
     qubits, seed = dice.randint(2, 24), dice.randrange(2**32)
-    return circuit(run, f"dense, {qubits} qubits, seed {seed}", codes.dense_circuit(qubits, dice.randint(20, 900), seed), dice)
+    yield from circuit(judge, f"dense, {qubits} qubits, seed {seed}", codes.dense_circuit(qubits, dice.randint(20, 900), seed), dice)
 
 
 def told_of(text: str) -> list[int]:
@@ -93,8 +64,8 @@ def told_of(text: str) -> list[int]:
 
 def memory(text: str, detectors: int) -> Wrong:
     """A memory experiment is quiet, has this many detectors and one observable, and says its numbers."""
-    ran, items = run_of_text(text), items_of(text.encode())
-    found = ran.bits(), len(ran.detectors), told_of(text)
+    sums, items = sums_of(text), items_of(text.encode())
+    found = sums.bits, len(sums.paths), told_of(text)
     return difference(text.split("\n")[0], found, ([0] * (detectors + 1), detectors, list(numbers.summary(items)[:2])))
 
 
@@ -116,17 +87,14 @@ def errors(memory: Memory, data: Sequence[int], side: Sequence[int], most: int =
     most this many, and by nothing else; those of a whole side are seen by the observable alone."""
     lines = memory.text(3).split("\n")
     place = lines.index("REPEAT 2 {")
+    items = items_of("\n".join(lines).encode())
+    before = len(numbers.unroll(items_of("\n".join(lines[:place]).encode())))
     first, each = (sum(line.startswith("DETECTOR") for line in part.lines) for part in (memory.head, memory.body))
-
-    def flipped(qubits: Sequence[int]) -> tuple[list[int], list[int]]:
-        """The detectors that are 1, and the observables."""
-        ran = run_of_text("\n".join([*lines[:place], " ".join(["X", *map(str, qubits)]), *lines[place:]]))
-        assert all(bit < 2 for bit in ran.bits())
-        return [number for number, bit in enumerate(ran.detectors) if bit], ran.observables
-
-    singles = [flipped([qubit])[0] for qubit in data]
-    seen = all(1 <= len(found) <= most and first <= found[0] and found[-1] < first + each for found in singles)
-    return difference(f"errors of {memory.title}", (seen, flipped(side)), (True, ([], [1])))
+    sums = Sums(items, [(before, "X", qubit) for qubit in [*data, *side]])
+    rows = [{bit for bit, flips in enumerate(sums.flipped(letter)) if flips} for letter in range(len(data) + len(side))]
+    observable, across = len(sums.paths), reduce(set.symmetric_difference, rows[len(data) :])
+    seen = all(1 <= len(row - {observable}) <= most and row <= {*range(first, first + each), observable} for row in rows[: len(data)])
+    return difference(f"errors of {memory.title}", (all(sums.sure), seen, across), (True, True, {observable}))
 
 
 def errors_of_codes() -> Iterator[Wrong]:
@@ -148,7 +116,7 @@ def deepest(memory: Memory) -> Wrong:
 
 
 def circuits_of_codes() -> Iterator[Wrong]:
-    """What the rows say of the package's circuits."""
+    """What the oracle says of the package's circuits."""
     yield from memories()
     yield from errors_of_codes()
     others = [(name, most) for name, most in codes.MOST_DISTANCES.items() if name != "repetition_code"]
@@ -165,15 +133,14 @@ def circuits_of_codes() -> Iterator[Wrong]:
         yield difference(text.split("\n")[0], told_of(text), list(numbers.summary(items)[:2]))
 
 
-def cases(run: Program, seconds: float, seed: int) -> Iterator[Wrong]:
+def cases(judge: Judge, seconds: float, seed: int) -> Iterator[Wrong]:
     """What is wrong in each case, or None: dense circuits are tried for some seconds."""
     dice = Random(seed)
     yield from circuits_of_codes()
     # Texts with noise are for the package.
     files = [file for file in sorted(EXAMPLES.glob("*.stim")) if not file.name.startswith("noisy_")]
-    named = {file.name: file.read_text() for file in files} | CODES
-    for name, text in named.items():
-        yield circuit(run, name, text, dice)
+    for name, text in [*((file.name, file.read_text()) for file in files), *CODES.items()]:
+        yield from circuit(judge, name, text, dice)
     end = time.monotonic() + seconds
     while time.monotonic() < end:
-        yield dense(run, dice)
+        yield from dense(judge, dice)

@@ -1,32 +1,24 @@
 """Distances: the errors of a circuit, and the smallest sets of them that flip an observable and no detector.
 
-What an error flips is found by runs with its letters put in and without them. All sets of up to `MOST_ERRORS` errors are tried,
-and what some of them flip together is found by runs too.
+What an error flips is the sum of what its letters flip. All sets of up to `MOST_ERRORS` errors are tried.
 """
 
-from collections.abc import Iterable, Iterator, Sequence
+from collections.abc import Iterator, Sequence
 from dataclasses import dataclass
+from functools import reduce
 from itertools import combinations, product as all_of
-from random import Random
+from operator import xor
 
 from . import numbers
-from .faults import FAULT_LISTS, Bits, Inconsistent, NotSure
 from .numbers import Step
-from .reading import Block, Items, Operation
+from .reading import Items
+from .states import FLIPS
+from .sums import Placed, Sums
 
 # How many errors the largest sets that are tried have.
 MOST_ERRORS = 4
-# How many sets are run with all their errors, to see that what they flip adds up.
-SETS_RUN = 3
-
-# A letter that flips the outcome of a measurement of a letter.
-FLIPS = {"X": "Z", "Y": "X", "Z": "X"}
-
 # The letters of X and Z that a letter is the product of.
 PARTS = {"X": "X", "Y": "XZ", "Z": "Z"}
-
-# A letter that is put in: how many steps are in front of it, the letter and the qubit.
-Placed = tuple[int, str, int]
 
 
 @dataclass(frozen=True)
@@ -37,29 +29,6 @@ class Error:
     path: str
     name: str
     letters: tuple[Placed, ...]
-
-
-@dataclass(frozen=True)
-class Asked:
-    """Of which errors a distance is asked for, up to how many, and whether bits that are not sure are left out; `graphlike`: only of
-    those that flip at most two detectors, after any other gave way to its parts."""
-
-    everywhere: bool = False
-    letters: str = "XYZ"
-    most: int | None = None
-    sure_only: bool = False
-    graphlike: bool = False
-
-
-def placed_operations(items: Items, above: str = "") -> Iterator[tuple[str, Operation]]:
-    """The unrolled instructions, each with its path."""
-    for place, item in enumerate(items):
-        path = f"{above}{place}"
-        if not isinstance(item, Block):
-            yield path, item
-        elif numbers.summary(item.body)[0] > 0:
-            for _ in range(item.count):
-                yield from placed_operations(item.body, f"{path}/")
 
 
 def error_of(path: str, placed: Sequence[Placed]) -> Error:
@@ -111,9 +80,9 @@ def errors_at(path: str, letters: str, number: int, records: int, step: Step) ->
         yield wrong_record(path, records, number, letter, qubit, False)
 
 
-def errors_everywhere(bits: Bits, letters: str) -> Iterator[Error]:
+def errors_everywhere(items: Items, letters: str) -> Iterator[Error]:
     records = 0
-    for number, (path, step) in enumerate(bits.placed):
+    for number, (path, step) in enumerate(numbers.placed_steps(items)):
         yield from errors_at(path, letters, number, records, step)
         records += numbers.records_of(step)
 
@@ -121,18 +90,15 @@ def errors_everywhere(bits: Bits, letters: str) -> Iterator[Error]:
 def errors_marked(items: Items, letters: str) -> Iterator[Error]:
     """The errors at the targets of each `I`, as its tag says."""
     number = 0
-    for path, operation in placed_operations(items):
+    for path, operation in numbers.unrolled(items):
         if operation.name == "I":
-            places = list(enumerate(operation.targets, number))
+            places, left = list(enumerate(operation.targets, number)), letters
             if operation.tag == b"pairs":
                 for first, second in zip(places[::2], places[1::2]):
                     yield from products_at(path, letters, first, second)
                 places = places[len(places) & ~1:]
-                left = letters
             elif operation.tag in (b"X", b"Y", b"Z", b"XZ"):
                 left = "".join(letter for letter in operation.tag.decode() if letter in letters)
-            else:
-                left = letters
             for before, qubit in places:
                 yield from letters_at(path, left, before, qubit)
         number += len(numbers.steps_of(operation))
@@ -145,89 +111,53 @@ def parts_of(error: Error) -> list[Error]:
     return [error_of(error.path, [(before, part, qubit)]) for before, letter, qubit in error.letters for part in PARTS[letter]]
 
 
-def flipped(bits: Bits, placed: Sequence[Placed], sure: Sequence[bool]) -> int:
-    """The deterministic bits that letters flip together, bit i of the number being that of bit i."""
-    steps: list[Step] = []
-    for number in range(len(bits.steps) + 1):
-        steps += [("gate", letter, qubit) for before, letter, qubit in placed if before == number]
-        steps += bits.steps[number:number + 1]
-    dice = Random(len(placed))
-    found = set()
-    for _ in range(FAULT_LISTS):
-        coins = [dice.random() < 0.5 for _ in bits.free]
-        pairs = zip(bits.run(coins).bits(), bits.run(coins, steps).bits(), sure)
-        found.add(sum((is_sure and one != other) << place for place, (one, other, is_sure) in enumerate(pairs)))
-    if len(found) > 1:
-        raise Inconsistent(f"{placed}: {found}")
-    return found.pop()
-
-
 class Distance:
     """The errors of a circuit, what each flips, and the smallest number of them that are unseen, if it is at most `MOST_ERRORS`.
 
-    `NotSure` if a bit is not deterministic, unless such bits are left out.
+    Of letters everywhere, or at marked places; `graphlike`: only of errors that flip at most two detectors, after any other gave way to
+    its parts. `NotSure` if a bit is not deterministic.
     """
 
-    def __init__(self, items: Items, asked: Asked) -> None:
-        self.asked = asked
-        self.bits = Bits(items)
-        self.sure = self.bits.sure()
-        if not asked.sure_only and not all(self.sure):
-            raise NotSure(self.bits.unsure_line(self.sure.index(False)))
-        found = errors_everywhere(self.bits, asked.letters) if asked.everywhere else errors_marked(items, asked.letters)
-        self.rows = self.rows_of(found)
-        if asked.graphlike:
-            whole = {error: row for error, row in self.rows.items() if self.is_graphlike(row)}
-            parts = self.rows_of(part for error in self.rows.keys() - whole.keys() for part in parts_of(error))
-            self.rows = whole | {error: row for error, row in parts.items() if self.is_graphlike(row)}
+    def __init__(self, items: Items, everywhere: bool, letters: str, graphlike: bool) -> None:
+        self.graphlike = graphlike
+        errors = list((errors_everywhere if everywhere else errors_marked)(items, letters))
+        parts = [part for error in errors for part in parts_of(error)]
+        placed = list({it: None for error in errors + parts for it in error.letters})
+        self.sums = Sums(items, placed)
+        self.sums.need_sure()
+        flips = {letter: sum(flip << bit for bit, flip in enumerate(self.sums.flipped(number))) for number, letter in enumerate(placed)}
+        rows = {error: reduce(xor, (flips[letter] for letter in error.letters)) for error in errors + parts}
+        self.rows = {error: rows[error] for error in errors}
+        if graphlike:
+            split = [part for error in self.rows if not self.is_graphlike(rows[error]) for part in parts_of(error)]
+            self.rows = {error: rows[error] for error in [*self.rows, *split] if self.is_graphlike(rows[error])}
         self.least = self.least_unseen()
 
-    def rows_of(self, errors: Iterable[Error]) -> dict[Error, int]:
-        """What each error flips."""
-        return {error: flipped(self.bits, error.letters, self.sure) for error in errors}
+    def detectors(self, row: int) -> int:
+        """How many detectors a row has."""
+        return (row & ((1 << len(self.sums.paths)) - 1)).bit_count()
 
     def is_graphlike(self, row: int) -> bool:
-        """Whether a row has at most two detectors."""
-        return (row & ((1 << len(self.bits.paths)) - 1)).bit_count() <= 2
+        return self.detectors(row) <= 2
 
     def is_unseen(self, row: int) -> bool:
         """Whether a row has an observable and no detector."""
-        return row > 0 and row & ((1 << len(self.bits.paths)) - 1) == 0
-
-    def together(self, errors: Sequence[Error]) -> int:
-        """What errors flip together: by a run with all of them, which must be what their rows add up to."""
-        row = 0
-        for error in errors:
-            row ^= self.rows[error]
-        letters = [placed for error in errors for placed in error.letters]
-        if row != flipped(self.bits, letters, self.sure):
-            raise Inconsistent(f"{errors} flip {row} one by one")
-        return row
+        return row > 0 and self.detectors(row) == 0
 
     def least_unseen(self) -> int | None:
-        dice = Random(len(self.rows))
-        for _ in range(SETS_RUN if self.rows else 0):
-            self.together(dice.sample(sorted(self.rows, key=repr), min(len(self.rows), dice.randint(1, MOST_ERRORS))))
         rows = sorted(set(self.rows.values()) - {0})
-        for size in range(1, MOST_ERRORS + 1):
-            for chosen in combinations(rows, size):
-                row = 0
-                for one in chosen:
-                    row ^= one
-                if self.is_unseen(row):
-                    return size
-        return None
+        sizes = range(1, MOST_ERRORS + 1)
+        return next((size for size in sizes if any(self.is_unseen(reduce(xor, chosen)) for chosen in combinations(rows, size))), None)
 
     def line(self, error: Error) -> str:
         """The line of an error."""
-        named = [self.bits.name(bit) for bit in range(len(self.sure)) if self.rows[error] >> bit & 1]
+        named = [self.sums.name(bit) for bit in range(len(self.sums.bits)) if self.rows[error] >> bit & 1]
         return " ".join([str(error.before), error.path, error.name, *named])
 
-    def wrong(self, answer: bytes) -> str | None:
-        """What is wrong of what the command `distance` wrote, if anything is."""
+    def wrong(self, answer: bytes, most: int | None) -> str | None:
+        """What is wrong of what the command `distance` wrote of up to this many errors, if anything is."""
         first, *lines = answer.decode().split("\n")[:-1]
-        most = self.asked.most
-        of_which = " of graph-like errors" if self.asked.graphlike else ""
+        of_which = " of graph-like errors" if self.graphlike else ""
         if first == f"none{of_which}":
             return None if self.least is None else f"none, but {self.least} errors are unseen"
         if first == f"none up to {most}{of_which}" and most is not None:
@@ -238,7 +168,7 @@ class Distance:
             return f"{first}, but the least number is {self.least}"
         if most is not None and len(lines) > most:
             return f"{first}, but no more than {most} are asked for"
-        known = {self.line(error): error for error in self.rows}
+        known = {self.line(error): row for error, row in self.rows.items()}
         if not all(line in known for line in lines):
             return f"{[line for line in lines if line not in known]} are no errors"
-        return None if self.is_unseen(self.together([known[line] for line in lines])) else f"{lines} are seen"
+        return None if self.is_unseen(reduce(xor, (known[line] for line in lines))) else f"{lines} are seen"

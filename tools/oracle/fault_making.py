@@ -3,10 +3,10 @@
 from collections.abc import Sequence
 from random import Random
 
-from . import numbers, rows
+from . import numbers
 from .making import Maker
 from .reading import Refused, items_of
-from .states import Run
+from .sums import Sums
 
 # How many parities are tried on a circuit, half of them of records that are deterministic together, others by chance.
 TRIED = 16
@@ -29,13 +29,12 @@ class MarkingMaker(Maker):
         return "TICK" if way < 0.3 else f"I {' '.join(str(self.qubit()) for _ in range(self.random.randint(1, 2)))}"
 
 
-def run_of_text(text: bytes) -> Run[rows.Rows]:
-    """The run of a text with each coin as itself."""
+def sums_of_text(text: bytes) -> Sums:
     items = items_of(text)
     numbers.check(items)
     if numbers.summary(items)[0] > MOST_STEPS:
         raise Refused(9)
-    return rows.run_of(items)
+    return Sums(items)
 
 
 def sure_sets(records: Sequence[int]) -> list[set[int]]:
@@ -76,13 +75,13 @@ def sure_line(random: Random, records: Sequence[int], before: Sequence[str]) -> 
 
 def with_sure_parities(random: Random, lines: list[str]) -> list[str]:
     """The lines with parities put in that are deterministic, as far as some are met by chance."""
-    records = run_of_text("\n".join(lines).encode()).records
+    records = sums_of_text("\n".join(lines).encode()).run.records
     for _ in range(TRIED):
         place = random.randint(0, len(lines))
         line = sure_line(random, records, lines[:place]) if random.random() < 0.5 else parity_line(random)
         more = lines[:place] + [line] + lines[place:]
         try:
-            if all(bit < 2 for bit in run_of_text("\n".join(more).encode()).bits()):
+            if all(sums_of_text("\n".join(more).encode()).sure):
                 lines = more
         except Refused:
             continue

@@ -1,6 +1,6 @@
 """Random circuits by the grammar of circuit text, and what becomes of their bytes when they are damaged."""
 
-from collections.abc import Callable
+from collections.abc import Callable, Sequence
 from random import Random
 
 from .reading import ALIASES, COLLAPSES, ONE_QUBIT
@@ -20,16 +20,17 @@ def spelled(random: Random, name: str) -> str:
 
 
 class Maker:
-    """Writes lines of a circuit on n qubits and counts records, so that most lookbacks reach one."""
+    """Writes lines of a circuit on some qubits, or on the first n, and counts records, so that most lookbacks reach one."""
 
-    def __init__(self, random: Random, n: int) -> None:
+    def __init__(self, random: Random, n: int, qubits: Sequence[int] = ()) -> None:
         self.random = random
         self.n = n
+        self.qubits = qubits or range(n)
         self.records = 0
         self.names = list(SPELLINGS)
 
     def qubit(self) -> int:
-        return self.random.randrange(self.n)
+        return self.random.choice(self.qubits)
 
     def record(self) -> str:
         reach = self.records if self.random.random() < 0.99 else self.records + 1
@@ -39,7 +40,7 @@ class Maker:
         return "!" if self.random.random() < 0.2 else ""
 
     def product(self) -> str:
-        places = self.random.sample(range(self.n), self.random.randint(1, self.n))
+        places = self.random.sample(self.qubits, self.random.randint(1, self.n))
         return "*".join(f"{self.mark()}{self.random.choice('XYZxyz')}{place}" for place in places)
 
     def pair(self, name: str) -> str:
@@ -47,7 +48,7 @@ class Maker:
             return f"{self.record()} {self.qubit()}"
         if self.n < 2:
             return ""
-        return "{} {}".format(*self.random.sample(range(self.n), 2))
+        return "{} {}".format(*self.random.sample(self.qubits, 2))
 
     def targets(self, name: str) -> str:
         many = range(self.random.choice((1, 1, 1, 2, 3)))

@@ -13,13 +13,13 @@ def steps_of(operation: Operation) -> list[Step]:
     """The unrolled steps of one instruction, in order."""
     name, targets = operation.name, operation.targets
     if name == "DETECTOR":
-        return [("detector", targets)]
+        return [("detector", tuple(targets))]
     if name == "OBSERVABLE_INCLUDE":
-        return [("observable", operation.number, targets)]
+        return [("observable", operation.number, tuple(targets))]
     if name in ("TICK", "QUBIT_COORDS", "SHIFT_COORDS"):
         return []
     if name == "MPP":
-        return [("product", factors) for factors in targets]
+        return [("product", tuple(factors)) for factors in targets]
     if name in COLLAPSES:
         return [("collapse", *COLLAPSES[name], qubit, inverted) for qubit, inverted in targets]
     if name in CONTROLLED or name == "SWAP":
@@ -43,6 +43,10 @@ def records_of(step: Step) -> int:
     return int(step[0] == "product" or (step[0] == "collapse" and step[2]))
 
 
+def uses_coin(step: Step) -> bool:
+    return step[0] in ("collapse", "product")
+
+
 def summary(items: Iterable[Item]) -> tuple[int, int, int]:
     """Steps, records, and how many records must be before: all counted without unrolling."""
     steps = records = need = 0
@@ -54,7 +58,8 @@ def summary(items: Iterable[Item]) -> tuple[int, int, int]:
             records += item.count * inner_records
             continue
         for step in steps_of(item):
-            need = max([need] + [k - records for k in lookbacks(step)])
+            for lookback in lookbacks(step):
+                need = max(need, lookback - records)
             records += records_of(step)
             steps += 1
     return steps, records, need
@@ -86,7 +91,8 @@ def greatest(items: Iterable[Item], numbers: Callable[[Operation], Iterable[int]
         if isinstance(item, Block):
             most = max(most, greatest(item.body, numbers))
         else:
-            most = max([most] + [number + 1 for number in numbers(item)])
+            for number in numbers(item):
+                most = max(most, number + 1)
     return most
 
 
@@ -98,11 +104,20 @@ def observables(items: Iterable[Item]) -> int:
     return greatest(items, lambda item: [] if item.number is None else [item.number])
 
 
-def unroll(items: Iterable[Item]) -> Iterator[Step]:
-    for item in items:
-        if isinstance(item, Block):
-            if summary(item.body)[0] > 0:
-                for _ in range(item.count):
-                    yield from unroll(item.body)
-        else:
-            yield from steps_of(item)
+def unrolled(items: Iterable[Item], above: str = "") -> Iterator[tuple[str, Operation]]:
+    """The unrolled instructions, each with the path of its item."""
+    for place, item in enumerate(items):
+        if not isinstance(item, Block):
+            yield f"{above}{place}", item
+        elif summary(item.body)[0] > 0:
+            for _ in range(item.count):
+                yield from unrolled(item.body, f"{above}{place}/")
+
+
+def placed_steps(items: Iterable[Item]) -> list[tuple[str, Step]]:
+    """The unrolled steps, each with the path of its item."""
+    return [(path, step) for path, operation in unrolled(items) for step in steps_of(operation)]
+
+
+def unroll(items: Iterable[Item]) -> list[Step]:
+    return [step for _, step in placed_steps(items)]

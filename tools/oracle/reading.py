@@ -1,13 +1,12 @@
 """Circuit text: what each line means, the items of a text, and the one fault of a text that has none."""
 
+import re
 from collections.abc import Sequence
 from dataclasses import dataclass, field
 from typing import Any
 
 SPACING = b" \t\r"
 DIGITS = frozenset(b"0123456789")
-LETTERS = frozenset(range(65, 91)) | frozenset(range(97, 123))
-NAME_BYTES = LETTERS | DIGITS | {95}
 COORDINATE_BYTES = frozenset(b"0123456789+-.eE")
 
 MOST_BYTES = 16_777_216
@@ -77,6 +76,8 @@ class Block:
 
 Item = Operation | Block
 Items = list[Item]
+# The place of an item, and the places of the blocks around it, the outermost first.
+Path = list[int]
 
 
 def is_digits(text: bytes) -> bool:
@@ -87,41 +88,18 @@ def content_of(line: bytes) -> bytes:
     return line.split(b"#", 1)[0].strip(SPACING)
 
 
+# A name, a tag, arguments, what targets are cut from, and `{`.
+SHAPE = re.compile(rb"([A-Za-z]\w*)(?:\[([^]]*)\])?(?:\(([^){}]*)\))?((?:[ \t\r][^{}]*)?)(\{?)")
+
+
 def cut(content: bytes) -> tuple[str, bytes, list[bytes], list[bytes], bool]:
     """The name, the tag, the arguments, the words of the targets and whether `{` ends it; 11 if it has no shape."""
-    if content[0] not in LETTERS:
+    shape = SHAPE.fullmatch(content)
+    if shape is None:
         raise Refused(11)
-    at = 0
-    while at < len(content) and content[at] in NAME_BYTES:
-        at += 1
-    name = content[:at].decode().upper()
-    tag = b""
-    if content[at:at + 1] == b"[":
-        end = content.find(b"]", at)
-        if end < 0:
-            raise Refused(11)
-        tag = content[at + 1:end]
-        at = end + 1
-    arguments = b""
-    rest = content[at:]
-    opens = rest.endswith(b"{")
-    if b"{" in rest[:-1] or b"}" in rest:
-        raise Refused(11)
-    if rest.startswith(b"("):
-        end = rest.find(b")")
-        if end < 0:
-            raise Refused(11)
-        arguments, rest = rest[1:end], rest[end + 1:]
-    if opens:
-        rest = rest[:-1]
-    if rest and rest[0] not in SPACING:
-        raise Refused(11)
-    words = [word for word in rest.replace(b"\t", b" ").replace(b"\r", b" ").split(b" ") if word]
-    return name, tag, split_arguments(arguments), words, opens
-
-
-def split_arguments(text: bytes) -> list[bytes]:
-    return [part.strip(SPACING) for part in text.split(b",")] if text.strip(SPACING) else []
+    name, tag, arguments, targets, opens = shape.groups(b"")
+    parts = [part.strip(SPACING) for part in arguments.split(b",")] if arguments.strip(SPACING) else []
+    return name.decode().upper(), tag, parts, re.findall(rb"[^ \t\r]+", targets), opens == b"{"
 
 
 def check_arguments(name: str, arguments: list[bytes]) -> int | None:
@@ -268,3 +246,23 @@ def items_of(text: bytes, alone: bool = False) -> Items:
 def item_of(text: bytes) -> Item:
     """The one item that a text stands for."""
     return items_of(text, alone=True)[0]
+
+
+def block_at(items: Items, place: int) -> Block:
+    """The block in a place: 12 and 17 if there is none."""
+    if place >= len(items):
+        raise Refused(12)
+    block = items[place]
+    if not isinstance(block, Block):
+        raise Refused(17)
+    return block
+
+
+def item_at(items: Items, path: Path) -> Item:
+    """The item at a path: 12 and 17 along it."""
+    place, *inner = path
+    if inner:
+        return item_at(block_at(items, place).body, inner)
+    if place >= len(items):
+        raise Refused(12)
+    return items[place]

@@ -11,11 +11,11 @@ from collections.abc import Iterator, Sequence
 from itertools import product as all_of
 
 from . import numbers
-from .coins import seed_coins
+from .coins import coins_of_seed
 from .making import UNDONE_BY
 from .program_runs import Program, Wrong, difference
 from .reading import ONE_QUBIT, items_of
-from .states import Amplitudes, Run
+from .states import Amplitudes, Run, coins_of_list
 
 SIZES = (2, 63, 64, 65, 127, 128, 129, 255, 256, 257, 1023, 1024)
 # Circuits have F and L for the first and the last qubit; here they are two.
@@ -65,7 +65,7 @@ def written(lines: list[str], size: int) -> bytes:
 
 def pair_of(lines: list[str], coins: str) -> Run[Amplitudes]:
     """The run of lines on the two qubits alone."""
-    return Run(Amplitudes(2), 0, numbers.unroll(items_of(written(lines, 2))), [int(coin) for coin in coins])
+    return Run(Amplitudes(2), 0, numbers.unroll(items_of(written(lines, 2))), coins_of_list([int(coin) for coin in coins]))
 
 
 def bits(row: Sequence[int]) -> str:
@@ -157,7 +157,7 @@ def shots(run: Program, size: int) -> Iterator[Wrong]:
     beginnings: list[list[str]] = [[], BELL]
     for lines, measured in all_of(beginnings, EXCHANGED):
         then = [*lines, measured, "M F", "MX L", "MPP YF*YL"]
-        coins = [bits(seed_coins(SEED, shot, len(then))) for shot in range(SHOTS)]
+        coins = [bits([coins_of_seed(SEED, shot)(number) for number in range(len(then))]) for shot in range(SHOTS)]
         records = "".join(bits(pair_of(then, of_shot).records) + "\n" for of_shot in coins)
         found = run(["sample", "--shots", str(SHOTS), "--seed", str(SEED)], written(then, size))
         yield difference(f"{SHOTS} shots of {then} on {size} qubits", found, (0, records.encode(), b""))

@@ -1,7 +1,6 @@
 """Runs of the program for tests, and what it says about what is wrong."""
 
 import os
-import pathlib
 import subprocess
 from collections.abc import Sequence
 
@@ -22,7 +21,7 @@ FOLDER = "Is a directory (os error 21)"
 Ended = tuple[int, str, str]
 
 
-def run(words: Sequence[str | pathlib.Path], given: str | int = "", closed: tuple[int, ...] = ()) -> Ended:
+def run(words: Sequence[object], given: str | int = "", closed: tuple[int, ...] = ()) -> Ended:
     """A run at the top of the repository on a text or an open file, with these streams closed."""
 
     def close() -> None:
@@ -30,7 +29,7 @@ def run(words: Sequence[str | pathlib.Path], given: str | int = "", closed: tupl
             os.close(number)
 
     text = None if isinstance(given, int) else given.encode()
-    with subprocess.Popen([PROGRAM, *words], cwd=TOP, stdin=given if isinstance(given, int) else subprocess.PIPE, stdout=subprocess.PIPE,
+    with subprocess.Popen([PROGRAM, *map(str, words)], cwd=TOP, stdin=given if isinstance(given, int) else subprocess.PIPE, stdout=subprocess.PIPE,
                           stderr=subprocess.PIPE, preexec_fn=close) as process:
         try:
             written, told = process.communicate(text, TIME_LIMIT)

@@ -9,6 +9,7 @@ import os
 import pathlib
 import pty
 import subprocess
+from collections.abc import Sequence
 
 import pytest
 from running import COMMANDS, FOLDER, MISSING, NO_MARKS, PROGRAM, READ_FAULT, TIME_LIMIT, TOO_LONG, WRITE_FAULT, run
@@ -188,11 +189,11 @@ def test_a_file_gives_more_coins_than_a_word_may_have(circuit: pathlib.Path, coi
     assert from_coins(circuit, coins, text, "sample") == (0, text, "")
 
 
-def on_terminal(words: list[str | pathlib.Path], given: str) -> str:
+def on_terminal(words: Sequence[object], given: str) -> str:
     """What a run says on a terminal as its error output."""
     held, end = pty.openpty()
     try:
-        subprocess.run([PROGRAM, *words], input=given.encode(), stdout=subprocess.DEVNULL, stderr=end, timeout=TIME_LIMIT, check=False)
+        subprocess.run([PROGRAM, *map(str, words)], input=given.encode(), stdout=subprocess.DEVNULL, stderr=end, timeout=TIME_LIMIT, check=False)
         os.write(end, b"\4")
         told = b""
         while b"\4" not in told:

@@ -3,9 +3,10 @@
 from random import Random
 
 import pytest
-from oracle import making, numbers, rows
+from oracle import making, numbers
 from oracle.reading import Refused, items_of
 from oracle.states import Amplitudes, Run
+from oracle.sums import Sums, value
 
 # A record is a sum: 1 is the part that is known, and these are coins by their numbers.
 FIRST, SECOND = 2, 4
@@ -29,17 +30,18 @@ KNOWN = {
        for gate, back in [("C_XYZ", "C_ZYX"), ("SQRT_X", "SQRT_X_DAG"), ("SQRT_Y", "SQRT_Y_DAG")]},
     "what the gates make of zeros": ("SQRT_X 0 0 1\nSQRT_Y 2 2 3\nC_XYZ 4\nM 0 2\nMY !1\nMX 3 4", [1, 1, 0, 0, 0]),
 }
-# How many random circuits both states are tried on.
-CIRCUITS = 300
+# How many random circuits both states are tried on, and how many letters are put into each.
+CIRCUITS, LETTERS = 300, 3
 
 
 @pytest.mark.parametrize("what", KNOWN)
 def test_rows_give_what_is_known_by_hand(what: str) -> None:
     text, records = KNOWN[what]
-    assert rows.run_of(items_of(text.encode())).records == records
+    assert Sums(items_of(text.encode())).run.records == records
 
 
 def test_rows_and_amplitudes_agree() -> None:
+    """With some letters put in, or not, as faults are."""
     tried = 0
     for seed in range(2 * CIRCUITS):
         dice = Random(seed)
@@ -48,11 +50,14 @@ def test_rows_and_amplitudes_agree() -> None:
             numbers.check(items)
         except Refused:
             continue
-        steps = list(numbers.unroll(items))
-        coins = [dice.randrange(2) for _ in steps]
-        one, other = Run(Amplitudes(numbers.qubits(items)), numbers.observables(items), steps, coins), rows.run_of(items)
-        chosen = sum(coin << place for place, coin in enumerate(coins))
-        assert one.free == other.free
-        assert [one.records, one.bits()] == [[rows.value(sum_, chosen) for sum_ in sums] for sums in (other.records, other.bits())]
+        qubits, most = numbers.qubits(items), numbers.summary(items)[0]
+        letters = [(dice.randint(0, most), dice.choice("XYZ"), dice.randrange(qubits)) for _ in range(LETTERS if qubits else 0)]
+        sums = Sums(items, letters)
+        chosen = dice.randrange(2 << len(sums.coin_places) + len(letters))
+        steps = [(*step[:3], value(step[3], chosen)) if step[0] == "letter" else step for step in sums.steps_with(letters)]
+        one = Run(Amplitudes(qubits), numbers.observables(items), steps, lambda coin: chosen >> coin & 1)
+        assert one.free == sums.run.free
+        assert [one.records, one.bits()] == [[value(sum_, chosen) for sum_ in them] for them in (sums.run.records, sums.bits)]
+        assert one.state.reduced_rows() == [(value(sign, chosen), row) for sign, row in sums.run.state.reduced_rows()]
         tried += 1
     assert tried > CIRCUITS
