@@ -5,7 +5,7 @@ use Rattle.stab_tableau.specs.Tableaus.{TableauState}
 use Rattle.stab_copies.specs.declared.checkpoint.Checkpoint.{Checkpoint}
 use Rattle.stab_copies.specs.declared.checkpoint.Meeting.{Meeting}
 use Rattle.stab_copies.specs.LaidCopies.{moved_copy, all_laid}
-use Rattle.stab_turns.specs.LedFrames.{with_states}
+use Rattle.stab_replay.specs.LedFrames.{with_states}
 use Rattle.stab_kept.proofs.SpacingLemmas.{all-laid-append}
 
 -- the last state is put first: then the others are put before it

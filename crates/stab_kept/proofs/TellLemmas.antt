@@ -22,7 +22,7 @@ use Rattle.stab_turns.specs.declared.passing.PauliChange.{PauliChange}
 use Rattle.stab_turns.proofs.FrameBetweenLemmas.{between-first}
 use Rattle.stab_turns.proofs.PauliSpanLemmas.{span-near, span-true, span-true-all, span-flags}
 use Rattle.stab_turns.proofs.LedRunLemmas.{IsLedRun, run-output, run-unflagged, run-group, run-noted}
-use Rattle.stab_turns.proofs.LedCopyLemmas.{run-copies, run-agrees, run-differs}
+use Rattle.stab_replay.proofs.LedCopyLemmas.{run-copies, run-agrees, run-differs}
 use Rattle.stab_kept.specs.declared.kept.KeptRun.{KeptRun}
 use Rattle.stab_kept.specs.declared.turning.Passed.{Passed}
 use Rattle.stab_kept.specs.declared.turning.Turning.{Turning}

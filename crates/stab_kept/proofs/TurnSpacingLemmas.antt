@@ -8,7 +8,7 @@ use Rattle.stab_copies.specs.declared.checkpoint.Checkpoint.{Checkpoint}
 use Rattle.stab_copies.specs.Spacing.{Near, last_of}
 use Rattle.stab_copies.specs.Checkpoints.{checkpoint_steps}
 use Rattle.stab_copies.specs.LaidCopies.{moved, moved_copy}
-use Rattle.stab_turns.specs.LedFrames.{AreInOrder, with_states}
+use Rattle.stab_replay.specs.LedFrames.{AreInOrder, with_states}
 use Rattle.stab_kept.specs.inner.Turned.{StaysNear, span_meeting}
 use Rattle.stab_kept.proofs.SpacingLemmas.{near-le, near-tail, near-moved, moved-within, steps-moved}
 

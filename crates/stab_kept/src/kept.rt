@@ -17,13 +17,15 @@ ghost use Rattle.stab_kept.specs.inner.Prepared.{Begins, HasCopy, IsRest, HasRoo
 ghost use Rattle.stab_replay.specs.NotedStrings.{IsSpliced};
 
 use stab_circuit::{Circuit, Cursor, Repeat, Span};
-use stab_copies::{Checkpoint, Meeting, count_before, lay_all, take_moved};
-use stab_frames::{KeptStrings, RunNotes, count_ones};
+use crate::rest::OldRest;
+use stab_copies::{Checkpoint, Meeting, count_before};
+use stab_frames::{FrameWalk, KeptStrings, RunNotes, count_ones};
 use stab_io::Refusal;
 use stab_pauli::Pauli;
-use stab_replay::{End, Plan, Replay};
+use stab_replay::{End, LedFrame, Plan, Replay};
 use stab_run::{Coins, Outputs, observables};
 use stab_tableau::Tableau;
+use stab_turns::flip_outputs;
 use std::alloc::{AllocError, Global};
 
 /// A run that is kept: the state after the last step, what the steps gave, copies of the state on
@@ -63,8 +65,8 @@ struct Prepared {
 enum Rest {
     /// Nothing: this is the state after the last step.
     Nothing(Tableau),
-    /// The old run from the copy with this number on, which moves at the meeting into the room.
-    Old(usize, Meeting, Vec<Checkpoint>),
+    /// The old run from a copy on.
+    Old(OldRest),
 }
 
 impl KeptRun {
@@ -198,9 +200,10 @@ impl KeptRun {
             plan,
             coins,
         )?;
+        let place = self.place_of(&end, replay.step, span, plan.total);
         let followed = Followed {
             applied: replay.applied,
-            framed: replay.framed,
+            framed: replay.framed + (place - replay.step) as u64,
         };
         let prepared = self.prepare(alloc, replay, end, circuit.observables(), spare)?;
         self.commit(prepared, before, stride, spare);
@@ -275,20 +278,59 @@ impl KeptRun {
         match end {
             End::Last => Ok(Rest::Nothing(tableau)),
             End::Joined(number) => {
-                let copy = &self.checkpoints[number];
-                let meeting = Meeting {
-                    old_step: copy.step,
-                    new_step: step,
-                    old_lengths: copy.lengths,
-                    new_lengths: outputs.lengths(),
-                };
-                outputs.append_rest(&self.outputs, copy.lengths)?;
-                self.append_strings(strings, copy.lengths.free, outputs.free.as_slice())?;
-                let room = Vec::with_capacity(alloc, self.checkpoints.len() - number)?;
                 *spare = Some(tableau);
-                Ok(Rest::Old(number, meeting, room))
+                let walk = FrameWalk::new(alloc, self.tableau.len(), &[], 0)?;
+                let framed = LedFrame {
+                    number,
+                    compared: 0,
+                    walk,
+                    turned: Vec::new(alloc),
+                };
+                self.old_rest(alloc, outputs, strings, step, framed)
+            }
+            End::Framed(framed) => {
+                *spare = Some(tableau);
+                self.old_rest(alloc, outputs, strings, step, framed)
             }
         }
+    }
+
+    /// The run from an old copy on, as a frame turns it that leads on from there, to come after a replay that ended before a step
+    /// with these outputs and these strings, to which those after it are appended.
+    ///
+    /// Refusal `OutOfMemory` alone.
+    fn old_rest(
+        &self,
+        alloc: Global,
+        outputs: &mut Outputs,
+        strings: &mut KeptStrings,
+        step: usize,
+        framed: LedFrame,
+    ) -> Result<Rest, Refusal>
+    {
+        let LedFrame {
+            number,
+            compared,
+            walk,
+            turned,
+        } = framed;
+        let copy = &self.checkpoints[number];
+        let lengths = outputs.lengths();
+        outputs.append_rest(&self.outputs, copy.lengths)?;
+        flip_outputs(outputs, lengths, &walk, compared);
+        self.append_strings(strings, copy.lengths.free, outputs.free.as_slice())?;
+        Ok(Rest::Old(OldRest {
+            number,
+            meeting: Meeting {
+                old_step: copy.step,
+                new_step: step,
+                old_lengths: copy.lengths,
+                new_lengths: lengths,
+            },
+            walk,
+            turned,
+            room: Vec::with_capacity(alloc, self.checkpoints.len() - number)?,
+        }))
     }
 
     /// Appends the strings of free outcomes from this coin number on to those before, in a run with
@@ -349,28 +391,7 @@ impl KeptRun {
                 *spare = Some(std::mem::replace(&mut self.tableau, tableau));
                 self.lay_behind(before, &mut laid, stride);
             }
-            Rest::Old(number, meeting, mut room) => {
-                take_moved(&mut self.checkpoints, number, meeting, &mut room);
-                self.lay_behind(before, &mut laid, stride);
-                lay_all(&mut self.checkpoints, &mut room, stride);
-            }
+            Rest::Old(rest) => self.put_rest(rest, before, &mut laid, stride),
         }
-    }
-
-    /// Lays copies, the last of them first, after this many of those that are kept. It takes no
-    /// memory.
-    pub(crate) fn lay_behind(&mut self, before: usize, laid: &mut Vec<Checkpoint>, stride: usize)
-        requires room { before + length laid.old.items ≤ vec_capacity self.old.checkpoints }
-        ensures tableau { self.new.tableau ≡ self.old.tableau }
-        ensures output { output_of self.new.outputs ≡ output_of self.old.outputs }
-        ensures observables { self.new.observables.items ≡ self.old.observables.items }
-        ensures strings { self.new.strings ≡ self.old.strings }
-        ensures reach { self.new.reach ≡ self.old.reach }
-        ensures checkpoints { self.new.checkpoints.items ≡ all_laid stride (reverse laid.old.items) (take before self.old.checkpoints.items) }
-        ensures shorter { length self.new.checkpoints.items ≤ before + length laid.old.items }
-        ensures capacity { vec_capacity self.new.checkpoints ≡ vec_capacity self.old.checkpoints }
-    {
-        self.checkpoints.truncate(before);
-        lay_all(&mut self.checkpoints, laid, stride);
     }
 }

@@ -19,7 +19,7 @@ use Rattle.stab_frames.specs.Flips.{flipped_output}
 use Rattle.stab_frames.specs.KeptStrings.{note_at}
 use Rattle.stab_frames.specs.Walks.{WalkState, IsPlaced}
 use Rattle.stab_turns.specs.LongerLists.{longer}
-use Rattle.stab_turns.specs.LedFrames.{IsLedFrame, with_states}
+use Rattle.stab_replay.specs.LedFrames.{IsLedFrame, with_states}
 use Rattle.stab_turns.specs.PassedPlaces.{IsFrameBetween, IsBeforePlaces}
 use Rattle.stab_turns.specs.declared.passing.PauliChange.{PauliChange}
 use Rattle.stab_kept.specs.declared.kept.KeptRun.{KeptRun}

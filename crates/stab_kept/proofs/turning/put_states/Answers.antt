@@ -1,6 +1,6 @@
 use Rattle.std.proofs.Common.{◌≡◌, ◌+◌, ◌∷◌, [], sym, ◌∙◌, ap, arith, length, drop, set, get_or}
 use Rattle.std.proofs.lemmas.List.{drop-set-add, take-set-le, get_or-drop, length-append, length-drop, length-set}
-use Rattle.stab_turns.specs.LedFrames.{with_states}
+use Rattle.stab_replay.specs.LedFrames.{with_states}
 use Rattle.stab_kept.proofs.StateLemmas.{states-last}
 use Rattle.stab_kept.proofs.turning.put_states.Goals as goal
 

@@ -5,7 +5,7 @@ use Rattle.stab_circuit.specs.Views.{circuit_items}
 use Rattle.stab_frames.specs.Walks.{WalkState}
 use Rattle.stab_run.specs.ProgramStates.{StepFits}
 use Rattle.stab_laws.proofs.FitLemmas.{check-fits}
-use Rattle.stab_turns.specs.LedFrames.{AreInOrder, IsLedFrame}
+use Rattle.stab_replay.specs.LedFrames.{AreInOrder, IsLedFrame}
 use Rattle.stab_kept.proofs.TurningLemmas.{behind-order, led-few}
 use Rattle.stab_kept.proofs.kept.KeptRun.turning.Goals as goal
 

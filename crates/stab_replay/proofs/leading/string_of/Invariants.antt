@@ -1,6 +1,6 @@
 use Rattle.std.proofs.Common.{◌≡◌, ◌++◌, false, length, replicate, take, drop}
 use Rattle.stab_letters.specs.declared.letter.Letter.TheVariants.{I}
-use Rattle.stab_turns.proofs.leading.string_of.Given as goal
+use Rattle.stab_replay.proofs.leading.string_of.Given as goal
 
 -- the letters up to this qubit were put in
 abbrev pub invariant-loop-qubit : goal.invariant-loop-qubit

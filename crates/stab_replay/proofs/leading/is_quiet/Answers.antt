@@ -1,7 +1,7 @@
 use Rattle.std.proofs.Common.{◌≡◌, ◌-◌, Bool, true, false, sym, ◌∙◌, ap, arith, List, length, drop}
 use Rattle.stab_run.specs.Records.{ones}
-use Rattle.stab_turns.proofs.QuietLemmas.{quiet-back, newest-counted}
-use Rattle.stab_turns.proofs.leading.is_quiet.Goals as goal
+use Rattle.stab_replay.proofs.QuietLemmas.{quiet-back, newest-counted}
+use Rattle.stab_replay.proofs.leading.is_quiet.Goals as goal
 
 pub returns-clause-quiet : goal.returns-clause-quiet
 returns-clause-quiet c = λ e k le.

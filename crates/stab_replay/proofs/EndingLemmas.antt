@@ -16,7 +16,7 @@ use Rattle.stab_frames.proofs.FrontLemmas.{group-origin}
 use Rattle.stab_frames.proofs.TurnedLemmas.{turned-blank, turned-stabiliser}
 use Rattle.stab_copies.specs.declared.checkpoint.Checkpoint.{Checkpoint}
 use Rattle.stab_copies.specs.Checkpoints.{IsCheckpoint}
-use Rattle.stab_turns.specs.LedFrames.{AreInOrder, IsDropped, Ending, over, gone, dropped}
+use Rattle.stab_replay.specs.LedFrames.{AreInOrder, IsDropped, Ending, over, gone, dropped}
 
 -- a frame turns nothing at a point, if it goes on without letters; from there on it is gone, whoever looks back no further than the reach
 pub record IsEnded (n reach : ℕ) (a : Point) (last new : WalkState) : Type 0 where

@@ -27,10 +27,10 @@ use Rattle.stab_frames.proofs.OverLemmas.{enough-append}
 use Rattle.stab_frames.proofs.TrueLemmas.{true-rest}
 use Rattle.stab_frames.proofs.PassLemmas.{over-append}
 use Rattle.stab_copies.specs.declared.checkpoint.Checkpoint.{Checkpoint}
-use Rattle.stab_replay.specs.FramedReplays.{AreEnoughBy}
-use Rattle.stab_turns.specs.LedFrames.{AreInOrder, IsTurnedBehind, AreTurnedCopies, Stabilise, TurnSome, Ending, IsLastApart, IsLedFrame}
-use Rattle.stab_turns.proofs.TurnSomeLemmas.{turned-apart}
-use Rattle.stab_turns.proofs.QuietLemmas.{quiet-gone, flips-more}
+use Rattle.stab_replay.specs.LedFrames.{AreEnoughBy}
+use Rattle.stab_replay.specs.LedFrames.{AreInOrder, IsTurnedBehind, AreTurnedCopies, Stabilise, TurnSome, Ending, IsLastApart, IsLedFrame}
+use Rattle.stab_replay.proofs.TurnSomeLemmas.{turned-apart}
+use Rattle.stab_replay.proofs.QuietLemmas.{quiet-gone, flips-more}
 
 -- copies in order
 

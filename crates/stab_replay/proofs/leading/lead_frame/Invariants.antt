@@ -1,7 +1,7 @@
 use Rattle.std.proofs.Common.{◌≡◌, ◌+◌, ◌-◌, ◌≤◌, length, take, drop}
-use Rattle.stab_turns.specs.LedFrames.{AreInOrder}
-use Rattle.stab_turns.proofs.LeadingLemmas.{IsPast}
-use Rattle.stab_turns.proofs.leading.lead_frame.Given as goal
+use Rattle.stab_replay.specs.LedFrames.{AreInOrder}
+use Rattle.stab_replay.proofs.LeadingLemmas.{IsPast}
+use Rattle.stab_replay.proofs.leading.lead_frame.Given as goal
 
 abbrev pub invariant-loop-copy : goal.invariant-loop-copy
 invariant-loop-copy l = record {

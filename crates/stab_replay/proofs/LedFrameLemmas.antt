@@ -34,8 +34,8 @@ use Rattle.stab_frames.proofs.TurnedLemmas.{turned-blank}
 use Rattle.stab_frames.proofs.EditLemmas.{same-lengths}
 use Rattle.stab_replay.proofs.FrameStartLemmas.{flips-differ}
 use Rattle.stab_replay.proofs.NotedLemmas.{near-enough}
-use Rattle.stab_turns.proofs.EndingLemmas.{IsEnded}
-use Rattle.stab_turns.proofs.FlippedLemmas.{flipped-front}
+use Rattle.stab_replay.proofs.EndingLemmas.{IsEnded}
+use Rattle.stab_replay.proofs.FlippedLemmas.{flipped-front}
 
 -- points that agree this far back agree less far back
 nearer : (n m k : ℕ) (a b : Point) → k ≤ m → AgreeBack n m a b → AgreeBack n k a b
@@ -80,7 +80,7 @@ pub record IsLedOver (n : ℕ) (coins : ℕ → Bool) (strings : ℕ → Option 
 module _ {n : ℕ} {coins : ℕ → Bool} {strings : ℕ → Option (List Letter)} {reach : ℕ} {back : List Step} {a b : Point} {base : ℕ} {old last : WalkState} {steps : ℕ}
     (o : IsLedOver n coins strings reach back a b base old last steps) where
   -- after these steps
-  on-way : (m : ℕ) → m ≤ steps
+  pub on-way : (m : ℕ) → m ≤ steps
       → (outputs n coins (take m back) b ≡ flipped_output (outputs n coins (take m back) a) (flips_over n (same_coins strings) (take m back) a.coin (frame_at base old)))
       × PointsDifferBy n (frame_over n (same_coins strings) (take m back) a.coin (frame_at base old)) (point_after n coins (take m back) a) (point_after n coins (take m back) b)
   on-way m le =

@@ -4,14 +4,14 @@ ghost use Rattle.stab_letters.specs.declared.letter.Letter.TheVariants.{I};
 ghost use Rattle.stab_run.specs.Records.{looked_up, ones};
 ghost use Rattle.stab_run.specs.ProgramStates.{StepFits};
 ghost use Rattle.stab_frames.specs.Walks.{IsPlaced};
-ghost use Rattle.stab_turns.specs.LedFrames.{AreInOrder, Stabilise, TurnSome, IsLedFrame};
+ghost use Rattle.stab_replay.specs.LedFrames.{AreInOrder, Stabilise, TurnSome, IsLedFrame};
 
 use stab_circuit::Cursor;
 use stab_copies::{Checkpoint, has_one};
 use stab_frames::{FrameWalk, KeptStrings, Stop, walk_steps};
 use stab_io::Refusal;
 use stab_pauli::{Letter, Pauli};
-use stab_replay::turned_copy;
+use crate::framed::turned_copy;
 use stab_tableau::{CompactTableau, Tableau};
 use std::alloc::Global;
 

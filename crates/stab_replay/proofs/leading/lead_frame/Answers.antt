@@ -1,8 +1,8 @@
 use Rattle.std.proofs.Common.{◌≡◌, ◌≢◌, ◌+◌, ◌-◌, ◌∙◌, ap, length, drop, arith, rules}
 use Rattle.std.proofs.lemmas.List.{drop-drop, take_all, take-append-drop}
 use Rattle.stab_frames.specs.declared.steps.Stop.TheVariants.{NoString}
-use Rattle.stab_turns.proofs.LeadingLemmas.{order-first, behind-copy, steps-there, behind-told, past-next, short-left, few-left, past-more, next-copy, led-dropped, led-gone, led-behind}
-use Rattle.stab_turns.proofs.leading.lead_frame.Goals as goal
+use Rattle.stab_replay.proofs.LeadingLemmas.{order-first, behind-copy, steps-there, behind-told, past-next, short-left, few-left, past-more, next-copy, led-dropped, led-gone, led-behind}
+use Rattle.stab_replay.proofs.leading.lead_frame.Goals as goal
 
 pub walk_steps-requires-clause-few : goal.walk_steps-requires-clause-few
 walk_steps-requires-clause-few c = few-left c.loop-copy.invariant.past c.loop-copy.cursor.left c.loop-copy.invariant.left c.requires.few

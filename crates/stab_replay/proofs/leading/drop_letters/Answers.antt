@@ -1,8 +1,8 @@
 use Rattle.std.proofs.Common.{◌≡◌, sym, ◌∙◌, ap, false, length, refl, inr}
 use Rattle.stab_pauli.specs.Paulis.{Signed, string_product}
 use Rattle.stab_pauli.proofs.StringLemmas.{string_product-self}
-use Rattle.stab_turns.proofs.TurnSomeLemmas.{none-found, some-found}
-use Rattle.stab_turns.proofs.leading.drop_letters.Goals as goal
+use Rattle.stab_replay.proofs.TurnSomeLemmas.{none-found, some-found}
+use Rattle.stab_replay.proofs.leading.drop_letters.Goals as goal
 
 pub returns-in_default-clause-turn : goal.returns-in_default-clause-turn
 returns-in_default-clause-turn c = λ e.

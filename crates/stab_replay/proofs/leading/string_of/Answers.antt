@@ -3,7 +3,7 @@ use Rattle.std.proofs.lemmas.List.{length-replicate}
 use Rattle.stab_letters.specs.declared.letter.Letter.TheVariants.{I}
 use Rattle.stab_pauli.specs.Paulis.{Signed}
 use Rattle.stab_frames.proofs.WalkLemmas.{mixed-set}
-use Rattle.stab_turns.proofs.leading.string_of.Goals as goal
+use Rattle.stab_replay.proofs.leading.string_of.Goals as goal
 
 pub loop-qubit-preserved : goal.loop-qubit-preserved
 loop-qubit-preserved c =

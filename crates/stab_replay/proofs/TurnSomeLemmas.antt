@@ -11,7 +11,7 @@ use Rattle.stab_tableau.specs.Tableaus.{TableauState, stabilises}
 use Rattle.stab_tableau.specs.Columns.{chosen_product, CommutesWithAll, IsGenerated}
 use Rattle.stab_tableau.specs.Turns.{IsTurned}
 use Rattle.stab_tableau.proofs.TestLemmas.{and-left, and-right, not_both}
-use Rattle.stab_turns.specs.LedFrames.{Stabilise, TurnSome}
+use Rattle.stab_replay.specs.LedFrames.{Stabilise, TurnSome}
 
 -- some string of n letters passes a test, or none does
 

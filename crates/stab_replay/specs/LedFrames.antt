@@ -1,6 +1,6 @@
 -- Led frames: a frame that passed the steps of a run, past copies of its state, and what it made of these copies.
 -- Source: this project's own.
-use Rattle.std.specs.Prelude.{◌≡◌, ◌⊎◌, ℕ, ◌-◌, ◌≤◌, Bool, true, false, List, [], ◌∷◌, All, Some, length, take, replicate, slice_get}
+use Rattle.std.specs.Prelude.{◌≡◌, ◌⊎◌, ℕ, ◌-◌, ◌≤◌, Bool, true, false, List, [], ◌∷◌, All, Option, Some, length, take, drop, replicate, slice_get}
 use Rattle.stab_letters.specs.declared.letter.Letter.{Letter}
 use Rattle.stab_letters.specs.declared.letter.Letter.TheVariants.{I}
 use Rattle.stab_pauli.specs.Paulis.{Signed, minus, strings_anticommute}
@@ -8,10 +8,18 @@ use Rattle.stab_tableau.specs.Tableaus.{TableauState, stabilises}
 use Rattle.stab_tableau.specs.Turns.{IsTurned}
 use Rattle.stab_circuit.specs.Steps.{Step}
 use Rattle.stab_run.specs.Records.{ones}
-use Rattle.stab_frames.specs.KeptStrings.{note_at}
+use Rattle.stab_run.specs.Points.{Point, outputs}
+use Rattle.stab_frames.specs.Notes.{same_coins}
+use Rattle.stab_frames.specs.StepNotes.{AreEnough}
+use Rattle.stab_frames.specs.KeptStrings.{AreTrue, note_at}
 use Rattle.stab_frames.specs.Walks.{WalkState, frame_at, IsGone, WalksOver}
 use Rattle.stab_copies.specs.declared.checkpoint.Checkpoint.{Checkpoint}
-use Rattle.stab_replay.specs.FramedReplays.{AreEnoughBy}
+
+-- a walk over steps finds enough notes for every run that these strings and flags are of
+abbrev pub AreEnoughBy : ℕ → (ℕ → Option (List Letter)) → List Bool → List Step → ℕ → WalkState → Type 0
+AreEnoughBy n strings free left steps w =
+    (coins : ℕ → Bool) (a : Point) (base : ℕ) → a.coin ≡ w.coin → AreTrue n coins strings left a → (outputs n coins left a).free ≡ drop w.coin free
+    → AreEnough n coins (same_coins strings) (take steps left) (frame_at base w) a
 
 -- copies are in order, from one step on and up to another
 abbrev pub AreInOrder : (from end : ℕ) → List Checkpoint → Type 0
