@@ -13,11 +13,11 @@ ghost use Rattle.stab_frames.specs.KeptStrings.{front_kept};
 ghost use Rattle.stab_copies.specs.Checkpoints.{checkpoint_steps};
 ghost use Rattle.stab_copies.specs.LaidCopies.{all_laid};
 ghost use Rattle.stab_kept.specs.KeptRuns.{IsKeptRun, IsSameKept, IsSpan, Follows, AgreeBehindSpan, AgreeBackBehindSpan};
-ghost use Rattle.stab_kept.specs.inner.Prepared.{Begins, HasCopy, IsRest, HasRoom, IsPrepared, copies_behind, IsCommitted};
+ghost use Rattle.stab_kept.specs.inner.Prepared.{Begins, HasCopy, IsRest, IsOldRest, HasRoom, IsPrepared, copies_behind, IsCommitted};
 ghost use Rattle.stab_replay.specs.NotedStrings.{IsSpliced};
 
-use stab_circuit::{Circuit, Cursor, Repeat, Span};
 use crate::rest::OldRest;
+use stab_circuit::{Circuit, Cursor, Repeat, Span};
 use stab_copies::{Checkpoint, Meeting, count_before};
 use stab_frames::{FrameWalk, KeptStrings, RunNotes, count_ones};
 use stab_io::Refusal;
@@ -219,11 +219,11 @@ impl KeptRun {
         count: usize,
         spare: &mut Option<Tableau>,
     ) -> Result<Prepared, Refusal>
-        requires in_range { HasCopy self.old.checkpoints.items end }
+        requires in_range { HasCopy self.old.tableau.qubits self.old.checkpoints.items end }
         requires same_length { replay.notes.strings.qubits ≡ self.old.strings.qubits }
         ensures unchanged { IsSameKept self.new self.old }
         ensures prepared { IfOk result (IsPrepared self.old replay.entry count end) }
-        ensures room { IfOk result (λ p. HasRoom p.rest self.new.checkpoints.items) }
+        ensures room { IfOk result (λ p. HasRoom self.new.tableau.qubits p.rest self.new.checkpoints.items) }
         ensures capacity { IfOk result (λ p. length self.new.checkpoints.items + length p.laid.items ≤ vec_capacity self.new.checkpoints) }
         ensures err { IfErr result (λ r. r ≡ OutOfMemory) }
     {
@@ -269,10 +269,10 @@ impl KeptRun {
         end: End,
         spare: &mut Option<Tableau>,
     ) -> Result<Rest, Refusal>
-        requires in_range { HasCopy self.now.checkpoints.items end }
+        requires in_range { HasCopy self.now.tableau.qubits self.now.checkpoints.items end }
         requires same_length { strings.old.qubits ≡ self.now.strings.qubits }
         ensures rest { IfOk result (IsRest self.now tableau (output_of outputs.old) strings.old step end (output_of outputs.new) strings.new) }
-        ensures room { IfOk result (λ rest. HasRoom rest self.now.checkpoints.items) }
+        ensures room { IfOk result (λ rest. HasRoom self.now.tableau.qubits rest self.now.checkpoints.items) }
         ensures err { IfErr result (λ r. r ≡ OutOfMemory) }
     {
         match end {
@@ -307,6 +307,13 @@ impl KeptRun {
         step: usize,
         framed: LedFrame,
     ) -> Result<Rest, Refusal>
+        requires in_range { framed.number < length self.now.checkpoints.items }
+        requires few { framed.number + length framed.turned.items ≤ length self.now.checkpoints.items }
+        requires letters { length framed.walk.letters ≡ self.now.tableau.qubits }
+        requires same_length { strings.old.qubits ≡ self.now.strings.qubits }
+        ensures rest { IfOk result (λ rest. IfSome (slice_get self.now.checkpoints.items framed.number) (IsOldRest self.now (output_of outputs.old) strings.old step framed.number framed.compared framed.walk framed.turned.items (output_of outputs.new) strings.new rest)) }
+        ensures room { IfOk result (λ rest. HasRoom self.now.tableau.qubits rest self.now.checkpoints.items) }
+        ensures err { IfErr result (λ r. r ≡ OutOfMemory) }
     {
         let LedFrame {
             number,
@@ -369,7 +376,7 @@ impl KeptRun {
         stride: usize,
         spare: &mut Option<Tableau>,
     )
-        requires room { HasRoom prepared.rest self.old.checkpoints.items }
+        requires room { HasRoom self.old.tableau.qubits prepared.rest self.old.checkpoints.items }
         requires capacity { length self.old.checkpoints.items + length prepared.laid.items ≤ vec_capacity self.old.checkpoints }
         requires behind { before + length (copies_behind prepared.rest self.old.checkpoints.items) ≤ length self.old.checkpoints.items }
         ensures committed { IsCommitted self.old prepared before stride self.new }

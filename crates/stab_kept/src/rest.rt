@@ -1,3 +1,10 @@
+ghost use Rattle.std.specs.Prelude.{◌≡◌, ◌+◌, ◌≤◌, ◌++◌, length, take, drop, reverse, slice_get, vec_capacity};
+ghost use Rattle.stab_run.specs.ProgramStates.{output_of};
+ghost use Rattle.stab_copies.specs.LaidCopies.{all_laid};
+ghost use Rattle.stab_replay.specs.LedFrames.{with_states};
+ghost use Rattle.stab_kept.specs.inner.OldRests.{HasRoomFor, IsRestPut, turned_end};
+ghost use Rattle.stab_kept.specs.inner.Prepared.{HasCopy, end_of};
+
 use crate::kept::KeptRun;
 use stab_circuit::Span;
 use stab_copies::{Checkpoint, Meeting, lay_all, shifted, take_moved};
@@ -44,7 +51,10 @@ fn put_states(copies: &mut Vec<Checkpoint>, from: usize, states: &mut Vec<Compac
 
 impl KeptRun {
     /// Where a replay of the new steps ended, which is before this one if no frame led on.
-    pub(crate) fn place_of(&self, end: &End, step: usize, span: Span, total: usize) -> usize {
+    pub(crate) fn place_of(&self, end: &End, step: usize, span: Span, total: usize) -> usize
+        requires in_range { HasCopy self.now.tableau.qubits self.now.checkpoints.items end.now }
+        ensures value { result ≡ end_of span total step self.now.checkpoints.items end.now }
+    {
         match end {
             End::Framed(framed) => end_place(
                 self.checkpoints.as_slice(),
@@ -82,6 +92,10 @@ impl KeptRun {
         laid: &mut Vec<Checkpoint>,
         stride: usize,
     )
+        requires room { HasRoomFor self.old.tableau.qubits rest self.old.checkpoints.items }
+        requires order { before ≤ rest.number }
+        requires capacity { before + length laid.old.items + length self.old.checkpoints.items ≤ vec_capacity self.old.checkpoints + rest.number }
+        ensures put { IsRestPut self.old rest before stride (reverse laid.old.items) self.new }
     {
         let OldRest {
             number,

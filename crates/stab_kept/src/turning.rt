@@ -8,12 +8,12 @@ ghost use Rattle.stab_run.specs.Points.{all_coins_of};
 ghost use Rattle.stab_frames.specs.Walks.{IsPlaced};
 ghost use Rattle.stab_copies.specs.Checkpoints.{checkpoint_steps};
 ghost use Rattle.stab_copies.specs.Spacing.{Near, last_of};
-ghost use Rattle.stab_replay.specs.LedFrames.{with_states};
 ghost use Rattle.stab_turns.specs.declared.passing.PauliChange.{PauliChange};
 ghost use Rattle.stab_kept.specs.Counts.{IsCounted};
 ghost use Rattle.stab_kept.specs.KeptRuns.{IsKeptRun, IsSameKept, IsSpan, Follows, AgreeBehindSpan, AgreeBackBehindSpan};
 ghost use Rattle.stab_kept.specs.inner.Prepared.{IsCount};
-ghost use Rattle.stab_kept.specs.inner.Turned.{StaysNear, HasPassed, IsTurning, IsPut, HasTurned, turned_end};
+ghost use Rattle.stab_kept.specs.inner.OldRests.{HasRoomFor};
+ghost use Rattle.stab_kept.specs.inner.Turned.{StaysNear, HasPassed, IsTurning, IsPut, HasTurned};
 
 use crate::kept::{Followed, KeptRun};
 use crate::rest::{OldRest, end_place};
@@ -21,11 +21,19 @@ use stab_circuit::{Circuit, Cursor, Span};
 use stab_copies::{Checkpoint, Meeting, count_before, shifted};
 use stab_frames::FrameWalk;
 use stab_io::Refusal;
-use stab_run::{Coins, Lengths};
 use stab_replay::lead_frame;
+use stab_run::{Coins, Lengths};
 use stab_tableau::Tableau;
 use stab_turns::{PauliChange, flip_outputs, lengths_behind, pass_places, sum_additions};
 use std::alloc::Global;
+
+/// Lists move with these if they stay as long as they are.
+const NO_LENGTHS: Lengths = Lengths {
+    records: 0,
+    free: 0,
+    detectors: 0,
+    additions: 0,
+};
 
 /// A frame that went past the places of a change, in memory of its own.
 #[derive(Drop)]
@@ -223,8 +231,8 @@ impl KeptRun {
                 meeting: Meeting {
                     old_step: span.old_end,
                     new_step: span.new_end,
-                    old_lengths: from,
-                    new_lengths: from,
+                    old_lengths: NO_LENGTHS,
+                    new_lengths: NO_LENGTHS,
                 },
                 walk,
                 turned,
@@ -235,12 +243,9 @@ impl KeptRun {
 
     /// Puts what a frame made of the run in place. It takes no memory.
     fn put(&mut self, turning: Turning, before: usize, stride: usize)
-        requires letters { length turning.walk.letters ≡ self.old.tableau.qubits }
-        requires count { length turning.passed.items + before ≡ inside }
-        requires few { inside + length turning.turned.items ≤ length self.old.checkpoints.items }
-        requires nothing { turning.room.items ≡ [] }
-        requires room { length self.old.checkpoints.items ≤ vec_capacity turning.room + inside }
-        ensures put { IsPut self.old span before inside stride turning self.new }
+        requires room { HasRoomFor self.old.tableau.qubits turning.rest self.old.checkpoints.items }
+        requires count { length turning.passed.items + before ≡ turning.rest.number }
+        ensures put { IsPut self.old before stride turning self.new }
     {
         let Turning {
             from,

@@ -6,12 +6,12 @@ ghost use Rattle.stab_run.specs.ProgramStates.{StepFits};
 ghost use Rattle.stab_frames.specs.Walks.{IsPlaced};
 ghost use Rattle.stab_replay.specs.LedFrames.{AreInOrder, Stabilise, TurnSome, IsLedFrame};
 
+use crate::framed::turned_copy;
 use stab_circuit::Cursor;
 use stab_copies::{Checkpoint, has_one};
 use stab_frames::{FrameWalk, KeptStrings, Stop, walk_steps};
 use stab_io::Refusal;
 use stab_pauli::{Letter, Pauli};
-use crate::framed::turned_copy;
 use stab_tableau::{CompactTableau, Tableau};
 use std::alloc::Global;
 

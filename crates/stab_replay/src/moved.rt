@@ -46,13 +46,7 @@ fn are_same(bits: &[bool], others: &[bool]) -> bool
 impl<'a> Replay<'a> {
     /// Whether the replay is at the place of the old copy before the one that may be met next, and is known to differ there from the old
     /// run: so it agrees with it at no later copy.
-    fn is_apart(
-        &self,
-        plan: Plan,
-        copies: &[Checkpoint],
-        old: &Outputs,
-        next: usize,
-    ) -> bool
+    fn is_apart(&self, plan: Plan, copies: &[Checkpoint], old: &Outputs, next: usize) -> bool
         ensures behind { result ≡ true → 1 ≤ next }
         ensures apart { result ≡ true → IsSomeAnd (slice_get copies.now (next - 1)) (IsApartFrom plan self.now (output_of old.now)) }
     {

@@ -1,5 +1,5 @@
 -- Led runs: a run that differs from another by Pauli gates is the other one, flipped and turned as a frame says that was led over it.
-use Rattle.std.proofs.Common.{refl, ◌≡◌, ℕ, ◌+◌, ◌≤◌, sym, ◌∙◌, ap, subst, Bool, inl, List, [], ◌++◌, All, length, take, drop}
+use Rattle.std.proofs.Common.{refl, ◌≡◌, ℕ, ◌-◌, arith, ◌+◌, ◌≤◌, sym, ◌∙◌, ap, subst, Bool, inl, List, [], ◌++◌, All, length, take, drop}
 use Rattle.std.proofs.lemmas.List.{take-append-drop}
 use Rattle.std.proofs.lemmas.List.Elements.{All-take}
 use Rattle.stab_tableau.specs.Tableaus.{TableauState}
@@ -22,7 +22,9 @@ use Rattle.stab_replay.specs.NotedStrings.{IsNoted}
 use Rattle.stab_replay.proofs.SegmentLemmas.{flipped-zeros}
 use Rattle.stab_replay.specs.LedFrames.{AreInOrder, IsLedFrame}
 use Rattle.stab_turns.specs.PassedPlaces.{IsFrameBetween}
-use Rattle.stab_replay.proofs.RestLemmas.{IsLedRest, later, rest-given, rest-later, rest-free}
+use Rattle.stab_replay.proofs.RestLemmas.{IsLedRest, later, rest-lengths, rest-given, rest-later, rest-free}
+use Rattle.stab_replay.proofs.LedCopyLemmas.{lengths-joined, old_given, new_given}
+use Rattle.stab_frames.proofs.EditLemmas.{same-lengths}
 
 -- two runs have the same steps after step i of the one and step k of the other, up to which a frame went between them from a step on
 -- before which they are the same; it was led over these steps, past copies of the first run
@@ -80,6 +82,19 @@ module _ (n : ℕ) (coins : ℕ → Bool) (xs ys back : List Step) (i k : ℕ) (
     order = r.order;
     led = r.led;
   }
+
+  -- the lists of both are as long as each other where a copy is after the place
+  pub run-lengths : (c : Checkpoint) → i ≤ c.step → IsCheckpoint n coins xs c → c.lengths ≡ lengths_of (outputs n coins (take (k + (c.step - i)) ys) origin)
+  run-lengths c behind is =
+      is.lengths
+      ∙ ap (λ m. lengths_of (outputs n coins (take m xs) origin)) {y = i + (c.step - i)} (omega (arith, behind))
+      ∙ ap lengths_of (old_given rest (c.step - i))
+      ∙ lengths-joined (outputs n coins (take i xs) origin) (outputs n coins (take k ys) origin) (outputs n coins (take (c.step - i) back) old_point)
+      (outputs n coins (take (c.step - i) back) new_point)
+      (sym (ap lengths_of r.between.fronts.given
+      ∙ same-lengths (outputs n coins (take i xs) origin) (joined (unflipped (outputs n coins (take r.first xs) origin)) old.flips)))
+      (sym (rest-lengths rest (c.step - i)))
+      ∙ sym (ap lengths_of (new_given rest (c.step - i)))
 
   -- what the new run gives
 

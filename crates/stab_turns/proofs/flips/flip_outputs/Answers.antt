@@ -1,5 +1,5 @@
-use Rattle.std.proofs.Common.{length, sym, ap, ◌∙◌, ◌++◌, take, drop}
-use Rattle.std.proofs.lemmas.List.{take-append-drop, take-length}
+use Rattle.std.proofs.Common.{length, arith, sym, ap, ◌∙◌, ◌++◌, take, drop}
+use Rattle.std.proofs.lemmas.List.{take-append-drop, take_all}
 use Rattle.stab_frames.specs.Flips.{flipped, flipped_additions}
 use Rattle.stab_frames.proofs.FlipLemmas.{flipped-empty}
 use Rattle.stab_turns.proofs.flips.flip_outputs.Goals as goal
@@ -10,7 +10,7 @@ returns c =
     let from = c.args.from in
     let bits = c.args.walk.now.flips.records in
     let since = c.between-since.ensures.value ∙ (λ i. drop c.args.compared (take (length (c.records-records.ensures.value i)) (c.records-records.ensures.value i)))
-    ∙ ap (drop c.args.compared) (take-length bits) in
+    ∙ ap (drop c.args.compared) (take_all (length bits) bits (omega arith)) in
     record {
       value = λ i. record {
         records = (c.flip_from.ensures.value ∙ ap (λ flips. take from.records old.records.items ++ flipped (drop from.records old.records.items) flips) since) i;

@@ -50,8 +50,7 @@ lead_frame-requires-clause-order c =
 pub returns-clause-framed : goal.returns-clause-framed
 returns-clause-framed c =
     let at = goal.at.returns-clause-framed c in
-    let b = begins at.In_ok-cursor in
-    (
+    let b = begins at.In_ok-cursor in (
       refl,
       led-framed c.args.plan c.args.self.now c.args.copies.now (output_of c.args.old.now) c.args.strings.now _ c.args.walk b.0 b.1 b.2 (ap length c.records-compared.ensures.value)
           (c.lead_frame.ensures.length ∙ b.2.frame.size)

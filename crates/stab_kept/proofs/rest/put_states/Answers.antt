@@ -2,7 +2,7 @@ use Rattle.std.proofs.Common.{◌≡◌, ◌+◌, ◌∷◌, [], sym, ◌∙◌,
 use Rattle.std.proofs.lemmas.List.{drop-set-add, take-set-le, get_or-drop, length-append, length-drop, length-set}
 use Rattle.stab_replay.specs.LedFrames.{with_states}
 use Rattle.stab_kept.proofs.StateLemmas.{states-last}
-use Rattle.stab_kept.proofs.turning.put_states.Goals as goal
+use Rattle.stab_kept.proofs.rest.put_states.Goals as goal
 
 pub loop-state-preserved : goal.loop-state-preserved
 loop-state-preserved c =

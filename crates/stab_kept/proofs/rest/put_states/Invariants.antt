@@ -1,6 +1,6 @@
 use Rattle.std.proofs.Common.{◌≡◌, ◌+◌, ◌≤◌, length, take, drop, vec_capacity}
 use Rattle.stab_replay.specs.LedFrames.{with_states}
-use Rattle.stab_kept.proofs.turning.put_states.Given as goal
+use Rattle.stab_kept.proofs.rest.put_states.Given as goal
 
 abbrev pub invariant-loop-state : goal.invariant-loop-state
 invariant-loop-state l = record {
