@@ -13,8 +13,6 @@ use Rattle.stab_replay.proofs.NotedLemmas.{near-enough}
 use Rattle.stab_copies.specs.declared.checkpoint.Checkpoint.{Checkpoint}
 use Rattle.stab_replay.specs.declared.replay.Replay.{Replay}
 use Rattle.stab_replay.specs.declared.replay.Plan.{Plan}
-use Rattle.stab_replay.specs.declared.replay.End.{End}
-use Rattle.stab_replay.specs.declared.replay.End.TheVariants.{Last, Joined}
 use Rattle.stab_kept.specs.declared.kept.KeptRun.{KeptRun}
 use Rattle.stab_circuit.specs.declared.edit.Span.{Span}
 use Rattle.stab_run.specs.Points.{RunOutput, origin, point_after, outputs, all_coins_of}
@@ -26,13 +24,14 @@ use Rattle.stab_copies.specs.Spacing.{last_of}
 use Rattle.stab_copies.specs.Checkpoints.{IsRunFromStart, IsCheckpoint, checkpoint_steps}
 use Rattle.stab_copies.specs.LaidCopies.{moved}
 use Rattle.stab_kept.specs.KeptRuns.{IsKeptRun, IsSpan, AgreeBehindSpan, AgreeBackBehindSpan}
-use Rattle.stab_replay.specs.Replays.{IsEnd, Misses, EndsSoon, step_among_new}
-use Rattle.stab_copies.specs.Meets.{Meets}
+use Rattle.stab_replay.specs.Replays.{MeetsAt, Misses, EndsSoon, step_among_new}
+use Rattle.stab_kept.specs.inner.OldRests.{turned_end}
+use Rattle.std.proofs.lemmas.Option.{slice_get_within}
 use Rattle.stab_laws.proofs.PointLemmas.{front-output}
 use Rattle.stab_laws.proofs.CoinLemmas.{coins-append}
 use Rattle.stab_replay.proofs.PointLemmas.{meets-agree, agree-later}
 use Rattle.stab_kept.proofs.SpacingLemmas.{IsBefore, IsNearCopy, near-copy, behind-near, all-behind, moved-within}
-use Rattle.stab_kept.proofs.FollowLemmas.{at-get, some-at, if-some, some-and, from-drop, same-rest, all-next, front-spaced}
+use Rattle.stab_kept.proofs.FollowLemmas.{at-get, some-at, if-some, from-drop, same-rest, all-next, front-spaced}
 
 pub match-weaker : {X : Type 0} (A B : Type 0) (P Q : X → Type 0) (o : Option X) → (A → B) → ((x : X) → P x → Q x) → MatchOption o A P → MatchOption o B Q
 match-weaker A B P Q None f g h = f h
@@ -165,49 +164,94 @@ module _ (n : ℕ) (coins : ℕ → Bool) (K : ℕ) (xs : List Step) (count : �
       (slice_get old.checkpoints.items p.next) (λ l. omega (arith, l)) (λ c l. omega (arith, l)) (next-near m e p.next b e_within front behind next))) in
       omega (arith, here, near, counted, last)
 
-  -- where it ends
-  pub ends-at : (p : Plan) → p.reach ≡ old.reach → p.old_end ≡ s.old_end → p.new_end ≡ s.new_end → p.total ≡ length ys → length ys < 2 ^ 64
-      → IfSome (slice_get old.checkpoints.items p.next) (λ c. s.old_end ≤ c.step) → (m : ℕ) → m ≤ p.next
-      → IfSome (slice_get old.checkpoints.items m) (λ c. s.first + 1 ≤ c.step) → (r : Replay) (end : End)
-      → IsRunFromStart n coins (take r.step ys) (program_state r.tableau (output_of r.outputs)) → IsEnd n p r old.checkpoints.items old.outputs.records.items old.outputs.free.items end
-      → EndsAt (AgreeBackBehindSpan n coins xs ys s) (checkpoint_steps old.checkpoints.items) s.first s.old_end s.new_end (length ys) r.step
-  ends-at p reach old_end new_end total few behind m le later r Last run is = inl (is ∙ total)
-  ends-at p reach old_end new_end total few behind m le later r (Joined j) run is =
-      let found = some-and (λ c. (step_among_new p c ≡ r.step) × Meets n p.reach r.tableau (output_of r.outputs) old.outputs.records.items old.outputs.free.items c) (slice_get old.checkpoints.items j) is.1 in
-      let d = found.0 in
-      let from = is.0 in
-      let after : s.old_end ≤ d.step =
-      some-at (λ c. s.old_end ≤ c.step) old.checkpoints.items j d found.1
-      (from-drop (λ c. s.old_end ≤ c.step) old.checkpoints.items p.next j from (all-next n coins K xs count old kept ys s span p.next behind)) in
-      let beyond : s.first + 1 ≤ d.step =
-      some-at (λ c. s.first + 1 ≤ c.step) old.checkpoints.items j d found.1
-      (from-drop (λ c. s.first + 1 ≤ c.step) old.checkpoints.items m j (omega (arith, le, from))
-      (All-weaker (λ c. (s.first + 1 ≤ c.step) × (c.step ≤ length xs)) (λ c. s.first + 1 ≤ c.step) (λ c h. h.0) (drop m old.checkpoints.items)
-      (all-behind K (length xs) (s.first + 1) m old.checkpoints.items kept.spaced.near later))) in
-      let h : IsCheckpoint n coins xs d = at-get (IsCheckpoint n coins xs) old.checkpoints.items j d kept.checkpoints found.1 in
-      let step : r.step ≡ s.new_end + (d.step - s.old_end) = sym found.2.0 ∙ placed p old_end new_end few d h in
+  -- where it ends: at an old copy with a number, or after the last step if there is none
+
+  copy-place : (k : ℕ) (c : Checkpoint) → slice_get old.checkpoints.items k ≡ Some c → length ys < 2 ^ 64 → moved s.old_end s.new_end c.step ≡ s.new_end + (c.step - s.old_end)
+  copy-place k c here few =
+      let w = (at-get (IsCheckpoint n coins xs) old.checkpoints.items k c kept.checkpoints here).within in
+      moved-within s.old_end s.new_end c.step (length xs) w (omega (arith, rest, few))
+
+  pub stop-within : (q : ℕ) → length ys < 2 ^ 64 → turned_end s (length ys) (slice_get old.checkpoints.items q) ≤ length ys
+  stop-within q few = at-stop (slice_get old.checkpoints.items q) refl
+    where
+      at-stop : (o : Option Checkpoint) → slice_get old.checkpoints.items q ≡ o → turned_end s (length ys) o ≤ length ys
+      at-stop None is = omega arith
+      at-stop (Some d) is =
+          let w = (at-get (IsCheckpoint n coins xs) old.checkpoints.items q d kept.checkpoints is).within in omega (arith, copy-place q d is few, rest, w)
+
+  -- later copies are not before that
+  pub stop-order : (p : Plan) → p.old_end ≡ s.old_end → p.new_end ≡ s.new_end → length ys < 2 ^ 64 → (q k : ℕ) (c : Checkpoint) → q ≤ k → slice_get old.checkpoints.items k ≡ Some c
+      → turned_end s (length ys) (slice_get old.checkpoints.items q) ≤ step_among_new p c
+  stop-order p old_end new_end few q k c from here = at-stop (slice_get old.checkpoints.items q) refl
+    where
+      none-there : {X : Type 0} (i : ℕ) (zs : List X) → slice_get zs i ≡ None → length zs ≤ i
+      none-there i [] e = omega arith
+      none-there zero (z ∷ zs) e = absurd (cc)
+      none-there (suc i) (z ∷ zs) e = let le = none-there i zs e in omega arith
+
+      at-stop : (o : Option Checkpoint) → slice_get old.checkpoints.items q ≡ o → turned_end s (length ys) o ≤ step_among_new p c
+      at-stop None is = absurd (omega (arith, none-there q old.checkpoints.items is, slice_get_within old.checkpoints.items k c here, from))
+      at-stop (Some d) is =
+          let later : d.step ≤ c.step =
+          some-at (λ x. d.step ≤ x.step) old.checkpoints.items k c here
+          (from-drop (λ x. d.step ≤ x.step) old.checkpoints.items q k from
+          (All-weaker (λ x. (d.step ≤ x.step) × (x.step ≤ length xs)) (λ x. d.step ≤ x.step) (λ x h. h.0) (drop q old.checkpoints.items)
+          (all-behind K (length xs) d.step q old.checkpoints.items kept.spaced.near
+          (subst (λ o. IfSome o (λ x. d.step ≤ x.step)) (sym is) (omega arith))))) in
+          omega (arith, later, old_end, new_end)
+
+  -- if the runs agree there
+  pub stop-ends : (q : ℕ) → length ys < 2 ^ 64 → ((d : Checkpoint) → slice_get old.checkpoints.items q ≡ Some d → (s.first + 1 ≤ d.step) × (s.old_end ≤ d.step))
+      → ((d : Checkpoint) → slice_get old.checkpoints.items q ≡ Some d → AgreeBackBehindSpan n coins xs ys s (d.step - s.old_end))
+      → EndsAt (AgreeBackBehindSpan n coins xs ys s) (checkpoint_steps old.checkpoints.items) s.first s.old_end s.new_end (length ys) (turned_end s (length ys) (slice_get old.checkpoints.items q))
+  stop-ends q few beyond agree = at-stop (slice_get old.checkpoints.items q) refl
+    where
+      at-stop : (o : Option Checkpoint) → slice_get old.checkpoints.items q ≡ o
+          → EndsAt (AgreeBackBehindSpan n coins xs ys s) (checkpoint_steps old.checkpoints.items) s.first s.old_end s.new_end (length ys) (turned_end s (length ys) o)
+      at-stop None is = inl refl
+      at-stop (Some d) is =
+          let after = beyond d is in
+          let here : slice_get (checkpoint_steps old.checkpoints.items) q ≡ Some d.step =
+          slice_get-map (λ c. c.step) old.checkpoints.items q ∙ ap (option_map (λ c. c.step)) is in
+          inr (
+            q,
+            subst (λ o. IsSomeAnd o (λ c. MayBeMet s.first s.old_end c × (moved s.old_end s.new_end d.step ≡ s.new_end + (c - s.old_end)) × AgreeBackBehindSpan n coins xs ys s (c - s.old_end)))
+                (sym here) ((omega (arith, after.0), after.1), copy-place q d is few, agree d is),
+          )
+
+  -- copies from the first on that may be met are after what was changed
+  pub next-beyond : (m next : ℕ) → m ≤ next → IfSome (slice_get old.checkpoints.items m) (λ c. s.first + 1 ≤ c.step) → IfSome (slice_get old.checkpoints.items next) (λ c. s.old_end ≤ c.step)
+      → (k : ℕ) (c : Checkpoint) → next ≤ k → slice_get old.checkpoints.items k ≡ Some c → (s.first + 1 ≤ c.step) × (s.old_end ≤ c.step)
+  next-beyond m next le later behind k c from here = (
+    some-at (λ d. s.first + 1 ≤ d.step) old.checkpoints.items k c here
+        (from-drop (λ d. s.first + 1 ≤ d.step) old.checkpoints.items m k (omega (arith, le, from))
+        (All-weaker (λ d. (s.first + 1 ≤ d.step) × (d.step ≤ length xs)) (λ d. s.first + 1 ≤ d.step) (λ d h. h.0) (drop m old.checkpoints.items)
+        (all-behind K (length xs) (s.first + 1) m old.checkpoints.items kept.spaced.near later))),
+    some-at (λ d. s.old_end ≤ d.step) old.checkpoints.items k c here
+        (from-drop (λ d. s.old_end ≤ d.step) old.checkpoints.items next k from (all-next n coins K xs count old kept ys s span next behind)),
+  )
+
+  -- where it meets a copy they agree
+  pub met-agrees : (p : Plan) → p.reach ≡ old.reach → p.old_end ≡ s.old_end → p.new_end ≡ s.new_end → length ys < 2 ^ 64 → (r : Replay) → IsRunFromStart n coins (take r.step ys) (program_state r.tableau (output_of r.outputs))
+      → (j : ℕ) (d : Checkpoint) → slice_get old.checkpoints.items j ≡ Some d → s.old_end ≤ d.step → MeetsAt n p r old.outputs.records.items old.outputs.free.items d
+      → AgreeBackBehindSpan n coins xs ys s (d.step - s.old_end)
+  met-agrees p reach old_end new_end few r run j d found after met_at =
+      let h : IsCheckpoint n coins xs d = at-get (IsCheckpoint n coins xs) old.checkpoints.items j d kept.checkpoints found in
+      let step : r.step ≡ s.new_end + (d.step - s.old_end) = sym met_at.0 ∙ placed p old_end new_end few d h in
       let back : drop d.step xs ≡ drop (s.new_end + (d.step - s.old_end)) ys =
       ap (λ k. drop k xs) (omega (arith, after))
       ∙ sym (drop-drop (d.step - s.old_end) s.old_end xs)
       ∙ ap (drop (d.step - s.old_end)) span.behind
       ∙ drop-drop (d.step - s.old_end) s.new_end ys in
       let met = meets-agree n p.reach coins xs (take r.step ys) d r.tableau (output_of r.outputs) old.outputs.records.items old.outputs.free.items h
-      (ap (λ (o : RunOutput). o.records) kept.run.output) (ap (λ (o : RunOutput). o.free) kept.run.output) run found.2.1 in
-      let far : d.step ≡ s.old_end + (d.step - s.old_end) = omega (arith, after) in
-      let agree : AgreeBackBehindSpan n coins xs ys s (d.step - s.old_end) = (
+      (ap (λ (o : RunOutput). o.records) kept.run.output) (ap (λ (o : RunOutput). o.free) kept.run.output) run met_at.1 in
+      let far : d.step ≡ s.old_end + (d.step - s.old_end) = omega (arith, after) in (
         subst (λ x. x) (λ i. MayHaveCoin n coins (back i) (point_after n coins (take (far i) xs) origin) (point_after n coins (take (step i) ys) origin).coin) met.0,
         p.reach,
         subst (λ zs. looks_too_far p.reach zs ≡ false) back
             (near-enough old.reach p.reach (drop d.step xs) (omega (arith, reach)) (All-drop (LooksWithin old.reach) d.step xs kept.noted.near)),
         subst (λ x. x)
             (λ i. AgreeBack n p.reach (with_coin (point_after n coins (take (step i) ys) origin).coin (point_after n coins (take (far i) xs) origin)) (point_after n coins (take (step i) ys) origin)) met.1,
-      ) in
-      let here : slice_get (checkpoint_steps old.checkpoints.items) j ≡ Some d.step =
-      slice_get-map (λ c. c.step) old.checkpoints.items j ∙ ap (option_map (λ c. c.step)) found.1 in
-      inr (
-        j,
-        subst (λ o. IsSomeAnd o (λ c. MayBeMet s.first s.old_end c × (r.step ≡ s.new_end + (c - s.old_end)) × AgreeBackBehindSpan n coins xs ys s (c - s.old_end)))
-            (sym here) ((omega (arith, beyond), after), step, agree),
       )
 
   -- and it ended at no copy before that, since the runs do not agree there

@@ -1,15 +1,15 @@
 -- The course of an edit that is followed: from what each call ensures to what is kept at the end.
-use Rattle.std.proofs.Common.{◌≡◌, ℕ, ◌+◌, ◌-◌, ◌*◌, ◌<◌, ◌≤◌, max, sym, ◌∙◌, ap, subst, Bool, false, List, [], length, take, drop, All, None, replicate, arith}
+use Rattle.std.proofs.Common.{refl, ◌≡◌, ℕ, ◌+◌, ◌-◌, ◌*◌, ◌^◌, ◌<◌, ◌≤◌, inl, Some, max, sym, ◌∙◌, ap, subst, Bool, false, List, [], length, take, drop, All, None, replicate, arith}
 use Rattle.std.specs.Prelude.{IfSome, slice_get}
-use Rattle.std.proofs.lemmas.List.{length-map, length-drop}
-use Rattle.std.proofs.lemmas.Option.{slice_get_within, IfSome_then}
+use Rattle.std.proofs.lemmas.List.{length-drop}
+use Rattle.std.proofs.lemmas.Option.{slice_get_within, same_Some, IfSome_then}
 use Rattle.stab_circuit.specs.Steps.{Step}
 use Rattle.stab_circuit.specs.Cursors.{IsApart}
 use Rattle.stab_copies.specs.declared.checkpoint.Checkpoint.{Checkpoint}
 use Rattle.stab_replay.specs.declared.replay.Replay.{Replay}
 use Rattle.stab_replay.specs.declared.replay.Plan.{Plan}
 use Rattle.stab_replay.specs.declared.replay.End.{End}
-use Rattle.stab_replay.specs.declared.replay.End.TheVariants.{Last, Joined}
+use Rattle.stab_replay.specs.declared.replay.End.TheVariants.{Last, Joined, Framed}
 use Rattle.stab_kept.specs.declared.kept.KeptRun.{KeptRun}
 use Rattle.stab_circuit.specs.declared.edit.Span.{Span}
 use Rattle.stab_laws.proofs.CoinLemmas.{coins-steps}
@@ -21,16 +21,23 @@ use Rattle.stab_kept.specs.Counts.{EndsAt, IsCounted}
 use Rattle.stab_run.specs.ProgramStates.{StepFits, output_of}
 use Rattle.stab_frames.specs.KeptStrings.{StringsState}
 use Rattle.stab_copies.specs.Checkpoints.{checkpoint_steps}
-use Rattle.stab_copies.specs.LaidCopies.{moved_copy}
+use Rattle.stab_copies.specs.LaidCopies.{moved}
+use Rattle.stab_frames.specs.Walks.{WalkState}
+use Rattle.stab_tableau.specs.Tableaus.{TableauState}
 use Rattle.stab_replay.specs.FramedReplays.{IsOldRun}
 use Rattle.stab_kept.specs.KeptRuns.{IsKeptRun, IsSameKept, Follows, AgreeBehindSpan, AgreeBackBehindSpan}
 use Rattle.stab_replay.specs.NotedStrings.{IsNoted}
-use Rattle.stab_replay.specs.Replays.{IsReplay, Ascending, IsEnd, EndsSoon, step_among_new}
-use Rattle.stab_copies.specs.Meets.{Meets}
-use Rattle.stab_kept.specs.inner.Prepared.{IsCount, Begins, HasCopy, IsRest, IsOldRest, IsPrepared, IsCommitted, copies_behind, meeting_of}
+use Rattle.stab_replay.specs.Replays.{IsReplay, Ascending, IsEnd, MeetsAt, IsFramed, EndsSoon}
+use Rattle.stab_kept.specs.inner.Prepared.{IsCount, Begins, HasCopy, IsRest, IsOldRest, IsPrepared, IsCommitted, copies_behind, end_of, no_frame}
+use Rattle.stab_kept.specs.inner.OldRests.{turned_end}
 use Rattle.stab_kept.proofs.SpacingLemmas.{IsBefore}
-use Rattle.stab_kept.proofs.FollowLemmas.{some-at, some-and, prepared-same, committed-same, before-first, begun, same-records, next-behind, all-ascending, all-qubits, kept-end, end-flags}
-use Rattle.stab_kept.proofs.CountLemmas.{applied-within, few-steps, ends-at, none-before, is-counted}
+use Rattle.stab_kept.proofs.StateLemmas.{copies-long}
+use Rattle.stab_kept.proofs.FollowLemmas.{if-some, some-at, some-and, prepared-same, committed-same, before-first, begun, same-records, next-behind, all-ascending, all-qubits}
+use Rattle.stab_kept.proofs.SpliceLemmas.{kept-end, end-flags}
+use Rattle.stab_kept.proofs.LedEndLemmas.{stop-there, framed-agrees, framed-soon}
+use Rattle.stab_kept.proofs.TurningLemmas.{led-few}
+use Rattle.stab_kept.proofs.TurnSpacingLemmas.{in-order}
+use Rattle.stab_kept.proofs.CountLemmas.{applied-within, few-steps, stop-within, stop-ends, next-beyond, met-agrees, none-before, is-counted}
 
 pub count-of : (step : ℕ) (seen copies : List Checkpoint) (m : ℕ) → seen ≡ copies → m ≤ length seen → All (λ c. c.step < step) (take m seen)
     → IfSome (slice_get seen m) (λ c. step ≤ c.step) → IsCount step copies m
@@ -46,16 +53,28 @@ same-trans a b c f g = record {
   checkpoints = f.checkpoints ∙ g.checkpoints;
 }
 
-has-copy : (n : ℕ) (p : Plan) (r : Replay) (copies : List Checkpoint) (bits free : List Bool) (end : End) → IsEnd n p r copies bits free end → HasCopy copies end
-has-copy n p r copies bits free Last is = tt
-has-copy n p r copies bits free (Joined j) is =
-    let found = some-and (λ c. (step_among_new p c ≡ r.step) × Meets n p.reach r.tableau (output_of r.outputs) bits free c) (slice_get copies j) is.1 in
+has-copy : (n : ℕ) (p : Plan) (r : Replay) (copies : List Checkpoint) (o : RunOutput) (strings : StringsState) (end : End) → r.tableau.qubits ≡ n → IsEnd n p r copies o strings end
+    → HasCopy n copies end
+has-copy n p r copies o strings Last qubits is = tt
+has-copy n p r copies o strings (Joined j) qubits is =
+    let found = some-and (MeetsAt n p r o.records o.free) (slice_get copies j) is.1 in
     slice_get_within copies j found.0 found.1
+has-copy n p r copies o strings (Framed f) qubits is =
+    let found = some-and (IsFramed p r copies o strings f) (slice_get copies f.number) is.1 in
+    let within = slice_get_within copies f.number found.0 found.1 in (
+      within,
+      omega (
+        arith,
+        within,
+        led-few r.tableau.qubits strings.strings o.free p.reach (drop r.step r.cursor.all) found.0.step f.number copies f.turned.items found.2.start f.walk found.2.led (omega (arith, within)),
+      ),
+      found.2.size ∙ qubits,
+    )
 
 -- a replay ended at copies that are those that were kept
-pub seen-end : (n : ℕ) (p : Plan) (r : Replay) {seen copies : List Checkpoint} (records free : List Bool) (end : End) → seen ≡ copies
-    → IsEnd n p r seen records free end → IsEnd n p r copies records free end
-seen-end n p r records free end same is = subst (λ cs. IsEnd n p r cs records free end) same is
+pub seen-end : (n : ℕ) (p : Plan) (r : Replay) {seen copies : List Checkpoint} (o : RunOutput) (strings : StringsState) (end : End) → seen ≡ copies
+    → IsEnd n p r seen o strings end → IsEnd n p r copies o strings end
+seen-end n p r o strings end same is = subst (λ cs. IsEnd n p r cs o strings end) same is
 
 pub seen-soon : {n k : ℕ} (coins : ℕ → Bool) (p : Plan) {zs ys : List Step} {seen copies : List Checkpoint} {bits records : List Bool} (end : ℕ) → k ≡ n → zs ≡ ys
     → seen ≡ copies → bits ≡ records → EndsSoon k coins p zs seen bits end → EndsSoon n coins p ys copies records end
@@ -66,17 +85,30 @@ seen-soon {n} {k} coins p {zs} {ys} {seen} {copies} {bits} end qubits all same a
     (subst (λ m. EndsSoon m coins p zs seen bits end) qubits is)))
 
 -- the old copies that come after a replay are after the first of them that may be met
-few-behind : (n : ℕ) (p : Plan) (r : Replay) (old : KeptRun) (end : End) (new : RunOutput) (strings : StringsState) (rest : Rest) (m : ℕ) → m ≤ p.next → m ≤ length old.checkpoints.items
-    → IsEnd n p r old.checkpoints.items old.outputs.records.items old.outputs.free.items end → IsRest old r.tableau (output_of r.outputs) r.notes.strings r.step end new strings rest
+rest-few : (old : KeptRun) (o : RunOutput) (noted : StringsState) (step number compared : ℕ) (w : WalkState) (turned : List TableauState) (new : RunOutput) (strings : StringsState)
+    (rest : Rest) (c : Checkpoint) (m : ℕ) → m ≤ number → number < length old.checkpoints.items → IsOldRest old o noted step number compared w turned new strings rest c
     → m + length (copies_behind rest old.checkpoints.items) ≤ length old.checkpoints.items
-few-behind n p r old Last new strings rest m next within end is = omega (arith, ap length is.0)
+rest-few old o noted step number compared w turned new strings rest c m le lt is =
+    omega (arith, ap (λ x. length (copies_behind x old.checkpoints.items)) is.is, copies-long is.old old.checkpoints.items, is.from, le, lt)
+
+few-behind : (n : ℕ) (p : Plan) (r : Replay) (old : KeptRun) (end : End) (new : RunOutput) (strings : StringsState) (rest : Rest) (m : ℕ) → m ≤ p.next → m ≤ length old.checkpoints.items
+    → IsEnd n p r old.checkpoints.items (output_of old.outputs) old.strings end → IsRest old r.tableau (output_of r.outputs) r.notes.strings r.step end new strings rest
+    → m + length (copies_behind rest old.checkpoints.items) ≤ length old.checkpoints.items
+few-behind n p r old Last new strings rest m next within end is = omega (arith, within, ap (λ x. length (copies_behind x old.checkpoints.items)) is.0)
 few-behind n p r old (Joined j) new strings rest m next within end is =
-    let found = some-and (λ c. (step_among_new p c ≡ r.step) × Meets n p.reach r.tableau (output_of r.outputs) old.outputs.records.items old.outputs.free.items c) (slice_get old.checkpoints.items j) end.1 in
+    let found = some-and (MeetsAt n p r old.outputs.records.items old.outputs.free.items) (slice_get old.checkpoints.items j) end.1 in
     let d = found.0 in
-    let old_rest = some-at (IsOldRest old (output_of r.outputs) r.notes.strings r.step j new strings rest) old.checkpoints.items j d found.1 is in
     let later = end.0 in
-    let there : j < length old.checkpoints.items = slice_get_within old.checkpoints.items j d found.1 in
-    omega (arith, ap length old_rest.copies, length-map (drop j old.checkpoints.items) (moved_copy (meeting_of (output_of r.outputs) r.step d)), length-drop j old.checkpoints.items, later, there, next)
+    rest-few old (output_of r.outputs) r.notes.strings r.step j 0 (no_frame old.tableau.qubits) [] new strings rest d m (omega (arith, later, next))
+    (slice_get_within old.checkpoints.items j d found.1)
+    (some-at (IsOldRest old (output_of r.outputs) r.notes.strings r.step j 0 (no_frame old.tableau.qubits) [] new strings rest) old.checkpoints.items j d found.1 is)
+few-behind n p r old (Framed f) new strings rest m next within end is =
+    let found = some-and (IsFramed p r old.checkpoints.items (output_of old.outputs) old.strings f) (slice_get old.checkpoints.items f.number) end.1 in
+    let d = found.0 in
+    let later = end.0 in
+    rest-few old (output_of r.outputs) r.notes.strings r.step f.number f.compared f.walk f.turned.items new strings rest d m (omega (arith, later, next))
+    (slice_get_within old.checkpoints.items f.number d found.1)
+    (some-at (IsOldRest old (output_of r.outputs) r.notes.strings r.step f.number f.compared f.walk f.turned.items new strings rest) old.checkpoints.items f.number d found.1 is)
 
 -- a replay that began has done nothing yet, and holds what the kept run held at the copy that it began at
 pub record HasBegun (n : ℕ) (coins : ℕ → Bool) (K : ℕ) (ys : List Step) (old : KeptRun) (m : ℕ) (r : Replay) : Type 0 where
@@ -102,12 +134,14 @@ pub record IsReady (n : ℕ) (coins : ℕ → Bool) (K : ℕ) (ys : List Step) (
 -- how many steps a replay took that has ended, and what is prepared from it
 pub record HasEnded (n : ℕ) (coins : ℕ → Bool) (K : ℕ) (ys : List Step) (s : Span) (old : KeptRun) (m : ℕ) (xs : List Step) (begin : ℕ) (p : Plan) (r : Replay) (end : End)
     : Type 0 where
-  pub copy : HasCopy old.checkpoints.items end
+  pub copy : HasCopy n old.checkpoints.items end
   pub strings : r.notes.strings.qubits ≡ old.strings.qubits
-  pub applied : (applied : ℕ) → applied + begin ≡ r.step → applied ≤ (length ys - s.first) + K
-  pub few : (applied : ℕ) → applied + begin ≡ r.step → EndsSoon n coins p ys old.checkpoints.items old.outputs.records.items r.step → (far : ℕ)
+  pub order : r.step ≤ end_of s (length ys) r.step old.checkpoints.items end
+  pub within : end_of s (length ys) r.step old.checkpoints.items end ≤ length ys
+  pub applied : (applied : ℕ) → applied + begin ≡ end_of s (length ys) r.step old.checkpoints.items end → applied ≤ (length ys - s.first) + K
+  pub few : (applied : ℕ) → applied + begin ≡ end_of s (length ys) r.step old.checkpoints.items end → EndsSoon n coins p ys old.checkpoints.items old.outputs.records.items r.step → (far : ℕ)
       → AgreeBehindSpan n coins xs ys s far → applied ≤ ((s.new_end - s.first) + 2 * K) + far
-  pub counted : (applied : ℕ) → applied + begin ≡ r.step → EndsSoon n coins p ys old.checkpoints.items old.outputs.records.items r.step
+  pub counted : (applied : ℕ) → applied + begin ≡ end_of s (length ys) r.step old.checkpoints.items end → EndsSoon n coins p ys old.checkpoints.items old.outputs.records.items r.step
       → IsCounted (AgreeBehindSpan n coins xs ys s) (AgreeBackBehindSpan n coins xs ys s) (checkpoint_steps old.checkpoints.items) s.first s.old_end s.new_end (length ys) applied
   pub ready : (mid : KeptRun) → IsSameKept mid old → (observables : ℕ) (q : Prepared) → IsPrepared mid r observables end q → IsReady n coins K ys m r mid observables q
 
@@ -174,6 +208,9 @@ module _ {n : ℕ} {coins : ℕ → Bool} {K : ℕ} {ys : List Step} {s : Span} 
           steps = f.old;
           few = f.kept.few;
           are_copies = f.kept.checkpoints;
+          order =
+              in-order K (length f.old) 0 0 old.checkpoints.items f.kept.spaced.near (omega arith)
+              (if-some (λ c. 0 ≤ c.step) (slice_get old.checkpoints.items 0) (λ c here. omega arith));
           output = f.kept.run.output;
           noted = subst (IsNoted n coins f.old old.strings old.outputs.free.items) (sym reach) f.kept.noted;
           fits = f.kept.fits;
@@ -183,20 +220,78 @@ module _ {n : ℕ} {coins : ℕ → Bool} {K : ℕ} {ys : List Step} {s : Span} 
         }))
 
     module _ (r : Replay) (end : End) (replay : IsReplay r0.tableau.qubits coins K r0.step r0.cursor.all r) (raised : r0.notes.reach ≤ r.notes.reach)
-        (is_end : IsEnd r0.tableau.qubits p r old.checkpoints.items old.outputs.records.items old.outputs.free.items end) where
+        (is_end : IsEnd r0.tableau.qubits p r old.checkpoints.items (output_of old.outputs) old.strings end) where
       done : IsReplay n coins K near.copy.step ys r
       done =
           subst (λ k. IsReplay n coins K k ys r) step_is
           (subst (λ zs. IsReplay n coins K r0.step zs r) begins.all
           (subst (λ k. IsReplay k coins K r0.step r0.cursor.all r) begins.qubits replay))
 
-      end_here : IsEnd n p r old.checkpoints.items old.outputs.records.items old.outputs.free.items end
-      end_here = subst (λ k. IsEnd k p r old.checkpoints.items old.outputs.records.items old.outputs.free.items end) begins.qubits is_end
+      end_here : IsEnd n p r old.checkpoints.items (output_of old.outputs) old.strings end
+      end_here = subst (λ k. IsEnd k p r old.checkpoints.items (output_of old.outputs) old.strings end) begins.qubits is_end
 
-      ends-here : EndsAt (AgreeBackBehindSpan n coins f.old ys s) (checkpoint_steps old.checkpoints.items) s.first s.old_end s.new_end (length ys) r.step
-      ends-here =
-          ends-at n coins K f.old f.count old f.kept ys s f.span p reach old_end new_end total (omega (arith, few)) next-there m (omega (arith, next)) count.behind r end done.at_step.run
-          end_here
+      -- the old copy with a number may be met
+      beyond : (k : ℕ) (c : Checkpoint) → p.next ≤ k → slice_get old.checkpoints.items k ≡ Some c → (s.first + 1 ≤ c.step) × (s.old_end ≤ c.step)
+      beyond = next-beyond n coins K f.old f.count old f.kept ys s f.span m p.next (omega (arith, next)) count.behind next-there
+
+      small : length ys < 2 ^ 64
+      small = omega (arith, few)
+
+      abbrev EndsThere : ℕ → Type 0
+      EndsThere = EndsAt (AgreeBackBehindSpan n coins f.old ys s) (checkpoint_steps old.checkpoints.items) s.first s.old_end s.new_end (length ys)
+
+      abbrev IsSoon : ℕ → Type 0
+      IsSoon = EndsSoon n coins p ys old.checkpoints.items old.outputs.records.items
+
+      -- where it ended
+      record HasStopped (last : ℕ) : Type 0 where
+        order : r.step ≤ last
+        within : last ≤ length ys
+        ends : EndsThere last
+        soon : IsSoon r.step → IsSoon last
+
+      stopped : (e : End) → IsEnd n p r old.checkpoints.items (output_of old.outputs) old.strings e → HasStopped (end_of s (length ys) r.step old.checkpoints.items e)
+      stopped Last is = record { order = omega arith; within = done.at_step.within; ends = inl (is ∙ total); soon = λ h. h }
+      stopped (Joined j) is =
+          let found = some-and (MeetsAt n p r old.outputs.records.items old.outputs.free.items) (slice_get old.checkpoints.items j) is.1 in
+          let d = found.0 in
+          let after = (beyond j d is.0 found.1).1 in
+          let there : turned_end s (length ys) (slice_get old.checkpoints.items j) ≡ r.step =
+          ap (turned_end s (length ys)) found.1 ∙ (λ i. moved (sym old_end i) (sym new_end i) d.step) ∙ found.2.0 in
+          record {
+            order = omega arith;
+            within = done.at_step.within;
+            ends =
+                subst EndsThere there
+                (stop-ends n coins K f.old f.count old f.kept ys s f.span j small (λ c here. beyond j c is.0 here)
+                (λ c here.
+                met-agrees n coins K f.old f.count old f.kept ys s f.span p reach old_end new_end small r done.at_step.run j c here (beyond j c is.0 here).1
+                (subst (MeetsAt n p r old.outputs.records.items old.outputs.free.items) (same_Some d c (sym found.1 ∙ here)) found.2)));
+            soon = λ h. h;
+          }
+      stopped (Framed g) is =
+          let found = some-and (IsFramed p r old.checkpoints.items (output_of old.outputs) old.strings g) (slice_get old.checkpoints.items g.number) is.1 in
+          let d = found.0 in
+          let after = (beyond g.number d is.0 found.1).1 in
+          let place : moved s.old_end s.new_end d.step ≡ r.step = (λ i. moved (sym old_end i) (sym new_end i) d.step) ∙ found.2.begins.place in
+          let later = is.0 in
+          record {
+            order =
+                omega (
+                  arith,
+                  found.2.begins.place,
+                  stop-there f.count f.kept f.span r done.at_step g.number d found.1 after place small p reach g refl found.2,
+                );
+            within = stop-within n coins K f.old f.count old f.kept ys s f.span (g.number + length g.turned.items) small;
+            ends =
+                stop-ends n coins K f.old f.count old f.kept ys s f.span (g.number + length g.turned.items) small (λ c here. beyond (g.number + length g.turned.items) c (omega (arith, later)) here)
+                (framed-agrees f.count f.kept f.span r done.at_step g.number d found.1 after place small p reach g refl found.2);
+            soon =
+                framed-soon f.count f.kept f.span r done.at_step g.number d found.1 after place small p reach g refl found.2 old_end new_end next-there;
+          }
+
+      there : HasStopped (end_of s (length ys) r.step old.checkpoints.items end)
+      there = stopped end end_here
 
       module _ (mid : KeptRun) (same : IsSameKept mid old) (observables : ℕ) (q : Prepared) (prepared : IsPrepared mid r observables end q) where
         prepared_here : IsPrepared old r observables end q
@@ -226,17 +321,22 @@ module _ {n : ℕ} {coins : ℕ → Bool} {K : ℕ} {ys : List Step} {s : Span} 
           flags = λ there again new committed. flags-here new (placed there again new committed);
         }
 
+      abbrev stop : ℕ
+      stop = end_of s (length ys) r.step old.checkpoints.items end
+
       pub has-ended : HasEnded n coins K ys s old m f.old r0.step p r end
       has-ended = record {
         strings = done.at_step.noted.size ∙ sym f.kept.noted.size;
-        copy = has-copy n p r old.checkpoints.items old.outputs.records.items old.outputs.free.items end end_here;
+        copy = has-copy n p r old.checkpoints.items (output_of old.outputs) old.strings end done.at_step.qubits end_here;
+        order = there.order;
+        within = there.within;
         applied = λ applied counted.
-            applied-within n coins K f.old f.count old f.kept ys s f.span m near r0.step r.step applied begins.at counted done.at_step.within;
+            applied-within n coins K f.old f.count old f.kept ys s f.span m near r0.step stop applied begins.at counted there.within;
         few = λ applied counted soon far agree.
             few-steps n coins K f.old f.count old f.kept ys s f.span p old_end new_end (omega (arith, few)) m e near behind.within behind.before behind.behind next far agree r0.step
-            r.step applied soon done.at_step.within begins.at counted;
+            stop applied (there.soon soon) there.within begins.at counted;
         counted = λ applied counted soon.
-            is-counted n coins K f.old f.count old f.kept ys s f.span m near r0.step r.step applied begins.at counted ends-here count.within count.before count.behind
-            (none-before n coins K f.old f.count old f.kept ys s f.span p old_end new_end (omega (arith, few)) m e count.before behind.before next r.step soon);
+            is-counted n coins K f.old f.count old f.kept ys s f.span m near r0.step stop applied begins.at counted there.ends count.within count.before count.behind
+            (none-before n coins K f.old f.count old f.kept ys s f.span p old_end new_end (omega (arith, few)) m e count.before behind.before next stop (there.soon soon));
         ready = is-ready;
       }

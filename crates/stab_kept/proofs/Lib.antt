@@ -1,6 +1,8 @@
 mod KeptLemmas
 mod FollowLemmas
 mod CountLemmas
+mod SpliceLemmas
+mod LedEndLemmas
 mod CourseLemmas
 pub mod SpacingLemmas
 mod StateLemmas

@@ -1,12 +1,13 @@
 -- States put in place of those of copies, from the last on.
-use Rattle.std.proofs.Common.{◌≡◌, ℕ, zero, suc, ◌<◌, ◌≤◌, refl, sym, ◌∙◌, ap, arith, List, [], ◌∷◌, ◌++◌, length, take, drop, map, reverse, set, get_or}
-use Rattle.std.proofs.lemmas.List.{length-append, length-take, length-drop, reverse-reverse, take-take}
+use Rattle.std.proofs.Common.{◌≡◌, ℕ, zero, suc, ◌-◌, ◌<◌, ◌≤◌, refl, ◌∙◌, ap, arith, List, [], ◌∷◌, ◌++◌, length, take, drop, map, reverse, set, get_or}
+use Rattle.std.proofs.lemmas.List.{length-map, length-reverse, length-append, length-take, length-drop, reverse-reverse, take-take}
 use Rattle.stab_tableau.specs.Tableaus.{TableauState}
 use Rattle.stab_copies.specs.declared.checkpoint.Checkpoint.{Checkpoint}
 use Rattle.stab_copies.specs.declared.checkpoint.Meeting.{Meeting}
 use Rattle.stab_copies.specs.LaidCopies.{moved_copy, all_laid}
-use Rattle.stab_turns.specs.LedFrames.{with_states}
-use Rattle.stab_kept.proofs.SpacingLemmas.{all-laid-append}
+use Rattle.stab_replay.specs.LedFrames.{with_states}
+use Rattle.stab_kept.specs.declared.rest.OldRest.{OldRest}
+use Rattle.stab_kept.specs.inner.OldRests.{copies_moved}
 
 -- the last state is put first: then the others are put before it
 pub states-last : (ts : List TableauState) (t : TableauState) (cs : List Checkpoint) (d : Checkpoint) → length ts < length cs
@@ -49,13 +50,11 @@ module _ (k K : ℕ) (ts : List TableauState) (cs put : List Checkpoint) (within
   put-front = ap (take k) is ∙ take-front k cs (with_states ts (drop k cs)) within
 
   -- moved, and laid after others, which were laid after those before
-  pub put-laid : (m : ℕ) (s : Meeting) (room taken left passed flipped mid laid : List Checkpoint) → m ≤ k → room ≡ [] → taken ≡ room ++ reverse (map (moved_copy s) (drop k put))
-      → left ≡ take k put → flipped ≡ reverse passed → mid ≡ all_laid K (reverse flipped) (take m left) → laid ≡ all_laid K (reverse taken) mid
-      → laid ≡ all_laid K (passed ++ map (moved_copy s) (with_states ts (drop k cs))) (take m cs)
-  put-laid m s room taken left passed flipped mid laid order empty took kept turned_over between done =
-      done
-      ∙ (λ i. all_laid K (turned i) (front i))
-      ∙ sym (all-laid-append K passed (map (moved_copy s) (with_states ts (drop k cs))) (take m cs))
+  pub put-laid : (m : ℕ) (s : Meeting) (room taken left others mid laid : List Checkpoint) → m ≤ k → room ≡ [] → taken ≡ room ++ reverse (map (moved_copy s) (drop k put))
+      → left ≡ take k put → mid ≡ all_laid K (reverse others) (take m left) → laid ≡ all_laid K (reverse taken) mid
+      → laid ≡ all_laid K (map (moved_copy s) (with_states ts (drop k cs))) (all_laid K (reverse others) (take m cs))
+  put-laid m s room taken left others mid laid order empty took kept between done =
+      done ∙ (λ i. all_laid K (turned i) ((between ∙ ap (all_laid K (reverse others)) (ap (take m) (kept ∙ put-front) ∙ take-take m k cs order)) i))
     where
       turned : reverse taken ≡ map (moved_copy s) (with_states ts (drop k cs))
       turned =
@@ -63,7 +62,23 @@ module _ (k K : ℕ) (ts : List TableauState) (cs put : List Checkpoint) (within
           ∙ reverse-reverse (map (moved_copy s) (drop k put))
           ∙ ap (map (moved_copy s)) (ap (drop k) is ∙ drop-front k cs (with_states ts (drop k cs)) within)
 
-      front : mid ≡ all_laid K passed (take m cs)
-      front =
-          between
-          ∙ (λ i. all_laid K ((ap reverse turned_over ∙ reverse-reverse passed) i) ((ap (take m) (kept ∙ put-front) ∙ take-take m k cs order) i))
+pub copies-long : (rest : OldRest) (cs : List Checkpoint) → length (copies_moved rest cs) ≡ length cs - rest.number
+copies-long rest cs =
+    omega (
+      arith,
+      length-map (with_states rest.turned.items (drop rest.number cs)) (moved_copy rest.meeting),
+      same-length rest.turned.items (drop rest.number cs),
+      length-drop rest.number cs,
+    )
+
+pub taken-long : (s : Meeting) (k : ℕ) (put room taken : List Checkpoint) → taken ≡ room ++ reverse (map (moved_copy s) (drop k put)) → room ≡ [] → length taken ≡ length put - k
+taken-long s k put room taken is empty =
+    omega (
+      arith,
+      ap length is,
+      ap length empty,
+      length-append room (reverse (map (moved_copy s) (drop k put))),
+      length-reverse (map (moved_copy s) (drop k put)),
+      length-map (drop k put) (moved_copy s),
+      length-drop k put,
+    )

@@ -1,5 +1,5 @@
 -- What a led frame says: from what was made of a kept run to the run of the new steps.
-use Rattle.std.proofs.Common.{◌≡◌, ℕ, ◌+◌, ◌-◌, ◌≤◌, refl, sym, ◌∙◌, ap, subst, Bool, List, [], ◌∷◌, ◌++◌, length, take, drop, All, Option, Some, None, arith}
+use Rattle.std.proofs.Common.{◌≡◌, ℕ, ◌+◌, ◌-◌, ◌^◌, ◌<◌, ◌≤◌, refl, sym, ◌∙◌, ap, subst, Bool, List, [], ◌∷◌, ◌++◌, length, take, drop, All, Option, Some, None, arith}
 use Rattle.std.specs.Prelude.{IfSome, slice_get}
 use Rattle.std.proofs.lemmas.List.Elements.{All-append, All-drop, All-take}
 use Rattle.stab_letters.specs.declared.letter.Letter.{Letter}
@@ -15,25 +15,42 @@ use Rattle.stab_frames.specs.KeptStrings.{note_at}
 use Rattle.stab_copies.specs.declared.checkpoint.Checkpoint.{Checkpoint}
 use Rattle.stab_copies.specs.Checkpoints.{IsCheckpoint, checkpoint_steps}
 use Rattle.stab_copies.specs.Spacing.{Near, last_of}
+use Rattle.stab_copies.specs.LaidCopies.{moved, moved_lengths}
+use Rattle.stab_laws.proofs.PointLemmas.{HasAtMost, outputs-short}
+use Rattle.std.proofs.lemmas.List.{length-take}
 use Rattle.stab_replay.specs.NotedStrings.{IsNoted}
 use Rattle.stab_turns.specs.PauliSpans.{DifferByPaulis, DifferAtPlaces}
 use Rattle.stab_turns.specs.PassedPlaces.{IsFrameBetween, IsBeforePlaces}
 use Rattle.stab_turns.specs.declared.passing.PauliChange.{PauliChange}
 use Rattle.stab_turns.proofs.FrameBetweenLemmas.{between-first}
 use Rattle.stab_turns.proofs.PauliSpanLemmas.{span-near, span-true, span-true-all, span-flags}
-use Rattle.stab_turns.proofs.LedRunLemmas.{IsLedRun, run-output, run-unflagged, run-group, run-noted}
-use Rattle.stab_turns.proofs.LedCopyLemmas.{run-copies, run-agrees, run-differs}
+use Rattle.stab_turns.proofs.LedRunLemmas.{IsLedRun, rest, run-lengths, run-output, run-unflagged, run-noted}
+use Rattle.stab_replay.proofs.RestLemmas.{IsLedRest, rest-group}
+use Rattle.stab_replay.proofs.LedCopyLemmas.{rest-copies, rest-agrees, rest-differs}
 use Rattle.stab_kept.specs.declared.kept.KeptRun.{KeptRun}
 use Rattle.stab_kept.specs.declared.turning.Passed.{Passed}
 use Rattle.stab_kept.specs.declared.turning.Turning.{Turning}
 use Rattle.stab_kept.specs.declared.kept.Followed.{Followed}
 use Rattle.stab_kept.specs.KeptRuns.{IsKeptRun, IsSpan, Follows}
 use Rattle.stab_kept.specs.inner.Prepared.{IsCount}
-use Rattle.stab_kept.specs.inner.Turned.{StaysNear, HasPassed, IsTurning, IsPut, HasTurned, copies_moved, turned_end}
+use Rattle.stab_kept.specs.inner.OldRests.{turned_end}
+use Rattle.stab_kept.specs.inner.Turned.{StaysNear, HasPassed, IsTurning, IsPut, HasTurned, span_meeting, copies_turned, no_lengths}
 use Rattle.stab_kept.proofs.FollowLemmas.{some-at}
 use Rattle.stab_kept.proofs.TurnLemmas.{TellsRun, AreInside, has-turned}
 use Rattle.stab_kept.proofs.TurnSpacingLemmas.{in-order, stays-behind}
 use Rattle.stab_kept.proofs.TurningLemmas.{before, from-is}
+
+-- lists that stay as long as they are
+stay-long : (k : ℕ) (o : RunOutput) → k < 2 ^ 64 → HasAtMost k o → moved_lengths no_lengths no_lengths (lengths_of o) ≡ lengths_of o
+stay-long k o few short = λ i. record {
+  records = stay (length o.records) (let h = short.records in omega (arith, h, few)) i;
+  free = stay (length o.free) (let h = short.free in omega (arith, h, few)) i;
+  detectors = stay (length o.detectors) (let h = short.detectors in omega (arith, h, few)) i;
+  additions = stay (length o.additions) (let h = short.additions in omega (arith, h, few)) i;
+}
+  where
+    stay : (x : ℕ) → x < 2 ^ 64 → moved 0 0 x ≡ x
+    stay x lt = omega (arith, lt)
 
 module _ {coins : ℕ → Bool} {K : ℕ} {xs ys : List Step} {s : Span} {change : PauliChange} {old : KeptRun} {m j : ℕ} (count : ℕ) (kept : IsKeptRun old.tableau.qubits coins K xs count old)
     (span : IsSpan xs ys s) (few : length ys ≤ 1048576) (counted : IsCount (s.first + 1) old.checkpoints.items m)
@@ -87,8 +104,8 @@ module _ {coins : ℕ → Bool} {K : ℕ} {xs ys : List Step} {s : Span} {change
   between : IsFrameBetween n coins xs ys notes free base (unflipped front) s.old_end s.new_end p.walk
   between = passed.between coins xs base (unflipped front) begins
 
-  run : IsLedRun n coins xs ys (drop s.new_end ys) s.old_end s.new_end old.strings free old.reach (drop j old.checkpoints.items) t.turned.items
-      (output_of old.outputs) p.from p.walk t.walk
+  run : IsLedRun n coins xs ys (drop s.new_end ys) s.old_end s.new_end old.strings free old.reach (drop j old.checkpoints.items) t.rest.turned.items
+      (output_of old.outputs) p.from p.walk t.rest.walk
   run = record {
     old_behind = span.behind;
     new_behind = refl;
@@ -104,47 +121,60 @@ module _ {coins : ℕ → Bool} {K : ℕ} {xs ys : List Step} {s : Span} {change
     are_copies = All-drop (IsCheckpoint n coins xs) j old.checkpoints.items kept.checkpoints;
     order = in-order K (length xs) s.old_end j old.checkpoints.items kept.spaced.near span.old_within behind;
     led = turning.led;
+    placed = passed.placed;
   }
 
   abbrev runs : RunOutput
   runs = outputs n coins ys origin
 
-  output_is : runs ≡ joined (front_of p.from (output_of old.outputs)) (flipped_output (rest_of p.from (output_of old.outputs)) t.walk.flips)
+  output_is : runs ≡ joined (front_of p.from (output_of old.outputs)) (flipped_output (rest_of p.from (output_of old.outputs)) t.rest.walk.flips)
   output_is =
-      run-output n coins xs ys (drop s.new_end ys) s.old_end s.new_end old.strings free old.reach (drop j old.checkpoints.items) t.turned.items
-      (output_of old.outputs) p.from p.walk t.walk run
+      run-output n coins xs ys (drop s.new_end ys) s.old_end s.new_end old.strings free old.reach (drop j old.checkpoints.items) t.rest.turned.items
+      (output_of old.outputs) p.from p.walk t.rest.walk run
 
-  copies : All (IsCheckpoint n coins ys) (p.copies.items ++ copies_moved s p.from t.turned.items (drop j old.checkpoints.items))
+  led : IsLedRest n coins xs ys (drop s.new_end ys) s.old_end s.new_end old.strings free base old.reach (drop j old.checkpoints.items) t.rest.turned.items p.walk t.rest.walk
+  unfolding run
+  led =
+      rest n coins xs ys (drop s.new_end ys) s.old_end s.new_end old.strings free old.reach (drop j old.checkpoints.items) t.rest.turned.items (output_of old.outputs) p.from p.walk t.rest.walk run
+
+  at-most : (zs : List Step) → length zs ≤ length ys → HasAtMost (length ys) (outputs n coins zs origin)
+  at-most zs le =
+      let short = outputs-short n coins zs origin in
+      record {
+        records = let h = short.records in omega (arith, h, le);
+        free = let h = short.free in omega (arith, h, le);
+        detectors = let h = short.detectors in omega (arith, h, le);
+        additions = let h = short.additions in omega (arith, h, le);
+      }
+
+  copies : All (IsCheckpoint n coins ys) (p.copies.items ++ copies_turned s t.rest.turned.items (drop j old.checkpoints.items))
   copies =
-      All-append (IsCheckpoint n coins ys) p.copies.items (copies_moved s p.from t.turned.items (drop j old.checkpoints.items))
+      All-append (IsCheckpoint n coins ys) p.copies.items (copies_turned s t.rest.turned.items (drop j old.checkpoints.items))
       (passed.are_copies coins xs base (unflipped front) begins
       (All-take (IsCheckpoint n coins xs) (j - m) (drop m old.checkpoints.items) (All-drop (IsCheckpoint n coins xs) m old.checkpoints.items kept.checkpoints)))
-      (run-copies n coins xs ys (drop s.new_end ys) s.old_end s.new_end old.strings free old.reach (drop j old.checkpoints.items) t.turned.items
-      (output_of old.outputs) p.from p.walk t.walk run (omega (arith, few)))
+      (rest-copies led (span_meeting s) refl refl (omega (arith, few))
+      (λ c behind is. (λ i. moved_lengths no_lengths no_lengths (run-lengths n coins xs ys (drop s.new_end ys) s.old_end s.new_end old.strings free old.reach (drop j old.checkpoints.items) t.rest.turned.items
+      (output_of old.outputs) p.from p.walk t.rest.walk run c behind is i))
+      ∙ stay-long (length ys) (outputs n coins (take (s.new_end + (c.step - s.old_end)) ys) origin) (omega (arith, few))
+      (at-most (take (s.new_end + (c.step - s.old_end)) ys) (omega (arith, length-take (s.new_end + (c.step - s.old_end)) ys)))))
 
-  pub tells-run : TellsRun n coins xs ys s (drop j old.checkpoints.items) (output_of old.outputs) old.strings old.reach t.from t.walk t.passed.items t.turned.items
+  pub tells-run : TellsRun n coins xs ys s (drop j old.checkpoints.items) (output_of old.outputs) old.strings old.reach t.from t.rest.walk t.passed.items t.rest.turned.items
   tells-run = record {
     output =
         output_is
         ∙ ap (joined (front_of p.from (output_of old.outputs)))
-        (run-unflagged n coins xs ys (drop s.new_end ys) s.old_end s.new_end old.strings free old.reach (drop j old.checkpoints.items) t.turned.items
-        (output_of old.outputs) p.from p.walk t.walk run (rest_of p.from (output_of old.outputs)))
-        ∙ ap (λ l. joined (front_of l (output_of old.outputs)) (flipped_output (rest_of l (output_of old.outputs)) (record t.walk.flips { free = [] }))) (sym turning.from);
-    group =
-        run-group n coins xs ys (drop s.new_end ys) s.old_end s.new_end old.strings free old.reach (drop j old.checkpoints.items) t.turned.items
-        (output_of old.outputs) p.from p.walk t.walk run;
+        (run-unflagged n coins xs ys (drop s.new_end ys) s.old_end s.new_end old.strings free old.reach (drop j old.checkpoints.items) t.rest.turned.items
+        (output_of old.outputs) p.from p.walk t.rest.walk run (rest_of p.from (output_of old.outputs)))
+        ∙ ap (λ l. joined (front_of l (output_of old.outputs)) (flipped_output (rest_of l (output_of old.outputs)) (record t.rest.walk.flips { free = [] }))) (sym turning.from);
+    group = rest-group led;
     moved_copies =
-        subst (λ x. x) (λ i. All (IsCheckpoint n coins ys) (sym turning.passed i ++ copies_moved s (sym turning.from i) t.turned.items (drop j old.checkpoints.items))) copies;
+        subst (λ cs. All (IsCheckpoint n coins ys) (cs ++ copies_turned s t.rest.turned.items (drop j old.checkpoints.items))) (sym turning.passed) copies;
     noted =
         subst (λ (o : RunOutput). IsNoted n coins ys old.strings o.free old.reach) (sym output_is)
-        (run-noted n coins xs ys (drop s.new_end ys) s.old_end s.new_end old.strings free old.reach (drop j old.checkpoints.items) t.turned.items
-        (output_of old.outputs) p.from p.walk t.walk run);
-    apart =
-        run-differs n coins xs ys (drop s.new_end ys) s.old_end s.new_end old.strings free old.reach (drop j old.checkpoints.items) t.turned.items
-        (output_of old.outputs) p.from p.walk t.walk run;
-    agree =
-        run-agrees n coins xs ys (drop s.new_end ys) s.old_end s.new_end old.strings free old.reach (drop j old.checkpoints.items) t.turned.items
-        (output_of old.outputs) p.from p.walk t.walk run;
+        (run-noted n coins xs ys (drop s.new_end ys) s.old_end s.new_end old.strings free old.reach (drop j old.checkpoints.items) t.rest.turned.items
+        (output_of old.outputs) p.from p.walk t.rest.walk run);
+    apart = rest-differs led;
+    agree = rest-agrees led;
   }
 
 -- the end that a frame leads to is after the span
@@ -157,15 +187,15 @@ pub has-turned-here : {coins : ℕ → Bool} {K : ℕ} {ys : List Step} {s : Spa
     → length ys ≤ 1048576 → IsCount (s.first + 1) old.checkpoints.items m → AreInside s old.checkpoints.items m j → (c : Checkpoint) → slice_get old.checkpoints.items (m - 1) ≡ Some c
     → (p : Passed) → HasPassed ys s m j change old p.from p.walk p.copies.items → (last : ℕ) → Near K (c.step ∷ checkpoint_steps p.copies.items)
     → last_of c.step (checkpoint_steps p.copies.items) ≡ last → StaysNear K s (length ys) last (slice_get old.checkpoints.items j)
-    → (t : Turning) → IsTurning ys s j p old t → (new : KeptRun) → IsPut old s m j K t new → All (StepFits old.tableau.qubits) ys → (g : Followed)
-    → (g.applied + g.framed) + c.step ≡ turned_end s (length ys) (slice_get old.checkpoints.items (j + length t.turned.items))
+    → (t : Turning) → IsTurning ys s j p old t → (new : KeptRun) → IsPut old m K t new → All (StepFits old.tableau.qubits) ys → (g : Followed)
+    → (g.applied + g.framed) + c.step ≡ turned_end s (length ys) (slice_get old.checkpoints.items (j + length t.rest.turned.items))
     → HasTurned old.tableau.qubits coins K ys (length old.observables.items) s old g new
 has-turned-here {coins} {K} {ys} {s} {change} {old} {m} {j} f few counted inside c here p passed last close last_is stays t turning new put fits g took =
     let tells = tells-run f.count f.kept f.span few counted f.differ fits (stays-behind K s (length ys) last (slice_get old.checkpoints.items j) stays) p passed t turning in
     let first : Checkpoint = (before f.count f.kept f.span few counted).copy in
     let same : c ≡ first = (let e : Some c ≡ Some first = sym here ∙ (before f.count f.kept f.span few counted).here in cc) in
-    has-turned f.count f.kept f.span few m j counted inside t tells last stays new put
+    has-turned f.count f.kept f.span few m j counted inside t tells turning.number turning.meeting last stays new put
     (subst (λ x. x) (λ i. Near K ((same i).step ∷ checkpoint_steps (sym turning.passed i))) close)
     ((λ i. last_of (sym same i).step (checkpoint_steps (turning.passed i))) ∙ last_is)
     fits g
-    (subst (λ o. IfSome o (λ (d : Checkpoint). (g.applied + g.framed) + d.step ≡ turned_end s (length ys) (slice_get old.checkpoints.items (j + length t.turned.items)))) (sym here) took)
+    (subst (λ o. IfSome o (λ (d : Checkpoint). (g.applied + g.framed) + d.step ≡ turned_end s (length ys) (slice_get old.checkpoints.items (j + length t.rest.turned.items)))) (sym here) took)

@@ -1,10 +1,9 @@
 -- Turned runs: what is kept once a frame turned a run where it lies is the run of the new steps, and this many steps were followed for it.
-use Rattle.std.proofs.Common.{◌≡◌, ℕ, zero, suc, ◌+◌, ◌-◌, ◌*◌, ◌<◌, ◌≤◌, inl, inr, refl, sym, ◌∙◌, ap, subst, Bool, false, List, [], ◌∷◌, ◌++◌, length, max, take, drop, All, Option, Some, None, arith}
-use Rattle.std.specs.Prelude.{IfSome, IsSomeAnd, MatchOption, option_map, slice_get}
+use Rattle.std.proofs.Common.{◌≡◌, ℕ, zero, suc, ◌+◌, ◌-◌, ◌*◌, ◌<◌, ◌≤◌, inl, inr, refl, sym, ◌∙◌, ap, subst, Bool, false, List, [], ◌∷◌, ◌++◌, length, max, take, drop, map, All, Option, Some, None, arith}
+use Rattle.std.specs.Prelude.{IfSome, MatchOption, slice_get}
 use Rattle.std.proofs.lemmas.Bool.{cases_lt}
 use Rattle.std.proofs.lemmas.List.{drop-drop}
 use Rattle.std.proofs.lemmas.List.Elements.{All-append, All-drop, All-head, All-nil, All-weaker}
-use Rattle.std.proofs.lemmas.Option.{slice_get-map, slice_get_within}
 use Rattle.std.proofs.Math.Seq.{take-add}
 use Rattle.stab_pauli.specs.Paulis.{with_sign, strings_anticommute}
 use Rattle.stab_tableau.specs.Traces.{member}
@@ -14,7 +13,7 @@ use Rattle.stab_circuit.specs.Steps.{Step, looks_too_far}
 use Rattle.stab_circuit.specs.declared.edit.Span.{Span}
 use Rattle.stab_steps.specs.declared.records.Lengths.{Lengths}
 use Rattle.stab_run.specs.Points.{Point, RunOutput, origin, joined, point_after, outputs}
-use Rattle.stab_run.specs.Records.{looked_up}
+use Rattle.stab_run.specs.Records.{looked_up, ones}
 use Rattle.stab_run.specs.Laws.{AgreeAt}
 use Rattle.stab_run.specs.ProgramStates.{StepFits, output_of}
 use Rattle.stab_run.specs.Cuts.{front_of, rest_of}
@@ -26,7 +25,7 @@ use Rattle.stab_frames.specs.Lookbacks.{LooksWithin}
 use Rattle.stab_frames.specs.Walks.{WalkState}
 use Rattle.stab_copies.specs.declared.checkpoint.Checkpoint.{Checkpoint}
 use Rattle.stab_copies.specs.Checkpoints.{IsCheckpoint, checkpoint_steps}
-use Rattle.stab_copies.specs.LaidCopies.{moved}
+use Rattle.stab_copies.specs.LaidCopies.{moved, moved_copy, all_laid}
 use Rattle.stab_copies.specs.Spacing.{IsSpaced, Near, last_of}
 use Rattle.stab_replay.specs.declared.replay.Plan.{Plan}
 use Rattle.stab_replay.specs.NotedStrings.{IsNoted}
@@ -36,13 +35,17 @@ use Rattle.stab_copies.proofs.CutLemmas.{get-drop}
 use Rattle.stab_kept.specs.declared.kept.KeptRun.{KeptRun}
 use Rattle.stab_kept.specs.declared.kept.Followed.{Followed}
 use Rattle.stab_kept.specs.declared.turning.Turning.{Turning}
-use Rattle.stab_kept.specs.Counts.{MayBeMet, EndsAt, IsCounted}
+use Rattle.stab_kept.specs.Counts.{EndsAt, IsCounted}
 use Rattle.stab_kept.specs.KeptRuns.{IsKeptRun, IsSpan, AgreeBehindSpan, AgreeBackBehindSpan}
 use Rattle.stab_kept.specs.inner.Prepared.{IsCount}
-use Rattle.stab_kept.specs.inner.Turned.{StaysNear, IsPut, HasTurned, copies_moved, turned_end}
-use Rattle.stab_kept.proofs.SpacingLemmas.{IsBefore, all-laid-all, spaced-all, all-behind, near-copy, moved-within}
+use Rattle.stab_kept.specs.inner.OldRests.{turned_end}
+use Rattle.stab_kept.specs.inner.Turned.{StaysNear, IsPut, HasTurned, span_meeting, copies_turned}
+use Rattle.stab_laws.proofs.FutureLemmas.{same-future}
+use Rattle.stab_frames.specs.Ends.{MayHaveCoin}
+use Rattle.stab_replay.specs.LedFrames.{with_states}
+use Rattle.stab_kept.proofs.SpacingLemmas.{IsBefore, all-laid-append, all-laid-all, spaced-all, all-behind, near-copy, moved-within}
 use Rattle.stab_kept.proofs.FollowLemmas.{at-get, some-at, if-some, from-drop, before-first, front-copies, front-spaced, same-rest}
-use Rattle.stab_kept.proofs.CountLemmas.{applied-within, ends-near, none-before, is-counted}
+use Rattle.stab_kept.proofs.CountLemmas.{applied-within, ends-near, none-before, is-counted, stop-within, stop-order, stop-ends, next-beyond}
 use Rattle.stab_kept.proofs.TurnSpacingLemmas.{turned-near, near-both, stays-behind}
 
 -- what a frame that was led past the places of a change and over the steps after its span says of the run of the new steps, if the old
@@ -51,15 +54,17 @@ pub record TellsRun (n : ℕ) (coins : ℕ → Bool) (xs ys : List Step) (s : Sp
     (from : Lengths) (w : WalkState) (passed : List Checkpoint) (turned : List TableauState) : Type 0 where
   pub output : outputs n coins ys origin ≡ joined (front_of from o) (flipped_output (rest_of from o) (record w.flips { free = [] }))
   pub group : IsTurned n w.letters (member (point_after n coins xs origin).trace) (member (point_after n coins ys origin).trace)
-  pub moved_copies : All (IsCheckpoint n coins ys) (passed ++ copies_moved s from turned copies)
+  pub moved_copies : All (IsCheckpoint n coins ys) (passed ++ copies_turned s turned copies)
   pub noted : IsNoted n coins ys strings (outputs n coins ys origin).free reach
   pub apart : (k : ℕ) (c : Checkpoint) → k < length turned → slice_get copies k ≡ Some c
       → AgreeAt n (point_after n coins (take c.step xs) origin) (point_after n coins (take (s.new_end + (c.step - s.old_end)) ys) origin) → ⊥
   pub agree : (c : Checkpoint) → slice_get copies (length turned) ≡ Some c
-      → AgreeBack n reach (point_after n coins (take c.step xs) origin) (point_after n coins (take (s.new_end + (c.step - s.old_end)) ys) origin)
+      → AgreeBack n reach (with_coin (point_after n coins (take (s.new_end + (c.step - s.old_end)) ys) origin).coin (point_after n coins (take c.step xs) origin))
+      (point_after n coins (take (s.new_end + (c.step - s.old_end)) ys) origin)
+      × MayHaveCoin n coins (drop (c.step - s.old_end) (drop s.new_end ys)) (point_after n coins (take c.step xs) origin) (point_after n coins (take (s.new_end + (c.step - s.old_end)) ys) origin).coin
 
 -- a copy of two runs that gave the same is at one point of both
-copy-agrees : (n : ℕ) (coins : ℕ → Bool) (xs zs : List Step) (c : Checkpoint) (records : List Bool) → IsCheckpoint n coins xs c → IsCheckpoint n coins zs c
+pub copy-agrees : (n : ℕ) (coins : ℕ → Bool) (xs zs : List Step) (c : Checkpoint) (records : List Bool) → IsCheckpoint n coins xs c → IsCheckpoint n coins zs c
     → take c.lengths.records records ≡ (outputs n coins (take c.step xs) origin).records → take c.lengths.records records ≡ (outputs n coins (take c.step zs) origin).records
     → AgreeAt n (point_after n coins (take c.step xs) origin) (point_after n coins (take c.step zs) origin)
 copy-agrees n coins xs zs c records is also there here = record {
@@ -76,7 +81,7 @@ copy-agrees n coins xs zs c records is also there here = record {
       ∙ records-are-records n coins (take c.step zs);
 }
 
-agree-trans : (n : ℕ) (a b c : Point) → AgreeAt n a b → AgreeAt n b c → AgreeAt n a c
+pub agree-trans : (n : ℕ) (a b c : Point) → AgreeAt n a b → AgreeAt n b c → AgreeAt n a c
 agree-trans n a b c f g = record {
   group = λ p size. f.group p size ∙ g.group p size;
   coin = f.coin ∙ g.coin;
@@ -84,11 +89,16 @@ agree-trans n a b c f g = record {
 }
 
 -- the records of a kept run up to a copy of it
-kept-records : (n : ℕ) (coins : ℕ → Bool) (K : ℕ) (xs : List Step) (count : ℕ) (r : KeptRun) → IsKeptRun n coins K xs count r → (c : Checkpoint) → IsCheckpoint n coins xs c
+pub kept-records : (n : ℕ) (coins : ℕ → Bool) (K : ℕ) (xs : List Step) (count : ℕ) (r : KeptRun) → IsKeptRun n coins K xs count r → (c : Checkpoint) → IsCheckpoint n coins xs c
     → take c.lengths.records r.outputs.records.items ≡ (outputs n coins (take c.step xs) origin).records
 kept-records n coins K xs count r kept c is =
     (λ i. take (is.lengths i).records (kept.run.output i).records)
     ∙ ap (λ (o : RunOutput). o.records) (front-output n coins xs c.step)
+
+-- the coins of a run serve another one, if those of one that agrees with it do
+may-have-as : (n : ℕ) (coins : ℕ → Bool) (zs : List Step) (a b : Point) (c : ℕ) → AgreeAt n a b → MayHaveCoin n coins zs b c → MayHaveCoin n coins zs a c
+may-have-as n coins zs a b c agree (inl same) = inl (agree.coin ∙ same)
+may-have-as n coins zs a b c agree (inr none) = inr (ap (λ (o : RunOutput). ones o.free) (same-future n coins zs a b agree).0 ∙ none)
 
 -- this many copies are before a step after another one, and those from there up to another count before the end of a span
 pub record AreInside (s : Span) (copies : List Checkpoint) (m k : ℕ) : Type 0 where
@@ -127,7 +137,8 @@ before-end s copies m k inside counted =
 
 module _ {n : ℕ} {coins : ℕ → Bool} {K : ℕ} {xs ys : List Step} {s : Span} {old : KeptRun} (count : ℕ) (kept : IsKeptRun n coins K xs count old) (span : IsSpan xs ys s)
     (few : length ys ≤ 1048576) (m j : ℕ) (counted : IsCount (s.first + 1) old.checkpoints.items m) (inside : AreInside s old.checkpoints.items m j) (t : Turning)
-    (tells : TellsRun n coins xs ys s (drop j old.checkpoints.items) (output_of old.outputs) old.strings old.reach t.from t.walk t.passed.items t.turned.items) where
+    (tells : TellsRun n coins xs ys s (drop j old.checkpoints.items) (output_of old.outputs) old.strings old.reach t.from t.rest.walk t.passed.items t.rest.turned.items)
+    (number : t.rest.number ≡ j) (meeting : t.rest.meeting ≡ span_meeting s) where
   abbrev pub near : IsBefore K (length xs) s.first m old.checkpoints.items
   near = before-first n coins K xs count old kept ys s span m counted.within counted.before counted.behind
 
@@ -138,7 +149,7 @@ module _ {n : ℕ} {coins : ℕ → Bool} {K : ℕ} {xs ys : List Step} {s : Spa
   is-copy k c here = at-get (IsCheckpoint n coins xs) old.checkpoints.items k c kept.checkpoints here
 
   -- what is kept is the run of the new steps
-  pub turned-kept : (new : KeptRun) (last : ℕ) → IsPut old s m j K t new → Near K (near.copy.step ∷ checkpoint_steps t.passed.items)
+  pub turned-kept : (new : KeptRun) (last : ℕ) → IsPut old m K t new → Near K (near.copy.step ∷ checkpoint_steps t.passed.items)
       → last_of near.copy.step (checkpoint_steps t.passed.items) ≡ last → StaysNear K s (length ys) last (slice_get old.checkpoints.items j) → All (StepFits n) ys
       → IsKeptRun n coins K ys (length old.observables.items) new
   turned-kept new last put close last_is stays fits = record {
@@ -146,7 +157,7 @@ module _ {n : ℕ} {coins : ℕ → Bool} {K : ℕ} {xs ys : List Step} {s : Spa
     run = record {
       group = λ p size.
           put_turned p size
-          ∙ kept.run.group (with_sign (strings_anticommute t.walk.letters p.letters) p) size
+          ∙ kept.run.group (with_sign (strings_anticommute t.rest.walk.letters p.letters) p) size
           ∙ sym (tells.group p size);
       output = put.output ∙ sym tells.output;
     };
@@ -156,24 +167,31 @@ module _ {n : ℕ} {coins : ℕ → Bool} {K : ℕ} {xs ys : List Step} {s : Spa
     noted =
         subst (λ x. x) (λ i. IsNoted n coins ys (sym put.strings i) (sym (put.output ∙ sym tells.output) i).free (sym put.reach i)) tells.noted;
     checkpoints =
-        subst (All (IsCheckpoint n coins ys)) (sym put.checkpoints)
-        (all-laid-all (IsCheckpoint n coins ys) K (t.passed.items ++ copies_moved s t.from t.turned.items (drop j old.checkpoints.items))
+        subst (All (IsCheckpoint n coins ys)) (sym put_copies)
+        (all-laid-all (IsCheckpoint n coins ys) K (t.passed.items ++ copies_turned s t.rest.turned.items (drop j old.checkpoints.items))
         (take m old.checkpoints.items) tells.moved_copies (front-copies n coins K xs count old kept ys s span m counted.before));
     spaced =
-        subst (λ cs. IsSpaced K (length ys) (checkpoint_steps cs)) (sym put.checkpoints)
-        (spaced-all K (length ys) near.copy.step (t.passed.items ++ copies_moved s t.from t.turned.items (drop j old.checkpoints.items))
+        subst (λ cs. IsSpaced K (length ys) (checkpoint_steps cs)) (sym put_copies)
+        (spaced-all K (length ys) near.copy.step (t.passed.items ++ copies_turned s t.rest.turned.items (drop j old.checkpoints.items))
         (take m old.checkpoints.items)
-        (near-both K (length ys) near.copy.step last t.passed.items (copies_moved s t.from t.turned.items (drop j old.checkpoints.items)) close last_is
-        (turned-near K (length xs) (length ys) last j s t.from t.turned.items old.checkpoints.items span.old_within rest (omega (arith, few)) stays kept.spaced.near))
+        (near-both K (length ys) near.copy.step last t.passed.items (copies_turned s t.rest.turned.items (drop j old.checkpoints.items)) close last_is
+        (turned-near K (length xs) (length ys) last j s t.rest.turned.items old.checkpoints.items span.old_within rest (omega (arith, few)) stays kept.spaced.near))
         (front-spaced n coins K xs count old kept ys s span m near).0 (front-spaced n coins K xs count old kept ys s span m near).1);
   }
     where
-      put_turned : IsTurned n t.walk.letters (stabilises old.tableau) (stabilises new.tableau)
-      put_turned = subst (λ k. IsTurned k t.walk.letters (stabilises old.tableau) (stabilises new.tableau)) kept.qubits put.turned
+      put_copies : new.checkpoints.items
+          ≡ all_laid K (t.passed.items ++ copies_turned s t.rest.turned.items (drop j old.checkpoints.items)) (take m old.checkpoints.items)
+      put_copies =
+          put.checkpoints
+          ∙ (λ i. all_laid K (map (moved_copy (meeting i)) (with_states t.rest.turned.items (drop (number i) old.checkpoints.items))) (all_laid K t.passed.items (take m old.checkpoints.items)))
+          ∙ sym (all-laid-append K t.passed.items (copies_turned s t.rest.turned.items (drop j old.checkpoints.items)) (take m old.checkpoints.items))
+
+      put_turned : IsTurned n t.rest.walk.letters (stabilises old.tableau) (stabilises new.tableau)
+      put_turned = subst (λ k. IsTurned k t.rest.walk.letters (stabilises old.tableau) (stabilises new.tableau)) kept.qubits put.turned
 
   -- the first copy that was not turned, if there is one, is after the span
   abbrev stop : Option Checkpoint
-  stop = slice_get old.checkpoints.items (j + length t.turned.items)
+  stop = slice_get old.checkpoints.items (j + length t.rest.turned.items)
 
   abbrev plan : Plan
   plan = record { total = length ys; stride = K; old_end = s.old_end; new_end = s.new_end; next = j; base = 0; reach = old.reach }
@@ -200,7 +218,7 @@ module _ {n : ℕ} {coins : ℕ → Bool} {K : ℕ} {xs ys : List Step} {s : Spa
     place k c here = let w = (is-copy k c here).within in moved-within s.old_end s.new_end c.step (length xs) w (omega (arith, rest, few))
 
     -- no run with these copies and records agrees with the new one at a turned copy
-    missed : (k : ℕ) (c : Checkpoint) → j ≤ k → k < j + length t.turned.items → slice_get old.checkpoints.items k ≡ Some c
+    missed : (k : ℕ) (c : Checkpoint) → j ≤ k → k < j + length t.rest.turned.items → slice_get old.checkpoints.items k ≡ Some c
         → Misses n coins plan ys old.outputs.records.items c
     missed k c from before here zs also records agree =
         tells.apart (k - j) c (omega (arith, from, before))
@@ -210,40 +228,18 @@ module _ {n : ℕ} {coins : ℕ → Bool} {K : ℕ} {xs ys : List Step} {s : Spa
         (copy-agrees n coins xs zs c old.outputs.records.items (is-copy k c here) also (kept-records n coins K xs count old kept c (is-copy k c here)) records)
         (subst (λ i. AgreeAt n (point_after n coins (take c.step zs) origin) (point_after n coins (take i ys) origin)) (place k c here) agree))
 
-    -- a copy after the first one that was not turned is not before it
-    not-before : (o : Option Checkpoint) → slice_get old.checkpoints.items (j + length t.turned.items) ≡ o → (k : ℕ) (c : Checkpoint) → j + length t.turned.items ≤ k
-        → slice_get old.checkpoints.items k ≡ Some c → turned_end s (length ys) o ≤ step_among_new plan c
-    not-before None is k c from here =
-        absurd (omega (arith, none-there (j + length t.turned.items) old.checkpoints.items is, slice_get_within old.checkpoints.items k c here, from))
-      where
-        none-there : {X : Type 0} (i : ℕ) (zs : List X) → slice_get zs i ≡ None → length zs ≤ i
-        none-there i [] e = omega arith
-        none-there zero (z ∷ zs) e = absurd (cc)
-        none-there (suc i) (z ∷ zs) e = let le = none-there i zs e in omega arith
-    not-before (Some d) is k c from here =
-        let later : d.step ≤ c.step =
-        some-at (λ x. d.step ≤ x.step) old.checkpoints.items k c here
-        (from-drop (λ x. d.step ≤ x.step) old.checkpoints.items (j + length t.turned.items) k from
-        (All-weaker (λ x. (d.step ≤ x.step) × (x.step ≤ length xs)) (λ x. d.step ≤ x.step) (λ x h. h.0) (drop (j + length t.turned.items) old.checkpoints.items)
-        (all-behind K (length xs) d.step (j + length t.turned.items) old.checkpoints.items kept.spaced.near
-        (subst (λ o. IfSome o (λ x. d.step ≤ x.step)) (sym is) (omega arith))))) in
-        omega (arith, later)
-
     soon : EndsSoon n coins plan ys old.checkpoints.items old.outputs.records.items (turned_end s (length ys) stop)
     soon k from =
         if-some (λ c. step_among_new plan c < turned_end s (length ys) stop → Misses n coins plan ys old.outputs.records.items c) (slice_get old.checkpoints.items k)
         (λ c here before.
-        elim (cases_lt k (j + length t.turned.items)) [
+        elim (cases_lt k (j + length t.rest.turned.items)) [
           | inl lt ↦ missed k c from lt here
-          | inr le ↦ let order = not-before stop refl k c le here in absurd (omega (arith, order, before))
+          | inr le ↦ let order = stop-order n coins K xs count old kept ys s span plan refl refl (omega (arith, few)) (j + length t.rest.turned.items) k c le here in
+              absurd (omega (arith, order, before))
         ])
 
     end-within : turned_end s (length ys) stop ≤ length ys
-    end-within = at-stop stop refl
-      where
-        at-stop : (o : Option Checkpoint) → slice_get old.checkpoints.items (j + length t.turned.items) ≡ o → turned_end s (length ys) o ≤ length ys
-        at-stop None is = omega arith
-        at-stop (Some d) is = let w = (is-copy (j + length t.turned.items) d is).within in omega (arith, place (j + length t.turned.items) d is, rest, w)
+    end-within = stop-within n coins K xs count old kept ys s span (j + length t.rest.turned.items) (omega (arith, few))
 
     -- the first copy after the span is near its end
     next-near : (zs : List Step) (far : ℕ) → length ys ≡ s.new_end + (length zs - s.old_end)
@@ -263,51 +259,37 @@ module _ {n : ℕ} {coins : ℕ → Bool} {K : ℕ} {xs ys : List Step} {s : Spa
       also_near : IsBefore K (length zs) s.first m old.checkpoints.items
       also_near = before-first n coins K zs other old also ys s span_also m counted.within counted.before counted.behind
 
-      agrees-back : (k : ℕ) (c : Checkpoint) → slice_get old.checkpoints.items k ≡ Some c
-          → AgreeBack n old.reach (point_after n coins (take c.step xs) origin) (point_after n coins (take (s.new_end + (c.step - s.old_end)) ys) origin)
-          → AgreeBack n old.reach (point_after n coins (take c.step zs) origin) (point_after n coins (take (s.new_end + (c.step - s.old_end)) ys) origin)
-      agrees-back k c here back =
-          let same : AgreeAt n (point_after n coins (take c.step zs) origin) (point_after n coins (take c.step xs) origin) =
-          copy-agrees n coins zs xs c old.outputs.records.items (also-copy k c here) (is-copy k c here)
-          (kept-records n coins K zs other old also c (also-copy k c here)) (kept-records n coins K xs count old kept c (is-copy k c here)) in
-          record {
-            group = λ p size. same.group p size ∙ back.group p size;
-            coin = same.coin ∙ back.coin;
-            records = λ j le. ap (λ bits. looked_up bits j) same.records ∙ back.records j le;
-          }
-
       turned-ends : EndsAt (AgreeBackBehindSpan n coins zs ys s) (checkpoint_steps old.checkpoints.items) s.first s.old_end s.new_end (length ys) (turned_end s (length ys) stop)
-      turned-ends = at-stop stop refl
-        where
-          at-stop : (o : Option Checkpoint) → slice_get old.checkpoints.items (j + length t.turned.items) ≡ o
-              → EndsAt (AgreeBackBehindSpan n coins zs ys s) (checkpoint_steps old.checkpoints.items) s.first s.old_end s.new_end (length ys) (turned_end s (length ys) o)
-          at-stop None is = inl refl
-          at-stop (Some d) is =
-              let beyond : s.first + 1 ≤ d.step = behind-first (j + length t.turned.items) d (let o = inside.order in omega (arith, o)) is in
-              let after : s.old_end ≤ d.step = behind-span (j + length t.turned.items) d (omega arith) is in
-              let back : drop d.step zs ≡ drop (s.new_end + (d.step - s.old_end)) ys =
-              ap (λ k. drop k zs) (omega (arith, after))
-              ∙ sym (drop-drop (d.step - s.old_end) s.old_end zs)
-              ∙ ap (drop (d.step - s.old_end)) span_also.behind
-              ∙ drop-drop (d.step - s.old_end) s.new_end ys in
-              let agreed : AgreeBack n old.reach (point_after n coins (take (s.old_end + (d.step - s.old_end)) zs) origin) (point_after n coins (take (s.new_end + (d.step - s.old_end)) ys) origin) =
-              subst (λ k. AgreeBack n old.reach (point_after n coins (take k zs) origin) (point_after n coins (take (s.new_end + (d.step - s.old_end)) ys) origin)) (omega (arith, after))
-              (agrees-back (j + length t.turned.items) d is (tells.agree d (get-drop j (length t.turned.items) old.checkpoints.items ∙ is))) in
-              let agree : AgreeBackBehindSpan n coins zs ys s (d.step - s.old_end) = (
-                inl agreed.coin,
-                old.reach,
-                subst (λ ws. looks_too_far old.reach ws ≡ false) back
-                    (near-enough old.reach old.reach (drop d.step zs) (omega arith) (All-drop (LooksWithin old.reach) d.step zs also.noted.near)),
-                subst (λ c. AgreeBack n old.reach (with_coin c (point_after n coins (take (s.old_end + (d.step - s.old_end)) zs) origin)) (point_after n coins (take (s.new_end + (d.step - s.old_end)) ys) origin))
-                    agreed.coin agreed,
-              ) in
-              let here : slice_get (checkpoint_steps old.checkpoints.items) (j + length t.turned.items) ≡ Some d.step =
-              slice_get-map (λ c. c.step) old.checkpoints.items (j + length t.turned.items) ∙ ap (option_map (λ c. c.step)) is in
-              inr (
-                j + length t.turned.items,
-                subst (λ o. IsSomeAnd o (λ c. MayBeMet s.first s.old_end c × (moved s.old_end s.new_end d.step ≡ s.new_end + (c - s.old_end)) × AgreeBackBehindSpan n coins zs ys s (c - s.old_end)))
-                    (sym here) ((omega (arith, beyond), after), place (j + length t.turned.items) d is, agree),
-              )
+      turned-ends =
+          stop-ends n coins K zs other old also ys s span_also (j + length t.rest.turned.items) (omega (arith, few))
+          (λ d here. next-beyond n coins K zs other old also ys s span_also m j inside.order counted.behind next-behind (j + length t.rest.turned.items) d (omega arith) here)
+          (λ d is.
+          let after : s.old_end ≤ d.step = behind-span (j + length t.rest.turned.items) d (omega arith) is in
+          let on : AgreeAt n (point_after n coins (take d.step zs) origin) (point_after n coins (take d.step xs) origin) =
+          copy-agrees n coins zs xs d old.outputs.records.items (also-copy (j + length t.rest.turned.items) d is) (is-copy (j + length t.rest.turned.items) d is)
+          (kept-records n coins K zs other old also d (also-copy (j + length t.rest.turned.items) d is)) (kept-records n coins K xs count old kept d (is-copy (j + length t.rest.turned.items) d is)) in
+          let agreed = tells.agree d (get-drop j (length t.rest.turned.items) old.checkpoints.items ∙ is) in
+          let from : d.step ≡ s.old_end + (d.step - s.old_end) = omega (arith, after) in
+          let back : drop d.step zs ≡ drop (s.new_end + (d.step - s.old_end)) ys =
+          ap (λ k. drop k zs) from
+          ∙ sym (drop-drop (d.step - s.old_end) s.old_end zs)
+          ∙ ap (drop (d.step - s.old_end)) span_also.behind
+          ∙ drop-drop (d.step - s.old_end) s.new_end ys in (
+            subst (λ x. x)
+                (λ i. MayHaveCoin n coins (drop-drop (d.step - s.old_end) s.new_end ys i) (point_after n coins (take (from i) zs) origin) (point_after n coins (take (s.new_end + (d.step - s.old_end)) ys) origin).coin)
+                (may-have-as n coins (drop (d.step - s.old_end) (drop s.new_end ys)) (point_after n coins (take d.step zs) origin) (point_after n coins (take d.step xs) origin)
+                (point_after n coins (take (s.new_end + (d.step - s.old_end)) ys) origin).coin on agreed.1),
+            old.reach,
+            subst (λ ws. looks_too_far old.reach ws ≡ false) back
+                (near-enough old.reach old.reach (drop d.step zs) (omega arith) (All-drop (LooksWithin old.reach) d.step zs also.noted.near)),
+            subst (λ k. AgreeBack n old.reach
+                (with_coin (point_after n coins (take (s.new_end + (d.step - s.old_end)) ys) origin).coin (point_after n coins (take k zs) origin)) (point_after n coins (take (s.new_end + (d.step - s.old_end)) ys) origin)) from
+                (record {
+                  group = λ p size. on.group p size ∙ agreed.0.group p size;
+                  coin = refl;
+                  records = λ i le. ap (λ bits. looked_up bits i) on.records ∙ agreed.0.records i le;
+                }),
+          ))
 
       turned-few : (far followed : ℕ) → AgreeBehindSpan n coins zs ys s far → followed + also_near.copy.step ≡ turned_end s (length ys) stop
           → followed ≤ ((s.new_end - s.first) + 2 * K) + far
@@ -333,7 +315,7 @@ module _ {n : ℕ} {coins : ℕ → Bool} {K : ℕ} {xs ys : List Step} {s : Spa
           ends = before-end s old.checkpoints.items m j inside counted
 
     -- so the run was turned
-    pub has-turned : (new : KeptRun) → IsPut old s m j K t new → Near K (near.copy.step ∷ checkpoint_steps t.passed.items)
+    pub has-turned : (new : KeptRun) → IsPut old m K t new → Near K (near.copy.step ∷ checkpoint_steps t.passed.items)
         → last_of near.copy.step (checkpoint_steps t.passed.items) ≡ last → All (StepFits n) ys → (f : Followed)
         → IfSome (slice_get old.checkpoints.items (m - 1)) (λ c. (f.applied + f.framed) + c.step ≡ turned_end s (length ys) stop)
         → HasTurned n coins K ys (length old.observables.items) s old f new

@@ -3,12 +3,11 @@ use Rattle.std.proofs.Common.{◌≡◌, ℕ, zero, suc, ◌+◌, ◌-◌, ◌^�
 use Rattle.std.specs.Prelude.{IfSome, MatchOption, slice_get}
 use Rattle.stab_tableau.specs.Tableaus.{TableauState}
 use Rattle.stab_circuit.specs.declared.edit.Span.{Span}
-use Rattle.stab_steps.specs.declared.records.Lengths.{Lengths}
 use Rattle.stab_copies.specs.declared.checkpoint.Checkpoint.{Checkpoint}
 use Rattle.stab_copies.specs.Spacing.{Near, last_of}
 use Rattle.stab_copies.specs.Checkpoints.{checkpoint_steps}
 use Rattle.stab_copies.specs.LaidCopies.{moved, moved_copy}
-use Rattle.stab_turns.specs.LedFrames.{AreInOrder, with_states}
+use Rattle.stab_replay.specs.LedFrames.{AreInOrder, with_states}
 use Rattle.stab_kept.specs.inner.Turned.{StaysNear, span_meeting}
 use Rattle.stab_kept.proofs.SpacingLemmas.{near-le, near-tail, near-moved, moved-within, steps-moved}
 
@@ -67,13 +66,13 @@ first-dropped zero cs = refl
 first-dropped (suc n) [] = refl
 first-dropped (suc n) (c ∷ cs) = first-dropped n cs
 
-pub turned-near : (K L total step n : ℕ) (s : Span) (l : Lengths) (ts : List TableauState) (cs : List Checkpoint) → s.old_end ≤ L → total ≡ s.new_end + (L - s.old_end)
+pub turned-near : (K L total step n : ℕ) (s : Span) (ts : List TableauState) (cs : List Checkpoint) → s.old_end ≤ L → total ≡ s.new_end + (L - s.old_end)
     → total < 2 ^ 64 → StaysNear K s total step (slice_get cs n) → Near K (checkpoint_steps cs ++ L ∷ [])
-    → Near K (step ∷ checkpoint_steps (map (moved_copy (span_meeting s l)) (with_states ts (drop n cs))) ++ total ∷ [])
-turned-near K L total step n s l ts cs end total_is few stays near =
+    → Near K (step ∷ checkpoint_steps (map (moved_copy (span_meeting s)) (with_states ts (drop n cs))) ++ total ∷ [])
+turned-near K L total step n s ts cs end total_is few stays near =
     subst (λ steps. Near K (step ∷ steps ++ total ∷ []))
     (ap (map (moved s.old_end s.new_end)) (sym (same-steps ts (drop n cs)))
-    ∙ sym (steps-moved (span_meeting s l) (with_states ts (drop n cs))))
+    ∙ sym (steps-moved (span_meeting s) (with_states ts (drop n cs))))
     (moved-on K L total step s (drop n cs) end total_is few stays.0 (slice_get cs n) (first-dropped n cs) stays.1 (near-from K L n cs near))
 
 -- copies near one another, and others from the last of them on

@@ -18,7 +18,7 @@ use Rattle.stab_copies.specs.Checkpoints.{IsCheckpoint}
 use Rattle.stab_steps.proofs.RunLemmas.{outputs-append}
 use Rattle.stab_turns.specs.LongerLists.{longer, AreBelow}
 use Rattle.stab_frames.specs.Walks.{WalkState}
-use Rattle.stab_turns.specs.LedFrames.{AreInOrder, AreTurnedCopies, IsLedFrame}
+use Rattle.stab_replay.specs.LedFrames.{AreInOrder, AreTurnedCopies, IsLedFrame}
 use Rattle.stab_kept.specs.declared.kept.KeptRun.{KeptRun}
 use Rattle.stab_kept.specs.KeptRuns.{IsKeptRun, IsSpan}
 use Rattle.stab_kept.specs.inner.Prepared.{IsCount}

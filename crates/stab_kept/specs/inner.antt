@@ -1,2 +1,3 @@
+pub mod OldRests
 pub mod Prepared
 pub mod Turned

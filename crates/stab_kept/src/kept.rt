@@ -13,17 +13,19 @@ ghost use Rattle.stab_frames.specs.KeptStrings.{front_kept};
 ghost use Rattle.stab_copies.specs.Checkpoints.{checkpoint_steps};
 ghost use Rattle.stab_copies.specs.LaidCopies.{all_laid};
 ghost use Rattle.stab_kept.specs.KeptRuns.{IsKeptRun, IsSameKept, IsSpan, Follows, AgreeBehindSpan, AgreeBackBehindSpan};
-ghost use Rattle.stab_kept.specs.inner.Prepared.{Begins, HasCopy, IsRest, HasRoom, IsPrepared, copies_behind, IsCommitted};
+ghost use Rattle.stab_kept.specs.inner.Prepared.{Begins, HasCopy, IsRest, IsOldRest, HasRoom, IsPrepared, copies_behind, IsCommitted};
 ghost use Rattle.stab_replay.specs.NotedStrings.{IsSpliced};
 
+use crate::rest::OldRest;
 use stab_circuit::{Circuit, Cursor, Repeat, Span};
-use stab_copies::{Checkpoint, Meeting, count_before, lay_all, take_moved};
-use stab_frames::{KeptStrings, RunNotes, count_ones};
+use stab_copies::{Checkpoint, Meeting, count_before};
+use stab_frames::{FrameWalk, KeptStrings, RunNotes, count_ones};
 use stab_io::Refusal;
 use stab_pauli::Pauli;
-use stab_replay::{End, Plan, Replay};
+use stab_replay::{End, LedFrame, Plan, Replay};
 use stab_run::{Coins, Outputs, observables};
 use stab_tableau::Tableau;
+use stab_turns::flip_outputs;
 use std::alloc::{AllocError, Global};
 
 /// A run that is kept: the state after the last step, what the steps gave, copies of the state on
@@ -63,8 +65,8 @@ struct Prepared {
 enum Rest {
     /// Nothing: this is the state after the last step.
     Nothing(Tableau),
-    /// The old run from the copy with this number on, which moves at the meeting into the room.
-    Old(usize, Meeting, Vec<Checkpoint>),
+    /// The old run from a copy on.
+    Old(OldRest),
 }
 
 impl KeptRun {
@@ -198,9 +200,10 @@ impl KeptRun {
             plan,
             coins,
         )?;
+        let place = self.place_of(&end, replay.step, span, plan.total);
         let followed = Followed {
             applied: replay.applied,
-            framed: replay.framed,
+            framed: replay.framed + (place - replay.step) as u64,
         };
         let prepared = self.prepare(alloc, replay, end, circuit.observables(), spare)?;
         self.commit(prepared, before, stride, spare);
@@ -216,11 +219,11 @@ impl KeptRun {
         count: usize,
         spare: &mut Option<Tableau>,
     ) -> Result<Prepared, Refusal>
-        requires in_range { HasCopy self.old.checkpoints.items end }
+        requires in_range { HasCopy self.old.tableau.qubits self.old.checkpoints.items end }
         requires same_length { replay.notes.strings.qubits ≡ self.old.strings.qubits }
         ensures unchanged { IsSameKept self.new self.old }
         ensures prepared { IfOk result (IsPrepared self.old replay.entry count end) }
-        ensures room { IfOk result (λ p. HasRoom p.rest self.new.checkpoints.items) }
+        ensures room { IfOk result (λ p. HasRoom self.new.tableau.qubits p.rest self.new.checkpoints.items) }
         ensures capacity { IfOk result (λ p. length self.new.checkpoints.items + length p.laid.items ≤ vec_capacity self.new.checkpoints) }
         ensures err { IfErr result (λ r. r ≡ OutOfMemory) }
     {
@@ -266,29 +269,75 @@ impl KeptRun {
         end: End,
         spare: &mut Option<Tableau>,
     ) -> Result<Rest, Refusal>
-        requires in_range { HasCopy self.now.checkpoints.items end }
+        requires in_range { HasCopy self.now.tableau.qubits self.now.checkpoints.items end }
         requires same_length { strings.old.qubits ≡ self.now.strings.qubits }
         ensures rest { IfOk result (IsRest self.now tableau (output_of outputs.old) strings.old step end (output_of outputs.new) strings.new) }
-        ensures room { IfOk result (λ rest. HasRoom rest self.now.checkpoints.items) }
+        ensures room { IfOk result (λ rest. HasRoom self.now.tableau.qubits rest self.now.checkpoints.items) }
         ensures err { IfErr result (λ r. r ≡ OutOfMemory) }
     {
         match end {
             End::Last => Ok(Rest::Nothing(tableau)),
             End::Joined(number) => {
-                let copy = &self.checkpoints[number];
-                let meeting = Meeting {
-                    old_step: copy.step,
-                    new_step: step,
-                    old_lengths: copy.lengths,
-                    new_lengths: outputs.lengths(),
-                };
-                outputs.append_rest(&self.outputs, copy.lengths)?;
-                self.append_strings(strings, copy.lengths.free, outputs.free.as_slice())?;
-                let room = Vec::with_capacity(alloc, self.checkpoints.len() - number)?;
                 *spare = Some(tableau);
-                Ok(Rest::Old(number, meeting, room))
+                let walk = FrameWalk::new(alloc, self.tableau.len(), &[], 0)?;
+                let framed = LedFrame {
+                    number,
+                    compared: 0,
+                    walk,
+                    turned: Vec::new(alloc),
+                };
+                self.old_rest(alloc, outputs, strings, step, framed)
+            }
+            End::Framed(framed) => {
+                *spare = Some(tableau);
+                self.old_rest(alloc, outputs, strings, step, framed)
             }
         }
+    }
+
+    /// The run from an old copy on, as a frame turns it that leads on from there, to come after a replay that ended before a step
+    /// with these outputs and these strings, to which those after it are appended.
+    ///
+    /// Refusal `OutOfMemory` alone.
+    fn old_rest(
+        &self,
+        alloc: Global,
+        outputs: &mut Outputs,
+        strings: &mut KeptStrings,
+        step: usize,
+        framed: LedFrame,
+    ) -> Result<Rest, Refusal>
+        requires in_range { framed.number < length self.now.checkpoints.items }
+        requires few { framed.number + length framed.turned.items ≤ length self.now.checkpoints.items }
+        requires letters { length framed.walk.letters ≡ self.now.tableau.qubits }
+        requires same_length { strings.old.qubits ≡ self.now.strings.qubits }
+        ensures rest { IfOk result (λ rest. IfSome (slice_get self.now.checkpoints.items framed.number) (IsOldRest self.now (output_of outputs.old) strings.old step framed.number framed.compared framed.walk framed.turned.items (output_of outputs.new) strings.new rest)) }
+        ensures room { IfOk result (λ rest. HasRoom self.now.tableau.qubits rest self.now.checkpoints.items) }
+        ensures err { IfErr result (λ r. r ≡ OutOfMemory) }
+    {
+        let LedFrame {
+            number,
+            compared,
+            walk,
+            turned,
+        } = framed;
+        let copy = &self.checkpoints[number];
+        let lengths = outputs.lengths();
+        outputs.append_rest(&self.outputs, copy.lengths)?;
+        flip_outputs(outputs, lengths, &walk, compared);
+        self.append_strings(strings, copy.lengths.free, outputs.free.as_slice())?;
+        Ok(Rest::Old(OldRest {
+            number,
+            meeting: Meeting {
+                old_step: copy.step,
+                new_step: step,
+                old_lengths: copy.lengths,
+                new_lengths: lengths,
+            },
+            walk,
+            turned,
+            room: Vec::with_capacity(alloc, self.checkpoints.len() - number)?,
+        }))
     }
 
     /// Appends the strings of free outcomes from this coin number on to those before, in a run with
@@ -327,7 +376,7 @@ impl KeptRun {
         stride: usize,
         spare: &mut Option<Tableau>,
     )
-        requires room { HasRoom prepared.rest self.old.checkpoints.items }
+        requires room { HasRoom self.old.tableau.qubits prepared.rest self.old.checkpoints.items }
         requires capacity { length self.old.checkpoints.items + length prepared.laid.items ≤ vec_capacity self.old.checkpoints }
         requires behind { before + length (copies_behind prepared.rest self.old.checkpoints.items) ≤ length self.old.checkpoints.items }
         ensures committed { IsCommitted self.old prepared before stride self.new }
@@ -349,28 +398,7 @@ impl KeptRun {
                 *spare = Some(std::mem::replace(&mut self.tableau, tableau));
                 self.lay_behind(before, &mut laid, stride);
             }
-            Rest::Old(number, meeting, mut room) => {
-                take_moved(&mut self.checkpoints, number, meeting, &mut room);
-                self.lay_behind(before, &mut laid, stride);
-                lay_all(&mut self.checkpoints, &mut room, stride);
-            }
+            Rest::Old(rest) => self.put_rest(rest, before, &mut laid, stride),
         }
-    }
-
-    /// Lays copies, the last of them first, after this many of those that are kept. It takes no
-    /// memory.
-    pub(crate) fn lay_behind(&mut self, before: usize, laid: &mut Vec<Checkpoint>, stride: usize)
-        requires room { before + length laid.old.items ≤ vec_capacity self.old.checkpoints }
-        ensures tableau { self.new.tableau ≡ self.old.tableau }
-        ensures output { output_of self.new.outputs ≡ output_of self.old.outputs }
-        ensures observables { self.new.observables.items ≡ self.old.observables.items }
-        ensures strings { self.new.strings ≡ self.old.strings }
-        ensures reach { self.new.reach ≡ self.old.reach }
-        ensures checkpoints { self.new.checkpoints.items ≡ all_laid stride (reverse laid.old.items) (take before self.old.checkpoints.items) }
-        ensures shorter { length self.new.checkpoints.items ≤ before + length laid.old.items }
-        ensures capacity { vec_capacity self.new.checkpoints ≡ vec_capacity self.old.checkpoints }
-    {
-        self.checkpoints.truncate(before);
-        lay_all(&mut self.checkpoints, laid, stride);
     }
 }

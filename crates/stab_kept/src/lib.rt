@@ -21,6 +21,7 @@
 
 mod kept;
 mod opening;
+mod rest;
 mod turning;
 
 pub use kept::{Followed, KeptRun};

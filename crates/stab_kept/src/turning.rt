@@ -8,24 +8,32 @@ ghost use Rattle.stab_run.specs.Points.{all_coins_of};
 ghost use Rattle.stab_frames.specs.Walks.{IsPlaced};
 ghost use Rattle.stab_copies.specs.Checkpoints.{checkpoint_steps};
 ghost use Rattle.stab_copies.specs.Spacing.{Near, last_of};
-ghost use Rattle.stab_turns.specs.LedFrames.{with_states};
 ghost use Rattle.stab_turns.specs.declared.passing.PauliChange.{PauliChange};
 ghost use Rattle.stab_kept.specs.Counts.{IsCounted};
 ghost use Rattle.stab_kept.specs.KeptRuns.{IsKeptRun, IsSameKept, IsSpan, Follows, AgreeBehindSpan, AgreeBackBehindSpan};
 ghost use Rattle.stab_kept.specs.inner.Prepared.{IsCount};
-ghost use Rattle.stab_kept.specs.inner.Turned.{StaysNear, HasPassed, IsTurning, IsPut, HasTurned, turned_end};
+ghost use Rattle.stab_kept.specs.inner.OldRests.{HasRoomFor};
+ghost use Rattle.stab_kept.specs.inner.Turned.{StaysNear, HasPassed, IsTurning, IsPut, HasTurned};
 
 use crate::kept::{Followed, KeptRun};
+use crate::rest::{OldRest, end_place};
 use stab_circuit::{Circuit, Cursor, Span};
-use stab_copies::{Checkpoint, Meeting, count_before, lay_all, shifted, take_moved};
+use stab_copies::{Checkpoint, Meeting, count_before, shifted};
 use stab_frames::FrameWalk;
 use stab_io::Refusal;
+use stab_replay::lead_frame;
 use stab_run::{Coins, Lengths};
-use stab_tableau::{CompactTableau, Tableau};
-use stab_turns::{
-    PauliChange, flip_outputs, lead_frame, lengths_behind, pass_places, sum_additions, turn_tableau,
-};
+use stab_tableau::Tableau;
+use stab_turns::{PauliChange, flip_outputs, lengths_behind, pass_places, sum_additions};
 use std::alloc::Global;
+
+/// Lists move with these if they stay as long as they are.
+const NO_LENGTHS: Lengths = Lengths {
+    records: 0,
+    free: 0,
+    detectors: 0,
+    additions: 0,
+};
 
 /// A frame that went past the places of a change, in memory of its own.
 #[derive(Drop)]
@@ -43,14 +51,10 @@ struct Passed {
 struct Turning {
     /// How long the lists are where the frame begins.
     from: Lengths,
-    /// The frame, with what it flipped from there on.
-    walk: FrameWalk,
     /// The copies between the places of the change, turned, where they are now.
     passed: Vec<Checkpoint>,
-    /// The first copies after these, turned.
-    turned: Vec<CompactTableau>,
-    // Where copies are while they move.
-    room: Vec<Checkpoint>,
+    /// The run after them, with the frame and what it flipped from where it began.
+    rest: OldRest,
 }
 
 /// How many of some copies are before a step, if this many of the first are.
@@ -105,16 +109,6 @@ fn stays_near(
     }
 }
 
-/// Where a copy is among the new steps once it has moved with a span, or the end where there is none.
-fn end_place(copies: &[Checkpoint], number: usize, span: Span, total: usize) -> usize
-    ensures value { result ≡ turned_end span total (slice_get copies.now number) }
-{
-    match copies.get(number) {
-        Some(copy) => shifted(span.old_end, span.new_end, copy.step),
-        None => total,
-    }
-}
-
 /// A frame passed the steps from one to another, and none was carried out.
 fn framed_between(begin: usize, end: usize) -> Followed
     requires order { begin ≤ end }
@@ -124,17 +118,6 @@ fn framed_between(begin: usize, end: usize) -> Followed
     Followed {
         applied: 0,
         framed: (end - begin) as u64,
-    }
-}
-
-/// Puts states in place of those of copies, from a place on. It takes no memory.
-fn put_states(copies: &mut Vec<Checkpoint>, from: usize, states: &mut Vec<CompactTableau>)
-    requires in_range { from + length states.old.items ≤ length copies.old.items }
-    ensures value { copies.new.items ≡ take from copies.old.items ++ with_states states.old.items (drop from copies.old.items) }
-    ensures capacity { vec_capacity copies.new ≡ vec_capacity copies.old }
-{
-    while let Some(state) = states.pop() {
-        copies[from + states.len()].tableau = state;
     }
 }
 
@@ -242,43 +225,37 @@ impl KeptRun {
         }
         Ok(Some(Turning {
             from,
-            walk,
             passed: copies,
-            turned,
-            room: Vec::with_capacity(alloc, self.checkpoints.len() - inside)?,
+            rest: OldRest {
+                number: inside,
+                meeting: Meeting {
+                    old_step: span.old_end,
+                    new_step: span.new_end,
+                    old_lengths: NO_LENGTHS,
+                    new_lengths: NO_LENGTHS,
+                },
+                walk,
+                turned,
+                room: Vec::with_capacity(alloc, self.checkpoints.len() - inside)?,
+            },
         }))
     }
 
     /// Puts what a frame made of the run in place. It takes no memory.
-    fn put(&mut self, turning: Turning, span: Span, before: usize, inside: usize, stride: usize)
-        requires letters { length turning.walk.letters ≡ self.old.tableau.qubits }
-        requires count { length turning.passed.items + before ≡ inside }
-        requires few { inside + length turning.turned.items ≤ length self.old.checkpoints.items }
-        requires nothing { turning.room.items ≡ [] }
-        requires room { length self.old.checkpoints.items ≤ vec_capacity turning.room + inside }
-        ensures put { IsPut self.old span before inside stride turning self.new }
+    fn put(&mut self, turning: Turning, before: usize, stride: usize)
+        requires room { HasRoomFor self.old.tableau.qubits turning.rest self.old.checkpoints.items }
+        requires count { length turning.passed.items + before ≡ turning.rest.number }
+        ensures put { IsPut self.old before stride turning self.new }
     {
         let Turning {
             from,
-            walk,
             mut passed,
-            mut turned,
-            mut room,
+            rest,
         } = turning;
-        flip_outputs(&mut self.outputs, from, &walk);
+        flip_outputs(&mut self.outputs, from, &rest.walk, 0);
         sum_additions(&mut self.observables, self.outputs.additions.as_slice());
-        turn_tableau(&mut self.tableau, walk.letters());
-        put_states(&mut self.checkpoints, inside, &mut turned);
-        let meeting = Meeting {
-            old_step: span.old_end,
-            new_step: span.new_end,
-            old_lengths: from,
-            new_lengths: from,
-        };
-        take_moved(&mut self.checkpoints, inside, meeting, &mut room);
         passed.reverse();
-        self.lay_behind(before, &mut passed, stride);
-        lay_all(&mut self.checkpoints, &mut room, stride);
+        self.put_rest(rest, before, &mut passed, stride);
     }
 
     /// Makes this the run of an edited circuit, whose steps differ within the span by Pauli gates alone,
@@ -325,9 +302,9 @@ impl KeptRun {
         let Some(turning) = self.turning(alloc, circuit, span, inside, passed, spare)? else {
             return Ok(None);
         };
-        let end = end_place(copies, inside + turning.turned.len(), span, total);
+        let end = end_place(copies, inside + turning.rest.turned.len(), span, total);
         let followed = framed_between(begin, end);
-        self.put(turning, span, before, inside, stride);
+        self.put(turning, before, stride);
         Ok(Some(followed))
     }
 

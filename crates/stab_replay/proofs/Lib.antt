@@ -5,12 +5,18 @@ pub mod FramedLemmas
 mod SeenLemmas
 pub mod SegmentLemmas
 pub mod FrameStartLemmas
-mod FramedStepLemmas
-mod NotedSegmentLemmas
-mod OverCopyLemmas
 mod LedLemmas
 mod MovedLemmas
 mod LedWayLemmas
+mod QuietLemmas
+mod TurnSomeLemmas
+pub mod LeadingLemmas
+pub mod FlippedLemmas
+pub mod EndingLemmas
+pub mod LedFrameLemmas
+pub mod RestLemmas
+pub mod OldRunLemmas
+pub mod LedCopyLemmas
 pub mod AgainLemmas
 mod AgainReplayLemmas
 mod TurnedNoteLemmas

@@ -8,7 +8,6 @@ use Rattle.stab_circuit.specs.Steps.{Step}
 use Rattle.stab_steps.specs.declared.records.Lengths.{Lengths}
 use Rattle.stab_copies.specs.declared.checkpoint.Checkpoint.{Checkpoint}
 use Rattle.stab_copies.specs.Checkpoints.{IsCheckpoint}
-use Rattle.stab_run.specs.Records.{ones}
 use Rattle.stab_run.specs.Points.{Point, RunOutput, origin, point_after, outputs, all_coins_of}
 use Rattle.stab_frames.specs.KeptStrings.{StringsState}
 use Rattle.stab_laws.proofs.PointLemmas.{flags-are-coins, records-are-records, records-gathered, front-output}
@@ -18,7 +17,7 @@ use Rattle.stab_replay.specs.declared.replay.Plan.{Plan}
 use Rattle.stab_replay.specs.declared.replay.Replay.{Replay}
 use Rattle.stab_replay.specs.Replays.{IsAtStep, Ascending, Misses, IsOnWay, step_among_new}
 use Rattle.stab_replay.specs.FramedReplays.{IsOldRun}
-use Rattle.stab_replay.specs.inner.LedReplays.{IsBeside, IsApartFrom, LedOn}
+use Rattle.stab_replay.specs.inner.LedReplays.{IsBeside, IsApartFrom}
 use Rattle.stab_replay.proofs.LedLemmas.{at-number}
 use Rattle.stab_replay.proofs.PointLemmas.{old_later, new_later}
 
@@ -180,19 +179,3 @@ all-missed n coins p ys copies o s r beside few last b from apart number behind 
     later (Some c) to behind =
         misses-later n coins p ys copies o s beside.old few b c (at-number (IsCheckpoint n coins beside.old.steps) copies last b from beside.old.are_copies)
         (at-number (IsCheckpoint n coins beside.old.steps) copies number c to beside.old.are_copies) held.behind behind r beside.at_step held.place held.apart
-
--- no frame leads on, and old copies are passed
-pub led-passed-over : (p : Plan) (copies : List Checkpoint) (next later : ℕ) (r t : Replay) → t.applied ≡ r.applied → t.framed ≡ r.framed → t.step ≡ r.step → t.laid.items ≡ r.laid.items
-    → ones t.outputs.free.items ≡ ones r.outputs.free.items → r.notes.reach ≤ t.notes.reach → next ≤ later → later ≤ length copies → Ascending p r.step (drop next copies)
-    → LedOn p copies next later r t
-led-passed-over p copies next later r t applied framed step laid free raised order within ascending = record {
-  applied = applied;
-  counted = omega (arith, framed, step);
-  further = omega (arith, step);
-  laid = omega (arith, ap length laid, order);
-  free = omega (arith, free);
-  raised = raised;
-  order = order;
-  within = within;
-  ascending = subst (λ k. Ascending p k (drop later copies)) (sym step) (ascending-from p r.step next later copies ascending order);
-}

@@ -1,4 +1,5 @@
 pub mod NotedStrings
-pub mod Replays
+pub mod LedFrames
 pub mod FramedReplays
+pub mod Replays
 pub mod inner

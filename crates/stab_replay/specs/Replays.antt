@@ -6,8 +6,14 @@ use Rattle.stab_copies.specs.declared.checkpoint.Checkpoint.{Checkpoint}
 use Rattle.stab_replay.specs.declared.replay.Replay.{Replay}
 use Rattle.stab_replay.specs.declared.replay.Plan.{Plan}
 use Rattle.stab_replay.specs.declared.replay.End.{End}
-use Rattle.stab_replay.specs.declared.replay.End.TheVariants.{Last, Joined}
-use Rattle.stab_run.specs.Points.{origin, point_after, outputs}
+use Rattle.stab_replay.specs.declared.replay.End.TheVariants.{Last, Joined, Framed}
+use Rattle.stab_replay.specs.declared.led.LedFrame.{LedFrame}
+use Rattle.stab_run.specs.Records.{ones}
+use Rattle.stab_run.specs.Points.{RunOutput, origin, point_after, outputs}
+use Rattle.stab_frames.specs.KeptStrings.{StringsState}
+use Rattle.stab_frames.specs.Walks.{WalkState}
+use Rattle.stab_replay.specs.LedFrames.{IsLedFrame}
+use Rattle.stab_copies.specs.FramesFrom.{IsFrameFrom}
 use Rattle.stab_run.specs.Laws.{AgreeAt}
 use Rattle.stab_run.specs.ProgramStates.{program_state, output_of}
 use Rattle.stab_copies.specs.Spacing.{Near, last_of}
@@ -66,10 +72,29 @@ copy_of r = record { step = r.step; lengths = lengths_of (output_of r.outputs); 
 abbrev pub MeetsAt : ℕ → Plan → Replay → (records free : List Bool) → Checkpoint → Type 0
 MeetsAt n p r records free c = (step_among_new p c ≡ r.step) × Meets n p.reach r.tableau (output_of r.outputs) records free c
 
--- how a replay ended: after the last step, or at the place of an old copy that it meets
-abbrev pub IsEnd : ℕ → Plan → Replay → List Checkpoint → (records free : List Bool) → End → Type 0
-IsEnd n p r copies records free Last = r.step ≡ p.total
-IsEnd n p r copies records free (Joined j) = (p.next ≤ j) × IsSomeAnd (slice_get copies j) (MeetsAt n p r records free)
+-- at the place of an old copy, after what was changed, a replay differs from an old run with this output by a frame, and the coins of that
+-- run serve it from there on
+pub record BeginsAt (p : Plan) (r : Replay) (o : RunOutput) (w : WalkState) (c : Checkpoint) : Type 0 where
+  pub behind : p.old_end ≤ c.step
+  pub place : step_among_new p c ≡ r.step
+  pub coin : (length r.outputs.free.items ≡ c.lengths.free) ⊎ (ones (drop c.lengths.free o.free) ≡ 0)
+  pub within : p.base ≤ length r.outputs.records.items
+  pub same : take p.base r.outputs.records.items ≡ take p.base o.records
+  pub frame : IsFrameFrom r.tableau (output_of r.outputs) o p.base p.reach c w
+
+-- such a frame led from there over the rest of the old run, past the copies from that one on
+pub record IsFramed (p : Plan) (r : Replay) (copies : List Checkpoint) (o : RunOutput) (s : StringsState) (f : LedFrame) (c : Checkpoint) : Type 0 where
+  pub start : WalkState
+  pub begins : BeginsAt p r o start c
+  pub compared : f.compared ≡ length start.flips.records
+  pub size : length f.walk.letters ≡ r.tableau.qubits
+  pub led : IsLedFrame r.tableau.qubits s.strings o.free p.reach (drop r.step r.cursor.all) c.step (drop f.number copies) f.turned.items start f.walk
+
+-- how a replay ended: after the last step, or at the place of an old copy that it meets, or from which a frame led on
+abbrev pub IsEnd : ℕ → Plan → Replay → List Checkpoint → RunOutput → StringsState → End → Type 0
+IsEnd n p r copies o s Last = r.step ≡ p.total
+IsEnd n p r copies o s (Joined j) = (p.next ≤ j) × IsSomeAnd (slice_get copies j) (MeetsAt n p r o.records o.free)
+IsEnd n p r copies o s (Framed f) = (p.next ≤ f.number) × IsSomeAnd (slice_get copies f.number) (IsFramed p r copies o s f)
 
 -- no old run with these records agrees with the new one at a copy
 abbrev pub Misses : ℕ → (ℕ → Bool) → Plan → List Step → List Bool → Checkpoint → Type 0
@@ -109,3 +134,4 @@ StopsAt p copies next from step = (from + spacing_of p.stride ≤ step) ⊎ ((st
 abbrev pub copies_passed : Plan → ℕ → End → ℕ
 copies_passed p count Last = count - p.next
 copies_passed p count (Joined j) = j - p.next
+copies_passed p count (Framed f) = f.number - p.next

@@ -1,10 +1,11 @@
-ghost use Rattle.std.specs.Prelude.{◌≡◌, ◌+◌, ◌<◌, ◌≤◌, ◌++◌, ◌∷◌, [], All, OnOk, IfOk, IfErr, length, take, drop};
+ghost use Rattle.std.specs.Prelude.{◌≡◌, ◌+◌, ◌<◌, ◌≤◌, ◌++◌, ◌∷◌, [], All, OnOk, IfOk, IfErr, length, take, drop, OnErr};
 ghost use Rattle.stab_io.specs.declared.refusal.Refusal.TheVariants.{OutOfMemory};
 ghost use Rattle.stab_circuit.specs.Steps.{most_steps};
 ghost use Rattle.stab_run.specs.Records.{ones};
 ghost use Rattle.stab_run.specs.Points.{all_coins_of};
 ghost use Rattle.stab_run.specs.ProgramStates.{StepFits};
 ghost use Rattle.stab_replay.specs.Replays.{IsAtStep, copy_of};
+ghost use Rattle.stab_replay.specs.inner.LedReplays.{with_state};
 
 use crate::replay::{Plan, Replay};
 use stab_copies::Checkpoint;
@@ -130,6 +131,23 @@ impl<'a> Replay<'a> {
             tableau: self.compact(alloc)?,
         };
         self.laid.push(copy)?;
+        Ok(())
+    }
+
+    /// Writes the state of the last copy laid into the tableau, if a copy was passed.
+    ///
+    /// Refusal `OutOfMemory` alone.
+    pub(crate) fn catch_up(&mut self, alloc: Global, passed: bool) -> Result<(), Refusal>
+        ensures state { OnOk result (self.new ≡ with_state passed self.old) }
+        ensures unchanged { OnErr result (self.new ≡ self.old) }
+        ensures err { IfErr result (λ r. r ≡ OutOfMemory) }
+    {
+        if !passed {
+            return Ok(());
+        }
+        if let Some(copy) = self.laid.last() {
+            self.tableau = copy.tableau.tableau(alloc, None)?;
+        }
         Ok(())
     }
 }

@@ -27,6 +27,7 @@
 mod again;
 mod framed;
 mod laying;
+mod leading;
 mod led;
 mod moved;
 mod replay;
@@ -34,4 +35,6 @@ mod rhythm;
 mod turned;
 
 pub use framed::turned_copy;
+pub use leading::lead_frame;
+pub use led::LedFrame;
 pub use replay::{End, Plan, Replay};

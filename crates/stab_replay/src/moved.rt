@@ -8,7 +8,7 @@ ghost use Rattle.stab_replay.specs.inner.LedReplays.{IsBeside, IsApartFrom};
 use crate::replay::{Plan, Replay};
 use crate::rhythm::{block_at, end_of};
 use stab_circuit::Repeat;
-use stab_copies::{Checkpoint, has_one, shifted};
+use stab_copies::{Checkpoint, shifted};
 use stab_frames::between;
 use stab_run::Outputs;
 
@@ -36,15 +36,6 @@ impl Plan {
     }
 }
 
-/// By what a replay that is at the place of an old copy may be known to differ from the old run.
-#[derive(Clone, Copy, PartialEq, Eq)]
-pub(crate) enum Telling {
-    /// The number of the next coin.
-    Coins,
-    /// That, or the records so far.
-    Records,
-}
-
 /// Whether two lists of bits are the same.
 fn are_same(bits: &[bool], others: &[bool]) -> bool
     ensures value { IsTrue result ↔ (bits.now ≡ others.now) }
@@ -55,14 +46,7 @@ fn are_same(bits: &[bool], others: &[bool]) -> bool
 impl<'a> Replay<'a> {
     /// Whether the replay is at the place of the old copy before the one that may be met next, and is known to differ there from the old
     /// run: so it agrees with it at no later copy.
-    fn is_apart(
-        &self,
-        plan: Plan,
-        copies: &[Checkpoint],
-        old: &Outputs,
-        next: usize,
-        telling: Telling,
-    ) -> bool
+    fn is_apart(&self, plan: Plan, copies: &[Checkpoint], old: &Outputs, next: usize) -> bool
         ensures behind { result ≡ true → 1 ≤ next }
         ensures apart { result ≡ true → IsSomeAnd (slice_get copies.now (next - 1)) (IsApartFrom plan self.now (output_of old.now)) }
     {
@@ -77,7 +61,7 @@ impl<'a> Replay<'a> {
             return true;
         }
         let records = between(old.records.as_slice(), 0, copy.lengths.records);
-        telling == Telling::Records && !are_same(records, self.outputs.records.as_slice())
+        !are_same(records, self.outputs.records.as_slice())
     }
 
     /// The end of the block of the replay's step, if its rounds may come again many times before that.
@@ -93,10 +77,9 @@ impl<'a> Replay<'a> {
         Some(end)
     }
 
-    /// Passes old copies in the block of the replay's step at which no more of the old run can be kept: if it is known to differ from that by
-    /// the number of its next coin, and coins decide after these copies; or, as it has not met the copy at whose place it is, by its
-    /// records too, since what differs there most likely differs up to the block's end. So the block's rounds may come again, as
-    /// those of a run that is opened do. Says which old copy may be met next.
+    /// Passes old copies in the block of the replay's step at which no more of the old run can be kept, if it is at the place of an old
+    /// copy that it has not met, and has other records there or another number of the next coin: what differs there most likely differs up to the block's
+    /// end. So the block's rounds may come again, as those of a run that is opened do. Says which old copy may be met next.
     pub(crate) fn pass_apart(
         &self,
         repeats: &[Repeat],
@@ -104,7 +87,6 @@ impl<'a> Replay<'a> {
         copies: &[Checkpoint],
         old: &Outputs,
         next: usize,
-        telling: Telling,
     ) -> usize
         requires next { next ≤ length copies.now }
         requires stride { 1 ≤ plan.stride }
@@ -115,16 +97,9 @@ impl<'a> Replay<'a> {
         let Some(end) = self.end_of_many(repeats, plan) else {
             return next;
         };
-        if !self.is_apart(plan, copies, old, next, telling) {
+        if !self.is_apart(plan, copies, old, next) {
             return next;
         }
-        let number = plan.first_from(copies, next, copies[next - 1].step, end);
-        let last = copies[number - 1].lengths.free;
-        if telling == Telling::Coins
-            && !has_one(between(old.free.as_slice(), last, old.free.len()))
-        {
-            return next;
-        }
-        number
+        plan.first_from(copies, next, copies[next - 1].step, end)
     }
 }

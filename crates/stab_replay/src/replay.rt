@@ -7,10 +7,11 @@ ghost use Rattle.stab_run.specs.Records.{ones};
 ghost use Rattle.stab_run.specs.Points.{all_coins_of};
 ghost use Rattle.stab_run.specs.ProgramStates.{StepFits, output_of};
 ghost use Rattle.stab_replay.specs.Replays.{IsAtStep, IsReplay, Ascending, spacing_of, IsEnd, EndsSoon, IsAtStop, IsOnWay, StopsAt, copies_passed};
+ghost use Rattle.stab_frames.specs.KeptStrings.{StringsState};
 ghost use Rattle.stab_replay.specs.inner.Arrivals.{IsArrival};
 ghost use Rattle.stab_replay.specs.FramedReplays.{IsOldRun};
 
-use crate::moved::Telling;
+use crate::led::LedFrame;
 use stab_circuit::{Circuit, Cursor, Repeat};
 use stab_copies::{Checkpoint, meets, shifted};
 use stab_frames::{KeptStrings, RunNotes, run_noting};
@@ -58,11 +59,14 @@ pub struct Plan {
 }
 
 /// How a replay ended.
+#[derive(Drop)]
 pub enum End {
     /// After the last step.
     Last,
     /// At the old copy with this number, from which on the old run went on as the new one would.
     Joined(usize),
+    /// At the old copy where a frame begins that led over the rest of the old run.
+    Framed(LedFrame),
 }
 
 /// What a replay comes to where it stops.
@@ -212,36 +216,28 @@ impl<'a> Replay<'a> {
         }
     }
 
-    /// Goes on by a frame if one leads on, and else carries out steps up to the next stop. Says which
-    /// old copy may be met next.
+    /// Carries out steps up to the next stop. Says which old copy may be met next.
     ///
     /// Refusal `OutOfMemory` alone.
     fn advance<C: Coins>(
         &mut self,
         alloc: Global,
-        circuit: &'a Circuit,
         repeats: &[Repeat],
         copies: &[Checkpoint],
         old: &Outputs,
-        strings: &KeptStrings,
         plan: Plan,
         next: usize,
         coins: &mut C,
     ) -> Result<usize, Refusal>
-        requires old { IsOldRun self.old.tableau.qubits (C.sequence coins.old) plan self.old.cursor.all copies.now (output_of old.now) strings.now }
-        requires same_circuit { unroll (circuit_items circuit.now) ≡ self.old.cursor.all }
-        requires checked { check_of (circuit_items circuit.now) ≡ None }
+        requires old { (s : StringsState) × IsOldRun self.old.tableau.qubits (C.sequence coins.old) plan self.old.cursor.all copies.now (output_of old.now) s }
         requires fits { All (StepFits self.old.tableau.qubits) self.old.cursor.all }
         requires total { plan.total ≡ length self.old.cursor.all }
         requires few { plan.total ≤ most_steps }
         requires few_applied { (self.old.applied + self.old.framed) ≤ self.old.step }
         requires stride { 1 ≤ plan.stride }
         requires at_step { IsAtStep self.old.tableau.qubits (C.sequence coins.old) self.old.cursor.all self.old }
-        requires same_qubits { All (λ c. c.tableau.qubits ≡ self.old.tableau.qubits) copies.now }
         requires next { next ≤ length copies.now }
         requires ascending { Ascending plan self.old.step (drop next copies.now) }
-        requires base { plan.base ≤ length self.old.outputs.records.items }
-        requires same_records { take plan.base self.old.outputs.records.items ≡ take plan.base old.now.records.items }
         ensures same_coins { C.sequence coins.new ≡ C.sequence coins.old }
         ensures all { self.new.cursor.all ≡ self.old.cursor.all }
         ensures qubits { self.new.tableau.qubits ≡ self.old.tableau.qubits }
@@ -256,18 +252,15 @@ impl<'a> Replay<'a> {
         ensures further { self.old.step ≤ self.new.step }
         ensures err { IfErr result (λ r. r ≡ OutOfMemory) }
     {
-        let next = self.pass_apart(repeats, plan, copies, old, next, Telling::Coins);
-        let led = self.frame_on(alloc, circuit, repeats, copies, old, strings, plan, next)?;
-        if !led.there {
-            let place = plan.place(copies, led.next);
-            let stops = self.stops(repeats, plan, place);
-            self.run_past(alloc, coins, stops.least, stops.most)?;
-        }
-        Ok(led.next)
+        let next = self.pass_apart(repeats, plan, copies, old, next);
+        let place = plan.place(copies, next);
+        let stops = self.stops(repeats, plan, place);
+        self.run_past(alloc, coins, stops.least, stops.most)?;
+        Ok(next)
     }
 
-    /// Carries out steps until the replay meets an old copy or is after the last step, and lays
-    /// copies on the way: one for each spacing, and one for each old copy that it passes, at most. In repeats of the
+    /// Carries out steps until the replay meets an old copy, or a frame leads from one over the rest of the old run, or it is after the
+    /// last step, and lays copies on the way: one for each spacing, and one for each old copy that it passes, at most. In repeats of the
     /// circuit's steps it gives again what it gave if it is as it was rounds before.
     pub fn follow<C: Coins>(
         &mut self,
@@ -306,7 +299,7 @@ impl<'a> Replay<'a> {
         ensures asks { OnOk result (C.asks coins.new ≤ C.asks coins.old + self.new.applied) }
         ensures asks_free { OnOk result (C.asks coins.new + ones self.old.outputs.free.items ≤ C.asks coins.old + ones self.new.outputs.free.items) }
         ensures asked { C.asks coins.new ≤ C.asks coins.old + all_coins_of (drop self.old.step self.old.cursor.all) }
-        ensures end { IfOk result (IsEnd self.old.tableau.qubits plan self.new copies.now old.now.records.items old.now.free.items) }
+        ensures end { IfOk result (IsEnd self.old.tableau.qubits plan self.new copies.now (output_of old.now) strings.now) }
         ensures soon { OnOk result (EndsSoon self.old.tableau.qubits (C.sequence coins.old) plan self.old.cursor.all copies.now old.now.records.items self.new.step) }
         ensures few_laid { IfOk result (λ end. spacing_of plan.stride * length self.new.laid.items + self.old.step ≤ self.new.step + spacing_of plan.stride * copies_passed plan (length copies.now) end) }
         ensures err { IfErr result (λ r. r ≡ OutOfMemory) }
@@ -316,14 +309,20 @@ impl<'a> Replay<'a> {
         let mut telling = 0;
         // What copies are expanded into, so that memory for it is asked for once at most.
         let mut spare: Option<Tableau> = None;
+        // Whether frames are led, which is so until a string is missing for one.
+        let mut leads = true;
         'following: loop {
-            let reached = self.advance(
-                alloc, circuit, repeats, copies, old, strings, plan, next, coins,
-            )?;
+            let reached = self.advance(alloc, repeats, copies, old, plan, next, coins)?;
             match self.arrive(alloc, copies, old, plan, reached, &mut spare, &mut telling)? {
                 Arrival::Met => return Ok(End::Joined(reached)),
                 Arrival::Behind => return Ok(End::Last),
                 Arrival::Between(later) => next = later,
+            }
+            let framed = self.frame_rest(
+                alloc, circuit, copies, old, strings, plan, reached, &mut spare, &mut leads,
+            )?;
+            if let Some(framed) = framed {
+                return Ok(End::Framed(framed));
             }
             self.lay(alloc)?;
             self.come_again(

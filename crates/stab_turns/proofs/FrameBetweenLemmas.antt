@@ -34,10 +34,10 @@ use Rattle.stab_frames.proofs.StartLemmas.{framed-same, framed-paulis, framed-ex
 use Rattle.stab_frames.proofs.TrueLemmas.{true-rest}
 use Rattle.stab_copies.specs.declared.checkpoint.Checkpoint.{Checkpoint}
 use Rattle.stab_copies.specs.Checkpoints.{IsCheckpoint}
-use Rattle.stab_replay.specs.FramedReplays.{AreEnoughBy}
+use Rattle.stab_replay.specs.LedFrames.{AreEnoughBy}
 use Rattle.stab_turns.specs.PauliSpans.{ArePaulis}
 use Rattle.stab_turns.specs.PassedPlaces.{IsFrameBetween}
-use Rattle.stab_turns.proofs.LeadingLemmas.{flags-counted, rest-flags}
+use Rattle.stab_replay.proofs.LeadingLemmas.{flags-counted, rest-flags}
 use Rattle.stab_turns.proofs.SameNotesLemmas.{IsReached, reached-on, notes-apart, flags-apart, gates-free}
 
 -- the steps of a run up to a place are some, if this many of those after another place are

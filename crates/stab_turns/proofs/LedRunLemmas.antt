@@ -1,33 +1,30 @@
 -- Led runs: a run that differs from another by Pauli gates is the other one, flipped and turned as a frame says that was led over it.
-use Rattle.std.proofs.Common.{◌≡◌, ℕ, ◌+◌, ◌≤◌, sym, ◌∙◌, ap, subst, Bool, ◌⊎◌, inl, inr, List, [], ◌++◌, All, length, take, drop}
+use Rattle.std.proofs.Common.{refl, ◌≡◌, ℕ, ◌-◌, arith, ◌+◌, ◌≤◌, sym, ◌∙◌, ap, subst, Bool, inl, List, [], ◌++◌, All, length, take, drop}
 use Rattle.std.proofs.lemmas.List.{take-append-drop}
-use Rattle.std.proofs.lemmas.List.Elements.{All-take, All-drop}
+use Rattle.std.proofs.lemmas.List.Elements.{All-take}
 use Rattle.stab_tableau.specs.Tableaus.{TableauState}
-use Rattle.stab_tableau.specs.Traces.{member}
-use Rattle.stab_tableau.specs.Turns.{IsTurned}
 use Rattle.stab_circuit.specs.Steps.{Step}
 use Rattle.stab_steps.specs.declared.records.Lengths.{Lengths}
 use Rattle.stab_run.specs.Points.{Point, RunOutput, origin, joined, point_after, outputs, all_coins_of}
 use Rattle.stab_run.specs.ProgramStates.{StepFits}
 use Rattle.stab_run.specs.Cuts.{lengths_of, front_of, rest_of}
-use Rattle.stab_steps.proofs.RunLemmas.{after-append, joined-assoc}
+use Rattle.stab_steps.proofs.RunLemmas.{joined-assoc}
 use Rattle.stab_laws.proofs.PointLemmas.{cut, front-output, rest-output}
 use Rattle.stab_frames.specs.Flips.{flipped, flipped_additions, flipped_output, unflipped}
-use Rattle.stab_frames.specs.FrameSteps.{flips_over}
 use Rattle.stab_frames.specs.KeptStrings.{StringsState, AreTrue, note_at}
 use Rattle.stab_frames.specs.Lookbacks.{LooksWithin}
-use Rattle.stab_frames.specs.Notes.{same_coins}
-use Rattle.stab_frames.specs.Walks.{WalkState, frame_at}
+use Rattle.stab_frames.specs.Walks.{WalkState, IsPlaced}
 use Rattle.stab_frames.proofs.FlipLemmas.{flipped-joined, unflipped-output, unflipped-matches, flipped-empty}
 use Rattle.stab_frames.proofs.FrontLemmas.{group-origin}
 use Rattle.stab_copies.specs.declared.checkpoint.Checkpoint.{Checkpoint}
 use Rattle.stab_copies.specs.Checkpoints.{IsCheckpoint}
 use Rattle.stab_replay.specs.NotedStrings.{IsNoted}
-use Rattle.stab_replay.proofs.SegmentLemmas.{flipped-zeros}
-use Rattle.stab_turns.specs.LedFrames.{AreInOrder, IsLedFrame}
+use Rattle.stab_copies.proofs.FlippedLemmas.{flipped-zeros}
+use Rattle.stab_replay.specs.LedFrames.{AreInOrder, IsLedFrame}
 use Rattle.stab_turns.specs.PassedPlaces.{IsFrameBetween}
-use Rattle.stab_turns.proofs.EndingLemmas.{IsEnded, ending-flips, endings}
-use Rattle.stab_turns.proofs.LedFrameLemmas.{IsLedOver, IsLedBehind, led-there, led-end, led-given, led-flips, led-unflagged}
+use Rattle.stab_replay.proofs.RestLemmas.{IsLedRest, later, rest-lengths, rest-given, rest-later, rest-free}
+use Rattle.stab_replay.proofs.LedCopyLemmas.{lengths-joined, old_given, new_given}
+use Rattle.stab_frames.proofs.EditLemmas.{same-lengths}
 
 -- two runs have the same steps after step i of the one and step k of the other, up to which a frame went between them from a step on
 -- before which they are the same; it was led over these steps, past copies of the first run
@@ -48,6 +45,7 @@ pub record IsLedRun (n : ℕ) (coins : ℕ → Bool) (xs ys back : List Step) (i
   pub are_copies : All (IsCheckpoint n coins xs) copies
   pub order : AreInOrder i (length xs) copies
   pub led : IsLedFrame n strings.strings free reach back i copies turned old new
+  pub placed : IsPlaced free old
 
 module _ (n : ℕ) (coins : ℕ → Bool) (xs ys back : List Step) (i k : ℕ) (strings : StringsState) (free : List Bool) (reach : ℕ) (copies : List Checkpoint) (turned : List TableauState)
     (o : RunOutput) (from : Lengths) (old new : WalkState) (r : IsLedRun n coins xs ys back i k strings free reach copies turned o from old new) where
@@ -60,97 +58,77 @@ module _ (n : ℕ) (coins : ℕ → Bool) (xs ys back : List Step) (i k : ℕ) (
   abbrev base : ℕ
   base = length (point_after n coins (take r.first xs) origin).records
 
-  true_here : AreTrue n coins (note_at strings.strings free) back old_point
-  true_here = subst (λ zs. AreTrue n coins (note_at strings.strings free) zs old_point) r.new_behind r.between.are_true
-
-  flags_here : (outputs n coins back old_point).free ≡ drop old.coin free
-  flags_here = ap (λ zs. (outputs n coins zs old_point).free) (sym r.new_behind) ∙ r.between.flags
-
-  pub run-over : IsLedOver n coins (note_at strings.strings free) reach back old_point new_point base old r.led.last r.led.steps
-  run-over = record {
-    fits = subst (All (StepFits n)) r.old_behind (All-drop (StepFits n) i xs r.between.old_fit);
-    near = subst (All (LooksWithin reach)) r.old_behind (All-drop (LooksWithin reach) i xs r.noted.near);
-    group = group-origin n coins (take i xs) (All-take (StepFits n) i xs r.between.old_fit);
-    framed = r.between.fronts.framed;
-    coin = sym r.between.coin;
-    within = r.led.within;
-    walked = r.led.walked;
-    told = r.led.enough coins old_point base (sym r.between.coin) true_here flags_here;
+  -- it differs there by that frame
+  abbrev pub rest : IsLedRest n coins xs ys back i k strings free base reach copies turned old new
+  rest = record {
+    old_behind = r.old_behind;
+    new_behind = r.new_behind;
+    old_within = r.between.old_within;
+    new_within = r.between.new_within;
+    fits = r.between.old_fit;
+    flags = r.flags ∙ ap (λ (q : RunOutput). q.free) r.output;
+    noted = r.noted;
+    at = record {
+      seen = old_point;
+      group = group-origin n coins (take i xs) (All-take (StepFits n) i xs r.between.old_fit);
+      agree = record { group = λ p size. refl; coin = refl; records = λ j le. refl };
+      framed = r.between.fronts.framed;
+      coin = r.between.coin;
+      told = inl refl;
+      placed = r.placed;
+    };
+    may_have = inl (sym r.between.fronts.framed.coin);
+    are_copies = r.are_copies;
+    order = r.order;
+    led = r.led;
   }
 
-  pub run-ends : ((r.led.steps ≡ length back) × (length turned ≡ length copies) × (new.letters ≡ r.led.last.letters))
-      ⊎ IsEnded n reach (point_after n coins (take r.led.steps back) (point_after n coins (take i xs) origin)) r.led.last new
-  run-ends =
-      let there = led-there run-over in
-      endings n reach back i r.led.steps copies turned r.led.last new coins xs r.old_behind r.between.old_fit r.are_copies r.order there.size r.led.ends
-
-  pub run-flips : new.flips ≡ r.led.last.flips
-  run-flips = ending-flips n reach back i r.led.steps copies turned r.led.last new r.led.ends
-
-  pub run-behind : IsLedBehind n coins (note_at strings.strings free) reach back old_point new_point base old r.led.last new r.led.steps
-  run-behind = record {
-    led = run-over;
-    flips = run-flips;
-    ends =
-        elim run-ends [
-          | inl all ↦ inl (all.0, all.2)
-          | inr ended ↦ inr ended
-        ];
-  }
+  -- the lists of both are as long as each other where a copy is after the place
+  pub run-lengths : (c : Checkpoint) → i ≤ c.step → IsCheckpoint n coins xs c → c.lengths ≡ lengths_of (outputs n coins (take (k + (c.step - i)) ys) origin)
+  run-lengths c behind is =
+      is.lengths
+      ∙ ap (λ m. lengths_of (outputs n coins (take m xs) origin)) {y = i + (c.step - i)} (omega (arith, behind))
+      ∙ ap lengths_of (old_given rest (c.step - i))
+      ∙ lengths-joined (outputs n coins (take i xs) origin) (outputs n coins (take k ys) origin) (outputs n coins (take (c.step - i) back) old_point)
+      (outputs n coins (take (c.step - i) back) new_point)
+      (sym (ap lengths_of r.between.fronts.given
+      ∙ same-lengths (outputs n coins (take i xs) origin) (joined (unflipped (outputs n coins (take r.first xs) origin)) old.flips)))
+      (sym (rest-lengths rest (c.step - i)))
+      ∙ sym (ap lengths_of (new_given rest (c.step - i)))
 
   -- what the new run gives
 
   abbrev front : RunOutput
   front = outputs n coins (take r.first xs) origin
 
-  abbrev rest : RunOutput
-  rest = outputs n coins (drop r.first xs) (point_after n coins (take r.first xs) origin)
+  abbrev since : RunOutput
+  since = outputs n coins (drop r.first xs) (point_after n coins (take r.first xs) origin)
 
-  abbrev later : RunOutput
-  later = flips_over n (same_coins (note_at strings.strings free)) (take r.led.steps back) old_point.coin (frame_at base old)
+  abbrev flips : RunOutput
+  flips = later rest
 
   -- flipped as a whole
   all_flipped : outputs n coins ys origin ≡ flipped_output (outputs n coins xs origin) (joined (unflipped front) new.flips)
   all_flipped =
       cut n coins ys k
-      ∙ (λ j. joined (r.between.fronts.given j) ((ap (λ zs. outputs n coins zs new_point) r.new_behind ∙ led-given run-behind) j))
-      ∙ sym (flipped-joined (outputs n coins (take i xs) origin) (outputs n coins back old_point) (joined (unflipped front) old.flips) later r.between.fronts.matches)
-      ∙ (λ j. flipped_output (joined (outputs n coins (take i xs) origin) (outputs n coins (sym r.old_behind j) old_point)) (joined-assoc (unflipped front) old.flips later j))
-      ∙ (λ j. flipped_output (sym (cut n coins xs i) j) (joined (unflipped front) (led-flips run-behind j)))
+      ∙ (λ j. joined (r.between.fronts.given j) ((ap (λ zs. outputs n coins zs new_point) r.new_behind ∙ rest-given rest) j))
+      ∙ sym (flipped-joined (outputs n coins (take i xs) origin) (outputs n coins back old_point) (joined (unflipped front) old.flips) (later rest) r.between.fronts.matches)
+      ∙ (λ j. flipped_output (joined (outputs n coins (take i xs) origin) (outputs n coins (sym r.old_behind j) old_point)) (joined-assoc (unflipped front) old.flips (later rest) j))
+      ∙ (λ j. flipped_output (sym (cut n coins xs i) j) (joined (unflipped front) (rest-later rest j)))
 
   -- and from where the frame began
   pub run-output : outputs n coins ys origin ≡ joined (front_of from o) (flipped_output (rest_of from o) new.flips)
   run-output =
       all_flipped
       ∙ ap (λ q. flipped_output q (joined (unflipped front) new.flips)) (cut n coins xs r.first)
-      ∙ flipped-joined front rest (unflipped front) new.flips (unflipped-matches front)
+      ∙ flipped-joined front since (unflipped front) new.flips (unflipped-matches front)
       ∙ (λ j. joined ((unflipped-output front ∙ sym front_is) j) (flipped_output (sym rest_is j) new.flips))
     where
       front_is : front_of from o ≡ front
       front_is = (λ j. front_of (r.from_is j) (r.output j)) ∙ front-output n coins xs r.first
 
-      rest_is : rest_of from o ≡ rest
+      rest_is : rest_of from o ≡ since
       rest_is = (λ j. rest_of (r.from_is j) (r.output j)) ∙ rest-output n coins xs r.first
-
-  -- the group after its last step
-
-  old_end : point_after n coins xs origin ≡ point_after n coins back (point_after n coins (take i xs) origin)
-  old_end =
-      ap (λ zs. point_after n coins zs origin) (sym (take-append-drop i xs))
-      ∙ after-append n coins (take i xs) (drop i xs) origin
-      ∙ ap (λ zs. point_after n coins zs (point_after n coins (take i xs) origin)) r.old_behind
-
-  new_end : point_after n coins ys origin ≡ point_after n coins back (point_after n coins (take k ys) origin)
-  new_end =
-      ap (λ zs. point_after n coins zs origin) (sym (take-append-drop k ys))
-      ∙ after-append n coins (take k ys) (drop k ys) origin
-      ∙ ap (λ zs. point_after n coins zs (point_after n coins (take k ys) origin)) r.new_behind
-
-  pub run-group : IsTurned n new.letters (member (point_after n coins xs origin).trace) (member (point_after n coins ys origin).trace)
-  run-group =
-      subst (λ (p : Point). IsTurned n new.letters (member p.trace) (member (point_after n coins ys origin).trace)) (sym old_end)
-      (subst (λ (p : Point). IsTurned n new.letters (member (point_after n coins back (point_after n coins (take i xs) origin)).trace) (member p.trace)) (sym new_end)
-      (led-end run-behind))
 
   -- its flags are those of the old one, and so its strings are
 
@@ -158,7 +136,7 @@ module _ (n : ℕ) (coins : ℕ → Bool) (xs ys back : List Step) (i k : ℕ) (
   flagged = r.between.flagged + all_coins_of (take r.led.steps back)
 
   flags_kept : (bits : List Bool) → flipped bits new.flips.free ≡ flipped bits []
-  flags_kept bits = ap (flipped bits) (led-unflagged run-behind r.between.flagged r.between.unflagged) ∙ flipped-zeros bits flagged
+  flags_kept bits = ap (flipped bits) (rest-free rest r.between.flagged r.between.unflagged) ∙ flipped-zeros bits flagged ∙ sym (flipped-empty bits)
 
   pub run-unflagged : (q : RunOutput) → flipped_output q new.flips ≡ flipped_output q (record new.flips { free = [] })
   run-unflagged q = λ j. record {

@@ -12,7 +12,7 @@ use Rattle.stab_run.specs.Points.{RunOutput}
 use Rattle.stab_frames.specs.Walks.{WalkState, WalksOver}
 use Rattle.stab_copies.specs.declared.checkpoint.Checkpoint.{Checkpoint}
 use Rattle.stab_copies.specs.Checkpoints.{IsCheckpoint}
-use Rattle.stab_replay.specs.FramedReplays.{AreEnoughBy}
+use Rattle.stab_replay.specs.LedFrames.{AreEnoughBy}
 use Rattle.stab_circuit.specs.Rounds.{interleaved}
 use Rattle.stab_turns.specs.PauliSpans.{DifferAtPlaces}
 use Rattle.stab_turns.specs.PassedPlaces.{IsFrameBetween, IsBeforePiece, IsBeforePlaces}

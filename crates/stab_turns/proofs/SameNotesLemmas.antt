@@ -23,8 +23,7 @@ use Rattle.stab_frames.proofs.StartLemmas.{framed-exchanged}
 use Rattle.stab_frames.proofs.StepLemmas.{over-framed}
 use Rattle.stab_frames.proofs.TrueLemmas.{true-append, true-front, true-rest}
 use Rattle.stab_frames.proofs.AgainLemmas.{true-turned}
-use Rattle.stab_frames.proofs.FlipLemmas.{flipped-empty}
-use Rattle.stab_replay.proofs.SegmentLemmas.{flipped-zeros}
+use Rattle.stab_copies.proofs.FlippedLemmas.{flipped-zeros}
 use Rattle.stab_circuit.specs.Rounds.{interleaved}
 
 -- what all of some steps have, those after the first have
@@ -80,7 +79,6 @@ module _ (n : ℕ) (coins : ℕ → Bool) (a b : Point) (f : Frame) (zs : List S
       ap (λ (o : RunOutput). o.free) (over-framed n coins (same_coins noted.0) zs f a b fits group enough apart).0
       ∙ ap (flipped (outputs n coins zs a).free) (flips-free n (same_coins noted.0) zs a.coin f)
       ∙ flipped-zeros (outputs n coins zs a).free (all_coins_of zs)
-      ∙ flipped-empty (outputs n coins zs a).free
 
 -- Pauli gates measure nothing, and give nothing
 

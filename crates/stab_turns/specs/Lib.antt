@@ -1,4 +1,3 @@
 pub mod LongerLists
 pub mod PauliSpans
 pub mod PassedPlaces
-pub mod LedFrames

@@ -4,7 +4,7 @@ ghost use Rattle.stab_run.specs.Cuts.{front_of, rest_of};
 ghost use Rattle.stab_run.specs.ProgramStates.{output_of};
 ghost use Rattle.stab_frames.specs.Flips.{flipped, flipped_additions, flipped_output};
 
-use stab_frames::FrameWalk;
+use stab_frames::{FrameWalk, between};
 use stab_run::{Addition, Lengths, Outputs};
 
 /// Inverts bits if the flips are 1. If there are no more flips they are as they are.
@@ -45,12 +45,14 @@ fn flip_additions_from(additions: &mut Vec<Addition>, from: usize, flips: &[Addi
     flip_additions(rest, flips);
 }
 
-/// Flips what a run gave after these lengths, as a frame says that passed what is there. The
+/// Flips what a run gave after these lengths, as a frame says that passed what is there, after this many records. The
 /// flags of coin numbers are as they were. It takes no memory.
-pub fn flip_outputs(outputs: &mut Outputs, from: Lengths, walk: &FrameWalk)
-    ensures value { output_of outputs.new ≡ joined (front_of from (output_of outputs.old)) (flipped_output (rest_of from (output_of outputs.old)) (record walk.now.flips { free = [] })) }
+pub fn flip_outputs(outputs: &mut Outputs, from: Lengths, walk: &FrameWalk, compared: usize)
+    ensures value { output_of outputs.new ≡ joined (front_of from (output_of outputs.old)) (flipped_output (rest_of from (output_of outputs.old)) (record walk.now.flips { records = drop compared walk.now.flips.records; free = [] })) }
 {
-    flip_from(&mut outputs.records, from.records, walk.records());
+    let records = walk.records();
+    let since = between(records, compared, records.len());
+    flip_from(&mut outputs.records, from.records, since);
     flip_from(&mut outputs.detectors, from.detectors, walk.detectors());
     flip_additions_from(&mut outputs.additions, from.additions, walk.additions());
 }

@@ -26,12 +26,10 @@
 
 mod counting;
 mod flips;
-mod leading;
 mod passing;
 mod states;
 
 pub use counting::lengths_behind;
 pub use flips::{flip_outputs, sum_additions};
-pub use leading::lead_frame;
 pub use passing::{PauliChange, pass_places};
 pub use states::turn_tableau;

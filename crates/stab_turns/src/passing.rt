@@ -7,7 +7,7 @@ ghost use Rattle.stab_run.specs.ProgramStates.{StepFits};
 ghost use Rattle.stab_frames.specs.KeptStrings.{note_at};
 ghost use Rattle.stab_frames.specs.Walks.{IsPlaced, WalksOver};
 ghost use Rattle.stab_copies.specs.Checkpoints.{IsCheckpoint};
-ghost use Rattle.stab_replay.specs.FramedReplays.{AreEnoughBy};
+ghost use Rattle.stab_replay.specs.LedFrames.{AreEnoughBy};
 ghost use Rattle.stab_turns.specs.PassedPlaces.{IsFrameBetween, IsBeforePiece, IsBeforePlaces};
 
 use stab_circuit::Cursor;

@@ -1,25 +1,32 @@
 -- Prepared runs: what a replay of an edited circuit begins with, what it leaves, and what is kept once that is put in place.
 -- Source: this project's own.
-use Rattle.std.specs.Prelude.{◌≡◌, ℕ, ◌+◌, ◌<◌, ◌≤◌, false, List, [], All, IfSome, length, take, drop, map, reverse, replicate, slice_get, vec_capacity}
-use Rattle.stab_tableau.specs.Tableaus.{TableauState}
+use Rattle.std.specs.Prelude.{◌≡◌, ℕ, ◌+◌, ◌<◌, ◌≤◌, false, List, [], All, IfSome, length, take, drop, reverse, replicate, slice_get}
+use Rattle.stab_letters.specs.declared.letter.Letter.TheVariants.{I}
+use Rattle.stab_tableau.specs.Tableaus.{TableauState, stabilises}
+use Rattle.stab_tableau.specs.Turns.{IsTurned}
+use Rattle.stab_circuit.specs.declared.edit.Span.{Span}
 use Rattle.stab_circuit.specs.Steps.{Step}
 use Rattle.stab_circuit.specs.Cursors.{IsApart}
 use Rattle.stab_copies.specs.declared.checkpoint.Checkpoint.{Checkpoint}
 use Rattle.stab_copies.specs.declared.checkpoint.Meeting.{Meeting}
 use Rattle.stab_replay.specs.declared.replay.Replay.{Replay}
 use Rattle.stab_replay.specs.declared.replay.End.{End}
-use Rattle.stab_replay.specs.declared.replay.End.TheVariants.{Last, Joined}
+use Rattle.stab_replay.specs.declared.replay.End.TheVariants.{Last, Joined, Framed}
 use Rattle.stab_kept.specs.declared.kept.KeptRun.{KeptRun}
 use Rattle.stab_kept.specs.declared.kept.Prepared.{Prepared}
 use Rattle.stab_kept.specs.declared.kept.Rest.{Rest}
 use Rattle.stab_kept.specs.declared.kept.Rest.TheVariants.{Nothing, Old}
 use Rattle.stab_run.specs.Records.{ones}
-use Rattle.stab_run.specs.Points.{RunOutput, joined, with_additions}
+use Rattle.stab_run.specs.Points.{RunOutput, nothing, joined, with_additions}
+use Rattle.stab_frames.specs.Flips.{flipped_output}
+use Rattle.stab_frames.specs.Walks.{WalkState}
 use Rattle.stab_run.specs.ProgramStates.{output_of}
 use Rattle.stab_run.specs.Cuts.{lengths_of, front_of, rest_of}
 use Rattle.stab_frames.specs.KeptStrings.{StringsState, front_kept}
 use Rattle.stab_replay.specs.NotedStrings.{IsSpliced}
-use Rattle.stab_copies.specs.LaidCopies.{moved_copy, all_laid}
+use Rattle.stab_copies.specs.LaidCopies.{all_laid}
+use Rattle.stab_kept.specs.declared.rest.OldRest.{OldRest}
+use Rattle.stab_kept.specs.inner.OldRests.{HasRoomFor, copies_moved, turned_end}
 
 -- this many of the first copies are before a step
 pub record IsCount (step : ℕ) (copies : List Checkpoint) (m : ℕ) : Type 0 where
@@ -43,42 +50,60 @@ pub record Begins (ys : List Step) (kept : KeptRun) (c : Checkpoint) (r : Replay
   pub framed : r.framed ≡ 0
   pub laid : r.laid.items ≡ []
 
--- there is a copy if a replay met one
-abbrev pub HasCopy : List Checkpoint → End → Type 0
-HasCopy copies Last = Unit {0}
-HasCopy copies (Joined number) = number < length copies
+-- there is a copy where a replay ended, and as many from it on as were turned
+abbrev pub HasCopy : ℕ → List Checkpoint → End → Type 0
+HasCopy n copies Last = Unit {0}
+HasCopy n copies (Joined number) = number < length copies
+HasCopy n copies (Framed f) = (f.number < length copies) × (f.number + length f.turned.items ≤ length copies) × (length f.walk.letters ≡ n)
 
--- the tableau after the last step, and the old copies that are still copies of the run, moved
-abbrev pub tableau_behind : Rest → TableauState → TableauState
-tableau_behind (Nothing tableau) old = tableau
-tableau_behind (Old number meeting room) old = old
+-- where it ended among the new steps: where it is, or where the first copy is that a frame did not turn, or after the last step
+abbrev pub end_of : Span → (total step : ℕ) → List Checkpoint → End → ℕ
+end_of s total step copies Last = step
+end_of s total step copies (Joined number) = step
+end_of s total step copies (Framed f) = turned_end s total (slice_get copies (f.number + length f.turned.items))
+
+-- the state after the last step, and the old copies that are still copies of the run, turned and moved
+abbrev pub IsTableauBehind : Rest → (old new : TableauState) → Type 0
+IsTableauBehind (Nothing tableau) old new = new ≡ tableau
+IsTableauBehind (Old rest) old new = (new.qubits ≡ old.qubits) × IsTurned old.qubits rest.walk.letters (stabilises old) (stabilises new)
 
 abbrev pub copies_behind : Rest → List Checkpoint → List Checkpoint
 copies_behind (Nothing tableau) copies = []
-copies_behind (Old number meeting room) copies = map (moved_copy meeting) (drop number copies)
+copies_behind (Old rest) copies = copies_moved rest copies
 
 -- there is room for them
-abbrev pub HasRoom : Rest → List Checkpoint → Type 0
-HasRoom (Nothing tableau) copies = Unit {0}
-HasRoom (Old number meeting room) copies = (room.items ≡ []) × (length copies ≤ vec_capacity room + number)
+abbrev pub HasRoom : ℕ → Rest → List Checkpoint → Type 0
+HasRoom n (Nothing tableau) copies = Unit {0}
+HasRoom n (Old rest) copies = HasRoomFor n rest copies
 
 -- the meeting of a replay that is before a step, with this output, and an old copy
 abbrev pub meeting_of : RunOutput → ℕ → Checkpoint → Meeting
 meeting_of o step c = record { old_step = c.step; new_step = step; old_lengths = c.lengths; new_lengths = lengths_of o }
 
--- from an old copy on the kept run comes after a replay: its copies, its tableau, what it gave, and its strings
-pub record IsOldRest (kept : KeptRun) (o : RunOutput) (noted : StringsState) (step number : ℕ) (new : RunOutput) (new_strings : StringsState) (rest : Rest) (c : Checkpoint) : Type 0 where
-  pub copies : copies_behind rest kept.checkpoints.items ≡ map (moved_copy (meeting_of o step c)) (drop number kept.checkpoints.items)
-  pub tableau : tableau_behind rest kept.tableau ≡ kept.tableau
-  pub output : new ≡ joined o (rest_of c.lengths (output_of kept.outputs))
+-- from an old copy with a number on the kept run comes after a replay: its copies, the first of them turned, what it gave, flipped as a frame
+-- says that compared some records before, and its strings
+pub record IsOldRest (kept : KeptRun) (o : RunOutput) (noted : StringsState) (step number compared : ℕ) (w : WalkState) (turned : List TableauState) (new : RunOutput)
+    (new_strings : StringsState) (rest : Rest) (c : Checkpoint) : Type 0 where
+  pub old : OldRest
+  pub is : rest ≡ Old old
+  pub from : old.number ≡ number
+  pub meeting : old.meeting ≡ meeting_of o step c
+  pub states : old.turned.items ≡ turned
+  pub letters : old.walk.letters ≡ w.letters
+  pub output : new ≡ joined o (flipped_output (rest_of c.lengths (output_of kept.outputs)) (record w.flips { records = drop compared w.flips.records; free = [] }))
   pub strings : IsSpliced noted kept.strings (ones (take c.lengths.free kept.outputs.free.items)) (ones new.free) new_strings
+
+-- a frame that is none
+abbrev pub no_frame : ℕ → WalkState
+no_frame n = record { letters = replicate n I; flips = nothing; coin = 0; number = 0 }
 
 -- what comes after a replay that ended before a step with this tableau and output, and what the output is then
 abbrev pub IsRest : KeptRun → TableauState → RunOutput → StringsState → ℕ → End → RunOutput → StringsState → Rest → Type 0
-IsRest kept t o strings step Last new new_strings rest =
-    (copies_behind rest kept.checkpoints.items ≡ []) × (tableau_behind rest kept.tableau ≡ t) × (new ≡ o) × (new_strings ≡ strings)
+IsRest kept t o strings step Last new new_strings rest = (rest ≡ Nothing t) × (new ≡ o) × (new_strings ≡ strings)
 IsRest kept t o strings step (Joined number) new new_strings rest =
-    IfSome (slice_get kept.checkpoints.items number) (IsOldRest kept o strings step number new new_strings rest)
+    IfSome (slice_get kept.checkpoints.items number) (IsOldRest kept o strings step number 0 (no_frame kept.tableau.qubits) [] new new_strings rest)
+IsRest kept t o strings step (Framed f) new new_strings rest =
+    IfSome (slice_get kept.checkpoints.items f.number) (IsOldRest kept o strings step f.number f.compared f.walk f.turned.items new new_strings rest)
 
 -- what a replay leaves is prepared: what comes after it, this many observables, summed, and its copies, the last first
 pub record IsPrepared (kept : KeptRun) (r : Replay) (count : ℕ) (end : End) (p : Prepared) : Type 0 where
@@ -89,7 +114,7 @@ pub record IsPrepared (kept : KeptRun) (r : Replay) (count : ℕ) (end : End) (p
 
 -- what was prepared is put in place, after this many of the old copies
 pub record IsCommitted (old : KeptRun) (p : Prepared) (before K : ℕ) (new : KeptRun) : Type 0 where
-  pub tableau : new.tableau ≡ tableau_behind p.rest old.tableau
+  pub tableau : IsTableauBehind p.rest old.tableau new.tableau
   pub output : output_of new.outputs ≡ output_of p.outputs
   pub observables : new.observables.items ≡ p.observables.items
   pub strings : new.strings ≡ p.strings

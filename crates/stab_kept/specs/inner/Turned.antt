@@ -1,6 +1,6 @@
 -- Turned runs: what a frame made of a kept run, and what is kept once that is put in place.
 -- Source: this project's own.
-use Rattle.std.specs.Prelude.{◌≡◌, ℕ, ◌+◌, ◌-◌, ◌*◌, ◌≤◌, Bool, false, List, [], ◌++◌, Option, None, Some, IfSome, MatchOption, All, length, take, drop, map, replicate, slice_get, vec_capacity}
+use Rattle.std.specs.Prelude.{◌≡◌, ℕ, ◌+◌, ◌-◌, ◌*◌, ◌≤◌, Bool, false, List, [], Option, IfSome, map, MatchOption, All, length, take, drop, replicate, slice_get}
 use Rattle.stab_letters.specs.declared.letter.Letter.TheVariants.{I}
 use Rattle.stab_tableau.specs.Tableaus.{TableauState, stabilises}
 use Rattle.stab_tableau.specs.Turns.{IsTurned}
@@ -19,15 +19,20 @@ use Rattle.stab_frames.specs.Flips.{flipped_output}
 use Rattle.stab_frames.specs.KeptStrings.{note_at}
 use Rattle.stab_frames.specs.Walks.{WalkState, IsPlaced}
 use Rattle.stab_turns.specs.LongerLists.{longer}
-use Rattle.stab_turns.specs.LedFrames.{IsLedFrame, with_states}
+use Rattle.stab_replay.specs.LedFrames.{IsLedFrame, with_states}
 use Rattle.stab_turns.specs.PassedPlaces.{IsFrameBetween, IsBeforePlaces}
 use Rattle.stab_turns.specs.declared.passing.PauliChange.{PauliChange}
 use Rattle.stab_kept.specs.declared.kept.KeptRun.{KeptRun}
 use Rattle.stab_kept.specs.declared.kept.Followed.{Followed}
 use Rattle.stab_kept.specs.declared.turning.Passed.{Passed}
 use Rattle.stab_kept.specs.declared.turning.Turning.{Turning}
+use Rattle.stab_kept.specs.inner.OldRests.{HasRoomFor, copies_moved}
 use Rattle.stab_kept.specs.Counts.{IsCounted}
 use Rattle.stab_kept.specs.KeptRuns.{IsKeptRun, IsSpan, AgreeBehindSpan, AgreeBackBehindSpan}
+
+-- no list has anything
+abbrev pub no_lengths : Lengths
+no_lengths = record { records = 0; free = 0; detectors = 0; additions = 0 }
 
 -- a step is not after a span, and the next copy, which is, once it has moved, or the last step, is at most K steps from it
 abbrev pub StaysNear : ℕ → Span → (total step : ℕ) → Option Checkpoint → Type 0
@@ -35,8 +40,8 @@ StaysNear K s total step next =
     (step ≤ s.new_end) × MatchOption next (total ≤ step + K) (λ c. (s.old_end ≤ c.step) × (moved s.old_end s.new_end c.step ≤ step + K))
 
 -- the copies of a run move with the end of a span, and its lists stay as long as they are
-abbrev pub span_meeting : Span → Lengths → Meeting
-span_meeting s l = record { old_step = s.old_end; new_step = s.new_end; old_lengths = l; new_lengths = l }
+abbrev pub span_meeting : Span → Meeting
+span_meeting s = record { old_step = s.old_end; new_step = s.new_end; old_lengths = no_lengths; new_lengths = no_lengths }
 
 -- a frame that began where the lists of a run were this long went past the places of a change within a span; of the copies that are after
 -- this many, those up to another count were made copies of the new run
@@ -56,34 +61,30 @@ pub record HasPassed (ys : List Step) (s : Span) (before inside : ℕ) (change :
       → IsBeforePlaces r.tableau.qubits coins xs ys (note_at r.strings.strings r.outputs.free.items) r.outputs.free.items base front s change (drop s.first ys) start
       → All (IsCheckpoint r.tableau.qubits coins xs) (take (inside - before) (drop before r.checkpoints.items)) → All (IsCheckpoint r.tableau.qubits coins ys) copies
 
+-- the copies after a span, those that a frame turned with their new states, and moved with it
+abbrev pub copies_turned : Span → List TableauState → List Checkpoint → List Checkpoint
+copies_turned s turned copies = map (moved_copy (span_meeting s)) (with_states turned copies)
+
 -- it was led on over the steps after the span, past the copies that are there
 pub record IsTurning (ys : List Step) (s : Span) (inside : ℕ) (p : Passed) (r : KeptRun) (t : Turning) : Type 0 where
   pub from : t.from ≡ p.from
   pub passed : t.passed.items ≡ p.copies.items
-  pub led : IsLedFrame r.tableau.qubits r.strings.strings r.outputs.free.items r.reach (drop s.new_end ys) s.old_end (drop inside r.checkpoints.items) t.turned.items p.walk t.walk
-  pub letters : length t.walk.letters ≡ r.tableau.qubits
-  pub room : (t.room.items ≡ []) × (length r.checkpoints.items ≤ vec_capacity t.room + inside)
-  pub few : length t.turned.items + inside ≤ length r.checkpoints.items
-
--- the copies after a span, those that a frame turned with their new states, and moved with it
-abbrev pub copies_moved : Span → Lengths → List TableauState → List Checkpoint → List Checkpoint
-copies_moved s from turned copies = map (moved_copy (span_meeting s from)) (with_states turned copies)
+  pub number : t.rest.number ≡ inside
+  pub meeting : t.rest.meeting ≡ span_meeting s
+  pub led : IsLedFrame r.tableau.qubits r.strings.strings r.outputs.free.items r.reach (drop s.new_end ys) s.old_end (drop inside r.checkpoints.items) t.rest.turned.items p.walk t.rest.walk
+  pub room : HasRoomFor r.tableau.qubits t.rest r.checkpoints.items
 
 -- what it made was put in place
-pub record IsPut (old : KeptRun) (s : Span) (before inside K : ℕ) (t : Turning) (new : KeptRun) : Type 0 where
+pub record IsPut (old : KeptRun) (before K : ℕ) (t : Turning) (new : KeptRun) : Type 0 where
   pub qubits : new.tableau.qubits ≡ old.tableau.qubits
-  pub turned : IsTurned old.tableau.qubits t.walk.letters (stabilises old.tableau) (stabilises new.tableau)
-  pub output : output_of new.outputs ≡ joined (front_of t.from (output_of old.outputs)) (flipped_output (rest_of t.from (output_of old.outputs)) (record t.walk.flips { free = [] }))
+  pub turned : IsTurned old.tableau.qubits t.rest.walk.letters (stabilises old.tableau) (stabilises new.tableau)
+  pub output : output_of new.outputs
+      ≡ joined (front_of t.from (output_of old.outputs)) (flipped_output (rest_of t.from (output_of old.outputs)) (record t.rest.walk.flips { free = [] }))
   pub observables : new.observables.items ≡ with_additions new.outputs.additions.items (replicate (length old.observables.items) false)
   pub strings : new.strings ≡ old.strings
   pub reach : new.reach ≡ old.reach
   pub checkpoints : new.checkpoints.items
-      ≡ all_laid K (t.passed.items ++ copies_moved s t.from t.turned.items (drop inside old.checkpoints.items)) (take before old.checkpoints.items)
-
--- where the first copy is that was not turned, or after the last step
-abbrev pub turned_end : Span → (total : ℕ) → Option Checkpoint → ℕ
-turned_end s total None = total
-turned_end s total (Some c) = moved s.old_end s.new_end c.step
+      ≡ all_laid K (copies_moved t.rest old.checkpoints.items) (all_laid K t.passed.items (take before old.checkpoints.items))
 
 -- the run was turned: it is that of the new steps, with this many observables, and this many steps were followed for it
 pub record HasTurned (n : ℕ) (coins : ℕ → Bool) (K : ℕ) (ys : List Step) (observables : ℕ) (s : Span) (old : KeptRun) (f : Followed) (new : KeptRun) : Type 0 where

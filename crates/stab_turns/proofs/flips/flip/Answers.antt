@@ -1,6 +1,6 @@
 use Rattle.std.proofs.Common.{arith, sym, ◌∙◌}
 use Rattle.stab_frames.proofs.FlipLemmas.{flipped-empty}
-use Rattle.stab_turns.proofs.FlippedLemmas.{flipped-more, flipped-all}
+use Rattle.stab_replay.proofs.FlippedLemmas.{flipped-more, flipped-all}
 use Rattle.stab_turns.proofs.flips.flip.Goals as goal
 
 pub loop-place-init : goal.loop-place-init

@@ -1,7 +1,7 @@
 use Rattle.std.proofs.Common.{arith, sym, ◌∙◌, false}
 use Rattle.stab_steps.specs.declared.records.Addition.{Addition}
 use Rattle.stab_frames.proofs.FlipLemmas.{additions-empty}
-use Rattle.stab_turns.proofs.FlippedLemmas.{additions-more, additions-all}
+use Rattle.stab_replay.proofs.FlippedLemmas.{additions-more, additions-all}
 use Rattle.stab_turns.proofs.flips.flip_additions.Goals as goal
 
 pub loop-place-init : goal.loop-place-init

@@ -1,5 +1,5 @@
-use Rattle.std.proofs.Common.{sym, ap, ◌∙◌, ◌++◌, take, drop}
-use Rattle.std.proofs.lemmas.List.{take-append-drop}
+use Rattle.std.proofs.Common.{length, arith, sym, ap, ◌∙◌, ◌++◌, take, drop}
+use Rattle.std.proofs.lemmas.List.{take-append-drop, take_all}
 use Rattle.stab_frames.specs.Flips.{flipped, flipped_additions}
 use Rattle.stab_frames.proofs.FlipLemmas.{flipped-empty}
 use Rattle.stab_turns.proofs.flips.flip_outputs.Goals as goal
@@ -8,9 +8,12 @@ pub returns : goal.returns
 returns c =
     let old = c.args.outputs.now in
     let from = c.args.from in
+    let bits = c.args.walk.now.flips.records in
+    let since = c.between-since.ensures.value ∙ (λ i. drop c.args.compared (take (length (c.records-records.ensures.value i)) (c.records-records.ensures.value i)))
+    ∙ ap (drop c.args.compared) (take_all (length bits) bits (omega arith)) in
     record {
       value = λ i. record {
-        records = (c.flip_from.ensures.value ∙ ap (λ flips. take from.records old.records.items ++ flipped (drop from.records old.records.items) flips) c.records.ensures.value) i;
+        records = (c.flip_from.ensures.value ∙ ap (λ flips. take from.records old.records.items ++ flipped (drop from.records old.records.items) flips) since) i;
         free = (sym (take-append-drop from.free old.free.items) ∙ ap (λ bits. take from.free old.free.items ++ bits) (sym (flipped-empty (drop from.free old.free.items)))) i;
         detectors =
             (c.flip_from-2.ensures.value

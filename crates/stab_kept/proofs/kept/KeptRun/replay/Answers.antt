@@ -1,4 +1,4 @@
-use Rattle.std.proofs.Common.{◌≡◌, ℕ, ◌+◌, ◌≤◌, refl, sym, ◌∙◌, ap, subst, length, take, drop, All, None, arith}
+use Rattle.std.proofs.Common.{◌≡◌, ℕ, ◌+◌, ◌-◌, ◌≤◌, refl, sym, ◌∙◌, ap, subst, length, take, drop, All, None, arith}
 use Rattle.std.specs.Prelude.{Result, Ok, Err, OnErr}
 use Rattle.stab_circuit.specs.Steps.{unroll}
 use Rattle.stab_circuit.specs.Views.{circuit_items}
@@ -13,11 +13,11 @@ use Rattle.stab_kept.specs.KeptRuns.{IsKeptRun, Follows}
 use Rattle.stab_replay.specs.Replays.{Ascending}
 use Rattle.stab_laws.proofs.FitLemmas.{check-fits, check-whole, check-steps}
 use Rattle.stab_kept.proofs.CountLemmas.{coins-behind}
-use Rattle.stab_kept.specs.inner.Prepared.{IsCount}
+use Rattle.stab_kept.specs.inner.Prepared.{IsCount, end_of as stop_of}
 use Rattle.stab_kept.proofs.CourseLemmas.{HasBegun, HasEnded, count-of, seen-end, seen-soon, some-before, copy-within, has-begun, asked-behind, ascending-here, old-run, has-ended}
 use Rattle.stab_kept.proofs.kept.KeptRun.replay.Given.{Over}
 use Rattle.stab_kept.proofs.kept.KeptRun.replay.Goals as goal
-use Rattle.stab_kept.proofs.kept.KeptRun.replay.Goals.{After-as_slice, After-count_before-before, In_ok-replay, After-as_slice-3, After-follow, In_ok-end}
+use Rattle.stab_kept.proofs.kept.KeptRun.replay.Goals.{After-place_of-place, After-as_slice, After-count_before-before, In_ok-replay, After-as_slice-3, After-follow, In_ok-end}
 
 on-err : {A E : Type 0} (r : Result A E) (P : Type 0) → P → OnErr r P
 on-err (Ok x) P p = tt
@@ -74,7 +74,35 @@ end_of g c f few first begins behind =
     let plan = planned c.steps.result c.args.stride c.args.span c.max.result c.len.result c.args.self.now.reach in
     has-ended f few first begins behind plan refl refl (omega (arith, c.steps.ensures.value, few)) c.max.ensures refl c.follow.new.self c.in_ok-end.end
     c.in_ok-end.ensures.replay c.in_ok-end.ensures.raised
-    (seen-end c.in_ok-replay.replay.tableau.qubits plan c.follow.new.self c.args.self.now.outputs.records.items c.args.self.now.outputs.free.items c.in_ok-end.end c.as_slice-3.ensures.value c.in_ok-end.ensures.end)
+    (seen-end c.in_ok-replay.replay.tableau.qubits plan c.follow.new.self (output_of c.args.self.now.outputs) c.args.self.now.strings c.in_ok-end.end c.as_slice-3.ensures.value c.in_ok-end.ensures.end)
+
+-- where it ended among the new steps
+stop_is : (g : Over) (c : After-place_of-place g) → length (unroll (circuit_items c.args.circuit.now)) ≤ 1048576
+    → c.place_of-place.result ≡ stop_of c.args.span (length (unroll (circuit_items c.args.circuit.now))) c.follow.new.self.step c.args.self.now.checkpoints.items c.in_ok-end.end
+stop_is g c few =
+    c.place_of-place.ensures.value
+    ∙ ap (λ t. stop_of c.args.span t c.follow.new.self.step c.args.self.now.checkpoints.items c.in_ok-end.end) (omega (arith, c.steps.ensures.value, few))
+
+-- so many steps were followed
+followed : (g : Over) (c : After-place_of-place g) → length (unroll (circuit_items c.args.circuit.now)) ≤ 1048576
+    → c.follow.new.self.step ≤ stop_of c.args.span (length (unroll (circuit_items c.args.circuit.now))) c.follow.new.self.step c.args.self.now.checkpoints.items c.in_ok-end.end
+    → (c.follow.new.self.applied + (c.follow.new.self.framed + (c.place_of-place.result - c.follow.new.self.step))) + c.in_ok-replay.replay.step
+    ≡ stop_of c.args.span (length (unroll (circuit_items c.args.circuit.now))) c.follow.new.self.step c.args.self.now.checkpoints.items c.in_ok-end.end
+followed g c few order = omega (arith, c.in_ok-end.ensures.counted, stop_is g c few, order)
+
+pub place_of-place-requires : goal.place_of-place-requires
+place_of-place-requires g c =
+    let at = goal.at.place_of-place-requires g c in
+    let begins = begun g at.In_ok-replay (few g at.After-as_slice) (first g at.After-count_before-before) in
+    let ended = end_of g at.In_ok-end c.requires.follows (few g at.After-as_slice) (first g at.After-count_before-before) begins (behind g at.After-as_slice-3) in
+    record { in_range = ended.copy }
+
+pub overflow_sub-followed : goal.overflow_sub-followed
+overflow_sub-followed g c =
+    let at = goal.at.overflow_sub-followed g c in
+    let begins = begun g at.In_ok-replay (few g at.After-as_slice) (first g at.After-count_before-before) in
+    let ended = end_of g at.In_ok-end c.requires.follows (few g at.After-as_slice) (first g at.After-count_before-before) begins (behind g at.After-as_slice-3) in
+    omega (arith, ended.order, stop_is g at.After-place_of-place (few g at.After-as_slice))
 
 pub overflow_add-span : goal.overflow_add-span
 overflow_add-span g c =
@@ -276,7 +304,7 @@ returns-clause-applied g c =
     let at = goal.at.returns-clause-applied g c in
     let begins = begun g at.In_ok-replay (few g at.After-as_slice) (first g at.After-count_before-before) in
     let ended = end_of g at.In_ok-end c.requires.follows (few g at.After-as_slice) (first g at.After-count_before-before) begins (behind g at.After-as_slice-3) in
-    ended.applied (c.follow.new.self.applied + c.follow.new.self.framed) c.in_ok-end.ensures.counted
+    ended.applied _ (followed g at.After-place_of-place (few g at.After-as_slice) ended.order)
 
 pub returns-clause-few : goal.returns-clause-few
 returns-clause-few g c =
@@ -284,7 +312,7 @@ returns-clause-few g c =
     let begins = begun g at.In_ok-replay (few g at.After-as_slice) (first g at.After-count_before-before) in
     λ xs count far kept span agree.
     let ended = end_of g at.In_ok-end (record { old = xs; count = count; kept = kept; span = span; differ = tt }) (few g at.After-as_slice) (first g at.After-count_before-before) begins (behind g at.After-as_slice-3) in
-    ended.few (c.follow.new.self.applied + c.follow.new.self.framed) c.in_ok-end.ensures.counted (seen-soon (g.C.Coins.sequence c.args.coins.now) (planned c.steps.result c.args.stride c.args.span c.max.result c.len.result c.args.self.now.reach) c.follow.new.self.step begins.qubits begins.all c.as_slice-3.ensures.value refl c.in_ok-end.ensures.soon) far agree
+    ended.few _ (followed g at.After-place_of-place (few g at.After-as_slice) ended.order) (seen-soon (g.C.Coins.sequence c.args.coins.now) (planned c.steps.result c.args.stride c.args.span c.max.result c.len.result c.args.self.now.reach) c.follow.new.self.step begins.qubits begins.all c.as_slice-3.ensures.value refl c.in_ok-end.ensures.soon) far agree
 
 pub returns-clause-counted : goal.returns-clause-counted
 returns-clause-counted g c =
@@ -292,4 +320,4 @@ returns-clause-counted g c =
     let begins = begun g at.In_ok-replay (few g at.After-as_slice) (first g at.After-count_before-before) in
     λ xs count kept span.
     let ended = end_of g at.In_ok-end (record { old = xs; count = count; kept = kept; span = span; differ = tt }) (few g at.After-as_slice) (first g at.After-count_before-before) begins (behind g at.After-as_slice-3) in
-    ended.counted (c.follow.new.self.applied + c.follow.new.self.framed) c.in_ok-end.ensures.counted (seen-soon (g.C.Coins.sequence c.args.coins.now) (planned c.steps.result c.args.stride c.args.span c.max.result c.len.result c.args.self.now.reach) c.follow.new.self.step begins.qubits begins.all c.as_slice-3.ensures.value refl c.in_ok-end.ensures.soon)
+    ended.counted _ (followed g at.After-place_of-place (few g at.After-as_slice) ended.order) (seen-soon (g.C.Coins.sequence c.args.coins.now) (planned c.steps.result c.args.stride c.args.span c.max.result c.len.result c.args.self.now.reach) c.follow.new.self.step begins.qubits begins.all c.as_slice-3.ensures.value refl c.in_ok-end.ensures.soon)

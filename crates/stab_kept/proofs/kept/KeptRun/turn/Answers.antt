@@ -10,7 +10,8 @@ use Rattle.stab_run.specs.Cuts.{lengths_of}
 use Rattle.stab_laws.proofs.FitLemmas.{check-fits, check-whole, check-steps}
 use Rattle.stab_turns.specs.LongerLists.{longer}
 use Rattle.stab_kept.specs.inner.Prepared.{IsCount}
-use Rattle.stab_kept.specs.inner.Turned.{StaysNear, HasPassed, IsTurning, HasTurned, turned_end}
+use Rattle.stab_kept.specs.inner.OldRests.{turned_end}
+use Rattle.stab_kept.specs.inner.Turned.{StaysNear, HasPassed, IsTurning, HasTurned}
 use Rattle.stab_kept.proofs.FollowLemmas.{some-at}
 use Rattle.stab_kept.proofs.CourseLemmas.{count-of}
 use Rattle.stab_kept.proofs.TurnLemmas.{AreInside}
@@ -74,10 +75,10 @@ turning-requires-clause-few c =
     )
 
 end-is : (c : After-end_place-end) → c.steps-total.result ≡ length (unroll (circuit_items c.args.circuit.now)) → c.end_place-end.result
-    ≡ turned_end c.args.span (length (unroll (circuit_items c.args.circuit.now))) (slice_get c.args.self.now.checkpoints.items (c.count_within-inside.result + length c.in-Some-2.turning.turned.items))
+    ≡ turned_end c.args.span (length (unroll (circuit_items c.args.circuit.now))) (slice_get c.args.self.now.checkpoints.items (c.count_within-inside.result + length c.in-Some-2.turning.rest.turned.items))
 end-is c total =
     let same = c.as_slice-copies.ensures.value in
-    let count : c.len-2.result ≡ length c.in-Some-2.turning.turned.items = c.len-2.ensures ∙ c.in-Some-2.turning.turned.ok.0 in
+    let count : c.len-2.result ≡ length c.in-Some-2.turning.rest.turned.items = c.len-2.ensures ∙ c.in-Some-2.turning.rest.turned.ok.0 in
     c.end_place-end.ensures.value
     ∙ (λ i. turned_end c.args.span (total i) (slice_get (same i) (c.count_within-inside.result + count i)))
 
@@ -90,7 +91,7 @@ framed_between-followed-requires c =
     let order = f.span.new_order in
     let before = copy-before f.count f.kept f.span small count c.index-copies-before.result (here at.After-index-copies-before small count) in
     let behind = end-behind c.args.span (length (unroll (circuit_items c.args.circuit.now)))
-    (slice_get c.args.self.now.checkpoints.items (c.count_within-inside.result + length c.in-Some-2.turning.turned.items)) f.span.new_within small in
+    (slice_get c.args.self.now.checkpoints.items (c.count_within-inside.result + length c.in-Some-2.turning.rest.turned.items)) f.span.new_within small in
     record {
       order = omega (arith, order, before, behind, end-is at.After-end_place-end (total-is at.After-as_slice-copies small), ap (λ (d : Checkpoint). d.step) c.index-copies-before.is);
     }

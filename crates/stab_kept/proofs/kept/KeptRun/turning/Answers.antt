@@ -5,7 +5,7 @@ use Rattle.stab_circuit.specs.Views.{circuit_items}
 use Rattle.stab_frames.specs.Walks.{WalkState}
 use Rattle.stab_run.specs.ProgramStates.{StepFits}
 use Rattle.stab_laws.proofs.FitLemmas.{check-fits}
-use Rattle.stab_turns.specs.LedFrames.{AreInOrder, IsLedFrame}
+use Rattle.stab_replay.specs.LedFrames.{AreInOrder, IsLedFrame}
 use Rattle.stab_kept.proofs.TurningLemmas.{behind-order, led-few}
 use Rattle.stab_kept.proofs.kept.KeptRun.turning.Goals as goal
 
@@ -39,14 +39,19 @@ returns-clause-turning c =
     record {
       from = refl;
       passed = refl;
+      number = refl;
+      meeting = refl;
       led = subst (IsLedFrame n c.args.self.now.strings.strings c.args.self.now.outputs.free.items c.args.self.now.reach (drop c.args.span.new_end ys) c.args.span.old_end (drop c.args.inside cs)
           c.lead_frame.new.turned.items c.args.passed.walk) (sym c.walk-2.view_is) led;
-      letters = ap (λ (w : WalkState). length w.letters) c.walk-2.view_is ∙ c.lead_frame.ensures.length ∙ c.requires.letters;
-      room = (
-        c.in_ok-with_capacity.ensures.items,
-        omega (arith, c.in_ok-with_capacity.ensures.capacity, c.len.ensures, c.args.self.now.checkpoints.ok.0),
-      );
-      few =
-          led-few n c.args.self.now.strings.strings c.args.self.now.outputs.free.items c.args.self.now.reach (drop c.args.span.new_end ys) c.args.span.old_end c.args.inside cs
-          c.lead_frame.new.turned.items c.args.passed.walk c.lead_frame.new.walk led c.requires.inside;
+      room = record {
+        nothing = c.in_ok-with_capacity.ensures.items;
+        room = omega (arith, c.in_ok-with_capacity.ensures.capacity, c.len.ensures, c.args.self.now.checkpoints.ok.0);
+        few =
+            omega (
+              arith,
+              led-few n c.args.self.now.strings.strings c.args.self.now.outputs.free.items c.args.self.now.reach (drop c.args.span.new_end ys) c.args.span.old_end c.args.inside cs
+                  c.lead_frame.new.turned.items c.args.passed.walk c.lead_frame.new.walk led c.requires.inside,
+            );
+        letters = ap (λ (w : WalkState). length w.letters) c.walk-2.view_is ∙ c.lead_frame.ensures.length ∙ c.requires.letters;
+      };
     }

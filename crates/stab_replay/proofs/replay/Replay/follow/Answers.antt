@@ -1,8 +1,11 @@
-use Rattle.std.proofs.Common.{◌≡◌, ◌+◌, ◌-◌, ◌*◌, ◌≤◌, min, [], ◌∷◌, ◌++◌, slice_get, sym, ◌∙◌, ap, subst, length, length-append, drop, arith}
+use Rattle.std.proofs.Common.{◌≡◌, ℕ, Option, Some, ◌+◌, ◌-◌, ◌*◌, ◌≤◌, min, [], ◌∷◌, ◌++◌, slice_get, sym, ◌∙◌, ap, subst, length, length-append, drop, arith}
+use Rattle.std.specs.Prelude.{IfSome}
 use Rattle.stab_replay.specs.declared.replay.Replay.{Replay}
+use Rattle.stab_replay.specs.declared.led.LedFrame.{LedFrame}
 use Rattle.stab_replay.specs.declared.replay.End.TheVariants.{Last, Joined}
 use Rattle.stab_replay.specs.declared.replay.Arrival.{Arrival}
 use Rattle.stab_replay.specs.declared.replay.Arrival.TheVariants.{Met, Behind, Between}
+use Rattle.stab_run.specs.ProgramStates.{output_of}
 use Rattle.stab_run.specs.Records.{ones}
 use Rattle.stab_run.specs.Points.{all_coins_of}
 use Rattle.stab_replay.specs.Replays.{IsReplay, IsEnd, EndsSoon, IsAtStop, IsOnWay, spacing_of, copy_of}
@@ -75,7 +78,7 @@ pub returns-in-Met-clause-end : goal.returns-in-Met-clause-end
 returns-in-Met-clause-end g c =
     let at = (goal.at.returns-in-Met-clause-end g c).In_ok-reached in
     let met = arrived g at _ Met c.in-Met.is c.in_ok-arrive.ensures.value in
-    subst (λ (r : Replay). IsEnd c.args.self.now.tableau.qubits c.args.plan r c.args.copies.now c.args.old.now.records.items c.args.old.now.free.items (Joined c.in_ok-reached.reached))
+    subst (λ (r : Replay). IsEnd c.args.self.now.tableau.qubits c.args.plan r c.args.copies.now (output_of c.args.old.now) c.args.strings.now (Joined c.in_ok-reached.reached))
     (sym c.arrive.ensures.unchanged)
     ((stopped g at).order, met)
 
@@ -83,7 +86,7 @@ pub returns-in-Behind-clause-end : goal.returns-in-Behind-clause-end
 returns-in-Behind-clause-end g c =
     let at = (goal.at.returns-in-Behind-clause-end g c).In_ok-reached in
     let behind = arrived g at _ Behind c.in-Behind.is c.in_ok-arrive.ensures.value in
-    subst (λ (r : Replay). IsEnd c.args.self.now.tableau.qubits c.args.plan r c.args.copies.now c.args.old.now.records.items c.args.old.now.free.items Last) (sym c.arrive.ensures.unchanged) behind.0
+    subst (λ (r : Replay). IsEnd c.args.self.now.tableau.qubits c.args.plan r c.args.copies.now (output_of c.args.old.now) c.args.strings.now Last) (sym c.arrive.ensures.unchanged) behind.0
 
 pub returns-in-Met-clause-few_laid : goal.returns-in-Met-clause-few_laid
 returns-in-Met-clause-few_laid g c =
@@ -101,6 +104,21 @@ returns-in-Behind-clause-few_laid g c =
     (ap (λ (r : Replay). length r.laid.items) c.arrive.ensures.unchanged)
     (let further = c.advance.ensures.further in omega (arith, further, ap (λ (r : Replay). r.step) c.arrive.ensures.unchanged))
     (let within = (stopped g at).within in omega (arith, within))
+
+pub returns-in-Some-clause-soon : goal.returns-in-Some-clause-soon
+returns-in-Some-clause-soon g c = ended g ((goal.at.returns-in-Some-clause-soon g c).In_ok-reached) c.arrive.new.self c.arrive.ensures.unchanged
+
+begun-at : (found : Option LedFrame) (f : LedFrame) (k : ℕ) (Q : LedFrame → Type 0) → found ≡ Some f → IfSome found (λ x. (x.number ≡ k) × Q x) → f.number ≡ k
+begun-at found f k Q is holds = (subst (λ m. IfSome m (λ x. (x.number ≡ k) × Q x)) is holds).0
+
+pub returns-in-Some-clause-few_laid : goal.returns-in-Some-clause-few_laid
+returns-in-Some-clause-few_laid g c =
+    let at = (goal.at.returns-in-Some-clause-few_laid g c).In_ok-reached in
+    let number = begun-at c.in_ok-framed.framed c.in-Some.framed c.in_ok-reached.reached _ c.in-Some.is (c.in_ok-framed.ensures {u = tt}).framed in
+    laid-end (spacing_of c.args.plan.stride) (length c.advance.new.self.laid.items) (length c.arrive.new.self.laid.items) (c.in_ok-reached.reached - c.args.plan.next)
+    (c.in-Some.framed.number - c.args.plan.next) c.args.self.now.step c.following.self.step c.arrive.new.self.step (few g at)
+    (ap (λ (r : Replay). length r.laid.items) c.arrive.ensures.unchanged)
+    (let further = c.advance.ensures.further in omega (arith, further, ap (λ (r : Replay). r.step) c.arrive.ensures.unchanged)) (omega (arith, number))
 
 -- with a copy laid it is on its way
 

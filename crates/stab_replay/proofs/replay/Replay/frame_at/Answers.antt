@@ -1,39 +1,50 @@
-use Rattle.std.proofs.Common.{◌≡◌, ◌-◌, ◌≤◌, refl, sym, ◌∙◌, ap, subst, length, arith}
-use Rattle.std.proofs.lemmas.Option.{IfSome_then, slice_get_read}
+use Rattle.std.proofs.Common.{rules, Bool, true, IsTrue, inl, inr, ◌≡◌, ◌-◌, ◌<◌, ◌≤◌, refl, sym, ◌∙◌, ap, subst, Some, slice_get, IsSomeAnd, length, take, drop, arith}
+use Rattle.std.proofs.lemmas.Option.{slice_get_read, IfSome_then}
+use Rattle.stab_run.specs.Records.{ones}
 use Rattle.stab_run.specs.ProgramStates.{output_of}
-use Rattle.stab_replay.specs.declared.replay.Replay.{Replay}
-use Rattle.stab_replay.specs.inner.LedReplays.{IsLed}
-use Rattle.stab_replay.proofs.LedLemmas.{beside-lengths, led-from}
+use Rattle.stab_replay.specs.Replays.{BeginsAt}
+use Rattle.stab_copies.proofs.RunCopyLemmas.{lengths-within}
+use Rattle.stab_replay.proofs.LedLemmas.{at-number}
+use Rattle.stab_copies.specs.Checkpoints.{IsCheckpoint}
 use Rattle.stab_replay.proofs.replay.Replay.frame_at.Goals as goal
+use Rattle.stab_replay.proofs.replay.Replay.frame_at.Goals.{After-index-copies-number}
 
-pub frame_from-requires-clause-flags : goal.frame_from-requires-clause-flags
-frame_from-requires-clause-flags c =
-    let first : 1 ≤ c.args.next = grind (arith, c.if-next-eq0.false) in
-    let from = slice_get_read c.args.copies.now (length c.args.copies.now) (c.args.next - 1) c.index-copies-next.result refl (omega (arith, first, c.requires.next)) c.index-copies-next.is in
-    (beside-lengths c.args.self.now.tableau.qubits c.requires.beside.0 c.args.plan c.args.self.now.cursor.all c.args.copies.now (output_of c.args.old.now) c.requires.beside.1
-    (c.args.next - 1) c.index-copies-next.result c.args.self.now c.requires.beside.2 from).0
+is-true : (b : Bool) → b ≡ true → IsTrue b
+is-true b e = search rules
 
-pub frame_from-requires-clause-records : goal.frame_from-requires-clause-records
-frame_from-requires-clause-records c =
-    let first : 1 ≤ c.args.next = grind (arith, c.if-next-eq0.false) in
-    let from = slice_get_read c.args.copies.now (length c.args.copies.now) (c.args.next - 1) c.index-copies-next.result refl (omega (arith, first, c.requires.next)) c.index-copies-next.is in
-    (beside-lengths c.args.self.now.tableau.qubits c.requires.beside.0 c.args.plan c.args.self.now.cursor.all c.args.copies.now (output_of c.args.old.now) c.requires.beside.1
-    (c.args.next - 1) c.index-copies-next.result c.args.self.now c.requires.beside.2 from).1
+here : (c : After-index-copies-number) → slice_get c.args.copies.now c.args.number ≡ Some c.index-copies-number.result
+here c = slice_get_read c.args.copies.now (length c.args.copies.now) c.args.number c.index-copies-number.result refl (omega (arith, c.if-number-copies.false)) c.index-copies-number.is
+
+pub frame_between-requires-clause-flags : goal.frame_between-requires-clause-flags
+frame_between-requires-clause-flags c =
+    let old = c.requires.old.2 in
+    let from = here ((goal.at.frame_between-requires-clause-flags c).After-index-copies-number) in
+    (lengths-within c.args.self.now.tableau.qubits c.requires.old.0 old.steps (output_of c.args.old.now) c.index-copies-number.result
+    (at-number (IsCheckpoint c.args.self.now.tableau.qubits c.requires.old.0 old.steps) c.args.copies.now c.args.number c.index-copies-number.result from old.are_copies) old.output).0
+
+pub frame_between-requires-clause-records : goal.frame_between-requires-clause-records
+frame_between-requires-clause-records c =
+    let old = c.requires.old.2 in
+    let from = here ((goal.at.frame_between-requires-clause-records c).After-index-copies-number) in
+    (lengths-within c.args.self.now.tableau.qubits c.requires.old.0 old.steps (output_of c.args.old.now) c.index-copies-number.result
+    (at-number (IsCheckpoint c.args.self.now.tableau.qubits c.requires.old.0 old.steps) c.args.copies.now c.args.number c.index-copies-number.result from old.are_copies) old.output).1
 
 pub returns-clause-found : goal.returns-clause-found
 returns-clause-found c =
-    let first : 1 ≤ c.args.next = grind (arith, c.if-next-eq0.false) in
-    let from = slice_get_read c.args.copies.now (length c.args.copies.now) (c.args.next - 1) c.index-copies-next.result refl (omega (arith, first, c.requires.next)) c.index-copies-next.is in
-    let behind : c.args.plan.old_end ≤ c.index-copies-next.result.step = grind (arith, c.if-copy-plan.false) in
-    let there : c.shifted.result ≡ c.args.self.now.step = grind (arith, c.if-shifted-self.false) in
-    let same = c.frame_from.ensures.unchanged in
-    IfSome_then c.in_ok-found.found c.in_ok-found.ensures.walk (λ w found. (
-      first,
-      λ coins s beside.
-          subst (λ (x : Replay). IsLed c.args.self.now.tableau.qubits coins c.args.plan c.args.self.now.cursor.all c.args.copies.now (output_of c.args.old.now) s (c.args.next - 1)
-          (record x { notes = record x.notes { reach = c.max-self.result } }) w) (sym same)
-          (led-from c.args.self.now.tableau.qubits coins c.args.plan c.args.self.now.cursor.all c.args.copies.now (output_of c.args.old.now) s (c.args.next - 1)
-          c.index-copies-next.result c.args.self.now c.frame_from.new.self.string c.max-self.result w beside from behind (sym c.shifted.ensures.value ∙ there)
-          c.requires.base c.requires.same_records found c.frame_from.ensures.string
-          (omega (arith, c.max-self.ensures, ap (λ (x : Replay). x.notes.reach) same)) (omega (arith, c.max-self.ensures))),
-    ))
+    let from = here ((goal.at.returns-clause-found c).After-index-copies-number) in
+    let served : c.may_have_coin.result ≡ true = grind (arith, c.if-not-may_have_coin.false) in
+    let coins = c.may_have_coin.ensures.value.0 (is-true c.may_have_coin.result served) in
+    let flags : c.as_slice.result.now ≡ c.args.old.now.free.items = c.as_slice.ensures.value in
+    IfSome_then c.in_ok-found.found c.in_ok-found.ensures.walk (λ w found.
+    subst (λ m. IsSomeAnd m (BeginsAt c.args.plan c.args.self.now (output_of c.args.old.now) w)) (sym from) (record {
+      behind = grind (arith, c.if-copy-plan.false);
+      place = sym c.shifted.ensures.value ∙ grind (arith, c.if-shifted-self.false);
+      coin =
+          elim coins [
+            | inl same ↦ inl (sym c.args.self.now.outputs.free.ok.0 ∙ sym c.len.ensures ∙ same)
+            | inr none ↦ inr (ap (λ bits. ones (drop c.index-copies-number.result.lengths.free bits)) (sym flags) ∙ none)
+          ];
+      within = c.requires.base;
+      same = c.requires.same_records;
+      frame = found;
+    }))

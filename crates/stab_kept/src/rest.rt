@@ -1,0 +1,113 @@
+ghost use Rattle.std.specs.Prelude.{◌≡◌, ◌+◌, ◌≤◌, ◌++◌, length, take, drop, reverse, slice_get, vec_capacity};
+ghost use Rattle.stab_run.specs.ProgramStates.{output_of};
+ghost use Rattle.stab_copies.specs.LaidCopies.{all_laid};
+ghost use Rattle.stab_replay.specs.LedFrames.{with_states};
+ghost use Rattle.stab_kept.specs.inner.OldRests.{HasRoomFor, IsRestPut, turned_end};
+ghost use Rattle.stab_kept.specs.inner.Prepared.{HasCopy, end_of};
+
+use crate::kept::KeptRun;
+use stab_circuit::Span;
+use stab_copies::{Checkpoint, Meeting, lay_all, shifted, take_moved};
+use stab_frames::FrameWalk;
+use stab_replay::End;
+use stab_tableau::CompactTableau;
+use stab_turns::turn_tableau;
+
+/// The run from a kept copy on, which a frame turns, and which moves to another place.
+#[derive(Drop)]
+pub(crate) struct OldRest {
+    /// The number of that copy.
+    pub number: usize,
+    /// Where it is, and where it moves to.
+    pub meeting: Meeting,
+    /// The frame after the last step.
+    pub walk: FrameWalk,
+    /// The first copies, turned.
+    pub turned: Vec<CompactTableau>,
+    // Where copies are while they move.
+    pub room: Vec<Checkpoint>,
+}
+
+/// Where a copy is among the new steps once it has moved with a span, or the end where there is none.
+pub(crate) fn end_place(copies: &[Checkpoint], number: usize, span: Span, total: usize) -> usize
+    ensures value { result ≡ turned_end span total (slice_get copies.now number) }
+{
+    match copies.get(number) {
+        Some(copy) => shifted(span.old_end, span.new_end, copy.step),
+        None => total,
+    }
+}
+
+/// Puts states in place of those of copies, from a place on. It takes no memory.
+fn put_states(copies: &mut Vec<Checkpoint>, from: usize, states: &mut Vec<CompactTableau>)
+    requires in_range { from + length states.old.items ≤ length copies.old.items }
+    ensures value { copies.new.items ≡ take from copies.old.items ++ with_states states.old.items (drop from copies.old.items) }
+    ensures capacity { vec_capacity copies.new ≡ vec_capacity copies.old }
+{
+    while let Some(state) = states.pop() {
+        copies[from + states.len()].tableau = state;
+    }
+}
+
+impl KeptRun {
+    /// Where a replay of the new steps ended, which is before this one if no frame led on.
+    pub(crate) fn place_of(&self, end: &End, step: usize, span: Span, total: usize) -> usize
+        requires in_range { HasCopy self.now.tableau.qubits self.now.checkpoints.items end.now }
+        ensures value { result ≡ end_of span total step self.now.checkpoints.items end.now }
+    {
+        match end {
+            End::Framed(framed) => end_place(
+                self.checkpoints.as_slice(),
+                framed.number + framed.turned.len(),
+                span,
+                total,
+            ),
+            _ => step,
+        }
+    }
+
+    /// Lays copies, the last of them first, after this many of those that are kept. It takes no
+    /// memory.
+    pub(crate) fn lay_behind(&mut self, before: usize, laid: &mut Vec<Checkpoint>, stride: usize)
+        requires room { before + length laid.old.items ≤ vec_capacity self.old.checkpoints }
+        ensures tableau { self.new.tableau ≡ self.old.tableau }
+        ensures output { output_of self.new.outputs ≡ output_of self.old.outputs }
+        ensures observables { self.new.observables.items ≡ self.old.observables.items }
+        ensures strings { self.new.strings ≡ self.old.strings }
+        ensures reach { self.new.reach ≡ self.old.reach }
+        ensures checkpoints { self.new.checkpoints.items ≡ all_laid stride (reverse laid.old.items) (take before self.old.checkpoints.items) }
+        ensures shorter { length self.new.checkpoints.items ≤ before + length laid.old.items }
+        ensures capacity { vec_capacity self.new.checkpoints ≡ vec_capacity self.old.checkpoints }
+    {
+        self.checkpoints.truncate(before);
+        lay_all(&mut self.checkpoints, laid, stride);
+    }
+
+    /// Puts the rest of the run in place, after copies, the last of them first, that come after this many of those that are kept. It
+    /// takes no memory.
+    pub(crate) fn put_rest(
+        &mut self,
+        rest: OldRest,
+        before: usize,
+        laid: &mut Vec<Checkpoint>,
+        stride: usize,
+    )
+        requires room { HasRoomFor self.old.tableau.qubits rest self.old.checkpoints.items }
+        requires order { before ≤ rest.number }
+        requires capacity { before + length laid.old.items + length self.old.checkpoints.items ≤ vec_capacity self.old.checkpoints + rest.number }
+        ensures put { IsRestPut self.old rest before stride (reverse laid.old.items) self.new }
+    {
+        let OldRest {
+            number,
+            meeting,
+            walk,
+            mut turned,
+            mut room,
+        } = rest;
+        turn_tableau(&mut self.tableau, walk.letters());
+        put_states(&mut self.checkpoints, number, &mut turned);
+        take_moved(&mut self.checkpoints, number, meeting, &mut room);
+        self.lay_behind(before, laid, stride);
+        lay_all(&mut self.checkpoints, &mut room, stride);
+    }
+}

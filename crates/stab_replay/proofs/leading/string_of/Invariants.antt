@@ -1,0 +1,10 @@
+use Rattle.std.proofs.Common.{◌≡◌, ◌++◌, false, length, replicate, take, drop}
+use Rattle.stab_letters.specs.declared.letter.Letter.TheVariants.{I}
+use Rattle.stab_replay.proofs.leading.string_of.Given as goal
+
+-- the letters up to this qubit were put in
+abbrev pub invariant-loop-qubit : goal.invariant-loop-qubit
+invariant-loop-qubit l = record {
+  positive : l.string.negative ≡ false;
+  letters : l.string.letters ≡ take l.qubit l.letters ++ drop l.qubit (replicate (length l.letters) I);
+}
