@@ -17,7 +17,7 @@ use Rattle.stab_run.specs.ProgramStates.{StepFits}
 use Rattle.stab_run.specs.Cuts.{lengths_of}
 use Rattle.stab_run.specs.Laws.{AgreeAt}
 use Rattle.stab_run.specs.Ends.{AgreeBack, with_coin}
-use Rattle.stab_run.proofs.FramedLemmas.{flips-free}
+use Rattle.stab_copies.proofs.FlippedLemmas.{flips-free}
 use Rattle.stab_run.proofs.LedLemmas.{coins-all}
 use Rattle.stab_steps.proofs.RunLemmas.{after-append, outputs-append}
 use Rattle.stab_laws.proofs.PointLemmas.{flags-are-coins, records-gathered, rest-output}
