@@ -15,12 +15,12 @@ ghost use Rattle.stab_run.specs.inner.Turned.{IsPeriod, BeginsPeriod, ComesTurne
 use crate::marks::Mark;
 use stab_circuit::{Circuit, Cursor, Repeat};
 use stab_copies::{
-    all_recorded, append_turned, are_fixed, frame_between, lengths_walked, note_again,
+    all_recorded, append_turned, are_fixed, frame_between, lengths_walked, note_again, part_between,
 };
 use stab_frames::{FrameWalk, KeptStrings, RunNotes, count_ones, turn_state, walk_with_coins};
 use stab_io::Refusal;
 use stab_pauli::Pauli;
-use stab_steps::{Coins, Lengths, Outputs};
+use stab_steps::{Coins, Outputs};
 use stab_tableau::{CompactTableau, Tableau};
 use std::alloc::Global;
 
@@ -139,8 +139,7 @@ fn go_over<C: Coins>(
     ensures same_coins { C.sequence coins.new ≡ C.sequence coins.old }
     ensures asks { C.asks coins.new + all_coins_of (take (behind_rounds repeat done) (unroll (circuit_items circuit.now))) ≤ C.asks coins.old + all_coins_of (take (behind_rounds repeat (done + period.old.rounds)) (unroll (circuit_items circuit.now))) }
     ensures asks_free { OnOk result (C.asks coins.new + ones outputs.old.free.items ≤ C.asks coins.old + ones outputs.new.free.items) }
-    ensures period { OnOk result (IsPeriod period.old.state.qubits (C.sequence coins.old) (unroll (circuit_items circuit.now)) repeat strings.now.strings (done + period.old.rounds) (output_of outputs.new) period.new) }
-    ensures turned { OnOk result (ComesTurned period.old.state.qubits (C.sequence coins.old) (unroll (circuit_items circuit.now)) repeat period.old.rounds done period.new.last.free.items) }
+    ensures over { OnOk result (IsPeriod period.old.state.qubits (C.sequence coins.old) (unroll (circuit_items circuit.now)) repeat strings.now.strings (done + period.old.rounds) (output_of outputs.new) period.new × ComesTurned period.old.state.qubits (C.sequence coins.old) (unroll (circuit_items circuit.now)) repeat period.old.rounds done period.new.last.free.items) }
     ensures err { IfErr result (λ r. r ≡ OutOfMemory) }
 {
     let coin = period.walk.coin();
@@ -157,15 +156,9 @@ fn go_over<C: Coins>(
         &mut cursor,
         period.rounds * repeat.length,
     )?;
-    let mut last = Outputs::new(alloc);
-    append_turned(&mut last, &period.last, &period.walk, before)?;
-    let none = Lengths {
-        records: 0,
-        free: 0,
-        detectors: 0,
-        additions: 0,
-    };
-    outputs.append_rest(&last, none)?;
+    let from = outputs.lengths();
+    append_turned(outputs, &period.last, &period.walk, before)?;
+    let last = part_between(alloc, outputs, from, outputs.lengths())?;
     period.last = last;
     turn_state(&mut period.state, period.walk.letters());
     period.walk.begin_again(coin, number);

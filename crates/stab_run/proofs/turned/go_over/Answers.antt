@@ -11,18 +11,21 @@ use Rattle.stab_circuit.specs.Views.{circuit_items}
 use Rattle.stab_steps.specs.Records.{ones}
 use Rattle.stab_steps.specs.Points.{RunOutput, nothing, origin, joined, all_coins_of}
 use Rattle.stab_steps.specs.ProgramStates.{StepFits, output_of}
+use Rattle.stab_steps.specs.Cuts.{lengths_of, rest_of}
 use Rattle.stab_steps.proofs.RecordLemmas.{ones-append}
-use Rattle.stab_frames.specs.Flips.{flipped_output}
+use Rattle.stab_frames.specs.Flips.{flipped, flipped_output}
 use Rattle.stab_frames.proofs.FlipLemmas.{flipped-empty}
 use Rattle.stab_frames.proofs.StillWalkLemmas.{ones-within}
 use Rattle.stab_laws.proofs.FitLemmas.{check-steps, check-whole}
 use Rattle.stab_laws.proofs.CoinLemmas.{coins-steps, coins-are}
-use Rattle.stab_copies.specs.FramesFrom.{flips_behind, flips_since}
+use Rattle.stab_laws.proofs.PointLemmas.{rest-joined}
+use Rattle.stab_copies.specs.Parts.{between}
+use Rattle.stab_copies.specs.FramesFrom.{flips_since}
 use Rattle.stab_run.specs.inner.Led.{behind_rounds}
 use Rattle.stab_run.specs.inner.Turned.{point_behind}
 use Rattle.stab_run.proofs.LedLemmas.{coins-more}
 use Rattle.stab_run.proofs.AgainLemmas.{behind-later, coins-later}
-use Rattle.stab_copies.proofs.CutLemmas.{ones-first}
+use Rattle.stab_copies.proofs.CutLemmas.{between-end, ones-first}
 use Rattle.stab_run.proofs.PeriodLemmas.{steps-fit, steps-next, asks-period, walked-same, later, comes-turned, next-period}
 use Rattle.stab_run.proofs.turned.go_over.Goals as goal
 
@@ -124,8 +127,8 @@ returns-in_err-append_turned-clause-asks g c =
     asks-period c.args.repeat c.args.done c.args.period.now.rounds (g.C.Coins.asks c.args.coins.now) (g.C.Coins.asks c.walk_with_coins.new.coins)
     (unroll (circuit_items c.args.circuit.now)) c.in_ok-cursor.cursor.left c.in_ok-cursor.ensures.steps c.walk_with_coins.ensures.asks
 
-pub returns-in_err-append_rest-clause-asks : goal.returns-in_err-append_rest-clause-asks
-returns-in_err-append_rest-clause-asks g c =
+pub returns-in_err-last-clause-asks : goal.returns-in_err-last-clause-asks
+returns-in_err-last-clause-asks g c =
     asks-period c.args.repeat c.args.done c.args.period.now.rounds (g.C.Coins.asks c.args.coins.now) (g.C.Coins.asks c.walk_with_coins.new.coins)
     (unroll (circuit_items c.args.circuit.now)) c.in_ok-cursor.cursor.left c.in_ok-cursor.ensures.steps c.walk_with_coins.ensures.asks
 
@@ -158,13 +161,13 @@ returns-clause-asks_free g c =
       arith,
       c.in_ok-walk_with_coins.ensures.asks_free,
       free,
-      ap ones (ap (λ (o : RunOutput). o.free) (c.in_ok-append_turned.ensures.value ∙ (λ i. joined (c.new-last.ensures.value i) (flipped_output (output_of p.last) (flips_behind c.lengths_walked-before.result c.walk_with_coins.new.walk)))) ∙ flipped-empty p.last.free.items ∙ c.requires.period.flags),
-      ap (λ (o : RunOutput). ones o.free) c.in_ok-append_rest.ensures.value,
-      ones-append c.args.outputs.now.free.items c.append_turned.new.outputs.free.items,
+      ap ones (flipped-empty p.last.free.items ∙ c.requires.period.flags),
+      ap (λ (o : RunOutput). ones o.free) c.in_ok-append_turned.ensures.value,
+      ones-append c.args.outputs.now.free.items (flipped p.last.free.items []),
     )
 
-pub returns-clause-period : goal.returns-clause-period
-returns-clause-period g c =
+pub returns-clause-over : goal.returns-clause-over
+returns-clause-over g c =
     let items = circuit_items c.args.circuit.now in
     let steps = unroll items in
     let n = c.args.period.now.state.qubits in
@@ -173,51 +176,34 @@ returns-clause-period g c =
     let r = c.args.repeat in
     let w = c.walk_with_coins.new.walk in
     let strings = c.args.strings.now.strings in
+    let old = output_of c.args.outputs.now in
+    let new = output_of c.append_turned.new.outputs in
     let fits = steps-fit n items c.in_ok-cursor.cursor.all c.requires.checked c.in_ok-cursor.ensures.all c.in_ok-cursor.ensures.apart in
     let next = ap (take (p.rounds * r.length)) c.in_ok-cursor.ensures.steps ∙ steps-next steps r c.requires.repeat c.args.done p.rounds c.requires.within in
     let here = point_behind n coins steps r c.args.done in
     let ahead : c.len.result - c.coin-coin.result ≡ here.coin - p.walk.coin = omega (arith, c.len.ensures, c.requires.period.led.at.coin, c.coin-coin.ensures.value) in
-    let before : flips_behind c.lengths_walked-before.result w ≡ flips_since p.walk w = λ i. record {
+    let walked = walked-same n (length p.walk.letters) strings p.flags.items c.as_slice.result.now p.last.records.items c.as_slice-2.result.now (here.coin - p.walk.coin)
+    (c.len.result - c.coin-coin.result) coins _ (take (p.rounds * r.length) c.in_ok-cursor.cursor.left) p.walk w c.requires.period.letters c.as_slice.ensures.value
+    c.as_slice-2.ensures.value ahead next c.in_ok-walk_with_coins.ensures.walked in
+    let gave : new ≡ joined old (flipped_output (output_of p.last) (flips_since p.walk w)) =
+    c.in_ok-append_turned.ensures.value
+    ∙ (λ i. joined old (flipped_output (output_of p.last) (record {
       records = drop (c.lengths_walked-before.ensures.records i) w.flips.records;
       free = [];
       detectors = drop (c.lengths_walked-before.ensures.detectors i) w.flips.detectors;
       additions = drop (c.lengths_walked-before.ensures.additions i) w.flips.additions;
-    } in
-    next-period n coins steps r strings c.args.done (output_of c.args.outputs.now) p c.requires.repeat c.requires.period c.requires.within fits w
-    (walked-same n (length p.walk.letters) strings p.flags.items c.as_slice.result.now p.last.records.items c.as_slice-2.result.now (here.coin - p.walk.coin)
-    (c.len.result - c.coin-coin.result) coins _ (take (p.rounds * r.length) c.in_ok-cursor.cursor.left) p.walk w c.requires.period.letters c.as_slice.ensures.value
-    c.as_slice-2.ensures.value ahead next c.in_ok-walk_with_coins.ensures.walked)
-    c.append_turned.new.outputs
-    (c.in_ok-append_turned.ensures.value ∙ (λ i. joined (c.new-last.ensures.value i) (flipped_output (output_of p.last) (before i))))
-    c.turn_state.new.state c.begin_again.new.self (output_of c.append_rest.new.self) c.turn_state.ensures.qubits c.walk_with_coins.ensures.length
-    (subst (λ l. IsTurned n l (stabilises p.state) (stabilises c.turn_state.new.state)) c.letters.ensures.value c.turn_state.ensures.turned)
-    (c.begin_again.ensures.value
-    ∙ (λ i. record w { flips = record nothing { records = w.flips.records }; coin = c.coin-coin.ensures.value i; number = c.number-number.ensures.value i }))
-    c.in_ok-append_rest.ensures.value
-
-pub returns-clause-turned : goal.returns-clause-turned
-returns-clause-turned g c =
-    let items = circuit_items c.args.circuit.now in
-    let steps = unroll items in
-    let n = c.args.period.now.state.qubits in
-    let coins = g.C.Coins.sequence c.args.coins.now in
-    let p = c.args.period.now in
-    let r = c.args.repeat in
-    let w = c.walk_with_coins.new.walk in
-    let strings = c.args.strings.now.strings in
-    let fits = steps-fit n items c.in_ok-cursor.cursor.all c.requires.checked c.in_ok-cursor.ensures.all c.in_ok-cursor.ensures.apart in
-    let next = ap (take (p.rounds * r.length)) c.in_ok-cursor.ensures.steps ∙ steps-next steps r c.requires.repeat c.args.done p.rounds c.requires.within in
-    let here = point_behind n coins steps r c.args.done in
-    let ahead : c.len.result - c.coin-coin.result ≡ here.coin - p.walk.coin = omega (arith, c.len.ensures, c.requires.period.led.at.coin, c.coin-coin.ensures.value) in
-    let before : flips_behind c.lengths_walked-before.result w ≡ flips_since p.walk w = λ i. record {
-      records = drop (c.lengths_walked-before.ensures.records i) w.flips.records;
-      free = [];
-      detectors = drop (c.lengths_walked-before.ensures.detectors i) w.flips.detectors;
-      additions = drop (c.lengths_walked-before.ensures.additions i) w.flips.additions;
-    } in
-    comes-turned n coins steps r strings c.args.done (output_of c.args.outputs.now) p c.requires.repeat c.requires.period c.requires.within fits w
-    (walked-same n (length p.walk.letters) strings p.flags.items c.as_slice.result.now p.last.records.items c.as_slice-2.result.now (here.coin - p.walk.coin)
-    (c.len.result - c.coin-coin.result) coins _ (take (p.rounds * r.length) c.in_ok-cursor.cursor.left) p.walk w c.requires.period.letters c.as_slice.ensures.value
-    c.as_slice-2.ensures.value ahead next c.in_ok-walk_with_coins.ensures.walked)
-    c.append_turned.new.outputs
-    (c.in_ok-append_turned.ensures.value ∙ (λ i. joined (c.new-last.ensures.value i) (flipped_output (output_of p.last) (before i))))
+    }))) in
+    let is_last : output_of c.in_ok-last.last ≡ flipped_output (output_of p.last) (flips_since p.walk w) =
+    c.in_ok-last.ensures.value
+    ∙ (λ i. between (c.lengths-from.ensures.value i) (c.lengths.ensures.value i) new)
+    ∙ between-end (lengths_of old) new
+    ∙ ap (rest_of (lengths_of old)) gave
+    ∙ rest-joined old (flipped_output (output_of p.last) (flips_since p.walk w)) in (
+      next-period n coins steps r strings c.args.done old p c.requires.repeat c.requires.period c.requires.within fits w walked c.in_ok-last.last is_last
+          c.turn_state.new.state c.begin_again.new.self new c.turn_state.ensures.qubits c.walk_with_coins.ensures.length
+          (subst (λ l. IsTurned n l (stabilises p.state) (stabilises c.turn_state.new.state)) c.letters.ensures.value c.turn_state.ensures.turned)
+          (c.begin_again.ensures.value
+          ∙ (λ i. record w { flips = record nothing { records = w.flips.records }; coin = c.coin-coin.ensures.value i; number = c.number-number.ensures.value i }))
+          (gave ∙ ap (joined old) (sym is_last)),
+      comes-turned n coins steps r strings c.args.done old p c.requires.repeat c.requires.period c.requires.within fits w walked c.in_ok-last.last is_last,
+    )

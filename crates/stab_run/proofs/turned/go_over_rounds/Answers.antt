@@ -27,8 +27,8 @@ periods-preserved g c =
     let notes = c.periods.notes in
     let within : now + p.rounds ≤ r.rounds = omega (arith, c.periods-test.true, inv.within) in
     let next = period-same n p.state.qubits coins (g.C.Coins.sequence c.periods.coins) steps r notes.strings.strings (now + p.rounds) (output_of c.go_over.new.outputs) c.go_over.new.period
-    inv.qubits inv.same_coins done.period in
-    let comes = comes-same n p.state.qubits coins (g.C.Coins.sequence c.periods.coins) steps r p.rounds now c.go_over.new.period.last.free.items inv.qubits inv.same_coins done.turned in
+    inv.qubits inv.same_coins done.over.0 in
+    let comes = comes-same n p.state.qubits coins (g.C.Coins.sequence c.periods.coins) steps r p.rounds now c.go_over.new.period.last.free.items inv.qubits inv.same_coins done.over.1 in
     let same = sym over.rounds in
     record {
       more = omega (arith, inv.more);
