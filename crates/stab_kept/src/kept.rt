@@ -340,33 +340,6 @@ impl KeptRun {
         }))
     }
 
-    /// Appends the strings of free outcomes from this coin number on to those before, in a run with
-    /// these flags.
-    ///
-    /// Refusal `OutOfMemory` alone.
-    fn append_strings(
-        &self,
-        strings: &mut KeptStrings,
-        coin: usize,
-        free: &[bool],
-    ) -> Result<(), Refusal>
-        requires same_length { strings.old.qubits ≡ self.now.strings.qubits }
-        ensures spliced { OnOk result (IsSpliced strings.old self.now.strings (ones (take coin self.now.outputs.free.items)) (ones free.now) strings.new) }
-        ensures err { IfErr result (λ r. r ≡ OutOfMemory) }
-    {
-        let (before, _) = self
-            .outputs
-            .free
-            .as_slice()
-            .split_at(coin.min(self.outputs.free.len()));
-        strings.append_rest(&self.strings, count_ones(before))?;
-        // If strings were missing, none may be put after those that are there.
-        if strings.len() < count_ones(free) {
-            strings.close();
-        }
-        Ok(())
-    }
-
     /// Puts what was prepared in place. It takes no memory. A tableau that is replaced is the next
     /// spare.
     fn commit(

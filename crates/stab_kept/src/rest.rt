@@ -1,4 +1,7 @@
-ghost use Rattle.std.specs.Prelude.{◌≡◌, ◌+◌, ◌≤◌, ◌++◌, length, take, drop, reverse, slice_get, vec_capacity};
+ghost use Rattle.std.specs.Prelude.{◌≡◌, ◌+◌, ◌≤◌, ◌++◌, length, take, drop, reverse, slice_get, vec_capacity, OnOk, IfErr};
+ghost use Rattle.stab_io.specs.declared.refusal.Refusal.TheVariants.{OutOfMemory};
+ghost use Rattle.stab_run.specs.Records.{ones};
+ghost use Rattle.stab_replay.specs.NotedStrings.{IsSpliced};
 ghost use Rattle.stab_run.specs.ProgramStates.{output_of};
 ghost use Rattle.stab_copies.specs.LaidCopies.{all_laid};
 ghost use Rattle.stab_replay.specs.LedFrames.{with_states};
@@ -8,7 +11,8 @@ ghost use Rattle.stab_kept.specs.inner.Prepared.{HasCopy, end_of};
 use crate::kept::KeptRun;
 use stab_circuit::Span;
 use stab_copies::{Checkpoint, Meeting, lay_all, shifted, take_moved};
-use stab_frames::FrameWalk;
+use stab_frames::{FrameWalk, KeptStrings, count_ones};
+use stab_io::Refusal;
 use stab_replay::End;
 use stab_tableau::CompactTableau;
 use stab_turns::turn_tableau;
@@ -109,5 +113,32 @@ impl KeptRun {
         take_moved(&mut self.checkpoints, number, meeting, &mut room);
         self.lay_behind(before, laid, stride);
         lay_all(&mut self.checkpoints, &mut room, stride);
+    }
+
+    /// Appends the strings of free outcomes from this coin number on to those before, in a run with
+    /// these flags.
+    ///
+    /// Refusal `OutOfMemory` alone.
+    pub(crate) fn append_strings(
+        &self,
+        strings: &mut KeptStrings,
+        coin: usize,
+        free: &[bool],
+    ) -> Result<(), Refusal>
+        requires same_length { strings.old.qubits ≡ self.now.strings.qubits }
+        ensures spliced { OnOk result (IsSpliced strings.old self.now.strings (ones (take coin self.now.outputs.free.items)) (ones free.now) strings.new) }
+        ensures err { IfErr result (λ r. r ≡ OutOfMemory) }
+    {
+        let (before, _) = self
+            .outputs
+            .free
+            .as_slice()
+            .split_at(coin.min(self.outputs.free.len()));
+        strings.append_rest(&self.strings, count_ones(before))?;
+        // If strings were missing, none may be put after those that are there.
+        if strings.len() < count_ones(free) {
+            strings.close();
+        }
+        Ok(())
     }
 }
