@@ -1,5 +1,5 @@
 -- Laws of packing: the bytes of a lane that is packed with others, of which some are sent.
-use Rattle.std.proofs.Common.{◌≡◌, ◌∙◌, ℕ, ◌+◌, ◌*◌, ◌/◌, ◌%◌, ◌<◌, List, ◌++◌, length, take, Bool, ap, arith}
+use Rattle.std.proofs.Common.{◌≡◌, ◌∙◌, ℕ, ◌+◌, ◌*◌, ◌/◌, ◌%◌, ◌<◌, List, Bool, ap, arith}
 use Rattle.stab_shots.specs.Words.{word_bit}
 use Rattle.stab_shots.specs.Lanes.{lane_bits}
 use Rattle.stab_shots.specs.Bytes.{lane_bytes}

@@ -1,7 +1,7 @@
 -- Outputs: what `sample` and `detect` write for the items of a circuit, and how a call of one ends.
 -- Source: Stim's commands `sample` and `detect`. It differs in that a shot's coins are given, and that a detector is the parity of
 -- its records.
-use Rattle.std.specs.Prelude.{◌≡◌, ℕ, zero, suc, ◌+◌, Bool, true, false, List, [], ◌++◌, length, Result}
+use Rattle.std.specs.Prelude.{◌≡◌, ℕ, ◌+◌, Bool, true, false, List, ◌++◌, length, Result}
 use Rattle.stab_io.specs.Devices.{InputView, OutputView}
 use Rattle.stab_io.specs.declared.refusal.Fault.{Fault}
 use Rattle.stab_circuit.specs.Items.{Items}

@@ -1,8 +1,6 @@
 -- Sendings: what is shown of a run, and what a call leaves of an output to which it sends bytes without a flush.
 -- Source: this project's own.
-use Rattle.std.specs.Prelude.{◌≡◌, ℕ, Bool, true, false, List, ◌++◌, length, Result, Ok, Err}
-use Rattle.stab_io.specs.Devices.{OutputView, Took, CutOff}
-use Rattle.stab_io.specs.declared.refusal.Fault.{Fault}
+use Rattle.std.specs.Prelude.{◌≡◌, ℕ, Bool, true, false, List, ◌++◌, length}
 use Rattle.stab_run.specs.Runs.{State}
 use Rattle.stab_circuit.specs.Items.{Items}
 use Rattle.stab_results.specs.declared.format.Format.{Format}
