@@ -2,12 +2,13 @@
 //!
 //! - `kept`: a run that is kept with its copies, and how steps are carried out anew for an edit of its
 //!   circuit.
+//! - `rest`: the rest of an old run, which a frame turns, put after what was made anew.
 //! - `turning`: how it follows an edit: turned in place, if old and new steps differ by Pauli
 //!   gates alone, and else by steps that are carried out anew.
 //! - `opening`: the run of a circuit, kept for the first time.
 //!
 //! Copies of the state are `stab_copies`', how steps are carried out anew after one of them
-//! `stab_replay`'s, and how a frame turns a run `stab_turns`'. What edits are, and which steps they change, is `stab_circuit`'s: here an edit is a span
+//! `stab_replay`'s, and how a frame goes past changed gates, and flips lists, `stab_turns`'. What edits are, and which steps they change, is `stab_circuit`'s: here an edit is a span
 //! of steps that changed.
 //!
 //! Source: how a run is kept, and how it follows an edit, is this project's own.

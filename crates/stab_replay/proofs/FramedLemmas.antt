@@ -1,5 +1,5 @@
 -- Futures: points from which runs give the same, and lead to the same groups.
-use Rattle.std.proofs.Common.{◌≡◌, ℕ, ◌-◌, sym, ◌∙◌, ap, subst, Bool, false, inl, inr, List, take, drop, replicate}
+use Rattle.std.proofs.Common.{◌≡◌, ℕ, sym, ◌∙◌, ap, subst, Bool, false, inl, inr, List, take, drop, replicate}
 use Rattle.std.proofs.lemmas.List.{take-append-drop}
 use Rattle.stab_letters.specs.declared.letter.Letter.TheVariants.{I}
 use Rattle.stab_tableau.specs.Traces.{member}

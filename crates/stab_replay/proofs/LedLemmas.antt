@@ -1,5 +1,5 @@
 -- Copies: one of those that all are so, how long its lists are, and the one that was laid last.
-use Rattle.std.proofs.Common.{◌≡◌, ℕ, ◌+◌, ◌-◌, ◌≤◌, refl, ◌∙◌, ap, subst, Bool, List, [], ◌∷◌, ◌++◌, All, Some, slice_get, length, take, drop, arith}
+use Rattle.std.proofs.Common.{◌≡◌, ℕ, ◌≤◌, refl, ◌∙◌, ap, subst, Bool, List, [], ◌∷◌, ◌++◌, All, Some, slice_get, length, take, drop, arith}
 use Rattle.std.proofs.lemmas.List.{length-append}
 use Rattle.std.proofs.lemmas.List.Elements.{All-get_or}
 use Rattle.std.proofs.lemmas.Option.{slice_get_within, get_or_from_slice_get}

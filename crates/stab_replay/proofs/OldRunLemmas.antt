@@ -1,10 +1,10 @@
 -- Old runs: where a copy of one is among the new steps, and that what comes after is the same in both.
-use Rattle.std.proofs.Common.{◌≡◌, ℕ, zero, suc, ◌+◌, ◌-◌, ◌^◌, ◌<◌, ◌≤◌, refl, sym, ◌∙◌, ap, subst, Bool, List, [], ◌∷◌, Some, slice_get, IsSomeAnd, length, take, drop, arith}
+use Rattle.std.proofs.Common.{◌≡◌, ℕ, zero, suc, ◌+◌, ◌-◌, ◌^◌, ◌<◌, ◌≤◌, sym, ◌∙◌, ap, subst, Bool, List, [], ◌∷◌, Some, slice_get, IsSomeAnd, length, take, drop, arith}
 use Rattle.std.proofs.lemmas.List.{length-drop, drop-drop}
 use Rattle.std.proofs.lemmas.Option.{same_Some}
 use Rattle.stab_circuit.specs.Steps.{Step, most_steps}
 use Rattle.stab_steps.specs.declared.records.Lengths.{Lengths}
-use Rattle.stab_run.specs.Points.{RunOutput, origin, point_after}
+use Rattle.stab_run.specs.Points.{RunOutput, origin}
 use Rattle.stab_laws.proofs.CoinLemmas.{coins-few, coins-are}
 use Rattle.stab_laws.proofs.PointLemmas.{flags-are-coins}
 use Rattle.stab_frames.specs.KeptStrings.{StringsState}

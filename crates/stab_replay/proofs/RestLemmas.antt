@@ -1,6 +1,6 @@
 -- The rest of a run: from a place on, before which it differs by a frame from another run that has the same steps there, what it gives, and
 -- where it leads, if the frame was led over these steps.
-use Rattle.std.proofs.Common.{◌≡◌, ℕ, ◌+◌, ◌-◌, ◌≤◌, refl, sym, ◌∙◌, ap, subst, Bool, false, ◌⊎◌, inl, inr, List, ◌++◌, All, Option, None, length, take, drop, get_or, replicate, arith}
+use Rattle.std.proofs.Common.{◌≡◌, ℕ, ◌+◌, ◌≤◌, refl, sym, ◌∙◌, ap, subst, Bool, false, ◌⊎◌, inl, inr, List, ◌++◌, All, Option, None, length, take, drop, get_or, replicate, arith}
 use Rattle.std.proofs.lemmas.Bool.{cases_lt}
 use Rattle.std.proofs.lemmas.List.{length-append, take-append-drop, take_all, get_or-drop}
 use Rattle.std.proofs.lemmas.List.Elements.{All-drop}

@@ -6,22 +6,19 @@
 //! - `counting`: how long a run's lists are after some steps.
 //! - `passing`: a frame led past the places at which Pauli gates are in the old circuit or the new one, and
 //!   over what is between them.
-//! - `leading`: a frame led over the copies of a run, with turned copies made on the way.
 //! - `flips`: what a run gave, flipped in place.
 //! - `states`: a state, turned in place.
 //!
-//! Frames themselves are `stab_frames`', and copies of states `stab_copies`'.
+//! Frames themselves are `stab_frames`', copies of states `stab_copies`', and how a frame is led over the rest of a run
+//! `stab_replay`'s.
 //!
 //! Source: this project's own, over the Pauli frames of C. Gidney, Stim: a fast stabilizer circuit
 //! simulator (2021).
 //!
 //! Proved: lengths are those of what the steps give at any point (`specs/LongerLists.antt`); a frame that
 //! went past such places is that between the old run and the new one there, and what was made of copies
-//! on its way are copies of the new run (`specs/PassedPlaces.antt`); a frame that was led over copies
-//! passed the steps before each, and what was made there is that copy, turned by the frame; it went on
-//! to the last step, or to where it was gone or its letters stabilised the state; and if it turned
-//! copies, it flips a record, or the last of them became another state (`specs/LedFrames.antt`); flipped
-//! lists are what they were, inverted if the flips are 1.
+//! on its way are copies of the new run (`specs/PassedPlaces.antt`); flipped lists are what they were, inverted if the
+//! flips are 1.
 #![tactic(auto)]
 
 mod counting;

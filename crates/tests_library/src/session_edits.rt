@@ -131,7 +131,7 @@ type Item = (Option<usize>, usize, &'static str);
 // follow; and if it looks back to all, at none. A frame passes all of that, and no step is carried out.
 //
 // Two square roots of X do the same, and are no Pauli gates: steps are carried out up to the first copy, before
-// step 11; from there on a frame leads, up to the last copy, and the five steps after that are carried out.
+// step 11; from there on a frame leads, as far as that of the X does.
 const DIES: &str = "M 0\nR 0\nREPEAT 38 {\nM 0\n}";
 
 const DIES_NEAR: &str = "M 0\nR 0\nREPEAT 38 {\nM 0\n}\nDETECTOR rec[-15]";
@@ -157,8 +157,7 @@ const STILL: &str = "REPEAT 100 {\nX 0\n}";
 // the old run is kept nevertheless: from the first copy on, before step 10 of the new ones, if nothing looks back; from the
 // second one on after a detector that looks back to 15 records, since both runs have as many there for the first time; and
 // from none if a detector looks back to all. A reset turns a 1 into a 0, so that all records after it flip: from the first
-// copy on a frame leads, up to the last copy, and the four steps after that are carried out. If a coin decides after each
-// copy, all 2,001 steps are.
+// copy on a frame leads up to the end. If a coin decides after each copy, all 2,001 steps are carried out.
 const ONES: &str = "X 0\nREPEAT 39 {\nM 0\n}";
 
 const ONE_COIN: &str = "REPEAT 40 {\nMX 0\n}";
@@ -196,12 +195,12 @@ const COSTS: &[(&str, Item, [usize; 2], usize, (u64, u64))] = &[
     (STILL, (None, 0, "X 0"), [0, 101], 22, (0, 0)),
     (DIES, (None, 0, ROOTS), [11, 0], 10, (0, 0)),
     (DIES_NEAR, (None, 0, ROOTS), [11, 9], 10, (0, 0)),
-    (DIES_FAR, (None, 0, ROOTS), [16, 27], 10, (0, 0)),
+    (DIES_FAR, (None, 0, ROOTS), [11, 32], 10, (0, 0)),
     (DIES, (None, 0, "M 0"), [10, 0], 10, (0, 0)),
     (DIES_NEAR, (None, 0, "M 0"), [19, 0], 10, (0, 0)),
     (DIES_FAR, (None, 0, "M 0"), [42, 0], 10, (0, 0)),
     (ONE_COIN, (None, 0, "M 0"), [10, 0], 10, (1, 1)),
-    (ONES, (None, 1, "R 0"), [14, 27], 10, (0, 0)),
+    (ONES, (None, 1, "R 0"), [10, 31], 10, (0, 0)),
     (FREE, (None, 0, "M 0"), [2001, 0], 402, (2000, 2000)),
 ];
 

@@ -1,6 +1,6 @@
-use Rattle.std.proofs.Common.{◌≡◌, ℕ, ◌+◌, ◌≤◌, refl, sym, ◌∙◌, ap, subst, length, drop, Option, Some, None, arith}
+use Rattle.std.proofs.Common.{ℕ, ◌≤◌, refl, ap, length, Option, Some, None, arith}
 use Rattle.std.specs.Prelude.{IfSome}
-use Rattle.stab_replay.specs.Replays.{Ascending, IsOnWay, spacing_of}
+use Rattle.stab_replay.specs.Replays.{IsOnWay, spacing_of}
 use Rattle.stab_replay.proofs.LaidLemmas.{laid-led}
 use Rattle.stab_replay.proofs.ReplayLemmas.{place-behind, on-stop}
 use Rattle.stab_replay.proofs.MovedLemmas.{ascending-from, way-past}

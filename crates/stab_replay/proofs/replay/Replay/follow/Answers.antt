@@ -1,4 +1,4 @@
-use Rattle.std.proofs.Common.{◌≡◌, ℕ, Option, Some, ◌+◌, ◌-◌, ◌*◌, ◌≤◌, min, [], ◌∷◌, ◌++◌, slice_get, sym, ◌∙◌, ap, subst, length, length-append, drop, arith}
+use Rattle.std.proofs.Common.{◌≡◌, ℕ, Option, Some, ◌+◌, ◌-◌, ◌*◌, ◌≤◌, [], ◌∷◌, ◌++◌, sym, ◌∙◌, ap, subst, length, length-append, drop, arith}
 use Rattle.std.specs.Prelude.{IfSome}
 use Rattle.stab_replay.specs.declared.replay.Replay.{Replay}
 use Rattle.stab_replay.specs.declared.led.LedFrame.{LedFrame}

@@ -1,4 +1,4 @@
-use Rattle.std.proofs.Common.{◌≡◌, ◌+◌, ◌-◌, ◌*◌, ◌≤◌, min, length, drop}
+use Rattle.std.proofs.Common.{◌≡◌, ◌+◌, ◌-◌, ◌*◌, ◌≤◌, length, drop}
 use Rattle.stab_run.specs.Records.{ones}
 use Rattle.stab_run.specs.Points.{all_coins_of}
 use Rattle.stab_replay.specs.Replays.{spacing_of, IsOnWay}

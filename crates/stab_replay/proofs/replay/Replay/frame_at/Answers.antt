@@ -1,4 +1,4 @@
-use Rattle.std.proofs.Common.{rules, Bool, true, IsTrue, inl, inr, ◌≡◌, ◌-◌, ◌<◌, ◌≤◌, refl, sym, ◌∙◌, ap, subst, Some, slice_get, IsSomeAnd, length, take, drop, arith}
+use Rattle.std.proofs.Common.{rules, Bool, true, IsTrue, inl, inr, ◌≡◌, refl, sym, ◌∙◌, ap, subst, Some, slice_get, IsSomeAnd, length, drop, arith}
 use Rattle.std.proofs.lemmas.Option.{slice_get_read, IfSome_then}
 use Rattle.stab_run.specs.Records.{ones}
 use Rattle.stab_run.specs.ProgramStates.{output_of}

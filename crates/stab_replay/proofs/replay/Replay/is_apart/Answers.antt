@@ -1,6 +1,5 @@
-use Rattle.std.proofs.Common.{◌≡◌, ◌-◌, refl, sym, ◌∙◌, ap, subst, inr, Bool, true, false, IsTrue, IsSomeAnd, length, take, drop, arith, rules}
+use Rattle.std.proofs.Common.{◌≡◌, ◌-◌, refl, sym, ◌∙◌, ap, subst, inr, Bool, false, IsTrue, IsSomeAnd, length, take, arith, rules}
 use Rattle.std.proofs.lemmas.Option.{slice_get_read}
-use Rattle.stab_copies.specs.LaidCopies.{moved}
 use Rattle.stab_run.specs.ProgramStates.{output_of}
 use Rattle.stab_replay.specs.inner.LedReplays.{IsApartFrom}
 use Rattle.stab_replay.proofs.replay.Replay.is_apart.Goals as goal

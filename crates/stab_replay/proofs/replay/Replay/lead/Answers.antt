@@ -1,12 +1,10 @@
-use Rattle.std.proofs.Common.{◌≡◌, ◌+◌, ◌<◌, ◌≤◌, refl, sym, ◌∙◌, ap, subst, List, All, Some, slice_get, IsSomeAnd, length, take, drop, arith}
+use Rattle.std.proofs.Common.{◌≡◌, ◌+◌, refl, sym, ◌∙◌, ap, subst, All, Some, slice_get, length, drop, arith}
 use Rattle.std.proofs.lemmas.List.Elements.{All-drop}
 use Rattle.std.proofs.lemmas.Option.{slice_get_read, slice_get_within}
-use Rattle.stab_circuit.specs.Steps.{Step}
 use Rattle.stab_run.specs.ProgramStates.{StepFits, output_of}
-use Rattle.stab_frames.specs.Walks.{WalkState}
 use Rattle.stab_copies.specs.declared.checkpoint.Checkpoint.{Checkpoint}
 use Rattle.stab_replay.specs.LedFrames.{AreInOrder, IsLedFrame}
-use Rattle.stab_replay.specs.Replays.{BeginsAt, IsFramed}
+use Rattle.stab_replay.specs.Replays.{BeginsAt}
 use Rattle.stab_replay.proofs.LedWayLemmas.{some-of}
 use Rattle.stab_replay.proofs.OldRunLemmas.{order-behind, coins-behind, led-framed}
 use Rattle.stab_replay.proofs.replay.Replay.lead.Goals as goal
