@@ -179,7 +179,7 @@ def meaning_of(content: bytes) -> Item | str | None:
 
 
 def items_of(text: bytes, alone: bool = False) -> Items:
-    """The items that a text stands for; its first fault, with its line, if it stands for none.
+    """The items of a text; its first fault, with its line, if it has none.
 
     If only one item is asked for, a further one is refused where it begins, and so is a text without any.
     """
@@ -216,7 +216,7 @@ def items_of(text: bytes, alone: bool = False) -> Items:
 
 
 def item_of(text: bytes) -> Item:
-    """The one item that a text stands for."""
+    """The one item of a text."""
     return items_of(text, alone=True)[0]
 
 
