@@ -113,7 +113,8 @@ class Tries:
         if out:
             out.unlink(missing_ok=True)
         more = {"stdout": subprocess.PIPE} | more
-        done = subprocess.run([self.program, *words], cwd=self.folder, input=script, stderr=subprocess.PIPE, timeout=TIME_LIMIT, check=False, **more)
+        done = subprocess.run([self.program, *words], cwd=self.folder, input=script, stderr=subprocess.PIPE, timeout=TIME_LIMIT,
+                              check=False, **more)
         if out and out.exists():
             done.stdout += out.read_bytes()
         return done
@@ -131,7 +132,8 @@ class Tries:
         """
         self.expect(done.returncode in (whole.returncode, 1), f"{what}: status {done.returncode}")
         if done.returncode == whole.returncode != 1:
-            self.expect((done.stdout, done.stderr) == (whole.stdout, whole.stderr), f"{what}: other bytes, although the status is that of no refusal")
+            same = (done.stdout, done.stderr) == (whole.stdout, whole.stderr)
+            self.expect(same, f"{what}: other bytes, although the status is that of no refusal")
             return
         lines = [OUT_OF_MEMORY, *([whole.stderr] if whole.returncode == 1 else [])]
         self.expect(whole.stdout.startswith(done.stdout), f"{what}: what was written is no prefix")

@@ -1,6 +1,6 @@
 """Runs of the program that are tried: their words, and what the definitions say of what the program answers."""
 
-from collections.abc import Callable, Iterable, Sequence
+from collections.abc import Callable, Iterable
 from dataclasses import dataclass, replace
 from functools import cached_property, lru_cache
 from random import Random
@@ -18,13 +18,11 @@ COUNTED = ("qubits", "items", "steps", "records", "detectors", "observables", "c
 # Where batches of shots may end. Of more shots than the first batch has, those around each end are compared.
 EDGES = (64, 128, 256, 320, 384, 448, 512, 1024, 1280, 2048)
 
-# Options by their names, with a value, or whether a flag is given.
-Settings = dict[str, Any]
-
 
 @dataclass(frozen=True)
 class Case:
-    """A command, its options, the circuit that it reads, its script if it has one, and a shorter text of the same steps if there is one."""
+    """A command, the circuit that it reads, its options by their names, each with a value, or whether a flag is given, its script if it has
+    one, and a shorter text of the same steps if there is one."""
 
     command: str
     text: bytes

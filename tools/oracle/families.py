@@ -203,5 +203,5 @@ FAMILIES: dict[str, Callable[[Random], list[Case]]] = {
     "sessions on blocks": sessions_on_blocks, "lines that come again": lines_that_come_again, "far apart": far_apart, "distances": distances,
 }
 # How often families are tried among those of small circuits. The others are large in some way.
-WEIGHTS = {"by a script": 35, "by the grammar": 27, "damaged": 31, "undone": 3, "with sure parities": 1}
+WEIGHTS = {"by a script": 35, "by the grammar": 27, "damaged": 31, "undone": 3, "with sure parities": 2}
 LARGE = list(FAMILIES)[len(WEIGHTS):]

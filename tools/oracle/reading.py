@@ -1,13 +1,12 @@
 """Circuit text: what each line means, the items of a text, and the one fault of a text that has none."""
 
 import re
-from collections.abc import Sequence
 from dataclasses import dataclass, field
 from typing import Any
 
 SPACING = b" \t\r"
 DIGITS = frozenset(b"0123456789")
-COORDINATE_BYTES = frozenset(b"0123456789+-.eE")
+COORDINATE = re.compile(rb"[0-9+\-.eE]+")
 
 MOST_BYTES = 16_777_216
 MOST_QUBITS = 1_024
@@ -102,17 +101,12 @@ def cut(content: bytes) -> tuple[str, bytes, list[bytes], list[bytes], bool]:
     return name.decode().upper(), tag, parts, re.findall(rb"[^ \t\r]+", targets), opens == b"{"
 
 
-def check_arguments(name: str, arguments: list[bytes]) -> int | None:
+def number_of(name: str, arguments: list[bytes]) -> int | None:
     """The number of an observable, or None; 2 if the arguments do not suit the name."""
-    if name in WITH_COORDINATES:
-        if not all(a and all(byte in COORDINATE_BYTES for byte in a) for a in arguments):
-            raise Refused(2)
-        return None
-    if name == "OBSERVABLE_INCLUDE":
-        if len(arguments) != 1 or not is_digits(arguments[0]):
-            raise Refused(2)
+    if name == "OBSERVABLE_INCLUDE" and len(arguments) == 1 and is_digits(arguments[0]):
         return int(arguments[0])
-    if arguments:
+    may_be = name in WITH_COORDINATES and all(COORDINATE.fullmatch(it) for it in arguments)
+    if name == "OBSERVABLE_INCLUDE" or arguments and not may_be:
         raise Refused(2)
     return None
 
@@ -126,23 +120,18 @@ def qubit_of(word: bytes) -> int:
 
 
 def record_of(word: bytes) -> int:
-    digits = word[5:-1]
-    if not (word.startswith(b"rec[-") and word.endswith(b"]") and is_digits(digits)):
+    found = re.fullmatch(rb"rec\[-([0-9]+)\]", word)
+    if not found or not 1 <= int(found[1]) <= MOST_LOOKBACK:
         raise Refused(3)
-    if not 1 <= int(digits) <= MOST_LOOKBACK:
-        raise Refused(3)
-    return int(digits)
+    return int(found[1])
 
 
 def product_of(word: bytes) -> list[tuple[str, int, bool]]:
     """The factors of a product, each a letter, a qubit and whether `!` is before it."""
-    factors = []
-    for part in word.split(b"*"):
-        inverted = part.startswith(b"!")
-        part = part[1:] if inverted else part
-        if part[:1].upper() not in (b"X", b"Y", b"Z") or not is_digits(part[1:]):
-            raise Refused(3)
-        factors.append((part[:1].upper().decode(), int(part[1:]), inverted))
+    parts = [re.fullmatch(rb"(!?)([XYZ])([0-9]+)", part.upper()) for part in word.split(b"*")]
+    factors = [(part[2].decode(), int(part[3]), part[1] == b"!") for part in parts if part]
+    if len(factors) < len(parts):
+        raise Refused(3)
     if any(qubit >= MOST_QUBITS for _, qubit, _ in factors):
         raise Refused(6)
     if len({qubit for _, qubit, _ in factors}) < len(factors):
@@ -154,60 +143,43 @@ def target_of(name: str, place: int, word: bytes) -> Any:
     """One target, in order from the left: 3 for its kind or spelling, 6 for a qubit's number."""
     if name in ("DETECTOR", "OBSERVABLE_INCLUDE"):
         return record_of(word)
-    if name in ("TICK", "SHIFT_COORDS"):
+    if name in ("TICK", "SHIFT_COORDS") or name == "REPEAT" and not is_digits(word):
         raise Refused(3)
     if name == "REPEAT":
-        if not is_digits(word):
-            raise Refused(3)
         return word
     if name == "MPP":
         return product_of(word)
     if name in CONTROLLED and place % 2 == 0 and word.startswith(b"rec"):
         return ("record", record_of(word))
-    if name in COLLAPSES and COLLAPSES[name][1] and word.startswith(b"!"):
-        return (qubit_of(word[1:]), True)
     if name in COLLAPSES:
-        return (qubit_of(word), False)
+        inverted = COLLAPSES[name][1] and word.startswith(b"!")
+        return (qubit_of(word[1:] if inverted else word), inverted)
     return qubit_of(word)
-
-
-def check_pairs(name: str, targets: Sequence[Any]) -> None:
-    if name not in CONTROLLED and name != "SWAP":
-        return
-    if len(targets) % 2 or any(a == b for a, b in zip(targets[::2], targets[1::2])):
-        raise Refused(4)
-
-
-def check_block(name: str, targets: Sequence[Any], opens: bool) -> None:
-    if opens != (name == "REPEAT"):
-        raise Refused(5)
-    if name == "REPEAT" and (len(targets) != 1 or len(targets[0]) > MOST_COUNT_DIGITS or int(targets[0]) == 0):
-        raise Refused(5)
 
 
 def meaning_of(content: bytes) -> Item | str | None:
     """None for a blank line, "}" for a closing brace, else an operation or an empty block."""
-    if not content:
-        return None
-    if content == b"}":
-        return "}"
+    if content in (b"", b"}"):
+        return content.decode() or None
     spelled, tag, arguments, words, opens = cut(content)
     name = ALIASES.get(spelled, spelled)
     if name not in NAMES:
         raise Refused(1)
-    number = check_arguments(name, arguments)
+    number = number_of(name, arguments)
     targets = [target_of(name, place, word) for place, word in enumerate(words)]
-    check_pairs(name, targets)
-    check_block(name, targets, opens)
+    is_paired = name in CONTROLLED or name == "SWAP"
+    if is_paired and (len(targets) % 2 or any(a == b for a, b in zip(targets[::2], targets[1::2]))):
+        raise Refused(4)
+    is_count = len(targets) == 1 and name == "REPEAT" and len(targets[0]) <= MOST_COUNT_DIGITS and int(targets[0]) > 0
+    if opens != (name == "REPEAT") or opens and not is_count:
+        raise Refused(5)
     if number is not None and number >= MOST_OBSERVABLES:
         raise Refused(7)
-    if name == "REPEAT":
-        return Block(int(targets[0]), tag=tag)
-    return Operation(name, number, targets, tag, arguments)
+    return Block(int(targets[0]), tag=tag) if opens else Operation(name, number, targets, tag, arguments)
 
 
 def items_of(text: bytes, alone: bool = False) -> Items:
-    """The items that a text stands for; its first fault, with its line, if it stands for none.
+    """The items of a text; its first fault, with its line, if it has none.
 
     If only one item is asked for, a further one is refused where it begins, and so is a text without any.
     """
@@ -244,7 +216,7 @@ def items_of(text: bytes, alone: bool = False) -> Items:
 
 
 def item_of(text: bytes) -> Item:
-    """The one item that a text stands for."""
+    """The one item of a text."""
     return items_of(text, alone=True)[0]
 
 

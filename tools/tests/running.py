@@ -28,9 +28,9 @@ def run(words: Sequence[object], given: str | int = "", closed: tuple[int, ...] 
         for number in closed:
             os.close(number)
 
-    text = None if isinstance(given, int) else given.encode()
-    with subprocess.Popen([PROGRAM, *map(str, words)], cwd=TOP, stdin=given if isinstance(given, int) else subprocess.PIPE, stdout=subprocess.PIPE,
-                          stderr=subprocess.PIPE, preexec_fn=close) as process:
+    source, text = (given, None) if isinstance(given, int) else (subprocess.PIPE, given.encode())
+    with subprocess.Popen([PROGRAM, *map(str, words)], cwd=TOP, stdin=source, stdout=subprocess.PIPE, stderr=subprocess.PIPE,
+                          preexec_fn=close) as process:
         try:
             written, told = process.communicate(text, TIME_LIMIT)
         finally:

@@ -127,7 +127,8 @@ def small_tree(tmp_path: pathlib.Path, monkeypatch: pytest.MonkeyPatch, capsys: 
     # A crate is killed.
     ("", "exit 247", [LOW, RUN], 0),
 ])
-def test_rt_is_called_for_what_is_missing(tree: Tree, monkeypatch: pytest.MonkeyPatch, built: str, does: str, calls: list[str], status: int) -> None:
+def test_rt_is_called_for_what_is_missing(tree: Tree, monkeypatch: pytest.MonkeyPatch, built: str, does: str, calls: list[str],
+                                          status: int) -> None:
     tree.have_built(*built.split())
     monkeypatch.setenv("DOES", does)
     ended = tree.build()

@@ -88,7 +88,8 @@ def test_functions_have_the_clauses_of_the_table_of_promises() -> None:
 def test_theorems_have_the_definitions_of_their_rows_in_the_number_that_is_said() -> None:
     found = count_definitions.all_definitions()
     made = {count_definitions.path_of(file): {name.strip("◌") for name in its.made} for file, its in found.items()}
-    rows = [[cell.strip() for cell in re.split(r"(?<!\\)\|", line)[1:-1]] for line in text_of(BELIEVE).split("\n") if count_definitions.ROW.match(line)]
+    lines = [line for line in text_of(BELIEVE).split("\n") if count_definitions.ROW.match(line)]
+    rows = [[cell.strip() for cell in re.split(r"(?<!\\)\|", line)[1:-1]] for line in lines]
     named = [(file.strip("`"), name) for file, _, names, *_ in rows for name in quoted(names)]
     assert named
     expect_none(it for it in named if it[1] not in made.get(it[0], ()))

@@ -18,7 +18,8 @@ ISWAP: Matrix = ((1, 0, 0, 0), (0, 0, 1j, 0), (0, 1j, 0, 0), (0, 0, 0, 1))
 # What gates on one qubit make of X and of Z.
 ON_ONE = {
     "H_XY": ("+Y", "-Z"), "H_YZ": ("-X", "+Y"), "H_NXY": ("-Y", "-Z"), "H_NXZ": ("-Z", "-X"), "H_NYZ": ("-X", "-Y"),
-    "C_NXYZ": ("-Y", "-X"), "C_XNYZ": ("-Y", "+X"), "C_XYNZ": ("+Y", "-X"), "C_NZYX": ("-Z", "-Y"), "C_ZNYX": ("+Z", "-Y"), "C_ZYNX": ("-Z", "+Y"),
+    "C_NXYZ": ("-Y", "-X"), "C_XNYZ": ("-Y", "+X"), "C_XYNZ": ("+Y", "-X"),
+    "C_NZYX": ("-Z", "-Y"), "C_ZNYX": ("+Z", "-Y"), "C_ZYNX": ("-Z", "+Y"),
 }
 # Products of which gates are a square root: they multiply the eigenstates of -1 by i, and their inverses by -i.
 ROOTS = [("SQRT_XX{} 0 1", "XX"), ("SQRT_YY{} 0 1", "YY"), ("SQRT_ZZ{} 0 1", "ZZ"), ("SPP{} X0*Y1*Z2", "XYZ")]

@@ -47,7 +47,8 @@ class Tree:
         self.source = self.top / "crates/stabsim/src/main.rt"
         self.bin = folder / "bin"
         self.bin.mkdir()
-        for name in ("stabsim", "tools/find_program.sh", "tools/sum_sources.sh", *(f"python/stabsim/programs/{it}" for it in ("choose", "stabsim"))):
+        programs = [f"python/stabsim/programs/{name}" for name in ("choose", "stabsim")]
+        for name in ("stabsim", "tools/find_program.sh", "tools/sum_sources.sh", *programs):
             write(self.top / name, (TOP / name).read_text())
         write(self.top / "crates.txt", "stabsim:\n")
         write(self.source, "fn main() {}\n")
