@@ -1,6 +1,6 @@
 //! Instructions of Stim's that stand for others. Source: Stim's list of gates, `doc/gates.md` in its repository.
 //!
-//! `tools/try_rewritings.py` compares each rewriting with the instruction by matrices.
+//! `tools/tests/test_rewritings.py` compares each rewriting with the instruction by matrices.
 use crate::named::{Named, find_named};
 use crate::sentences::Sentences;
 
