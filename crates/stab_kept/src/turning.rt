@@ -1,8 +1,9 @@
 ghost use Rattle.std.specs.Prelude.{◌≡◌, ℕ, ◌+◌, ◌-◌, ◌*◌, ◌^◌, ◌<◌, ◌≤◌, [], ◌∷◌, None, Some, true, Bool, List, All, length, take, drop, slice_get, vec_capacity, IfSome, IfOk, IfErr, OnOk, OnErr, ◌++◌};
 ghost use Rattle.stab_io.specs.declared.refusal.Refusal.TheVariants.{OutOfMemory};
-ghost use Rattle.stab_circuit.specs.Steps.{Step, unroll, observables_of, check_within};
+ghost use Rattle.stab_circuit.specs.Steps.{Step, unroll, observables_of, check_of, check_within};
 ghost use Rattle.stab_circuit.specs.Views.{circuit_items};
 ghost use Rattle.stab_circuit.specs.Cursors.{IsApart};
+ghost use Rattle.stab_circuit.specs.Repeats.{AreRepeats};
 ghost use Rattle.stab_run.specs.Records.{ones};
 ghost use Rattle.stab_run.specs.Points.{all_coins_of};
 ghost use Rattle.stab_frames.specs.Walks.{IsPlaced};
@@ -17,15 +18,19 @@ ghost use Rattle.stab_kept.specs.inner.Turned.{StaysNear, HasPassed, IsTurning, 
 
 use crate::kept::{Followed, KeptRun};
 use crate::rest::{OldRest, end_place};
-use stab_circuit::{Circuit, Cursor, Span};
+use stab_circuit::{Circuit, Cursor, Repeat, Span};
 use stab_copies::{Checkpoint, Meeting, count_before, shifted};
 use stab_frames::FrameWalk;
 use stab_io::Refusal;
 use stab_replay::lead_frame;
+use stab_rounds::find_rounds;
 use stab_run::{Coins, Lengths};
 use stab_tableau::Tableau;
 use stab_turns::{PauliChange, flip_outputs, lengths_behind, pass_places, sum_additions};
 use std::alloc::Global;
+
+/// Rounds that are written out are looked for if this many steps are left: to carry fewer out takes no longer.
+const WORTH_FINDING: usize = 65_536;
 
 /// Lists move with these if they stay as long as they are.
 const NO_LENGTHS: Lengths = Lengths {
@@ -308,6 +313,24 @@ impl KeptRun {
         Ok(Some(followed))
     }
 
+    /// Where rounds come again in an edited circuit: also where they are written out, if it makes more records than before or fewer,
+    /// since later coins then have other numbers, and more of the run can't be kept most likely.
+    ///
+    /// Refusal `OutOfMemory` alone.
+    fn rounds(&self, alloc: Global, circuit: &Circuit, span: Span) -> Result<Vec<Repeat>, Refusal>
+        requires checked { check_of (circuit_items circuit.now) ≡ None }
+        ensures are { IfOk result (λ rs. AreRepeats 0 (unroll (circuit_items circuit.now)) rs.items) }
+        ensures err { IfErr result (λ r. r ≡ OutOfMemory) }
+    {
+        let left = circuit.steps().saturating_sub(span.new_end);
+        if left < WORTH_FINDING || circuit.records() == self.outputs.records.len() {
+            let blocks = circuit.repeats(alloc)?;
+            return Ok(blocks);
+        }
+        let found = find_rounds(alloc, circuit)?;
+        Ok(found)
+    }
+
     /// Makes this the run of an edited circuit, whose steps differ within the span, and says how
     /// many steps were carried out for it, and how many a frame passed. The run is as before if
     /// memory is refused.
@@ -348,11 +371,11 @@ impl KeptRun {
                 return Ok(followed);
             }
         }
-        let repeats = circuit.repeats(alloc)?;
+        let rounds = self.rounds(alloc, circuit, span)?;
         self.replay(
             alloc,
             circuit,
-            repeats.as_slice(),
+            rounds.as_slice(),
             span,
             stride,
             coins,
