@@ -1,4 +1,4 @@
--- Replays whose cursor or tableau is behind: where the cursor is set, and which state was laid last.
+-- Replays whose cursor or tableau is not up to date: where the cursor is set, and which state was laid last.
 use Rattle.std.proofs.Common.{◌≡◌, suc, ◌-◌, ◌<◌, refl, sym, ap, subst, List, [], ◌∷◌, Option, None, Some, IsSomeAnd, get_or, length, drop, arith}
 use Rattle.stab_tableau.specs.Tableaus.{TableauState}
 use Rattle.stab_circuit.specs.Steps.{Step}

@@ -83,7 +83,7 @@ stop_is g c few =
     c.place_of-place.ensures.value
     ∙ ap (λ t. stop_of c.args.span t c.follow.new.self.step c.args.self.now.checkpoints.items c.in_ok-end.end) (omega (arith, c.steps.ensures.value, few))
 
--- so many steps were followed
+-- how many steps were followed
 followed : (g : Over) (c : After-place_of-place g) → length (unroll (circuit_items c.args.circuit.now)) ≤ 1048576
     → c.follow.new.self.step ≤ stop_of c.args.span (length (unroll (circuit_items c.args.circuit.now))) c.follow.new.self.step c.args.self.now.checkpoints.items c.in_ok-end.end
     → (c.follow.new.self.applied + (c.follow.new.self.framed + (c.place_of-place.result - c.follow.new.self.step))) + c.in_ok-replay.replay.step
