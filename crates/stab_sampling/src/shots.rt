@@ -226,7 +226,7 @@ fn send_seeded<O: Output>(
         let mut coins = SeedCoins::new(seed, first);
         return send_copies(alloc, circuit, out, format, shown, &mut coins, 1);
     }
-    let lanes = shots_at_once(alloc, circuit, shots)?;
+    let lanes = shots_at_once(circuit, shots);
     send_in_lanes(
         alloc, circuit, out, format, shown, seed, first, shots, lanes,
     )

@@ -1,42 +1,17 @@
 //! How many shots go through a circuit at once.
-ghost use Rattle.std.specs.Prelude.{◌≡◌, ◌<◌, ◌≤◌, None, IfOk, IfErr};
-ghost use Rattle.stab_io.specs.Refusals.{whole};
-ghost use Rattle.stab_io.specs.declared.refusal.Refusal.TheVariants.{OutOfMemory};
-ghost use Rattle.stab_circuit.specs.Steps.{check_of};
-ghost use Rattle.stab_circuit.specs.Views.{circuit_items};
+ghost use Rattle.std.specs.Prelude.{◌<◌, ◌≤◌};
 
-use stab_circuit::{Circuit, Cursor, Step, Steps};
-use stab_io::{Fault, Refusal};
-use std::alloc::Global;
+use stab_circuit::Circuit;
 
 /// How many bytes the bits of shots that go at once take at most, besides the room that a growing list keeps free. On its way
 /// out a bit of all of them takes up to 25 bytes more. The run that leads them takes up to three for each of its bits, and 4 MiB
 /// for what is noted of it.
 const MOST_BYTES: usize = 12 * 1024 * 1024;
 
-/// How many steps are passed together at most: as many as are given together.
-const MOST_TOGETHER: usize = usize::MAX;
-
 /// How many bits a shot has: its records, detectors and observables.
-fn bits_of_shot(alloc: Global, circuit: &Circuit) -> Result<usize, Refusal>
-    requires checked { check_of (circuit_items circuit.now) ≡ None }
-    ensures err { IfErr result (λ r. r ≡ OutOfMemory) }
-{
-    let mut bits = circuit.records().saturating_add(circuit.observables());
-    let mut cursor = Cursor::at(alloc, circuit, 0)?;
-    'steps: while let Some(steps) = cursor.next_steps(MOST_TOGETHER) {
-        bits = bits.saturating_add(count_detectors(steps));
-    }
-    Ok(bits)
-}
-
-/// How many of some steps are detectors.
-fn count_detectors(steps: Steps) -> usize {
-    match steps {
-        Steps::Detectors(detectors) => detectors.len(),
-        Steps::Single(Step::Detector(_)) => 1,
-        Steps::Gates(..) | Steps::Pairs(..) | Steps::Measurements(..) | Steps::Single(_) => 0,
-    }
+fn bits_of_shot(circuit: &Circuit) -> usize {
+    let shown = circuit.records().saturating_add(circuit.detectors());
+    shown.saturating_add(circuit.observables())
 }
 
 /// Whether the bits of this many lanes, this many in each, stay within the bytes that they may take.
@@ -61,15 +36,12 @@ fn most_lanes(bits: usize) -> usize
 }
 
 /// How many shots go through a circuit at once, if this many are asked for.
-pub(crate) fn shots_at_once(alloc: Global, circuit: &Circuit, shots: usize) -> Result<usize, Fault>
-    requires checked { check_of (circuit_items circuit.now) ≡ None }
-    ensures some { IfOk result (λ n. 0 < n) }
-    ensures few { IfOk result (λ n. n ≤ 1024) }
-    ensures err { IfErr result (λ f. f ≡ whole OutOfMemory) }
+pub(crate) fn shots_at_once(circuit: &Circuit, shots: usize) -> usize
+    ensures some { 0 < result }
+    ensures few { result ≤ 1024 }
 {
     if shots <= 64 {
-        return Ok(64);
+        return 64;
     }
-    let bits = bits_of_shot(alloc, circuit).map_err(Fault::whole)?;
-    Ok(most_lanes(bits))
+    most_lanes(bits_of_shot(circuit))
 }

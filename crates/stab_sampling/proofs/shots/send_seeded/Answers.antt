@@ -1,18 +1,11 @@
 use Rattle.std.proofs.Common.{◌≡◌, ℕ, ◌+◌, Bool, List, arith, ap, sym, subst, ◌∙◌}
-use Rattle.std.specs.Result.{IsErrAnd}
 use Rattle.stab_circuit.specs.Steps.{qubits_of}
 use Rattle.stab_circuit.specs.Views.{circuit_items}
 use Rattle.stab_run.specs.Coins.{Seeded, seed_coin}
 use Rattle.stab_run.specs.Runs.{run_of}
-use Rattle.stab_tables.proofs.SendingLaws.{sends_none}
 use Rattle.stab_sampling.specs.Outputs.{of_shots}
 use Rattle.stab_sampling.specs.Sendings.{SendsUnflushed, shown_bytes}
 use Rattle.stab_sampling.proofs.shots.send_seeded.Goals as goal
-
-pub returns-in_err-lanes : goal.returns-in_err-lanes
-returns-in_err-lanes g c = record {
-  sends = sends_none (g.O.Output.seen c.args.out.now) _ c.from_residual.result (subst (λ f. IsErrAnd c.from_residual.result (λ y. y ≡ f)) c.in_err-lanes.ensures.err c.from_residual.ensures.1);
-}
 
 pub returns-then-shots-eq1 : goal.returns-then-shots-eq1
 returns-then-shots-eq1 g c =
