@@ -126,6 +126,23 @@ fn framed_between(begin: usize, end: usize) -> Followed
     }
 }
 
+/// Where rounds come again in an edited circuit: also where they are written out, if many steps are left after what changed.
+///
+/// Refusal `OutOfMemory` alone.
+fn rounds_of(alloc: Global, circuit: &Circuit, span: Span) -> Result<Vec<Repeat>, Refusal>
+    requires checked { check_of (circuit_items circuit.now) ≡ None }
+    ensures are { IfOk result (λ rs. AreRepeats 0 (unroll (circuit_items circuit.now)) rs.items) }
+    ensures err { IfErr result (λ r. r ≡ OutOfMemory) }
+{
+    let left = circuit.steps().saturating_sub(span.new_end);
+    if left < WORTH_FINDING {
+        let blocks = circuit.repeats(alloc)?;
+        return Ok(blocks);
+    }
+    let found = find_rounds(alloc, circuit)?;
+    Ok(found)
+}
+
 impl KeptRun {
     /// Leads a frame past the places of a change of Pauli gates within a span, from the copy before it on,
     /// which has the number one less than the one count of copies; those up to the other count are within
@@ -313,24 +330,6 @@ impl KeptRun {
         Ok(Some(followed))
     }
 
-    /// Where rounds come again in an edited circuit: also where they are written out, if it makes more records than before or fewer,
-    /// since later coins then have other numbers, and more of the run can't be kept most likely.
-    ///
-    /// Refusal `OutOfMemory` alone.
-    fn rounds(&self, alloc: Global, circuit: &Circuit, span: Span) -> Result<Vec<Repeat>, Refusal>
-        requires checked { check_of (circuit_items circuit.now) ≡ None }
-        ensures are { IfOk result (λ rs. AreRepeats 0 (unroll (circuit_items circuit.now)) rs.items) }
-        ensures err { IfErr result (λ r. r ≡ OutOfMemory) }
-    {
-        let left = circuit.steps().saturating_sub(span.new_end);
-        if left < WORTH_FINDING || circuit.records() == self.outputs.records.len() {
-            let blocks = circuit.repeats(alloc)?;
-            return Ok(blocks);
-        }
-        let found = find_rounds(alloc, circuit)?;
-        Ok(found)
-    }
-
     /// Makes this the run of an edited circuit, whose steps differ within the span, and says how
     /// many steps were carried out for it, and how many a frame passed. The run is as before if
     /// memory is refused.
@@ -371,7 +370,7 @@ impl KeptRun {
                 return Ok(followed);
             }
         }
-        let rounds = self.rounds(alloc, circuit, span)?;
+        let rounds = rounds_of(alloc, circuit, span)?;
         self.replay(
             alloc,
             circuit,
