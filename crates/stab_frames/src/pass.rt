@@ -125,6 +125,7 @@ fn multiply_if(walk: &mut FrameWalk, bit: bool, letter: Letter, qubit: usize)
 
 /// Leads a frame over the measurement of the next coin, of something with which it anticommutes or
 /// not, and says whether the outcome is flipped, or `None` if the string is missing.
+#[inline(always)]
 fn pass_outcome<D: Draw, C: Coins>(
     walk: &mut FrameWalk,
     known: Known<D>,
