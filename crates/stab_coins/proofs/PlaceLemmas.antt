@@ -69,9 +69,6 @@ ascending-rest numbers k up i j lt within =
     (λ r. sym (number-drop numbers k i) r < sym (number-drop numbers k j) r)
     (up (k + i) (k + j) (omega (arith, lt)) (omega (arith, within, length-drop k numbers)))
 
-pub at-rest : (numbers : List ℕ) (k l : ℕ) → get_or (drop k numbers) l 0 ≡ get_or numbers (k + l) 0
-at-rest numbers k l = number-drop numbers k l
-
 -- the step that takes a coin
 
 pub step-at : (k : ℕ) (xs : List Step) (x : Step) (rest : List Step) → drop k xs ≡ x ∷ rest → coins_of x ≡ 1 → step_of_coin xs (all_coins_of (take k xs)) ≡ k

@@ -262,15 +262,6 @@ steps-within xs k =
 
 -- one item alone
 
-pub operation-marks : (t : ℕ) (op : Operation) → marks_from t (instructions (next op done)) ≡ marks_by t op.tag op.kind
-operation-marks t op = append-nil (marks_by t op.tag op.kind)
-
-pub operation-steps : (op : Operation) → unroll (next op done) ≡ steps_of op.kind
-operation-steps op = append-nil (steps_of op.kind)
-
-pub block-marks : (t count : ℕ) (tag : List ℕ) (body : Items) → marks_from t (instructions (block count tag body done)) ≡ marks_from t (instruction_rounds count (instructions body))
-block-marks t count tag body = ap (marks_from t) (append-nil (instruction_rounds count (instructions body)))
-
 pub block-steps : (count : ℕ) (tag : List ℕ) (body : Items) → length (unroll (block count tag body done)) ≡ count * length (unroll body)
 block-steps count tag body = ap length (append-nil (rounds count (unroll body))) ∙ length-rounds count (unroll body)
 

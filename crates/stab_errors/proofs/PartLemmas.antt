@@ -21,9 +21,6 @@ use Rattle.stab_errors.proofs.GraphlikeLemmas.{row-two, two-row}
 
 -- errors one after another
 
-pub split-none : (rows : List (List ℕ)) (detectors : ℕ) → AreSplitByRows rows detectors [] []
-split-none rows detectors = record { given = refl; stand = λ faults stand. stand }
-
 split-push : (rows : List (List ℕ)) (detectors : ℕ) (whole : List ErrorValue) (before : List Error) (e : ErrorValue) (given : List Error) → SplitByRows rows detectors whole before
     → IsSplitByRow rows detectors e given → SplitByRows rows detectors (whole ++ e ∷ []) (before ++ given)
 split-push rows detectors [] before e given none is = (given, [], is, refl, ap (λ es. es ++ given) none ∙ sym (append-nil given))

@@ -124,9 +124,6 @@ module _ (n : ℕ) (coins : ℕ → Bool) (K : ℕ) (xs : List Step) (count : �
       abbrev meeting : Meeting
       meeting = meeting_of (output_of r.outputs) r.step d
 
-      abbrev rest_copies : List Checkpoint
-      rest_copies = drop j old.checkpoints.items
-
       kept-rest : (turned : List TableauState) (letters : List Letter) (flips : RunOutput)
           → GoesOn n coins xs ys d.step r.step (drop j old.checkpoints.items) (meeting_of (output_of r.outputs) r.step d) turned letters flips
           → new.tableau.qubits ≡ old.tableau.qubits → IsTurned old.tableau.qubits letters (stabilises old.tableau) (stabilises new.tableau)

@@ -133,17 +133,6 @@ module _ (n : ℕ) (coins : ℕ → Bool) (xs : List Step) (s : StringsState) (f
                 (omega (arith, long, most, lt, noted.numbered, few), omega (arith, most, noted.within))
           ]
 
--- with a greater reach
-pub noted-more : (n : ℕ) (coins : ℕ → Bool) (xs : List Step) (s : StringsState) (free : List Bool) (reach more : ℕ) → reach ≤ more → IsNoted n coins xs s free reach
-    → IsNoted n coins xs s free more
-noted-more n coins xs s free reach more raised noted = record {
-  size = noted.size;
-  within = noted.within;
-  numbered = noted.numbered;
-  are_true = noted.are_true;
-  near = within-more reach more xs raised noted.near;
-}
-
 -- a run that goes on, and notes its strings
 pub noted-on : (n : ℕ) (coins : ℕ → Bool) (xs zs : List Step) (s t : StringsState) (old new : ProgramState) (before after : ℕ) → IsNoted n coins xs s old.output.free before
     → IsAt n old (point_after n coins xs origin) → t.qubits ≡ n → t.most ≡ s.most → before ≤ after → All (LooksWithin after) zs

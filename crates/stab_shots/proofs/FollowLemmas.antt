@@ -106,19 +106,6 @@ module _ (n : ℕ) (notes : Notes) (old new : Difference) where
         additions = sym (append-nil old.flips.additions) i;
       })) refl
 
-  pub follows-observable : (j : ℕ) (ks : List ℕ) → new.letters ≡ old.letters
-      → new.flips ≡ record old.flips { additions = old.flips.additions ++ record { observable = j; bit = parity old.flips.records ks } ∷ [] }
-      → Follows n notes (observable j ks ∷ []) old new
-  follows-observable j ks letters flips =
-      follows-step (observable j ks) letters
-      (flips
-      ∙ (λ i. record {
-        records = sym (append-nil old.flips.records) i;
-        free = sym (append-nil old.flips.free) i;
-        detectors = sym (append-nil old.flips.detectors) i;
-        additions = old.flips.additions ++ record { observable = j; bit = parity old.flips.records ks } ∷ [];
-      })) refl
-
   -- measurements
 
   measured-flips : (mid : Difference) (rs : List Bool) → mid.flips ≡ record old.flips { free = old.flips.free ++ false ∷ [] }

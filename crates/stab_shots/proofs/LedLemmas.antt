@@ -52,27 +52,6 @@ follows-rest n notes xs ys a b c whole first = record {
   coin = omega (arith, whole.coin, first.coin, coins-append xs ys);
 }
 
--- lanes are marked after some rounds
-pub led-marked : {W : Type 0} (at : W → ℕ → Bool) (count : ℕ) (noted : Noted) (coins : ℕ → ℕ → Bool) (steps : List Step) (r : Repeat) (done number : ℕ) (lanes : Lanes W) (mark : Mark W)
-    → mark.letters.items ≡ lanes.frames.letters.items → mark.lengths ≡ lengths_in lanes → mark.done ≡ done
-    → AreLed at count noted coins (take (behind_rounds r done) steps) number lanes → IsMark at count noted coins steps r mark
-led-marked at count noted coins steps r done number lanes mark letters lengths same led = λ l lt.
-    record {
-      before = lane_difference at l lanes;
-      led =
-          subst (λ k. Follows noted.strings.now.qubits (lane_notes noted (coins l)) (take (behind_rounds r k) steps) (no_difference noted.strings.now.qubits) (lane_difference at l lanes))
-          (sym same) (led.follow l lt);
-      same = ap (lane_letters at l) letters;
-      long =
-          lengths
-          ∙ (λ i. record {
-            records = sym (length-map lanes.records.items (λ w. at w l)) i;
-            free = length lanes.free.items;
-            detectors = sym (length-map lanes.detectors.items (λ w. at w l)) i;
-            additions = sym (length-map {B = Addition} lanes.sums.items (λ s. record { observable = s.observable; bit = at s.parity l })) i;
-          });
-    }
-
 -- a lane that was marked after some rounds, and is again as it was then
 
 module _ (n : ℕ) (notes : Notes) (steps : List Step) (r : Repeat) (is : IsRepeat steps r) (early done times : ℕ) (later : early < done)

@@ -29,9 +29,6 @@ word_bit-pow k l = by_cases (cases_eq l k)
     by_cases (inl e) = ap (word_bit (2 ^ k)) e ∙ ap (λ b. eqb b 1) (bit_at-pow_same k) ∙ sym (alike l k e)
     by_cases (inr ne) = ap (λ b. eqb b 1) (bit_at-pow_other k l ne) ∙ sym (apart l k ne)
 
-pub word_bit-none : (k l : ℕ) → 64 ≤ k → l < 64 → word_bit 0 l ≡ (l == k)
-word_bit-none k l high low = word_bit-zero l ∙ sym (apart l k (λ e. absurd (omega (arith, e, high, low))))
-
 -- a one that is moved up
 pub word_bit-moved : (k l : ℕ) → l < 64 → word_bit (1 * 2 ^ k % 2 ^ 64) l ≡ (l == k)
 word_bit-moved k l lt = word_bit-cut (1 * 2 ^ k) 64 l lt ∙ ap (λ n. word_bit n l) {x = 1 * 2 ^ k} {y = 2 ^ k} (omega arith) ∙ word_bit-pow k l

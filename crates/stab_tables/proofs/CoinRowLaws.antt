@@ -125,8 +125,3 @@ table_texts layout items r are =
     ap (λ (l : List ℕ). texts_from (text_at layout items) 0 (length l)) are.numbers
     ∙ sym (texts_of_list text (free_coins n items))
     ∙ sym (flat-mapped (λ (row : CoinRow). coin_text layout items row.coin (whole_bits row.flips)) (row_by n items zero_coins) (free_coins n items))
-
--- the line of a coin, by its parts
-pub line_joined : (items : Items) (t u step : ℕ) (path : Path) (kinds : Kinds) (flips : List Bool) → u ≡ t → step ≡ step_of_coin (unroll items) t → path ≡ path_of_coin items t → kinds ≡ whole_kinds items
-    → row_head step path (codes "c") u ++ (flat_map (entry kinds) (one_places flips) ++ codes "\n") ≡ coin_line items t flips
-line_joined items t u step path kinds flips coin is at are = λ i. row_head (is i) (at i) (codes "c") (coin i) ++ (flat_map (entry (are i)) (one_places flips) ++ codes "\n")
