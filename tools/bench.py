@@ -1,16 +1,7 @@
 #!/usr/bin/env python3
 """Measures what docs/build/benchmarks.md, docs/use/scaling.md and docs/trust/tested.md say of times, and prints lines of their tables.
 
-    tools/bench.py shots                  few shots and many of ten circuits
-    tools/bench.py further CIRCUIT..      what a further shot costs beside one run
-    tools/bench.py hour [--seconds 5]     how many shots of `detect` one core does in an hour
-    tools/bench.py limits [--repeats 3]   what texts at the limits cost against a plain one
-    tools/bench.py page [--edits 9]       how long the page takes from a key until it is painted
-    tools/bench.py crate                  all of crates/bench, which is proved and built first
-
-If nothing else is said, times are by the clock, the least of five calls. The program is that of `./stabsim`, or of `--program`. Do
-nothing else on the machine meanwhile.
-"""
+Times are by the clock, the least of five calls, if nothing else is said. Do nothing else on the machine meanwhile."""
 
 import argparse
 import itertools
@@ -21,8 +12,9 @@ import tempfile
 import time
 from collections.abc import Callable
 from pathlib import Path
-from typing import Any
 
+from oracle.formats import FORMATS
+from oracle.reading import MOST_DEPTH, MOST_OBSERVABLES
 from program import TOP, find_program
 from stabsim import codes
 from stabsim.codes.dense import dense_circuit
@@ -31,17 +23,14 @@ CALLS = 5
 # Few shots and many, of these circuits.
 SHOTS = (1, 2, 8, 16, 17, 64, 65, 256, 1_000)
 QUBITS = 64
-# One shot, and as many after it as fill batches of any width from 64 lanes to 1,024.
-MANY = 7_169
-# Surface codes by distance and rounds, of which shots are measured for an hour.
+# Surface codes by distance and rounds, of which shots are measured for an hour, by runs of at least this many seconds.
 SIZES = ((3, 3), (7, 7), (13, 13), (21, 21), (21, 349))
-FORMATS = ("01", "b8", "r8", "hits", "dets")
+SECONDS = 5
 MOST_SHOTS = 1_000_000
 HOUR = 3600
-MOST_DEPTH = 16
-MOST_OBSERVABLES = 4_096
-# What is timed of a text at a limit: commands, and the script of `edit`.
+# What is timed of a text at a limit, three times: commands, and the script of `edit`.
 COMMANDS = {"sample": "", "edit": "insert 0 TICK\ndelete 0\nshow circuit\n"}
+REPEATS = 3
 
 
 def head(*cells: str) -> None:
@@ -54,26 +43,22 @@ def row(*cells: str) -> None:
     print("| " + " | ".join(cells) + " |", flush=True)
 
 
-def two_digits(number: float) -> str:
-    """A number with its two leading digits."""
+def rounded(number: float) -> str:
+    """A number with its two leading digits, in thousands."""
     return f"{number:.2g}" if number < 100 else f"{float(f'{number:.2g}'):,.0f}"
 
 
-def least(program: Path, *words: str | Path) -> float:
+def least(*words: str | Path) -> float:
     """The least time of a call by the clock, in seconds."""
     times = []
     for _ in range(CALLS):
         before = time.perf_counter()
-        subprocess.run([program, *words], stdout=subprocess.DEVNULL, check=True)
+        subprocess.run(words, stdout=subprocess.DEVNULL, check=True)
         times.append(time.perf_counter() - before)
     return min(times)
 
 
-def sample(program: Path, path: Path, shots: int, form: str = "b8") -> float:
-    return least(program, "sample", "--shots", str(shots), "--out_format", form, "--in", path)
-
-
-def time_shots(asked: argparse.Namespace, folder: Path) -> None:
+def time_shots(program: Path, path: Path) -> None:
     """The milliseconds of few shots and of many, with what reading the text takes, less what the program takes to start: they show
     whether somewhere a shot more takes less time than one fewer."""
     circuits = {
@@ -89,27 +74,18 @@ def time_shots(asked: argparse.Namespace, folder: Path) -> None:
         f"one measurement a line, {QUBITS} qubits": "".join(f"H {number % QUBITS}\nM {number % QUBITS}\n" for number in range(100_000)),
     }
     head("Circuit", *(f"{shots:,}" for shots in SHOTS))
-    start, path = least(asked.program, "--version"), folder / "circuit.stim"
+    start = least(program, "--version")
     for name, text in circuits.items():
         path.write_text(text)
-        row(name, *(two_digits((sample(asked.program, path, shots) - start) * 1e3) for shots in SHOTS))
-
-
-def time_further_shots(asked: argparse.Namespace, _: Path) -> None:
-    """The milliseconds of a run, with reading, less the start; and for `b8` and `01` the microseconds of a further shot, and which
-    part of a run that is. `check` is not taken off, since it passes all steps as a run does."""
-    head("Circuit", "A run, ms", "A further shot in `b8`, µs", "of a run", "in `01`, µs", "of a run")
-    for path in asked.circuits:
-        one = sample(asked.program, path, 1)
-        run = one - least(asked.program, "--version")
-        further = [(sample(asked.program, path, MANY, form) - one) / (MANY - 1) for form in ("b8", "01")]
-        row(path.stem, two_digits(run * 1e3), *itertools.chain(*((two_digits(it * 1e6), f"1/{run / it:.0f}") for it in further)))
+        times = [least(program, "sample", "--shots", str(shots), "--out_format", "b8", "--in", path) for shots in SHOTS]
+        row(name, *(rounded((it - start) * 1e3) for it in times))
 
 
 def seconds_and_bytes(program: Path, path: Path, form: str, shots: int) -> tuple[float, int]:
     """The seconds of processor time of shots of `detect`, and the bytes that they are."""
     before, written = os.times(), 0
-    with subprocess.Popen([program, "detect", "--shots", str(shots), "--out_format", form, "--in", path], stdout=subprocess.PIPE) as process:
+    words: list[str | Path] = [program, "detect", "--shots", str(shots), "--out_format", form, "--in", path]
+    with subprocess.Popen(words, stdout=subprocess.PIPE) as process:
         assert process.stdout
         while some := process.stdout.read(1 << 20):
             written += len(some)
@@ -119,22 +95,16 @@ def seconds_and_bytes(program: Path, path: Path, form: str, shots: int) -> tuple
     return after.children_user + after.children_system - before.children_user - before.children_system, written
 
 
-def rounded(number: float) -> str:
-    """A number with its two leading digits, in thousands."""
-    return f"{round(number, -max(len(str(int(number))) - 2, 0)):,.0f}"
-
-
-def time_an_hour(asked: argparse.Namespace, folder: Path) -> None:
+def time_an_hour(program: Path, path: Path) -> None:
     """The shots that an hour is good for, the bytes of a shot and the gigabytes of an hour, by a run that takes seconds of processor
     time, or has the most shots of a run."""
     head("Surface code", "Steps", "Detectors", "Format", "Shots an hour", "Bytes a shot", "GB an hour")
-    path = folder / "circuit.stim"
     for (distance, rounds), form in itertools.product(SIZES, FORMATS):
         path.write_text(codes.surface_code(distance, rounds))
-        told = subprocess.run([asked.program, "check", "--in", path], capture_output=True, text=True, check=True).stdout
+        told = subprocess.run([program, "check", "--in", path], capture_output=True, text=True, check=True).stdout
         numbers = dict(line.split(": ") for line in told.splitlines())
         shots = 1
-        while (took := seconds_and_bytes(asked.program, path, form, shots))[0] < asked.seconds and shots < MOST_SHOTS:
+        while (took := seconds_and_bytes(program, path, form, shots))[0] < SECONDS and shots < MOST_SHOTS:
             shots = min(MOST_SHOTS, shots * 4)
         hour, size = HOUR * shots / max(took[0], 0.01), took[1] / shots
         row(f"distance {distance}, {rounds} rounds", *(f"{int(numbers[it]):,}" for it in ("steps", "detectors")), f"`{form}`", rounded(hour),
@@ -151,7 +121,6 @@ TEXTS = {
     "a comment": ("", "#"),
 }
 
-
 # A process counts the memory that its starter held: so a small one starts the program, and says what it cost.
 TELL_COST = """
 import os, sys
@@ -161,46 +130,40 @@ sys.exit(os.waitstatus_to_exitcode(status))
 """
 
 
-def costs_of(asked: argparse.Namespace, path: Path) -> list[float]:
+def costs_of(program: Path, path: Path) -> list[float]:
     """For each command the least of the processor's time, in seconds, and of the memory, in KiB, of some runs."""
-    found = []
+    found: list[float] = []
     for command, script in COMMANDS.items():
-        words = [sys.executable, "-S", "-c", TELL_COST, asked.program, command, "--in", path]
-        runs = [subprocess.run(words, input=script, stdout=subprocess.DEVNULL, stderr=subprocess.PIPE, text=True, check=True) for _ in range(asked.repeats)]
-        found += [min(costs) for costs in zip(*(map(float, it.stderr.split()) for it in runs))]
+        words: list[str | Path] = [sys.executable, "-S", "-c", TELL_COST, program, command, "--in", path]
+        runs = [subprocess.run(words, input=script, stdout=subprocess.DEVNULL, stderr=subprocess.PIPE, text=True, check=True) for _ in range(REPEATS)]
+        found += map(min, zip(*(map(float, it.stderr.split()) for it in runs)))
     return found
 
 
-def time_limits(asked: argparse.Namespace, folder: Path) -> None:
+def time_limits(program: Path, path: Path) -> None:
     """What texts cost that go to a limit, as ratios to a surface code written out that has as many bytes."""
-    path = folder / "circuit.stim"
     path.write_text(codes.surface_code(21, codes.deepest("surface_code", 21), written_out=True))
-    length, base = path.stat().st_size, costs_of(asked, path)
+    length, base = path.stat().st_size, costs_of(program, path)
     print(f"Texts of {length:,} bytes, against a surface code written out:\n")
     head("Text", *(f"{what} of `{command}`" for command in COMMANDS for what in ("time", "memory")))
     for name, (first, line) in TEXTS.items():
         path.write_text(first + line * ((length - len(first)) // len(line)))
-        row(name, *(f"{one / other:.2f}" for one, other in zip(costs_of(asked, path), base)))
+        row(name, *(f"{one / other:.2f}" for one, other in zip(costs_of(program, path), base)))
 
 
-def time_page(asked: argparse.Namespace, folder: Path) -> None:
+def time_page(_: Path, path: Path) -> None:
+    """How long the page takes from a key until it is painted."""
     # It needs a browser, and the others don't.
     import bench_page
 
-    if asked.frames:
-        bench_page.measure_frames(folder, asked.frames)
-        return
-    sizes = [(asked.distance, asked.rounds)] if asked.distance else [(13, 13), (21, 100)]
-    bench_page.measure(folder, sizes, asked.edits)
+    bench_page.measure(path)
 
 
-def time_crate(_: argparse.Namespace, folder: Path) -> None:
+def time_crate(_: Path, path: Path) -> None:
     """Times the tableau, reading, whole runs, edits and tables of faults, by the program of crates/bench, built for this processor."""
-    crate = TOP / "crates" / "bench"
+    crate, folder = TOP / "crates" / "bench", path.parent
     level = subprocess.run([TOP / "python/stabsim/programs/level"], capture_output=True, text=True, check=True).stdout.strip()
-    built = subprocess.run(["rt", "run", f"--cpu=x86-64-{level or 'v2'}"], cwd=crate, stdin=subprocess.DEVNULL, capture_output=True, text=True, check=False)
-    if built.returncode:
-        raise SystemExit(f"{built.stdout}{built.stderr}bench: the program was not built")
+    subprocess.run(["rt", "run", f"--cpu=x86-64-{level or 'v2'}"], cwd=crate, stdin=subprocess.DEVNULL, stdout=subprocess.DEVNULL, check=True)
 
     def bench(*words: str) -> None:
         subprocess.run([crate / "out" / "bench", *words], cwd=folder, check=True)
@@ -228,32 +191,17 @@ def time_crate(_: argparse.Namespace, folder: Path) -> None:
     bench("faults", *(made("surface_code", distance, f"_rounds_{distance}") for distance in (7, 21)))
 
 
-NUMBER = {"type": int, "metavar": "N"}
-# What is measured, and with which options.
-KINDS: dict[str, tuple[Callable[[argparse.Namespace, Path], None], dict[str, dict[str, Any]]]] = {
-    "shots": (time_shots, {}),
-    "further": (time_further_shots, {"circuits": {"nargs": "+", "type": Path, "metavar": "CIRCUIT"}}),
-    "hour": (time_an_hour, {"--seconds": {"type": float, "default": 5, "help": "how long a run takes at least (default 5)"}}),
-    "limits": (time_limits, {"--repeats": NUMBER | {"default": 3, "help": "how many runs of each text (default 3)"}}),
-    "page": (time_page, {"--edits": NUMBER | {"default": 9}, "--distance": NUMBER, "--rounds": NUMBER,
-                         "--frames": NUMBER | {"help": "measures N frames of a zoom, and of a pan, and nothing else"}}),
-    "crate": (time_crate, {}),
+# What is measured, with the program and a file for circuits.
+KINDS: dict[str, Callable[[Path, Path], None]] = {
+    "shots": time_shots, "hour": time_an_hour, "limits": time_limits, "page": time_page, "crate": time_crate,
 }
 
 
 def main() -> None:
-    words = argparse.ArgumentParser(description=__doc__, formatter_class=argparse.RawDescriptionHelpFormatter)
-    kinds = words.add_subparsers(required=True, metavar="WHAT")
-    for name, (measure, options) in KINDS.items():
-        kind = kinds.add_parser(name, description=measure.__doc__)
-        kind.set_defaults(measure=measure)
-        kind.add_argument("--program", type=Path, help="the program in place of the built one")
-        for option, more in options.items():
-            kind.add_argument(option, **more)
-    asked = words.parse_args()
-    asked.program = asked.program or find_program()
+    words = argparse.ArgumentParser(description=__doc__)
+    words.add_argument("what", choices=KINDS)
     with tempfile.TemporaryDirectory() as folder:
-        asked.measure(asked, Path(folder))
+        KINDS[words.parse_args().what](find_program(), Path(folder) / "circuit.stim")
 
 
 if __name__ == "__main__":

@@ -1,41 +1,36 @@
 #!/usr/bin/env python3
 """Counts the definitions that each theorem rests on, and their lines: those that docs/trust/believe.md leads through.
 
-    tools/count_definitions.py [--names] [--page]
-
 It begins with what a theorem's clause names and goes on to all that this uses in the folders specs/ of the crates, but not into
-specs/inner/. A line is one of a definition, without comments, imports and blank ones. The first figures of a theorem are of all that
-it rests on, the last of what no theorem above it has; with --names each definition is printed below its theorem.
-
-docs/trust/believe.md has the theorems as headings, and below each a row for each file that has some of its new definitions, with their
-number and lines. With --page these counts and the printed ones are written there, and rows that are missing, or of no use, are named.
-"""
+specs/inner/. Comments, imports and blank lines do not count. The first figures of a theorem are of all that it rests on, the last of what
+no theorem above it has."""
 
 import re
 import sys
 from collections.abc import Iterable, Iterator
 from dataclasses import dataclass, field
 
-from pages import DOCS, text_of
+from pages import text_of
 from program import TOP
 
-PAGE = DOCS / "trust" / "believe.md"
-SHOWN = re.compile(r"(?<=```sh\ntools/count_definitions.py\n```\n\n```output\n).*?(?=```\n)", re.DOTALL)
 # What is proved, and the definitions that its clauses name.
 THEOREMS = {
-    "sample and detect": ["stab_sampling.Outputs.EndsRun", "stab_sampling.Outputs.sample_of", "stab_sampling.Outputs.detect_of"],
+    "sample and detect": ["stab_commands.Outputs.EndsRun", "stab_commands.Outputs.sample_of", "stab_commands.Outputs.detect_of"],
     "stabilisers": ["stab_commands.Stabilisers.EndsStabilisers"],
-    "deterministic": ["stab_tables.Deterministic.EndsDeterministic"],
+    "deterministic": ["stab_analysis.Deterministic.EndsDeterministic"],
     "faults, coins and deterministic --explain": [
-        "stab_tables.FaultTables.EndsFaults", "stab_tables.CoinTables.EndsCoins", "stab_tables.Reasons.EndsExplain"],
-    "distance": ["stab_tables.Distances.EndsDistance"],
-    "edit": ["stab_scripts.ScriptEndings.EndsEdit"],
+        "stab_analysis.FaultTables.EndsFaults", "stab_analysis.CoinTables.EndsCoins", "stab_analysis.Reasons.EndsExplain"],
+    "distance": ["stab_analysis.Distances.EndsDistance"],
+    "edit": ["stab_commands.ScriptEndings.EndsPlainEdit"],
+    "edit --framed": ["stab_commands.ScriptEndings.EndsEdit"],
     "a job and its status": ["stab_commands.Jobs.EndsJob"],
-    "what a session is": ["stab_session.Headline.IsRunOfItems"],
+    "what a session is": ["stab_session.Headline.IsRunOfItems", "stab_session.Sessions.IsSignIn", "stab_tableau.Reduced.AreReduced"],
     "an edit of a session": ["stab_session.SessionEdits.IsEditedBy", "stab_session.SessionEdits.IsAsBefore"],
 }
-ROW = re.compile(r"\| `(\w+/specs/[\w/]+\.antt)` \|([^|]*)\|")
-HEAD = re.compile(r"(?:abbrev|unfoldable|opaque)?\s*(?:pub\s+)?(?:abbrev\s+|unfoldable\s+)?(?:pub\s+)?(record|data)?\s*([^\s:({]+)")
+ROW = re.compile(r"\| `(\w+/specs/[\w/]+\.antt)` \|")
+HEAD = re.compile(r"(?:(?:abbrev|unfoldable|opaque|pub|record|data)\s+)+([^\s:({]+)")
+# The first line of a definition whose cases are names too; fields are not, since who uses one names its record.
+DATA = re.compile(r"(?:pub )?data\b")
 USE = re.compile(r"(?:pub )?use Rattle\.(\w+\.)specs\.([\w.]+)\.\{([^}]*)\}")
 USE_AS = re.compile(r"use Rattle\.(\w+\.)specs\.([\w.]+) as (\w+)")
 PASSED_ON = re.compile(r"pub use Rattle\.(\w+)\.specs\.(?!declared)([\w.]+)$", re.MULTILINE)
@@ -77,10 +72,10 @@ def read_file(file: str, lines: Iterable[str]) -> File:
             found.imported[f"{used[3]}."] = used[1] + used[2], ""
         if not line.strip() or line.lstrip().startswith("--") or line.startswith(("use ", "pub use ")):
             continue
-        if re.match(r"(abbrev|unfoldable|opaque|pub|record|data)\b", line) and (head := HEAD.match(line)):
-            current = Definition(file, head[2])
+        if head := HEAD.match(line):
+            current = Definition(file, head[1])
             found.made[current.name] = current
-        elif current and (case := re.match(r"  (?:pub )?(\S+) :", line)):
+        elif current and DATA.match(current.lines[0]) and (case := re.match(r"  (?:pub )?(\S+) :", line)):
             found.made.setdefault(case[1], current)
         if current:
             current.lines.append(line)
@@ -141,19 +136,8 @@ def new_definitions(found: Files) -> Iterator[tuple[str, Definitions, Definition
         so_far |= its
 
 
-def lines_of(definitions: Iterable[Definition]) -> int:
-    return sum(len(it.lines) for it in definitions)
-
-
-def counted(found: Files, names: bool) -> Iterator[str]:
-    """The lines that are printed."""
-    every: Definitions = {}
-    for theorem, its, new in new_definitions(found):
-        every |= its
-        yield f"{theorem}: {len(its)} definitions, {lines_of(its.values())} lines; new: {len(new)}, {lines_of(new.values())}"
-        if names:
-            yield from (f"    {file} {name}: {len(it.lines)}" for (file, name), it in sorted(new.items()))
-    yield f"all: {len(every)} definitions, {lines_of(every.values())} lines"
+def lines_of(its: Definitions) -> int:
+    return sum(len(it.lines) for it in its.values())
 
 
 def path_of(file: str) -> str:
@@ -162,41 +146,25 @@ def path_of(file: str) -> str:
     return f"{crate}/specs/{path.replace('.', '/')}.antt"
 
 
-def cells(found: Files) -> dict[Place, str]:
-    """For each theorem and each file that has new definitions of it the cell of its row."""
-    by_file: dict[Place, list[Definition]] = {}
-    for theorem, _, new in new_definitions(found):
-        for (file, _), it in new.items():
-            by_file.setdefault((theorem, path_of(file)), []).append(it)
-    return {place: f"{len(its)}, {lines_of(its)}" for place, its in by_file.items()}
-
-
-def with_counts(text: str, found: Files) -> tuple[str, list[str]]:
-    """The page with the counts of each row as they are; and what is wrong with its rows or counts."""
-    lines, wrong, theorem, left = [], [], "", cells(found)
+def wrong_rows(text: str, found: Files) -> list[str]:
+    """Which rows of the page have no new definition of their theorem, and which are missing."""
+    theorem, rows = "", set()
     for line in text.split("\n"):
         if line.startswith("## "):
             theorem = line.removeprefix("## ").replace("`", "").lower()
         if row := ROW.match(line):
-            cell = left.pop((theorem, row[1]), None)
-            if cell is None:
-                wrong.append(f"{theorem}: {row[1]} has no new definition of it")
-            elif f" {cell} " != row[2]:
-                wrong.append(f"{theorem}: {row[1]} has {cell} and not{row[2]}: run tools/count_definitions.py --page")
-                line = f"{line[:row.start(2)]} {cell} {line[row.end(2):]}"
-        lines.append(line)
-    return "\n".join(lines), wrong + [f"{theorem}: a row for {file} is missing" for theorem, file in sorted(left)]
+            rows.add((theorem, row[1]))
+    wanted = {(theorem, path_of(file)) for theorem, _, new in new_definitions(found) for file, _ in new}
+    return [f"{theorem}: {file} has no new definition of it" for theorem, file in sorted(rows - wanted)] + [
+        f"{theorem}: a row for {file} is missing" for theorem, file in sorted(wanted - rows)]
 
 
 def main() -> None:
-    found = all_definitions()
-    print("\n".join(counted(found, "--names" in sys.argv[1:])))
-    if "--page" in sys.argv[1:]:
-        text, wrong = with_counts(text_of(PAGE), found)
-        shown = "\n".join(counted(found, False)) + "\n"
-        PAGE.write_text(SHOWN.sub(lambda _: shown, text))
-        for it in (it for it in wrong if not it.endswith("--page")):
-            print(it, file=sys.stderr)
+    every: Definitions = {}
+    for theorem, its, new in new_definitions(all_definitions()):
+        every |= its
+        print(f"{theorem}: {len(its)} definitions, {lines_of(its)} lines; new: {len(new)}, {lines_of(new)}")
+    print(f"all: {len(every)} definitions, {lines_of(every)} lines")
 
 
 if __name__ == "__main__":

@@ -1,6 +1,6 @@
 #!/bin/sh
 # Prints the path of the program of the sources as they are: the one that was built here from them, or the shipped one, if it was
-# built from the same sources. If there is neither, tools/build_program.py proves and builds it first, for this processor.
+# built from the same sources. If there is neither, tools/build_program.sh proves and builds it first, for this processor.
 set -u
 top=$(CDPATH='' cd -- "$(dirname -- "$0")/.." && pwd) || exit 2
 out=$top/crates/stabsim/out
@@ -42,17 +42,18 @@ build() {
     fi
     echo "stabsim: proves and builds the program first: from nothing, up to an hour on four processors," >&2
     echo "stabsim: 4 GB of memory and 9 GB of disk; a build that is interrupted goes on where it stopped" >&2
-    # What --version says of the toolchain is a constant of the source, which another one does not change.
-    "$top/tools/check_version.sh" >&2 || echo "stabsim: builds it all the same" >&2
     level=$("$programs/level")
     trap 'exit 130' INT
-    if ! python3 "$top/tools/build_program.py" stabsim "--cpu=x86-64-${level:-v2}" >&2; then
+    if ! "$top/tools/build_program.sh" "x86-64-${level:-v2}"; then
         echo "stabsim: the program was not built" >&2
         exit 2
     fi
     trap - INT
     # The build may have found nothing to do; it counts as made now all the same.
     touch "$built"
+    # The logic that --version names is a constant of the source, which another toolchain does not change.
+    "$built" --version | grep -q -F "logic $(rt version | sed 's/.* logic //') of" ||
+        echo "stabsim: this toolchain proves in another logic than --version says" >&2
 }
 
 if is_built; then

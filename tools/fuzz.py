@@ -3,20 +3,10 @@
 
     tools/fuzz.py --seconds 60
     tools/fuzz.py --large --seconds 20
-    tools/fuzz.py --faults --seconds 20
-    tools/fuzz.py --codes --seconds 20
-    tools/fuzz.py --states
-    tools/fuzz.py --edits
 
-The oracle (`tools/oracle`) is written from the definitions: it reads texts and scripts, changes the amplitudes of up to four qubits
-by the matrices of gates, and writes the result formats. More qubits are signed strings that stabilise, of which the signs are sums of
-coins and of the letters that faults put in; so one run says which bits are deterministic, and what each coin and each fault flips.
-`tools/oracle/families.py` says what the random cases are. The first difference is cut down to a small text and printed with its seed,
-and the status is then 1. The status is also 1 if some family was never compared, even in some minutes more. With `--large` only circuits
-that are large in some way are tried, one family after another, and with `--faults` only tables of faults and of deterministic bits. The
-same seed makes the same cases. `tools/oracle/code_cases.py` and the files beside it say what the cases of `--codes`, `--states` and
-`--edits` are; each that goes wrong is reported.
-"""
+The oracle (tools/oracle) is written from the definitions; its `families.py` and `*_cases.py` say what is tried. The first difference of
+random cases is cut down to a small text and printed with its seed, which makes the same cases again; of other cases each is reported. The
+status is then 1, and also if some family was never compared, even in some minutes more."""
 
 import argparse
 import collections
@@ -27,15 +17,13 @@ import subprocess
 import sys
 import tempfile
 import time
-from collections.abc import Callable
+from collections.abc import Callable, Iterable, Iterator
 
-# It is first, since it makes the package be found.
 from program import find_program
 from oracle import code_cases, edit_cases, state_cases
-from oracle.answers import Case, judge
+from oracle.answers import TOO_LARGE, Case, Ended, Wrong, judge
 from oracle.families import FAMILIES, LARGE, WEIGHTS
 from oracle.making import without_lines
-from oracle.program_runs import Ended, Wrong, try_each
 from oracle.reading import Refused
 from oracle.states import TooLarge
 
@@ -69,6 +57,26 @@ class Program:
             return judge(case, self.run(case.words, case.text, case.script))
         except subprocess.TimeoutExpired:
             return f"no answer within {TIME_LIMIT} seconds", "run"
+
+
+def wrong_cases(program: Program, cases: Iterable[Case]) -> Iterator[Wrong]:
+    """What is wrong in each case, or None; none may be too large for the oracle."""
+    for case in cases:
+        wrong, judged = program.difference(case)
+        wrong = judged if judged == TOO_LARGE else wrong
+        yield wrong and f"{case.words} on\n{case.text!r}: {wrong}"
+
+
+def try_each(name: str, cases: Iterable[Wrong]) -> int:
+    """Reports each case that went wrong, and how many there were, and gives a status."""
+    tried = wrong = 0
+    for told in cases:
+        tried += 1
+        if told is not None:
+            wrong += 1
+            print(told, file=sys.stderr)
+    print(f"{name}: {wrong} of {tried} cases went wrong")
+    return 1 if wrong or not tried else 0
 
 
 def cut_down(program: Program, case: Case) -> Case:
@@ -125,30 +133,31 @@ def try_random(asked: argparse.Namespace, program: Program, family_of: Callable[
     return 1 if idle else 0
 
 
+# The modes beside that of all families: what they try, and the status that this gives.
+MODES: dict[str, tuple[str, Callable[[argparse.Namespace, Program], int]]] = {
+    "large": ("try large circuits alone, one family after another",
+              lambda asked, program: try_random(asked, program, lambda seed, _: LARGE[seed % len(LARGE)], LARGE)),
+    "faults": ("try tables of faults and of deterministic bits alone",
+               lambda asked, program: try_random(asked, program, lambda *_: "with deterministic parities", ["with deterministic parities"])),
+    "states": ("try states, each case once", lambda _, program: try_each("states", wrong_cases(program, state_cases.cases()))),
+    "edits": ("try each edit beside a session opened anew, each case once",
+              lambda _, program: try_each("edits", edit_cases.cases(program.run))),
+    "codes": ("try circuits of codes once, and then dense ones",
+              lambda asked, program: try_each("codes", wrong_cases(program, code_cases.cases(asked.seconds, asked.seed)))),
+}
+
+
 def main() -> int:
     words = argparse.ArgumentParser(description=__doc__, formatter_class=argparse.RawDescriptionHelpFormatter)
     words.add_argument("--seconds", type=float, default=60, help="how long to go on (default 60)")
     words.add_argument("--seed", type=int, default=0, help="the seed of the first case (default 0)")
-    words.add_argument("--large", action="store_true", help="try large circuits alone")
-    words.add_argument("--faults", action="store_true", help="try tables of faults and of deterministic bits alone")
-    words.add_argument("--states", action="store_true", help="try states beside amplitudes, each case once")
-    words.add_argument("--edits", action="store_true", help="try each edit beside a session opened anew, each case once")
-    words.add_argument("--codes", action="store_true", help="try circuits of codes once, and then dense ones")
-    words.add_argument("--program", type=pathlib.Path, help="the program, where it is not the built one")
+    modes = words.add_mutually_exclusive_group()
+    for mode, (told, try_mode) in MODES.items():
+        modes.add_argument(f"--{mode}", dest="try_mode", action="store_const", const=try_mode, help=told)
+    words.set_defaults(try_mode=lambda asked, program: try_random(asked, program, any_family, [*FAMILIES]))
     asked = words.parse_args()
     with tempfile.TemporaryDirectory() as folder:
-        program = Program(asked.program or find_program(), folder)
-        if asked.states:
-            return try_each("states", state_cases.cases(program.run))
-        if asked.edits:
-            return try_each("edits", edit_cases.cases(program.run))
-        if asked.codes:
-            return try_each("codes", code_cases.cases(lambda case: program.difference(case)[0], asked.seconds, asked.seed))
-        if asked.large:
-            return try_random(asked, program, lambda seed, _: LARGE[seed % len(LARGE)], LARGE)
-        if asked.faults:
-            return try_random(asked, program, lambda *_: "with sure parities", ["with sure parities"])
-        return try_random(asked, program, any_family, [*FAMILIES])
+        return int(asked.try_mode(asked, Program(find_program(), folder)))
 
 
 if __name__ == "__main__":

@@ -1,19 +1,12 @@
 #!/usr/bin/env python3
-"""Takes the pictures of docs/use/page.md anew, in Chromium: docs/use/page.png and docs/use/page_refused.png.
+"""Takes the pictures of docs/use/page.md anew, in Chromium: docs/use/page.png, and page_refused.png in dark colours."""
 
-    tools/picture_page.py [--folder docs/use] [--width 1280 --height 800]
-
-In the first an X was put on a qubit of a surface code of distance 5, in one round of the block, and the region of a detector that it
-flipped is drawn. In the second, in dark colours, products of a colour code are measured, and an item was to become one that is
-refused. It needs what tools/browser.py says.
-"""
-
-import argparse
 import contextlib
 import pathlib
 import tempfile
 
-from browser import Page, opened_browser
+from browser import opened_browser
+from browsing import Page
 from program import TOP
 from stabsim import codes
 
@@ -52,11 +45,6 @@ def refuse(page: Page) -> None:
 
 
 def main() -> None:
-    parser = argparse.ArgumentParser(description=__doc__.split("\n")[0])
-    parser.add_argument("--folder", type=pathlib.Path, default=TOP / "docs" / "use", help="where the pictures go")
-    parser.add_argument("--width", type=int, default=1280)
-    parser.add_argument("--height", type=int, default=800)
-    asked = parser.parse_args()
     pictures = (
         ("page.png", "light", "surface_code_5.stim", codes.surface_code(5, 5), put_in_a_pauli),
         ("page_refused.png", "dark", "colour_code_5.stim", codes.colour_code(5, 2), refuse),
@@ -65,11 +53,11 @@ def main() -> None:
         for name, colours, called, code, act in pictures:
             file = pathlib.Path(folder) / called
             file.write_text(code)
-            with (opened_browser(asked.width, asked.height, colours) as driver,
+            with (opened_browser(1280, 800, colours) as driver,
                   contextlib.closing(Page(driver, file.parent, None, str(file))) as page):
                 page.open()
                 act(page)
-                driver.save_screenshot(str(asked.folder / name))
+                driver.save_screenshot(str(TOP / "docs/use" / name))
 
 
 if __name__ == "__main__":

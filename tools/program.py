@@ -1,10 +1,12 @@
-"""The program that the tools try. An import of it also finds the package stabsim of python/."""
+"""The program that the tools try. After an import of it the package of python/, the helpers of its tests and the examples are found too."""
+
 import subprocess
 import sys
 from pathlib import Path
 
 TOP = Path(__file__).resolve().parent.parent
-sys.path.insert(0, str(TOP / "python"))
+sys.path[:0] = [str(TOP / "python")]
+sys.path += [str(TOP / "python/tests"), str(TOP / "examples")]
 
 
 def find_program() -> Path:

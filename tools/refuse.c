@@ -6,6 +6,7 @@
    character for each such window: r if a request in it was refused, else g.
 
    To make a block smaller, or no larger than it is already, is no request for memory: it is never refused, nor counted.
+   Rattle's library asks for memory by malloc and realloc alone.
 
    Loaded by LD_PRELOAD, by tools/refuse.py alone. */
 #include <fcntl.h>
@@ -17,9 +18,7 @@
 #define CLOSES 999983
 
 extern void *__libc_malloc(size_t);
-extern void *__libc_calloc(size_t, size_t);
 extern void *__libc_realloc(void *, size_t);
-extern void *__libc_memalign(size_t, size_t);
 
 static enum { UNREAD, COUNTING, REFUSING, GRANTING } state = UNREAD;
 static long left;
@@ -78,22 +77,9 @@ void *malloc(size_t n)
     return __libc_malloc(n);
 }
 
-void *calloc(size_t n, size_t m) { return refused() ? 0 : __libc_calloc(n, m); }
-void *memalign(size_t a, size_t n) { return refused() ? 0 : __libc_memalign(a, n); }
-void *aligned_alloc(size_t a, size_t n) { return refused() ? 0 : __libc_memalign(a, n); }
-
 void *realloc(void *p, size_t n)
 {
     if (p && n <= malloc_usable_size(p))
         return __libc_realloc(p, n);
     return refused() ? 0 : __libc_realloc(p, n);
-}
-
-int posix_memalign(void **p, size_t a, size_t n)
-{
-    void *got = refused() ? 0 : __libc_memalign(a, n);
-    if (!got)
-        return 12;
-    *p = got;
-    return 0;
 }

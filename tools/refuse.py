@@ -1,41 +1,32 @@
 #!/usr/bin/env python3
-"""Runs the built programs with requests for memory refused and with devices that fail, and looks at how they end.
+"""Runs the built programs with requests for memory refused, and looks at how they end.
 
-    tools/refuse.py
+Under tools/refuse.c the first request is refused, then the second and so on, until there are no more; once so that this request alone
+fails, and once so that all after it do. A call of a library (crates/tests_refusals) that was refused one has to answer 20, to leave all as
+before, and to give what it gives when it is made again. A run of the program ends with a status of its own, never by a signal; what it
+wrote is a prefix of its whole output, and its fault line is that of the refusal 20.
 
-Calls: crates/tests_refusals makes each call of the libraries that takes memory, and says how it ended. Under tools/refuse.c the
-first request of each call is refused, then the second and so on, until no call makes that many; once so that this request
-alone fails, and once so that all after it in the call do. A call that was refused one has to answer 20, to leave all as
-before, and to give what it gives when it is made again.
-
-The program: under tools/refuse.c the first request is refused, then the second and so on, until a run makes fewer requests; once
-so that this request alone fails, and once so that all after it do. Devices: a full disk, a pipe that is closed, paths that
-can't be read or made, and little room for addresses. A run ends with a status of the program's own, never by a signal; what
-it wrote is a prefix of its whole output; and its fault line is one that docs/use/refusals.md has. It prints counts, made by the
-run, and ends with 1 if something is wrong. It needs cc, and the programs: tools/refuse.sh builds them if they are missing.
-"""
+It prints counts, and ends with 1 if something is wrong. It needs cc, and proves and builds the programs if they are missing or older than
+their sources."""
 
 import itertools
-import os
-import re
 import resource
 import shutil
 import subprocess
 import sys
 import tempfile
 from collections import Counter
-from collections.abc import Iterator
 from pathlib import Path
 from typing import Any
 
 from program import TOP, find_program
 
-CALLS = TOP / "crates/tests_refusals/out/tests_refusals"
+CRATE = TOP / "crates/tests_refusals"
+CALLS = CRATE / "out/tests_refusals"
 TIME_LIMIT = 60
 MOST_REQUESTS = 100_000
 LITTLE_ROOM = 100 * 2**20
 OUT_OF_MEMORY = b"stabsim: refused 20 OutOfMemory\n"
-FAULT_LINE = re.compile(rb"stabsim: (line [1-9][0-9]*: )?refused [0-9]+ [A-Za-z]+\n")
 # What standard input has; `edit` alone reads it, since the others have --in.
 SCRIPT = (TOP / "examples/inserted_x.script").read_bytes() + b"show stabilisers\nshow circuit\ninsert 0 REPEAT 2 {\nX 0\n}\n"
 ALL = " ".join(map(str, range(1024)))
@@ -79,7 +70,7 @@ sample --shots 3 --seed 7 --in again.stim
 check --in far.stim = 1
 check --in line.stim = 1
 detect --append_observables --out_format dets --in parities.stim --shots 2 --seed 7
-detect --append_observables --out_format dets --in parities.stim --shots 12 --coins 1011 --out=shots
+detect --append_observables --out_format dets --in parities.stim --shots 12 --coins 1011 --out=/dev/stdout
 deterministic --in parities.stim
 deterministic --explain --in parities.stim
 faults --in marked.stim
@@ -88,6 +79,15 @@ distance --in marked.stim
 """
 
 Done = subprocess.CompletedProcess[bytes]
+
+
+def build_calls() -> None:
+    """Proves and builds the program of calls, if a source is newer."""
+    parts = [TOP / "crates.txt", *(file for part in ("src", "specs", "proofs") for file in TOP.glob(f"crates/*/{part}/**/*"))]
+    if not CALLS.exists() or any(it.is_file() and it.stat().st_mtime > CALLS.stat().st_mtime for it in parts):
+        print("refuse: proves and builds the program of calls first", file=sys.stderr)
+        subprocess.run(["rt", "run"], cwd=CRATE, stdout=sys.stderr, check=True)
+        CALLS.touch()
 
 
 class Tries:
@@ -108,16 +108,8 @@ class Tries:
             print(what, file=sys.stderr)
 
     def run(self, words: list[str], script: bytes = SCRIPT, **more: Any) -> Done:
-        """A run of the program; what it wrote to its file, which was not there before, counts as output."""
-        out = next((self.folder / it.removeprefix("--out=") for it in words if it.startswith("--out=")), None)
-        if out:
-            out.unlink(missing_ok=True)
-        more = {"stdout": subprocess.PIPE} | more
-        done = subprocess.run([self.program, *words], cwd=self.folder, input=script, stderr=subprocess.PIPE, timeout=TIME_LIMIT,
-                              check=False, **more)
-        if out and out.exists():
-            done.stdout += out.read_bytes()
-        return done
+        words = [str(self.program), *words]
+        return subprocess.run(words, cwd=self.folder, input=script, capture_output=True, timeout=TIME_LIMIT, check=False, **more)
 
     def variables(self, number: int, onwards: bool) -> dict[str, str]:
         """What refuses the request of a number, or all from it on."""
@@ -146,7 +138,7 @@ class Tries:
         words, script = line.split(), (self.folder / file).read_bytes() if file else SCRIPT
         whole = self.run(words, script)
         self.expect(whole.returncode == int(status or 0), f"{what}: status {whole.returncode} though nothing was refused")
-        self.expect("--out=" not in what or whole.stdout, f"{what}: no output")
+        self.expect(whole.stdout or status, f"{what}: no output")
         refused = answered = 0
         for number in range(1, MOST_REQUESTS):
             done = self.run(words, script, env=self.variables(number, onwards))
@@ -192,41 +184,6 @@ class Tries:
             self.expect(once[name] > 0 and onwards[name] > 0, f"{name}: no request was refused")
             print(f"{name}: refused {once[name]} times one request, {onwards[name]} times all from one on; each answered 20")
 
-    def expect_fault(self, what: str, done: Done, number: int, path: str | None = None) -> None:
-        """A run that ended with this fault: its line, and a second one of a path that can't be opened, read or made."""
-        first, *more = done.stderr.splitlines(keepends=True) or [b""]
-        self.expect(done.returncode == 1, f"{what}: status {done.returncode}")
-        self.expect(FAULT_LINE.fullmatch(first) and f"refused {number} ".encode() in first, f"{what}: told {done.stderr!r}")
-        named = [f"stabsim: {path}: ".encode()] if path else []
-        is_told = len(more) == len(named) and all(line.startswith(name) for line, name in zip(more, named))
-        self.expect(is_told, f"{what}: told {done.stderr!r}, and of {path} alone")
-
-    def failing_files(self) -> Iterator[tuple[str, list[str], int, str]]:
-        """What is wrong with a file, the words that name it, the fault that it comes to, and the path that is named."""
-        given, inside = ["--in", "repetition_code.stim"], "none/shots"
-        yield "a folder for --in", ["--in", "."], 15, "."
-        yield "no file for --in", ["--in", "none"], 15, "none"
-        yield "a file whose reads fail", ["--in", "/proc/self/mem"], 15, "/proc/self/mem"
-        # Who may read all files may read this one.
-        if os.geteuid() != 0:
-            (self.folder / "far.stim").chmod(0)
-            yield "a file that may not be read", ["--in", "far.stim"], 15, "far.stim"
-        yield "a folder for --out", [*given, "--out", "."], 16, "."
-        yield "no folder for --out", [*given, "--out", inside], 16, inside
-
-    def try_devices(self) -> None:
-        sample = ["sample", "--in", "repetition_code.stim"]
-        many = [*sample, "--shots", "100000"]
-        with open("/dev/full", "wb") as full:
-            for words in (sample, many, ["edit", "--in", "repetition_code.stim"]):
-                self.expect_fault(f"a full disk, {words}", self.run(words, stdout=full), 16)
-        with subprocess.Popen(["head", "-c", "5"], stdin=subprocess.PIPE, stdout=subprocess.DEVNULL) as reader:
-            self.expect_fault("a closed pipe", self.run(many, stdout=reader.stdin), 16)
-        files = list(self.failing_files())
-        for what, words, number, path in files:
-            self.expect_fault(what, self.run(["sample", *words]), number, path)
-        print(f"{4 + len(files)} devices failed")
-
     def try_little_room(self) -> None:
         """A million steps within 100 MiB of addresses: run, or refused with 20."""
         words = ["sample", "--in", "large.stim"]
@@ -236,12 +193,12 @@ class Tries:
 
 
 def main() -> int:
+    build_calls()
     with tempfile.TemporaryDirectory() as folder:
         tries = Tries(Path(folder))
         tries.try_calls()
         for what, onwards in itertools.product(RUNS.splitlines(), (False, True)):
             tries.refuse_each(what, onwards)
-        tries.try_devices()
         tries.try_little_room()
     print(f"{tries.wrong} wrong")
     return 1 if tries.wrong else 0

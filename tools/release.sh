@@ -15,17 +15,7 @@ if [ ! -r python/stabsim/programs/shipped.txt ]; then
     exit 1
 fi
 version=$(sed -n 's/^version //p' python/stabsim/programs/shipped.txt)
-python=
-for it in python3 /usr/bin/python3; do
-    if "$it" -c 'import setuptools, wheel, pip' 2>/dev/null; then
-        python=$it
-        break
-    fi
-done
-if [ -z "$python" ]; then
-    echo "release: no Python has pip, setuptools and wheel" >&2
-    exit 1
-fi
+python=$(tools/find_python.sh setuptools wheel pip)
 made=$(mktemp -d)
 trap 'rm -rf "$made"' EXIT
 trap 'exit 130' INT TERM
@@ -73,7 +63,7 @@ Section: science
 Priority: optional
 Description: proved simulator of Clifford circuits
  It reads circuits in the text of Stim without noise, samples them, and
- edits them while they are kept run. What it answers is proved right.
+ edits them with their recorded runs. What it answers is proved right.
 END_OF_CONTROL
 dpkg-deb --build --root-owner-group "$package" "$dist/stabsim_${version}_amd64.deb" >/dev/null
 (cd "$dist" && ls -1 "stabsim-$version"*.whl "$name.tar.gz" "stabsim_${version}_amd64.deb")

@@ -6,35 +6,33 @@ set -eu
 top=$(CDPATH='' cd -- "$(dirname -- "$0")/.." && pwd)
 programs=$top/python/stabsim/programs
 cd "$top"
-tools/check_version.sh
+
+fail() {
+    echo "ship: $1" >&2
+    exit 1
+}
+
 # Files that git doesn't keep would count for the checksum, and be missing in each clone.
 others=$(git ls-files --others --exclude=out/ -- crates | head -n 1)
-if [ -n "$others" ]; then
-    echo "ship: git does not keep $others, although it is among the sources: add it or remove it" >&2
-    exit 1
-fi
+[ -z "$others" ] || fail "git does not keep $others, although it is among the sources: add it or remove it"
 made=$(mktemp -d)
 trap 'rm -rf "$made"' EXIT
 trap 'exit 130' INT TERM
 
+version=$(sed -n 's/^__version__ = "\(.*\)"$/\1/p' python/stabsim/__init__.py)
 sources=$(tools/sum_sources.sh)
+logic=$(rt version | sed 's/.* logic //')
+printf '%s\n' "version $version" "sources $sources" "logic $logic" >"$made/shipped.txt"
 for level in v2 v3; do
-    python3 tools/build_program.py stabsim "--cpu=x86-64-$level"
-    install -m 755 crates/stabsim/out/stabsim "$made/stabsim-x86-64-$level"
+    name=stabsim-x86-64-$level
+    tools/build_program.sh "x86-64-$level"
+    install -m 755 crates/stabsim/out/stabsim "$made/$name"
+    sum=$(sha256sum <"$made/$name")
+    echo "$name ${sum%% *}" >>"$made/shipped.txt"
 done
-if [ "$(tools/sum_sources.sh)" != "$sources" ]; then
-    echo "ship: the sources changed while the programs were built, so nothing was shipped: run it again" >&2
-    exit 1
-fi
-{
-    "$made/stabsim-x86-64-v2" --version | sed -n '1s/^stabsim /version /p'
-    echo "sources $sources"
-    echo "logic $(rt version | sed 's/.* logic //')"
-    for level in v2 v3; do
-        sum=$(sha256sum <"$made/stabsim-x86-64-$level")
-        echo "stabsim-x86-64-$level ${sum%% *}"
-    done
-} >"$made/shipped.txt"
+[ "$(tools/sum_sources.sh)" = "$sources" ] || fail "the sources changed while the programs were built, so nothing was shipped: run it again"
+says=$("$made/stabsim-x86-64-v2" --version)
+[ "$says" = "$(printf 'stabsim %s\nproved in the logic %s of Rattle' "$version" "$logic")" ] || fail "--version says other than shipped.txt: $says"
 # A program that runs right now is not written over.
 cp -p --remove-destination "$made"/* "$programs"
 cat "$programs/shipped.txt"

@@ -1,4 +1,4 @@
-"""What the tools read of the functions in the crates' sources: their names, their types, and the labels of their clauses."""
+"""What the tools read of the crates: the functions in their sources, with their types and the labels of their clauses."""
 
 import functools
 import re
@@ -50,5 +50,5 @@ def functions_of(file: Path) -> list[Function]:
     return found
 
 
-def sources_of(crate: str = "*") -> Iterator[Path]:
-    yield from sorted(TOP.glob(f"crates/{crate}/src/**/*.rt"))
+def sources_of() -> Iterator[Path]:
+    yield from sorted(TOP.glob("crates/*/src/**/*.rt"))

@@ -1,7 +1,7 @@
 """The proved simulator of Clifford circuits stabsim, from Python with numpy.
 
 - `Circuit`: a circuit in Stim's text without noise, and what the program says of it, as arrays.
-- `Session`: a circuit that is edited while it is kept run; made by `Circuit.edit`.
+- `Session`: a circuit with its recorded run, which follows each edit; made by `Circuit.edit`.
 - `from_stim`: any circuit of Stim's, with its noise; `without_noise`: its text without that, which the program reads.
 - `error_model`: what the noise of a circuit flips, and how often.
 - `collect`: counts logical errors of many error models, on many cores, with a file to go on from.

@@ -214,7 +214,7 @@ class Circuit(Questioned):
         """An editing session that begins with this circuit; use it as a context manager, or close it.
 
         qubits: how many there are, of which the circuit and each edit may name some; without it, those that the circuit names.
-        seed: the coins are those of its shot 0. stride: how far apart copies of the state are kept.
+        seed: the coins are those of its shot 0. stride: the most steps between two checkpoints.
 
         >>> import stabsim
         >>> with stabsim.Circuit("M 0").edit(qubits=2) as session:

@@ -4,6 +4,7 @@ detectors has few enough rounds to be written out.
 SHIFT_COORDS adds its numbers to those of each later DETECTOR and QUBIT_COORDS, coordinate by coordinate, as far as these have any. A block does so in each of its rounds. Of a qubit that is placed several times the last place counts.
 """
 
+import functools
 import re
 from collections.abc import Iterable, Sequence
 from dataclasses import dataclass, field
@@ -119,8 +120,14 @@ def coordinates_of(text: str) -> Places:
         elif name.upper() == "REPEAT":
             opened.append((int(rest.strip(" \t\r{")), Places()))
         else:
-            opened[-1][1].add(name.upper(), [float(it) for it in arguments.split(",")] if arguments.strip() else [], rest.split())
+            opened[-1][1].add(name.upper(), numbers_of(arguments), rest.split())
     return opened[0][1]
+
+
+# Detectors of rounds that are written out have the same numbers, and a shift between them.
+@functools.lru_cache(maxsize=8192)
+def numbers_of(arguments: str) -> list[float]:
+    return [float(it) for it in arguments.split(",")] if arguments.strip() else []
 
 
 def detector_coordinates(text: str) -> NDArray[np.float64]:

@@ -1,5 +1,6 @@
 """The process of a session, `stabsim edit --framed`, and the form of its replies: each says first how many lines it has."""
 
+import itertools
 import subprocess
 import tempfile
 import threading
@@ -73,17 +74,20 @@ class FramedProcess:
             raise self.broken("its process takes no more lines") from None
         words = self.read_line().split()
         if len(words) == 2 and words[0] == b"ok":
-            return [self.read_line() for _ in range(int(words[1]))]
+            return self.read_lines(int(words[1]))
         if len(words) == 3 and words[0] == b"refused":
             raise Refused(int(words[1]), words[2].decode())
         raise self.broken(f"it said {b' '.join(words)!r}, which is no reply")
 
     def read_line(self) -> bytes:
+        return self.read_lines(1)[0]
+
+    def read_lines(self, count: int) -> list[bytes]:
         assert self.process.stdout
-        line = self.process.stdout.readline()
-        if not line.endswith(b"\n"):
+        lines = list(itertools.islice(self.process.stdout, count))
+        if len(lines) < count or (lines and not lines[-1].endswith(b"\n")):
             raise self.broken("its process ended in a reply")
-        return line[:-1]
+        return [line[:-1] for line in lines]
 
     def await_ready(self) -> None:
         """Reads the first line, `ready 1 ..`; raises what the circuit is refused by."""

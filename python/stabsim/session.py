@@ -329,4 +329,4 @@ def joining(path: str, block: str, round_number: int) -> tuple[Request, ...]:
 
 
 def text_of_lines(lines: list[bytes]) -> str:
-    return "".join(program.text_of(line) + "\n" for line in lines)
+    return program.text_of(b"".join(line + b"\n" for line in lines))

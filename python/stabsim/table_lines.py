@@ -25,28 +25,55 @@ class Rows(NamedTuple):
     indices: NDArray[np.int64]
 
 
+class Words(NamedTuple):
+    """The words of lines such as `1207 3/0/2 X17 D24 D31 L0`: data: uint8, their letters; starts, ends: int64 (words,); first: int64
+    (rows,): the first word of each line; last: int64 (rows,): its last one."""
+
+    data: NDArray[np.uint8]
+    starts: NDArray[np.int64]
+    ends: NDArray[np.int64]
+    first: NDArray[np.int64]
+    last: NDArray[np.int64]
+
+
 def rows_of(lines: bytes, firsts: Mapping[str, int]) -> Rows:
-    """The rows of lines such as `1207 3/0/2 X17 D24 D31 L0`; firsts: for each letter of a bit the place of its number 0 among all bits."""
-    data = np.frombuffer(lines, dtype=np.uint8)
-    ends = np.flatnonzero((data == SPACE) | (data == LINE_END))
-    starts = begins_of(ends)
-    # The last word of each line, and with it the first of each.
-    last = np.flatnonzero(data[ends] == LINE_END)
-    first = begins_of(last)
-    flips = last - first + 1 - WORDS_BEFORE
-    flip_words = np.delete(np.arange(len(starts)), (first[:, None] + np.arange(WORDS_BEFORE)).ravel())
-    kinds = data[starts[flip_words]]
-    offsets = np.zeros(len(flip_words), dtype=np.int64)
-    for letter, place in firsts.items():
-        offsets[kinds == ord(letter)] = place
+    """The rows of lines; firsts: for each letter of a bit the place of its number 0 among all bits."""
+    words = words_of(lines)
+    data, starts, ends, first, _ = words
+    indptr, indices = flips_in(words, firsts)
     return Rows(
         steps=numbers_in(data, starts[first], ends[first]),
         paths=words_in(data, starts[first + 1], ends[first + 1]),
         letters=words_in(data, starts[first + 2], starts[first + 2] + 1),
         numbers=numbers_in(data, starts[first + 2] + 1, ends[first + 2]),
-        indptr=starts_of(flips),
-        indices=numbers_in(data, starts[flip_words] + 1, ends[flip_words]) + offsets,
+        indptr=indptr,
+        indices=indices,
     )
+
+
+def flips_of(lines: bytes, firsts: Mapping[str, int]) -> tuple[NDArray[np.int64], NDArray[np.int64]]:
+    """Of the rows of lines `indptr` and `indices` alone."""
+    return flips_in(words_of(lines), firsts)
+
+
+def words_of(lines: bytes) -> Words:
+    """The words of lines, each of which ends in a line end."""
+    data = np.frombuffer(lines, dtype=np.uint8)
+    ends = np.flatnonzero((data == SPACE) | (data == LINE_END))
+    last = np.flatnonzero(data[ends] == LINE_END)
+    return Words(data, begins_of(ends), ends, begins_of(last), last)
+
+
+def flips_in(words: Words, firsts: Mapping[str, int]) -> tuple[NDArray[np.int64], NDArray[np.int64]]:
+    """The bits of each row."""
+    is_flip = np.ones(len(words.starts), dtype=np.bool_)
+    for place in range(WORDS_BEFORE):
+        is_flip[words.first + place] = False
+    starts = words.starts[is_flip]
+    offsets = np.zeros(256, dtype=np.int64)
+    for letter, place in firsts.items():
+        offsets[ord(letter)] = place
+    return starts_of(words.last - words.first + 1 - WORDS_BEFORE), numbers_in(words.data, starts + 1, words.ends[is_flip]) + offsets[words.data[starts]]
 
 
 def begins_of(ends: NDArray[np.int64]) -> NDArray[np.int64]:

@@ -85,6 +85,14 @@ class Page:
         """The letters of the region on the qubits that have one, as X3."""
         return self.ask("[...(page.shown.scene().region ?? [])].map(([qubit, letter]) => letter + qubit)")
 
+    def is_idle(self):
+        """Whether all that the page has asked for is answered."""
+        return self.ask("page.isIdle()")
+
+    def focused(self, name="id"):
+        """An attribute of what has the focus."""
+        return self.browser.execute_script("return document.activeElement.getAttribute(arguments[0])", name)
+
     def chosen(self):
         return self.ask("page.shown.chosen")
 

@@ -4,7 +4,6 @@ import subprocess
 import tempfile
 
 from stabsim import program
-from stabsim.reading import Block
 
 
 def bits_of(text, sequence):
@@ -22,13 +21,3 @@ def free_coins(text):
         words = [program.find_program(), "edit", "--in", file.name]
         said = subprocess.run(words, input=b"show free\n", capture_output=True, check=True).stdout.decode()
     return [number for number, bit in enumerate(said.rstrip("\n")) if bit == "1"]
-
-
-def written_out(items):
-    """The instructions of items, round by round."""
-    for item in items:
-        if isinstance(item, Block):
-            for _ in range(item.repeat):
-                yield from written_out(item.items)
-        else:
-            yield item

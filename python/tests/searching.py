@@ -1,6 +1,5 @@
 """The fewest errors that flip an observable and together no detector, found the slow way: each is a set of what it flips."""
 
-import functools
 import itertools
 
 
@@ -65,13 +64,3 @@ class Search:
             if others is not None:
                 return [other, *others]
         return None
-
-
-def least_by_all_sets(errors, detectors, most):
-    """The fewest of at most this many errors, by looking through all sets; None if there are none."""
-    for size in range(1, most + 1):
-        for some in itertools.combinations(errors, size):
-            flips = functools.reduce(frozenset.symmetric_difference, map(frozenset, some))
-            if flips and min(flips) >= detectors:
-                return size
-    return None

@@ -14,6 +14,8 @@ from stabsim import codes
 HAMMING = [[1, 0, 1, 0, 1, 0, 1], [0, 1, 1, 0, 0, 1, 1], [0, 0, 0, 1, 1, 1, 1]]
 # The polynomials x^3 + y + y^2 and y^3 + x + x^2.
 SEVENTY_TWO = ([(3, 0), (0, 1), (0, 2)], [(0, 3), (1, 0), (2, 0)])
+# Distances and rounds.
+SIZES, COLOUR_SIZES = [(2, 2), (3, 1), (3, 4), (4, 3), (5, 2), (7, 3)], [(3, 1), (3, 4), (5, 2), (7, 2)]
 TEXTS = {
     "surface, Z": codes.surface_code(3, 4),
     "surface, X": codes.surface_code(4, 3, basis="X"),
@@ -31,19 +33,26 @@ TEXTS = {
     "CSS, X": codes.css_code(HAMMING, HAMMING, 2, basis="X"),
     "bivariate bicycle": codes.bivariate_bicycle_code(6, 6, *SEVENTY_TWO, rounds=3),
 }
+MEMORIES = {
+    **TEXTS,
+    **{f"surface, distance {d}, {rounds} rounds": codes.surface_code(d, rounds) for d, rounds in SIZES},
+    **{f"repetition, distance {d}, {rounds} rounds": codes.repetition_code(d, rounds) for d, rounds in SIZES},
+    **{f"Bacon-Shor, distance {d}, {rounds} rounds": codes.bacon_shor_code(d, rounds) for d, rounds in SIZES},
+    **{f"colour, distance {d}, {rounds} rounds": codes.colour_code(d, rounds) for d, rounds in COLOUR_SIZES},
+}
 # How many logical qubits there are if not one.
 OBSERVABLES = {"toric, Z": 2, "toric, X": 2, "bivariate bicycle": 12}
 
 
-@pytest.mark.parametrize("name", TEXTS)
+@pytest.mark.parametrize("name", MEMORIES)
 def test_the_first_line_tells_steps_and_records(name):
-    has = stabsim.Circuit(TEXTS[name]).numbers()
-    assert TEXTS[name].split("\n")[0].endswith(f": {has.steps} steps, {has.records} records")
+    has = stabsim.Circuit(MEMORIES[name]).numbers()
+    assert MEMORIES[name].split("\n")[0].endswith(f": {has.steps} steps, {has.records} records")
 
 
-@pytest.mark.parametrize("name", TEXTS)
+@pytest.mark.parametrize("name", MEMORIES)
 def test_detectors_and_the_observable_are_0_whatever_the_coins(name):
-    circuit = stabsim.Circuit(TEXTS[name])
+    circuit = stabsim.Circuit(MEMORIES[name])
     sure = circuit.deterministic()
     detectors, observables = circuit.detect(3, seed=1, separate_observables=True)
     assert sure.detectors.all() and sure.observables.all() and sure.observables.shape == (OBSERVABLES.get(name, 1),)
@@ -60,6 +69,15 @@ def test_counts_are_those_of_the_layouts():
     ]:
         has = stabsim.Circuit(text).numbers()
         assert (has.detectors, has.qubits) == (detectors, qubits)
+    for d, rounds in SIZES:
+        # The checks of Z are half of all, rounded down; a Bacon-Shor code has checks of either letter for each gap.
+        between = (d**2 - 1) * (rounds - 1)
+        assert stabsim.Circuit(codes.surface_code(d, rounds)).numbers().detectors == (d**2 - 1) // 2 * 2 + between
+        assert stabsim.Circuit(codes.repetition_code(d, rounds)).numbers().detectors == (d - 1) * (rounds + 1)
+        assert stabsim.Circuit(codes.bacon_shor_code(d, rounds)).numbers().detectors == (d - 1) * 2 * rounds
+    for d, rounds in COLOUR_SIZES:
+        # There are (3 d^2 - 3) / 8 faces, with two checks each.
+        assert stabsim.Circuit(codes.colour_code(d, rounds)).numbers().detectors == (3 * d**2 - 3) // 4 * rounds
 
 
 def test_a_repetition_code_of_distance_2_is_this_text():
@@ -185,11 +203,16 @@ def test_written_out_rounds_give_the_same():
         assert np.array_equal(block.detector_coordinates(), written.detector_coordinates())
 
 
-def test_the_deepest_has_a_round_less_than_too_many_steps():
-    rounds = codes.deepest("surface_code", 21)
-    assert stabsim.Circuit(codes.surface_code(21, rounds)).numbers().steps <= codes.MOST_STEPS
+# The largest repetition code takes long.
+GREATEST = [*(codes.MOST_DISTANCES | {"repetition_code": 3}).items()]
+
+
+@pytest.mark.parametrize("name, distance", [("surface_code", 3), *GREATEST])
+def test_the_deepest_has_a_round_less_than_too_many_steps(name, distance):
+    rounds = codes.deepest(name, distance)
+    assert stabsim.Circuit(getattr(codes, name)(distance, rounds)).numbers().steps <= codes.MOST_STEPS
     with pytest.raises(ValueError, match="rounds"):
-        codes.surface_code(21, rounds + 1)
+        getattr(codes, name)(distance, rounds + 1)
 
 
 def test_what_is_out_of_range_is_a_value_error():
@@ -201,7 +224,7 @@ def test_what_is_out_of_range_is_a_value_error():
 
 
 def test_a_dense_circuit_has_just_so_many_steps():
-    for qubits, steps in [(2, 50), (17, 1000)]:
+    for qubits, steps in [(2, 50), (17, 1000), (2, 100), (5, 301), (16, 1000)]:
         has = stabsim.Circuit(codes.dense_circuit(qubits, steps, 3)).numbers()
         assert (has.qubits, has.steps) == (qubits, steps)
 

@@ -1,13 +1,18 @@
 """Distances of circuits: by hand, against all small sets of errors, and put into sessions."""
 
+import pathlib
 import random
+import sys
 
 import pytest
 import stabsim
-from errors_by_hand import all_errors, marked_errors
-from searching import least_by_all_sets
 from stabsim import codes
 from stabsim.distances import distance_of
+
+sys.path.append(str(pathlib.Path(__file__).resolve().parents[2] / "tools"))
+
+from oracle.distances import MOST_ERRORS, Distance  # noqa: E402: its folder was named above
+from oracle.reading import items_of  # noqa: E402
 
 # The generators of the five-qubit code, and of Steane's, with the logical Z of both, and marks on all data qubits.
 FIVE = "MPP X0*Z1*Z2*X3 X1*Z2*Z3*X4 X0*X2*Z3*Z4 Z0*X1*X3*Z4"
@@ -146,19 +151,12 @@ def random_circuit(seed):
     return stabsim.Circuit("\n".join(lines))
 
 
-def errors_of(circuit, everywhere):
-    """What each error flips, as numbers."""
-    detectors = circuit.num_detectors
-    found = (all_errors if everywhere else marked_errors)(circuit.text, ["--sure_only"])
-    return list({frozenset(int(it[1:]) + detectors * (it[0] == "L") for it in error.flips) for error in found} - {frozenset()})
-
-
 @pytest.mark.parametrize("seed", range(12))
 def test_no_smaller_set_hides(seed):
     circuit = random_circuit(seed)
     for everywhere in (False, True):
-        found = circuit.distance(everywhere=everywhere, most=4, sure_only=True)
-        assert found.distance == least_by_all_sets(errors_of(circuit, everywhere), circuit.num_detectors, 4)
+        found = circuit.distance(everywhere=everywhere, most=MOST_ERRORS, sure_only=True)
+        assert found.distance == Distance(items_of(circuit.text.encode()), everywhere, "XYZ", graphlike=False, deterministic_only=True).least
         if found.distance:
             sure = circuit.deterministic()
             detectors, observables = flipped(circuit, found.errors)

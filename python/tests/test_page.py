@@ -60,7 +60,7 @@ def test_an_item_is_put_in_and_taken_back(page):
     page.click("#insert")
     page.put_in("X 1")
     page.wait(lambda: page.history() == ["opened", "insert 0 X 1"])
-    assert page.row("0") == "0X 1"
+    page.wait(lambda: page.row("0") == "0X 1")
     page.click("#undo")
     page.wait(lambda: page.texts("#edits .undone"))
     page.wait(lambda: not page.texts("#text .row[data-path='0']"))
@@ -193,7 +193,7 @@ def test_a_pauli_in_a_block_is_put_in_one_round_by_one_edit(page):
     assert page.history()[1].startswith("insert ") and page.history()[1].endswith(f" of {BLOCK} alone")
     page.click("#undo")
     page.wait(lambda: page.texts("#edits .undone"))
-    assert page.row(str(BLOCK)).startswith(f"{BLOCK}▸REPEAT 2")
+    page.wait(lambda: page.row(str(BLOCK)).startswith(f"{BLOCK}▸REPEAT 2"))
 
 
 def test_what_is_exported_makes_the_same_circuit(open_page, tmp_path):

@@ -45,10 +45,10 @@ def page(open_page):
 
 
 def do(page, *keys, held=()):
-    """Presses keys that make one entry of the history, and waits for it."""
+    """Presses keys that make one entry of the history, and waits until it is made, and what it put in is shown."""
     count = len(page.history())
     page.press(*keys, held=held)
-    page.wait(lambda: len(page.history()) > count)
+    page.wait(lambda: len(page.history()) > count and page.is_idle())
 
 
 def body(page):
@@ -61,7 +61,7 @@ def test_a_repetition_code_is_drawn_from_nothing(open_page):
     page.press("q")
     for column in range(5):
         page.point_at("#picture", *page.ask("page.views.layout.spot(words)", column, 1)).click().perform()
-        page.wait(lambda: len(page.history()) == column + 2)
+        page.wait(lambda: len(page.history()) == column + 2 and page.is_idle())
     page.press(Keys.ESCAPE)
     page.choose_qubit(*range(5))
     do(page, "r")
@@ -122,7 +122,7 @@ def test_a_surface_code_is_drawn_from_nothing(open_page):
     page.press("q")
     for place, _ in placed:
         page.point_at("#picture", *page.ask("page.views.layout.spot(words)", *map(float, place.split(", ")))).click().perform()
-    page.wait(lambda: len(page.history()) == 1 + len(placed))
+    page.wait(lambda: len(page.history()) == 1 + len(placed) and page.is_idle())
     page.press(Keys.ESCAPE)
     measured = []
     for at, (name, qubits, records) in enumerate(wanted):
@@ -182,11 +182,11 @@ def test_a_product_is_measured_on_the_chosen_qubits(page):
 def test_qubits_are_chosen_by_a_box(page):
     [left, top], [right, bottom] = page.spot(0), page.spot(2)
     page.drag([left - 30, top - 30], [right + 30, bottom + 30])
-    assert page.chosen() == [0, 2]
+    page.wait(lambda: page.chosen() == [0, 2])
     page.drag([page.spot(1)[0] - 20, top - 30], [page.spot(1)[0] + 30, top + 30], held=Keys.SHIFT)
-    assert page.chosen() == [0, 2, 1]
+    page.wait(lambda: page.chosen() == [0, 2, 1])
     page.press("a", held=[Keys.CONTROL])
-    assert page.chosen() == [0, 1, 2, 3]
+    page.wait(lambda: page.chosen() == [0, 1, 2, 3])
 
 
 def test_a_gate_on_two_is_led_from_one_qubit_to_another(page):
@@ -206,7 +206,7 @@ def test_of_several_qubits_each_goes_with_the_one_that_way(page):
     page.press("v")
     page.point_at("#picture", *page.spot(3)).click().perform()
     page.wait(lambda: "CZ 0 2 1 3" in body(page))
-    assert page.find("message").text == "1 of the chosen has no qubit there"
+    page.wait(lambda: page.find("message").text == "1 of the chosen has no qubit there")
     # The click shows the way even if the last of them has no partner there, and a drag from any of them does too.
     page.press("v")
     page.point_at("#picture", *page.ask("page.views.layout.spot(words)", 2, 0)).click().perform()
@@ -218,14 +218,15 @@ def test_of_several_qubits_each_goes_with_the_one_that_way(page):
     count = len(page.history())
     page.press("c")
     page.point_at("#picture", *page.ask("page.views.layout.spot(words)", 3, 0)).click().perform()
-    assert page.find("message").text == "none of the chosen has a qubit there" and len(page.history()) == count
+    page.wait(lambda: page.find("message").text == "none of the chosen has a qubit there")
+    assert len(page.history()) == count
 
 
 def test_a_tool_puts_a_qubit_where_there_is_none(open_page):
     page = open_page(None)
     page.press("r")
     page.point_at("#picture", *page.ask("page.views.layout.spot(words)", 2, 3)).click().perform()
-    page.wait(lambda: page.circuit() == "QUBIT_COORDS(2, 3) 0\nR 0\n")
+    page.wait(lambda: page.circuit() == "QUBIT_COORDS(2, 3) 0\nR 0\n" and page.is_idle())
     page.press("c")
     page.press(Keys.ESCAPE, "q")
     # With Shift each second place of the box, and none that is taken.
@@ -253,10 +254,11 @@ def test_a_gate_is_dragged_to_another_tick(page):
         return page.ask("page.views.timeline.columnOf(words[0])", moment)
     page.drag(page.spot(2), page.spot(0), column(2), last="#timeline")
     page.wait(lambda: body(page) == ["R 0 1 2 3", "TICK", "CX 0 1", "TICK", "CX 2 3", "M 0 1"])
-    assert page.find("moment-said").text == "tick 2" and not page.find("tip").is_displayed()
+    page.wait(lambda: page.find("moment-said").text == "tick 2" and not page.find("tip").is_displayed())
     # On no tick nothing is moved.
     page.drag(page.spot(2), page.spot(0))
-    assert "nothing is moved" in page.find("message").text and len(page.history()) == 2
+    page.wait(lambda: "nothing is moved" in page.find("message").text)
+    assert len(page.history()) == 2
 
 
 def test_delete_takes_out_what_acts_on_a_qubit_with_its_pair(page):
@@ -297,12 +299,13 @@ def test_a_tick_is_moved_by_keys_and_by_its_mark(open_page):
     # Its mark is dragged: half of the next moment lies between H 0 and H 1.
     drag_mark(page, 0, 1)
     page.wait(lambda: body(page) == ["R 0 1", "R 2 3", "H 0", "TICK", "H 1", "TICK", "M 0 1"])
-    assert page.history()[-1] == "move the end of tick 0" and not page.find("tip").is_displayed()
+    page.wait(lambda: page.history()[-1] == "move the end of tick 0" and not page.find("tip").is_displayed() and page.is_idle())
     page.press("z", held=[Keys.CONTROL])
     page.wait(lambda: body(page)[2] == "TICK")
     # A click on a mark goes to its moment.
     page.point_at("#timeline", *page.ask("page.views.timeline.markOf(words[0])", 1)).click().perform()
-    assert page.find("moment-said").text == "tick 1" and len(page.history()) == 4
+    page.wait(lambda: page.find("moment-said").text == "tick 1")
+    assert len(page.history()) == 4
 
 
 def drag_mark(page, moment, target):
@@ -345,11 +348,11 @@ def test_in_a_block_a_gate_is_put_into_each_round_and_an_error_into_one(open_pag
 def test_arrows_move_between_qubits_and_shift_takes_more(page):
     page.choose_qubit(0)
     page.press(Keys.ARROW_RIGHT, Keys.ARROW_DOWN)
-    assert page.chosen() == [3]
+    page.wait(lambda: page.chosen() == [3])
     page.press(Keys.ARROW_LEFT, held=[Keys.SHIFT])
-    assert page.chosen() == [3, 2]
+    page.wait(lambda: page.chosen() == [3, 2])
     page.press(Keys.F6)
-    assert page.browser.switch_to.active_element.get_attribute("id") != "picture"
+    page.wait(lambda: page.focused() != "picture")
 
 
 def test_the_wheel_zooms_at_the_pointer_and_with_ctrl_a_drag_pans(page):
@@ -358,9 +361,9 @@ def test_the_wheel_zooms_at_the_pointer_and_with_ctrl_a_drag_pans(page):
     page.wait(lambda: page.find("scale").text != "100%")
     assert page.spot(3) == pytest.approx(spot, abs=2) and page.spot(0)[0] < spot[0] - 150
     page.drag([20, 20], [70, 40], held=Keys.CONTROL)
-    assert page.spot(3) == pytest.approx([spot[0] + 50, spot[1] + 20], abs=2)
+    page.wait(lambda: page.spot(3) == pytest.approx([spot[0] + 50, spot[1] + 20], abs=2))
     page.press(Keys.ARROW_LEFT, held=[Keys.CONTROL])
-    assert page.spot(3) == pytest.approx([spot[0] + 110, spot[1] + 20], abs=2)
+    page.wait(lambda: page.spot(3) == pytest.approx([spot[0] + 110, spot[1] + 20], abs=2))
     page.press("0")
     page.wait(lambda: page.find("scale").text == "100%")
 

@@ -77,22 +77,19 @@ def test_space_on_a_qubit_opens_its_menu_too(page):
 def test_enter_that_is_held_down_only_opens_the_menu(page):
     page.choose_qubit(0)
     page.hold("Enter")
-    assert page.find("choice").is_displayed()
+    page.wait(lambda: page.find("choice").is_displayed())
     page.press(Keys.ESCAPE)
-    assert not page.find("choice").is_displayed()
-    assert page.browser.switch_to.active_element.get_attribute("id") == "picture" and page.chosen() == [0]
+    page.wait(lambda: not page.find("choice").is_displayed() and page.focused() == "picture")
+    assert page.chosen() == [0]
     assert put_z_last(page) == ["opened", "insert 1 Z 3"]
 
 
 def test_with_the_timeline_in_focus_keys_do_what_they_do_elsewhere(page):
     put_x(page)
     page.focus("#timeline")
-    page.press("]")
-    assert page.find("moment-said").text == "tick 1"
-    page.press(Keys.ARROW_RIGHT)
-    assert page.find("moment-said").text == "tick 2"
-    page.press(Keys.HOME)
-    assert page.find("moment-said").text == "tick 0"
+    for key, tick in (("]", 1), (Keys.ARROW_RIGHT, 2), (Keys.HOME, 0)):
+        page.press(key)
+        page.wait(lambda: page.find("moment-said").text == f"tick {tick}")
     page.press("z", held=[Keys.CONTROL])
     page.wait(lambda: undone(page) == ["insert 1 X 0"])
     page.press("y", held=[Keys.CONTROL])
@@ -100,7 +97,7 @@ def test_with_the_timeline_in_focus_keys_do_what_they_do_elsewhere(page):
 
 
 def is_writing(page):
-    return page.browser.switch_to.active_element.get_attribute("id") == "words"
+    return page.focused() == "words"
 
 
 def test_in_the_text_letters_with_ctrl_open_no_form(page):
@@ -109,12 +106,13 @@ def test_in_the_text_letters_with_ctrl_open_no_form(page):
     page.press("i", held=[Keys.ALT])
     assert not is_writing(page)
     page.press("a")
-    assert is_writing(page)
+    page.wait(lambda: is_writing(page))
 
 
 def test_a_letter_that_is_held_down_opens_an_empty_form(page):
     page.choose("1")
     page.hold("i")
+    page.wait(lambda: is_writing(page))
     assert page.browser.execute_script("return document.getElementById('words').value") == ""
     page.press("X 2", Keys.ENTER)
     page.wait(lambda: page.history() == ["opened", "insert 1 X 2"])
@@ -123,9 +121,9 @@ def test_a_letter_that_is_held_down_opens_an_empty_form(page):
 def test_enter_that_is_held_down_opens_the_form_and_sends_nothing(page):
     page.choose("1")
     page.hold("Enter")
-    assert is_writing(page)
+    page.wait(lambda: is_writing(page))
     page.press(Keys.ESCAPE)
-    assert page.browser.switch_to.active_element.get_attribute("id") == "text"
+    page.wait(lambda: page.focused() == "text")
     assert put_z_last(page) == ["opened", "insert 1 Z 3"]
 
 
@@ -143,20 +141,27 @@ def test_the_tree_says_its_items_and_panes_are_one_tab_stop(page):
     rows = "[...document.querySelectorAll('#text [role=treeitem]')].map((it) => [it.id, it.ariaLevel, it.ariaSelected])"
     sizes = "[...document.querySelectorAll('#text [role=treeitem]')].map((it) => [it.ariaPosInSet, it.ariaSetSize])"
     # Six items, and the row after them.
-    assert page.ask(sizes) == [[str(place), "7"] for place in range(1, 8)]
-    page.wait(lambda: ["row-2", "1", "true"] in page.ask(rows))
+    page.wait(lambda: page.ask(sizes) == [[str(place), "7"] for place in range(1, 8)] and ["row-2", "1", "true"] in page.ask(rows))
     assert page.ask("document.getElementById('text').getAttribute('aria-activedescendant')") == "row-2"
     assert [row[2] for row in page.ask(rows)].count("true") == 1
     stops = "['tools', 'palette', 'view'].map((id) => document.querySelectorAll(`#${id} button[tabindex='0']`).length)"
     assert page.ask(stops) == [1, 1, 1]
     page.focus("#palette [data-tool='pick']")
     page.press(Keys.ARROW_RIGHT)
-    assert page.browser.switch_to.active_element.get_attribute("data-tool") == "qubit" and page.ask(stops) == [1, 1, 1]
+    page.wait(lambda: page.focused("data-tool") == "qubit" and page.ask(stops) == [1, 1, 1])
 
 
 # What the Tab key stops at, by panes of buttons and single fields; that of a round is there in a block alone.
 STOPS = ["tools", "text", "words", "round", "palette", "alone", "view", "picture", "timeline", "inspector", "since"]
 PANE = "const it = document.activeElement; return it.closest('#tools, #palette, #view')?.id ?? (it.id || it.closest('aside')?.id || 'none')"
+
+
+def next_stop(page):
+    """Goes on by the Tab key, and says in which pane it stops."""
+    page.browser.execute_script("window.left = document.activeElement")
+    page.press(Keys.TAB)
+    page.wait(lambda: page.browser.execute_script("return document.activeElement !== window.left"))
+    return page.browser.execute_script(PANE)
 
 
 def test_the_tab_key_stops_once_in_each_pane(open_page):
@@ -167,8 +172,7 @@ def test_the_tab_key_stops_once_in_each_pane(open_page):
     page.focus("#mark")
     found = [page.browser.execute_script(PANE)]
     while len(found) < 20 and (len(found) < 2 or found[-1] != "none"):
-        page.press(Keys.TAB)
-        found.append(page.browser.execute_script(PANE))
+        found.append(next_stop(page))
     assert found[:-1] == STOPS
 
 
@@ -177,10 +181,10 @@ def test_in_the_inspector_arrows_lead_from_button_to_button(page):
     page.wait(lambda: page.texts("#about-errors .link") == ["D0", "D0"])
     page.focus("#about-qubit .link")
     page.press(Keys.ARROW_DOWN, Keys.ARROW_DOWN)
-    assert page.browser.switch_to.active_element.text == "D0"
+    page.wait(lambda: page.browser.switch_to.active_element.text == "D0")
     page.press(Keys.ENTER)
     page.wait(lambda: page.ask("page.shown.bit") == "D0")
-    assert page.ask("document.querySelectorAll(`#inspector button[tabindex='0']`).length") == 1
+    page.wait(lambda: page.ask("document.querySelectorAll(`#inspector button[tabindex='0']`).length") == 1)
 
 
 def test_arrows_move_between_detectors_on_the_timeline(open_page):
@@ -190,30 +194,29 @@ def test_arrows_move_between_detectors_on_the_timeline(open_page):
     page.choose_qubit(0)
     page.wait(lambda: "not known yet" not in page.find("about-errors").text)
     page.focus("#timeline")
-    chosen = []
-    for keys, held in ((Keys.ARROW_DOWN, ()), (Keys.ARROW_DOWN, ()), (Keys.ARROW_RIGHT, [Keys.SHIFT]), (Keys.ARROW_UP, ()), (Keys.ARROW_LEFT, [Keys.SHIFT])):
-        page.press(keys, held=held)
-        chosen.append(page.ask("page.shown.bit"))
-    assert chosen == ["D0", "D1", "D3", "D2", "D0"]
+    shift = [Keys.SHIFT]
+    for key, held, chosen in ((Keys.ARROW_DOWN, (), "D0"), (Keys.ARROW_DOWN, (), "D1"), (Keys.ARROW_RIGHT, shift, "D3"), (Keys.ARROW_UP, (), "D2"),
+                              (Keys.ARROW_LEFT, shift, "D0")):
+        page.press(key, held=held)
+        page.wait(lambda: page.ask("page.shown.bit") == chosen)
     assert page.find("seen").get_attribute("textContent").startswith("D0 at (0, 0, 0) is 0")
 
 
 def test_escape_gives_the_focus_back(page):
-    def focused():
-        return page.browser.switch_to.active_element.get_attribute("id")
     page.focus("#export")
     page.press(Keys.ENTER)
     page.wait(lambda: page.find("choice").is_displayed())
     page.press(Keys.ESCAPE)
-    assert focused() == "export"
+    page.wait(lambda: page.focused() == "export")
     page.choose_qubit(0)
     page.press("?")
-    assert page.find("keys").is_displayed()
+    page.wait(lambda: page.find("keys").is_displayed())
     page.press(Keys.ESCAPE)
-    assert focused() == "picture" and not page.find("keys").is_displayed()
+    page.wait(lambda: page.focused() == "picture" and not page.find("keys").is_displayed())
     # What has the focus has an outline.
     page.press(Keys.F6)
-    assert page.browser.execute_script("const it = getComputedStyle(document.activeElement); return it.outlineStyle + it.outlineWidth") == "solid2px"
+    outline = "const it = getComputedStyle(document.activeElement); return it.outlineStyle + it.outlineWidth"
+    page.wait(lambda: page.focused() != "picture" and page.browser.execute_script(outline) == "solid2px")
 
 
 def test_enter_in_the_field_of_a_round_takes_it_out(open_page):

@@ -38,6 +38,9 @@ OBSERVABLE_INCLUDE(0) rec[-1]
 """
 
 
+SECOND_COIN = "#about-detector .link:nth-of-type(2)"
+
+
 def coins(page):
     """The qubits that have the mark of a coin, each with whether it is thrown at this moment."""
     return page.ask("[...page.shown.scene().coins]")
@@ -54,12 +57,23 @@ def test_a_random_detector_says_which_measurements_make_it_so(open_page):
     page.go_to(0)
     assert coins(page) == [[1, False]] and ["random", ""] in page.glyphs()
     # Each of them is a button that goes to its measurement.
-    page.point_at("#about-detector .link:nth-of-type(2)").click().perform()
-    assert page.find("moment-said").text == "tick 4" and coins(page) == [[1, True]]
+    page.point_at(SECOND_COIN).click().perform()
+    page.wait(lambda: page.find("moment-said").text == "tick 4" and coins(page) == [[1, True]])
     # One that is deterministic has a region, and no coins.
     page.click_bit("D0")
-    page.wait(lambda: page.texts("#region")[0].startswith("region of D0"))
-    assert coins(page) == []
+    page.wait(lambda: page.texts("#region")[0].startswith("region of D0") and coins(page) == [])
+
+
+def test_a_button_that_is_pressed_stays_while_more_becomes_known(open_page):
+    page = open_page(RANDOM)
+    page.click_bit("D1")
+    page.wait(lambda: "decided by 2 coins" in about(page, "detector"))
+    page.point_at(SECOND_COIN).click_and_hold().perform()
+    # As when the table of faults comes.
+    page.ask("page.shown.known()")
+    page.wait(page.is_idle)
+    page.point_at(SECOND_COIN).release().perform()
+    page.wait(lambda: page.find("moment-said").text == "tick 4")
 
 
 def test_a_detector_is_chosen_in_the_tree_too(open_page):
@@ -106,7 +120,7 @@ def test_the_distance_by_marked_errors_is_shown_with_its_set(open_page):
     page.press(Keys.ESCAPE)
     page.wait(lambda: shown_set(page) == [])
     page.point_at("#about-distance p .link").click().perform()
-    assert page.find("moment-said").text == "tick 1" and shown_set(page) == ["X0", "X1", "X2"]
+    page.wait(lambda: page.find("moment-said").text == "tick 1" and shown_set(page) == ["X0", "X1", "X2"])
 
 
 def exchange_layers(page, first):
@@ -134,9 +148,10 @@ def test_a_schedule_is_exchanged_and_the_distance_falls(open_page):
     exchange_layers(page, 3)
     exchange_layers(page, 10)
     assert [line for line in page.circuit().splitlines() if "CX" in line] == [line for line in bad.splitlines() if "CX" in line]
-    assert "before the last edits: distance 3 of all errors" in about(page, "distance")
+    page.wait(lambda: "before the last edits: distance 3 of all errors" in about(page, "distance"))
     ask_distance(page)
     page.wait(lambda: page.texts("#about-distance h3") == ["Distance 2 of errors everywhere"])
+
 
 SLOW = """#!/bin/sh
 [ "$1" = distance ] || exec "{program}" "$@"
@@ -163,13 +178,14 @@ def test_a_long_search_says_how_far_it_is_and_can_be_ended(open_page, tmp_path, 
     page = open_page(codes.surface_code(3, 2))
     ask_distance(page)
     page.wait(lambda: "no set of 1" in about(page, "distance") and is_running(pid))
-    # The button is the end.
-    page.point_at("#about-distance .ask").click().perform()
+    # The button is the end, also if more is said while it is pressed.
+    page.point_at("#about-distance .ask").click_and_hold().perform()
+    page.ask("page.views.distance.take({state: 'running', is_marked: false, said: 'no set of 2', errors: []}, page.shown.state.items)")
+    page.point_at("#about-distance .ask").release().perform()
     page.wait(lambda: "the search was ended" in about(page, "distance") and not is_running(pid))
     ask_distance(page)
     page.wait(lambda: "no set of 1" in about(page, "distance"))
     # So is an edit, since the circuit is another.
     page.go_to(6)
     page.type_on(10, "x")
-    page.wait(lambda: len(page.history()) == 2 and not is_running(pid))
-    assert page.texts("#about-distance .ask") == ["Ask"]
+    page.wait(lambda: len(page.history()) == 2 and not is_running(pid) and page.texts("#about-distance .ask") == ["Ask"])

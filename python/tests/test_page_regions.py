@@ -122,7 +122,7 @@ def test_the_way_of_an_error_is_shown_tick_by_tick(open_page):
     page.go_to(1)
     assert [it for it in page.glyphs() if it[0] == "X"] == [["X", "X"]] * 2
     page.press(Keys.ESCAPE)
-    assert page.ask(way) == []
+    page.wait(lambda: page.ask(way) == [])
     # That of an error which is put in comes by itself.
     page.press("z")
     page.wait(lambda: page.ask("page.shown.way?.letter") == "Z")
@@ -130,9 +130,6 @@ def test_the_way_of_an_error_is_shown_tick_by_tick(open_page):
 
 def test_detectors_are_chosen_by_keys(page):
     page.focus("#timeline")
-    page.press(".")
-    assert page.ask("page.shown.bit") == "D0"
-    page.press(".", ".")
-    assert page.ask("page.shown.bit") == "D1"
-    page.press(",")
-    assert page.ask("page.shown.bit") == "D0"
+    for keys, chosen in ((".", "D0"), ("..", "D1"), (",", "D0")):
+        page.press(*keys)
+        page.wait(lambda: page.ask("page.shown.bit") == chosen)

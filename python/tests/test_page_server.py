@@ -163,6 +163,22 @@ def test_tasks_are_kept_until_they_end(tmp_path):
     run_with_server(tmp_path, CODE, work)
 
 
+def test_the_table_of_faults_is_made_anew_after_its_process_has_ended(tmp_path):
+    async def work(server, connect):
+        tab = await connect()
+        await tab.hear(lambda message: message.get("event") == "faults")
+        region = await tab.ask(ask="region", bit="D0")
+        assert region["region"] == {"0": {"0": "Z"}}
+        server.known.process.kill()
+        for _ in range(2):
+            assert "has ended" in (await tab.ask(ask="region", bit="D0"))["why"]
+        await tab.ask(ask="edit", edits=[{"kind": "insert", "place": "3", "item": "X 0"}])
+        await tab.hear(lambda message: message.get("event") == "faults")
+        assert await tab.ask(ask="region", bit="D0") == region
+
+    run_with_server(tmp_path, CODE, work)
+
+
 def test_a_question_that_is_none_is_answered_and_the_tab_goes_on(tmp_path):
     async def work(server, connect):
         tab = await connect()

@@ -46,11 +46,11 @@ def between(page):
 
 def test_a_tap_chooses_and_acts_with_the_tool_at_hand(page):
     slide(page, [page.spot(2)])
-    assert page.chosen() == [2]
+    page.wait(lambda: page.chosen() == [2])
     # A finger is not held as still as a mouse.
     left, top = page.spot(1)
     slide(page, [[left, top], [left + 5, top + 4]])
-    assert page.chosen() == [1]
+    page.wait(lambda: page.chosen() == [1])
     page.go_to(1)
     page.click("#palette [data-tool='H']")
     page.wait(lambda: "H 1" in page.circuit())
@@ -59,11 +59,12 @@ def test_a_tap_chooses_and_acts_with_the_tool_at_hand(page):
 def test_one_finger_pans(page):
     before, start = page.spot(3), between(page)
     slide(page, steps(start, [start[0] - 60, start[1] + 35]))
-    assert page.spot(3) == pytest.approx([before[0] - 60, before[1] + 35], abs=2)
+    page.wait(lambda: page.spot(3) == pytest.approx([before[0] - 60, before[1] + 35], abs=2))
     assert page.chosen() == [] and page.find("scale").text == "100%"
     # From a qubit too, since there may be no room beside them.
     slide(page, steps(page.spot(3), before))
-    assert page.spot(3) == pytest.approx(before, abs=2) and page.chosen() == []
+    page.wait(lambda: page.spot(3) == pytest.approx(before, abs=2))
+    assert page.chosen() == []
 
 
 def test_a_finger_leads_a_gate_on_two(page):
@@ -77,7 +78,7 @@ def test_two_fingers_pan(page):
     before, (left, top) = page.spot(0), between(page)
     fingers = [[left - 40, top], [left + 40, top]]
     slide(page, *(steps(finger, [finger[0] + 70, finger[1] - 30]) for finger in fingers))
-    assert page.spot(0) == pytest.approx([before[0] + 70, before[1] - 30], abs=4)
+    page.wait(lambda: page.spot(0) == pytest.approx([before[0] + 70, before[1] - 30], abs=4))
     assert page.find("scale").text == "100%" and page.chosen() == []
 
 
@@ -86,10 +87,10 @@ def test_a_pinch_zooms_where_it_is(page):
     apart = math.dist(page.spot(0), page.spot(3))
     slide(page, steps([left - 40, top], [left - 60, top]), steps([left + 40, top], [left + 60, top]))
     # The fingers are half as far again apart as they were, and so are the qubits, about the same middle.
-    assert math.dist(page.spot(0), page.spot(3)) == pytest.approx(1.5 * apart, rel=0.03)
+    page.wait(lambda: math.dist(page.spot(0), page.spot(3)) == pytest.approx(1.5 * apart, rel=0.03))
     assert between(page) == pytest.approx([left, top], abs=4)
     slide(page, steps([left - 60, top], [left - 40, top]), steps([left + 60, top], [left + 40, top]))
-    assert math.dist(page.spot(0), page.spot(3)) == pytest.approx(apart, rel=0.03)
+    page.wait(lambda: math.dist(page.spot(0), page.spot(3)) == pytest.approx(apart, rel=0.03))
     assert page.chosen() == [] and len(page.history()) == 1
 
 
@@ -103,5 +104,5 @@ def test_a_finger_that_is_left_of_two_pans_on(page):
     for spot in steps([left - 40, top], [left - 90, top + 20]):
         touch(page, "touchMove", spot)
     touch(page, "touchEnd")
-    assert page.spot(0) == pytest.approx([before[0] - 50, before[1] + 20], abs=3)
+    page.wait(lambda: page.spot(0) == pytest.approx([before[0] - 50, before[1] + 20], abs=3))
     assert page.chosen() == []

@@ -87,7 +87,7 @@ def test_the_program_gives_the_same_lines(name):
 
 
 def test_the_program_rewrites_no_others():
-    source = pathlib.Path(__file__).parents[2] / "crates" / "stab_explain" / "src" / "rewritings.rt"
+    source = pathlib.Path(__file__).parents[2] / "crates" / "stab_diagnostics" / "src" / "rewritings.rt"
     assert sorted(re.findall(r'name: "(\w+)"', source.read_text())) == NAMES
 
 

@@ -1,7 +1,4 @@
-"""Distances: the errors of a circuit, and the smallest sets of them that flip an observable and no detector.
-
-What an error flips is the sum of what its letters flip. All sets of up to `MOST_ERRORS` errors are tried.
-"""
+"""Distances: the errors of a circuit, and the smallest sets of them that flip an observable and no detector, of up to `MOST_ERRORS`."""
 
 from collections.abc import Iterator, Sequence
 from dataclasses import dataclass
@@ -59,25 +56,19 @@ def wrong_record(path: str, number: int, step: int, letter: str, qubit: int, res
 
 def errors_at(path: str, letters: str, number: int, records: int, step: Step) -> Iterator[Error]:
     """The errors at a step of this number, with this many records in front."""
-    kind = step[0]
-    if kind == "gate":
-        yield from letters_at(path, letters, number + 1, step[2])
-    elif kind == "pair":
-        yield from products_at(path, letters, (number + 1, step[2]), (number + 1, step[3]))
-    elif kind == "controlled":
-        yield from letters_at(path, letters, number + 1, step[3])
-    elif kind == "collapse":
-        _, letter, recorded, resets, qubit, _ = step
-        if recorded:
-            yield from letters_at(path, letters, number, qubit)
-            yield wrong_record(path, records, number, letter, qubit, resets)
-        if resets:
-            yield from letters_at(path, letters, number + 1, qubit)
-    elif kind == "product":
-        for _, qubit, _ in step[1]:
-            yield from letters_at(path, letters, number, qubit)
-        letter, qubit, _ = step[1][0]
-        yield wrong_record(path, records, number, letter, qubit, False)
+    kind, qubits = step[0], numbers.qubits_of(step)
+    before = qubits if numbers.records_of(step) else []
+    resets = kind == "collapse" and step[3]
+    after = [] if before and not resets else qubits
+    for qubit in before:
+        yield from letters_at(path, letters, number, qubit)
+    if before:
+        letter = step[1] if kind == "collapse" else step[1][0][0]
+        yield wrong_record(path, records, number, letter, before[0], resets)
+    if kind == "pair":
+        yield from products_at(path, letters, *((number + 1, qubit) for qubit in after))
+    else:
+        yield from (it for qubit in after for it in letters_at(path, letters, number + 1, qubit))
 
 
 def errors_everywhere(items: Items, letters: str) -> Iterator[Error]:
@@ -115,23 +106,26 @@ class Distance:
     """The errors of a circuit, what each flips, and the smallest number of them that are unseen, if it is at most `MOST_ERRORS`.
 
     Of letters everywhere, or at marked places; `graphlike`: only of errors that flip at most two detectors, after any other gave way to
-    its parts. `NotSure` if a bit is not deterministic.
+    its parts; `deterministic_only`: of deterministic bits, or else `NotDeterministic` if a bit is not.
     """
 
-    def __init__(self, items: Items, everywhere: bool, letters: str, graphlike: bool) -> None:
+    def __init__(self, items: Items, everywhere: bool, letters: str, graphlike: bool, deterministic_only: bool = False) -> None:
         self.graphlike = graphlike
         errors = list((errors_everywhere if everywhere else errors_marked)(items, letters))
         parts = [part for error in errors for part in parts_of(error)]
         placed = list({it: None for error in errors + parts for it in error.letters})
         self.sums = Sums(items, placed)
-        self.sums.need_sure()
+        if not deterministic_only:
+            self.sums.need_deterministic()
         flips = {letter: sum(flip << bit for bit, flip in enumerate(self.sums.flipped(number))) for number, letter in enumerate(placed)}
         rows = {error: reduce(xor, (flips[letter] for letter in error.letters)) for error in errors + parts}
         self.rows = {error: rows[error] for error in errors}
         if graphlike:
             split = [part for error in self.rows if not self.is_graphlike(rows[error]) for part in parts_of(error)]
             self.rows = {error: rows[error] for error in [*self.rows, *split] if self.is_graphlike(rows[error])}
-        self.least = self.least_unseen()
+        flipping = sorted(set(self.rows.values()) - {0})
+        sizes = range(1, MOST_ERRORS + 1)
+        self.least = next((size for size in sizes if any(self.is_unseen(reduce(xor, chosen)) for chosen in combinations(flipping, size))), None)
 
     def detectors(self, row: int) -> int:
         """How many detectors a row has."""
@@ -144,31 +138,25 @@ class Distance:
         """Whether a row has an observable and no detector."""
         return row > 0 and self.detectors(row) == 0
 
-    def least_unseen(self) -> int | None:
-        rows = sorted(set(self.rows.values()) - {0})
-        sizes = range(1, MOST_ERRORS + 1)
-        return next((size for size in sizes if any(self.is_unseen(reduce(xor, chosen)) for chosen in combinations(rows, size))), None)
-
     def line(self, error: Error) -> str:
         """The line of an error."""
         named = [self.sums.name(bit) for bit in range(len(self.sums.bits)) if self.rows[error] >> bit & 1]
         return " ".join([str(error.before), error.path, error.name, *named])
 
+    def are_unseen(self, lines: Sequence[str]) -> bool:
+        """Whether these are lines of errors that are unseen together."""
+        known = {self.line(error): row for error, row in self.rows.items()}
+        return all(line in known for line in lines) and self.is_unseen(reduce(xor, (known[line] for line in lines), 0))
+
     def wrong(self, answer: bytes, most: int | None) -> str | None:
         """What is wrong of what the command `distance` wrote of up to this many errors, if anything is."""
         first, *lines = answer.decode().split("\n")[:-1]
         of_which = " of graph-like errors" if self.graphlike else ""
-        if first == f"none{of_which}":
-            return None if self.least is None else f"none, but {self.least} errors are unseen"
-        if first == f"none up to {most}{of_which}" and most is not None:
-            return None if self.least is None or self.least > most else f"{first}, but {self.least} errors are unseen"
-        if first != f"distance {len(lines)}{of_which or ' of all errors'}":
-            return f"{first!r} with {len(lines)} lines"
-        if len(lines) != self.least and (self.least is not None or len(lines) <= MOST_ERRORS):
-            return f"{first}, but the least number is {self.least}"
-        if most is not None and len(lines) > most:
-            return f"{first}, but no more than {most} are asked for"
-        known = {self.line(error): row for error, row in self.rows.items()}
-        if not all(line in known for line in lines):
-            return f"{[line for line in lines if line not in known]} are no errors"
-        return None if self.is_unseen(reduce(xor, (known[line] for line in lines))) else f"{lines} are seen"
+        is_least = len(lines) == self.least or self.least is None and len(lines) > MOST_ERRORS
+        rights = {
+            f"none{of_which}": not lines and self.least is None,
+            f"none up to {most}{of_which}": not lines and most is not None and (self.least is None or self.least > most),
+            f"distance {len(lines)}{of_which or ' of all errors'}":
+                is_least and len(lines) <= (most or len(lines)) and self.are_unseen(lines),
+        }
+        return None if rights.get(first) else f"{first!r} with {lines}, but the least number of errors that are unseen is {self.least}"

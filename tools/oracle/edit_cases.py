@@ -1,21 +1,23 @@
-"""Edits at random places, each beside a session that is opened anew on what the edits so far leave.
+"""Edits at random places: after each the session shows what one shows that is opened anew on the text that the oracle keeps, with few steps
+between checkpoints and with many.
 
-After each edit, made or refused, the session shows what one shows that is opened anew on the text that the oracle keeps: with few
-steps between checkpoints and with many. A surface code, written out and in a block, is edited by Pauli gates alone: its instructions
-are long enough that frames are led over many qubits at once, and within the block each gate is in every round.
-"""
+A surface code, written out and in a block, is edited by Pauli gates alone: its instructions are long enough that frames are propagated over
+many qubits at once, and within the block each gate is in every round."""
 
-from collections.abc import Iterator
+from collections.abc import Callable, Iterator
 from random import Random
 
 from stabsim import codes
 
 from . import numbers, printing
+from .answers import Ended, Wrong
 from .making import Maker
-from .program_runs import Program, Wrong, difference
 from .reading import Block, Refused, items_of
-from .script_making import edit_lines
-from .scripts import Session, play
+from .script_making import SHOWS, edit_lines
+from .scripts import Session
+
+# What runs the program with words on a circuit and a script over it.
+Program = Callable[[list[str], bytes, bytes], Ended]
 
 STRIDES = (1, 3, 64, 8192)
 CIRCUITS = 10
@@ -29,7 +31,10 @@ ROUNDS = 12
 CODE_QUBITS = 188
 CODE_STRIDES = (300, 1000, 3000)
 CODE_EDITS = 25
-SHOWS = b"".join(b"show %b\n" % what for what in (b"measurements", b"free", b"detectors", b"observables", b"stabilisers", b"circuit"))
+
+
+def difference(what: str, found: object, wanted: object) -> Wrong:
+    return None if found == wanted else f"{what}: found {str(found)[:400]}, and not {str(wanted)[:400]}"
 
 
 def replies_of(written: bytes) -> list[list[bytes]]:
@@ -55,7 +60,7 @@ class Edited:
 
     def edit(self, text: str) -> None:
         self.edits.append(text.encode() + b"\n")
-        play(self.session, self.edits[-1])
+        self.session.play(self.edits[-1])
         self.texts.append(printing.printed(self.session.items))
 
     def cases(self, run: Program) -> Iterator[Wrong]:

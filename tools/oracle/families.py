@@ -4,22 +4,24 @@ from collections.abc import Callable
 from dataclasses import replace
 from random import Random
 
-from . import distance_making, fault_making, making, printing, script_making
-from .answers import EDGES, Case, random_case, session_for
+from . import fault_making, making, printing, script_making
+from .answers import Case, random_case, session_for
 from .formats import FORMATS
 from .making import Maker, lines_of, random_gates, small_circuit, undoing
 from .reading import Block, Items, Refused
-from .scripts import Session, play
+from .script_making import SHOWS
+from .scripts import Session
 from .states import TooLarge
 
 # What leaves each qubit 0 or 1, so that hardly a coin decides and most rounds come again.
 STILL = ["X", "Z", "CX", "CZ", "SWAP", "M", "MR", "R"]
 # What uses up a coin on one qubit.
 MEASURED = ["M", "MX", "MRY", "R"]
-LISTS = b"show measurements\nshow free\nshow detectors\nshow observables\nshow stabilisers\n"
-SHOWS = LISTS + b"show circuit\n"
+LISTS = SHOWS.removesuffix(b"show circuit\n")
 # Commands that write bits, and those that write tables.
 BITS, TABLES = ("sample", "detect"), ("deterministic", "faults", "coins")
+# Where batches of shots may end.
+EDGES = (64, 128, 256, 320, 384, 448, 512, 1024, 1280, 2048)
 # Lines that are refused wherever they are, or if no block is open, or that leave one open.
 WRONG_LINES = ["M 5000", "H rec[-1]", "CX 1 1", "FOO 1", "DETECTOR rec[-0]", "}", "REPEAT 3 {", "MPP X1*X1", "REPEAT 0 {"]
 
@@ -39,7 +41,11 @@ def damaged(dice: Random) -> list[Case]:
 
 
 def undone(dice: Random) -> list[Case]:
-    return [random_case(dice, "sample", making.undone_circuit(dice, dice.randint(5, 80)))]
+    """Gates, then what undoes them backwards, then a measurement of all qubits: all zeros."""
+    n = dice.randint(5, 80)
+    gates = random_gates(dice, n, dice.randint(1, 6 * n))
+    lines = [*lines_of(gates + undoing(gates)), f"M {' '.join(map(str, range(n)))}"]
+    return [random_case(dice, "sample", "\n".join(lines).encode())]
 
 
 def by_script(dice: Random) -> list[Case]:
@@ -54,7 +60,7 @@ def by_script(dice: Random) -> list[Case]:
     return [Case("edit", case.text, case.settings, script)]
 
 
-def sure_parities(dice: Random) -> list[Case]:
+def deterministic_parities(dice: Random) -> list[Case]:
     """A table of a circuit that has marked places and deterministic parities."""
     return [random_case(dice, dice.choice(TABLES), fault_making.fault_circuit(dice))]
 
@@ -107,7 +113,7 @@ def marked(dice: Random) -> list[Case]:
         lines += part if dice.random() < 0.6 else [f"REPEAT {dice.randint(1, 3)} {{", *part, "}"]
         lines += maker.lines(dice.randint(0, 3)) + [f"I {maker.qubit()}"]
     text = "\n".join(lines).encode()
-    return [random_case(dice, "faults", text, sure_only=True), random_case(dice, "deterministic", text)]
+    return [random_case(dice, "faults", text, deterministic_only=True), random_case(dice, "deterministic", text)]
 
 
 def long_block(dice: Random) -> tuple[int, bytes, bytes]:
@@ -152,7 +158,7 @@ def sessions_on_blocks(dice: Random) -> list[Case]:
     if dice.random() < 0.5:
         # After it all coins, and records except after a reset, have other numbers.
         script = f"insert {dice.randint(0, len(session.items))} {dice.choice(MEASURED)} {dice.randrange(n)}\n".encode()
-        play(session, script)
+        session.play(script)
     script += script_making.edits(dice, session, dice.randint(0, 4))
     left = written_out(session.items)
     return [Case("edit", block, settings, script + LISTS), Case("edit", left, settings, LISTS, printing.printed(session.items))]
@@ -194,14 +200,14 @@ def far_apart(dice: Random) -> list[Case]:
 
 def distances(dice: Random) -> list[Case]:
     """The distance of a random code, mostly of marked errors, which are fewer."""
-    return [random_case(dice, "distance", distance_making.code_circuit(dice), everywhere=dice.random() < 0.05)]
+    return [random_case(dice, "distance", fault_making.code_circuit(dice), everywhere=dice.random() < 0.05)]
 
 
 FAMILIES: dict[str, Callable[[Random], list[Case]]] = {
-    "by a script": by_script, "by the grammar": by_grammar, "damaged": damaged, "undone": undone, "with sure parities": sure_parities,
+    "by a script": by_script, "by the grammar": by_grammar, "damaged": damaged, "undone": undone, "with deterministic parities": deterministic_parities,
     "large": large, "edited": edited, "many shots": many_shots, "marked": marked, "blocks": blocks,
     "sessions on blocks": sessions_on_blocks, "lines that come again": lines_that_come_again, "far apart": far_apart, "distances": distances,
 }
 # How often families are tried among those of small circuits. The others are large in some way.
-WEIGHTS = {"by a script": 35, "by the grammar": 27, "damaged": 31, "undone": 3, "with sure parities": 2}
+WEIGHTS = {"by a script": 35, "by the grammar": 27, "damaged": 31, "undone": 3, "with deterministic parities": 2}
 LARGE = list(FAMILIES)[len(WEIGHTS):]

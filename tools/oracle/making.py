@@ -3,13 +3,16 @@
 from collections.abc import Callable, Sequence
 from random import Random
 
-from .reading import ALIASES, COLLAPSES, ONE_QUBIT
+from stabsim.names import ONE_QUBIT, TWO_QUBITS
+from stabsim.reading import ALIASES
+
+from .reading import COLLAPSES
 
 # Gates by their names and targets.
 Gates = list[tuple[str, str]]
 
 SPELLINGS = {name: [name] + [alias for alias, first in ALIASES.items() if first == name]
-             for name in list(ONE_QUBIT) + ["CX", "CY", "CZ", "SWAP", "MPP"] + list(COLLAPSES)}
+             for name in (*ONE_QUBIT, *TWO_QUBITS, "MPP", *COLLAPSES)}
 UNDONE_BY = {"S": "S_DAG", "SQRT_X": "SQRT_X_DAG", "SQRT_Y": "SQRT_Y_DAG", "C_XYZ": "C_ZYX"}
 UNDONE_BY.update({undo: name for name, undo in UNDONE_BY.items()})
 
@@ -54,7 +57,7 @@ class Maker:
         many = range(self.random.choice((1, 1, 1, 2, 3)))
         if name == "MPP":
             found = [self.product() for _ in many]
-        elif name in ("CX", "CY", "CZ", "SWAP"):
+        elif name in TWO_QUBITS:
             found = [self.pair(name) for _ in many]
         elif name in COLLAPSES and COLLAPSES[name][1]:
             found = [self.mark() + str(self.qubit()) for _ in many]
@@ -108,7 +111,7 @@ def random_gates(random: Random, n: int, count: int) -> Gates:
     gates: Gates = []
     for _ in range(count):
         if random.random() < 0.4:
-            name = random.choice(("CX", "CY", "CZ", "SWAP"))
+            name = random.choice(TWO_QUBITS)
             gates.append((name, "{} {}".format(*random.sample(range(n), 2))))
         else:
             gates.append((random.choice(ONE_QUBIT), str(random.randrange(n))))
@@ -122,12 +125,6 @@ def undoing(gates: Gates) -> Gates:
 
 def lines_of(gates: Gates) -> list[str]:
     return [f"{name} {targets}" for name, targets in gates]
-
-
-def undone_circuit(random: Random, n: int) -> bytes:
-    """Gates, then what undoes them backwards, then a measurement of all qubits: all zeros."""
-    gates = random_gates(random, n, random.randint(1, 6 * n))
-    return "\n".join(lines_of(gates + undoing(gates)) + ["M " + " ".join(map(str, range(n)))]).encode()
 
 
 def damaged(random: Random, text: bytes, other: bytes) -> bytes:

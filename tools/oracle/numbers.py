@@ -1,6 +1,6 @@
 """Numbers of a circuit: qubits, observables, unrolled steps and records, and how far back it looks."""
 
-from collections.abc import Callable, Iterable, Iterator
+from collections.abc import Iterable, Iterator
 from typing import Any
 
 from .reading import COLLAPSES, CONTROLLED, MOST_STEPS, Block, Item, Operation, Refused
@@ -23,14 +23,9 @@ def steps_of(operation: Operation) -> list[Step]:
     if name in COLLAPSES:
         return [("collapse", *COLLAPSES[name], qubit, inverted) for qubit, inverted in targets]
     if name in CONTROLLED or name == "SWAP":
-        return [pair_step(name, a, b) for a, b in zip(targets[::2], targets[1::2])]
+        return [("controlled", CONTROLLED[name], first[1], second) if isinstance(first, tuple) else ("pair", name, first, second)
+                for first, second in zip(targets[::2], targets[1::2])]
     return [("gate", name, qubit) for qubit in targets]
-
-
-def pair_step(name: str, first: Any, second: int) -> Step:
-    if isinstance(first, tuple):
-        return ("controlled", CONTROLLED[name], first[1], second)
-    return ("pair", name, first, second)
 
 
 def lookbacks(step: Step) -> list[int]:
@@ -45,6 +40,16 @@ def records_of(step: Step) -> int:
 
 def uses_coin(step: Step) -> bool:
     return step[0] in ("collapse", "product")
+
+
+def qubits_of(step: Step) -> list[int]:
+    """The qubits that a step acts on, except for a control."""
+    kind = step[0]
+    if kind in ("gate", "pair"):
+        return list(step[2:])
+    if kind == "product":
+        return [qubit for _, qubit, _ in step[1]]
+    return [step[3]] if kind == "controlled" else [step[4]] if kind == "collapse" else []
 
 
 def summary(items: Iterable[Item]) -> tuple[int, int, int]:
@@ -74,34 +79,24 @@ def check(items: Iterable[Item]) -> None:
         raise Refused(9)
 
 
-def qubits_named(item: Operation) -> Iterator[int]:
-    for target in item.targets:
-        if item.name == "MPP":
-            yield from (qubit for _, qubit, _ in target)
-        elif item.name in COLLAPSES:
-            yield target[0]
-        elif isinstance(target, int) and item.name not in ("DETECTOR", "OBSERVABLE_INCLUDE"):
-            yield target
-
-
-def greatest(items: Iterable[Item], numbers: Callable[[Operation], Iterable[int]]) -> int:
-    """One more than the greatest number of any instruction, or 0."""
-    most = 0
+def operations(items: Iterable[Item]) -> Iterator[Operation]:
+    """The instructions, once each."""
     for item in items:
-        if isinstance(item, Block):
-            most = max(most, greatest(item.body, numbers))
-        else:
-            for number in numbers(item):
-                most = max(most, number + 1)
-    return most
+        yield from operations(item.body) if isinstance(item, Block) else [item]
+
+
+def qubits_named(item: Operation) -> list[int]:
+    return item.targets if item.name == "QUBIT_COORDS" else [qubit for step in steps_of(item) for qubit in qubits_of(step)]
 
 
 def qubits(items: Iterable[Item]) -> int:
-    return greatest(items, qubits_named)
+    """One more than the greatest qubit, or 0."""
+    return 1 + max((qubit for item in operations(items) for qubit in qubits_named(item)), default=-1)
 
 
 def observables(items: Iterable[Item]) -> int:
-    return greatest(items, lambda item: [] if item.number is None else [item.number])
+    """One more than the greatest observable, or 0."""
+    return 1 + max((item.number for item in operations(items) if item.number is not None), default=-1)
 
 
 def unrolled(items: Iterable[Item], above: str = "") -> Iterator[tuple[str, Operation]]:

@@ -4,8 +4,10 @@ import re
 from dataclasses import dataclass, field
 from typing import Any
 
+from stabsim.names import ONE_QUBIT
+from stabsim.reading import ALIASES
+
 SPACING = b" \t\r"
-DIGITS = frozenset(b"0123456789")
 COORDINATE = re.compile(rb"[0-9+\-.eE]+")
 
 MOST_BYTES = 16_777_216
@@ -22,7 +24,6 @@ REFUSALS = {
     12: "PlaceOutOfRange", 13: "BadCommand", 14: "TooLong", 17: "NotABlock", 18: "NotDeterministic",
 }
 
-ONE_QUBIT = ["I", "X", "Y", "Z", "H", "S", "S_DAG", "SQRT_X", "SQRT_X_DAG", "SQRT_Y", "SQRT_Y_DAG", "C_XYZ", "C_ZYX"]
 CONTROLLED = {"CX": "X", "CY": "Y", "CZ": "Z"}
 # Which letter is measured, whether it is recorded, and whether the qubit is reset.
 COLLAPSES = {
@@ -31,11 +32,7 @@ COLLAPSES = {
     "R": ("Z", False, True), "RX": ("X", False, True), "RY": ("Y", False, True),
 }
 OTHERS = ["SWAP", "MPP", "DETECTOR", "OBSERVABLE_INCLUDE", "TICK", "QUBIT_COORDS", "SHIFT_COORDS", "REPEAT"]
-ALIASES = {
-    "H_XZ": "H", "SQRT_Z": "S", "SQRT_Z_DAG": "S_DAG", "CNOT": "CX", "ZCX": "CX", "ZCY": "CY", "ZCZ": "CZ",
-    "MZ": "M", "MRZ": "MR", "RZ": "R",
-}
-NAMES = ONE_QUBIT + list(CONTROLLED) + list(COLLAPSES) + OTHERS
+NAMES = [*ONE_QUBIT, *CONTROLLED, *COLLAPSES, *OTHERS]
 WITH_COORDINATES = ("DETECTOR", "QUBIT_COORDS", "SHIFT_COORDS")
 
 
@@ -79,10 +76,6 @@ Items = list[Item]
 Path = list[int]
 
 
-def is_digits(text: bytes) -> bool:
-    return len(text) > 0 and all(byte in DIGITS for byte in text)
-
-
 def content_of(line: bytes) -> bytes:
     return line.split(b"#", 1)[0].strip(SPACING)
 
@@ -103,7 +96,7 @@ def cut(content: bytes) -> tuple[str, bytes, list[bytes], list[bytes], bool]:
 
 def number_of(name: str, arguments: list[bytes]) -> int | None:
     """The number of an observable, or None; 2 if the arguments do not suit the name."""
-    if name == "OBSERVABLE_INCLUDE" and len(arguments) == 1 and is_digits(arguments[0]):
+    if name == "OBSERVABLE_INCLUDE" and len(arguments) == 1 and arguments[0].isdigit():
         return int(arguments[0])
     may_be = name in WITH_COORDINATES and all(COORDINATE.fullmatch(it) for it in arguments)
     if name == "OBSERVABLE_INCLUDE" or arguments and not may_be:
@@ -112,7 +105,7 @@ def number_of(name: str, arguments: list[bytes]) -> int | None:
 
 
 def qubit_of(word: bytes) -> int:
-    if not is_digits(word):
+    if not word.isdigit():
         raise Refused(3)
     if int(word) >= MOST_QUBITS:
         raise Refused(6)
@@ -143,7 +136,7 @@ def target_of(name: str, place: int, word: bytes) -> Any:
     """One target, in order from the left: 3 for its kind or spelling, 6 for a qubit's number."""
     if name in ("DETECTOR", "OBSERVABLE_INCLUDE"):
         return record_of(word)
-    if name in ("TICK", "SHIFT_COORDS") or name == "REPEAT" and not is_digits(word):
+    if name in ("TICK", "SHIFT_COORDS") or name == "REPEAT" and not word.isdigit():
         raise Refused(3)
     if name == "REPEAT":
         return word

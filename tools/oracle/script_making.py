@@ -4,9 +4,11 @@ from random import Random
 
 from .making import Maker
 from .reading import Block, Items
-from .scripts import Script, Session
+from .scripts import Session
 
 SHOWN = ("measurements", "free", "detectors", "observables", "stabilisers", "circuit")
+# A script that shows all of these.
+SHOWS = "".join(f"show {what}\n" for what in SHOWN).encode()
 FRAMED = ("mark", "show numbers", "show changed", "show changed", "show changed records", "show sign", "show item",
           "show place", "show deterministic", "split", "split", "split")
 
@@ -27,12 +29,6 @@ def path_to(random: Random, items: Items, past_end: bool) -> str:
         return "/".join(map(str, path))
 
 
-def item_lines(random: Random, maker: Maker) -> list[str]:
-    if random.random() < 0.25:
-        return maker.block(1)
-    return [maker.line()]
-
-
 def edit_lines(random: Random, session: Session) -> list[str]:
     """The lines of one edit."""
     kind = random.choice(("insert", "insert", "replace", "delete"))
@@ -41,7 +37,7 @@ def edit_lines(random: Random, session: Session) -> list[str]:
         return [f"delete {path}"]
     maker = Maker(random, max(1, session.qubits + (random.random() < 0.05)))
     maker.records = random.randint(0, 4)
-    first, *more = item_lines(random, maker)
+    first, *more = maker.block(1) if random.random() < 0.25 else [maker.line()]
     return [f"{kind} {path} {first}", *more]
 
 
@@ -99,27 +95,22 @@ def lines_that_show(random: Random, session: Session) -> list[str]:
 
 def script(random: Random, session: Session) -> bytes:
     """A script for a session, which is played on the way so that its lines suit what they meet."""
-    played = Script(session)
     lines: list[str] = []
     for _ in range(random.randint(100, 300) if session.framed and random.random() < 0.05 else random.randint(1, 12)):
         more = edit_lines(random, session) if random.random() < 0.6 else lines_that_show(random, session)
         if random.random() < 0.06:
             more[0] = spoilt(random, more[0])
+        session.play("\n".join(more).encode())
         lines += more
-        for line in more:
-            played.line(line.encode())
     return "\n".join(lines).encode() + (b"\n" if random.random() < 0.8 else b"")
 
 
 def edits(random: Random, session: Session, count: int) -> bytes:
     """This many edits, and splits in a framed session, and nothing shown: of a session too large to be run by the oracle."""
     lines: list[str] = []
-    played = Script(session)
     for _ in range(count):
         splits = session.framed and random.random() < 0.2
         more = [f"split {split_words(random, session)}"] if splits else edit_lines(random, session)
+        session.play("\n".join(more).encode())
         lines += more
-        for line in more:
-            played.line(line.encode())
-    played.end()
     return "\n".join(lines).encode() + b"\n"

@@ -1,28 +1,33 @@
 """Edit scripts: what lines ask for, what an edit leaves, and the replies."""
 
-from collections.abc import Callable, Sequence
+import re
+from collections.abc import Callable, Iterator, Sequence
 from dataclasses import replace
 
 from . import formats, numbers, printing, states, sums
 from .numbers import Step
 from .reading import (
-    MOST_BYTES, MOST_DEPTH, REFUSALS, SPACING, Block, Items, Path, Refused, block_at, content_of, is_digits, item_at, item_of, product_of)
-from .states import Run, State
+    MOST_BYTES, MOST_DEPTH, REFUSALS, Block, Items, Path, Refused, block_at, content_of, item_at, item_of, product_of)
+from .states import Factors, Run
 
 MOST_LINE = 65_536
 MOST_PLACE_DIGITS = 18
 MOST_PLACE_NUMBERS = 17
+FIRST_WORD = re.compile(rb"([^ \t\r]*)[ \t\r]*(.*)", re.DOTALL)
+# The lists that any script shows, by their names in a run.
+LISTS = {b"measurements": "records", b"free": "free", b"detectors": "detectors", b"observables": "observables"}
 
 
 def first_word(text: bytes) -> tuple[bytes, bytes]:
     """The first word of a text, and what follows it without the spacing in front."""
-    end = next((at for at, byte in enumerate(text) if byte in SPACING), len(text))
-    return text[:end], text[end:].lstrip(SPACING)
+    found = FIRST_WORD.match(text)
+    assert found
+    return found[1], found[2]
 
 
 def number_of(word: bytes) -> int:
     """A number, or 13."""
-    if not is_digits(word) or len(word) > MOST_PLACE_DIGITS:
+    if not word.isdigit() or len(word) > MOST_PLACE_DIGITS:
         raise Refused(13)
     return int(word)
 
@@ -62,26 +67,41 @@ def place_numbers(steps: Sequence[Step]) -> tuple[int, ...]:
     return len(steps), sum(map(numbers.records_of, steps)), detectors, sum(map(numbers.uses_coin, steps))
 
 
-def string_of_word(word: bytes, qubits: int) -> tuple[bool, str]:
+def string_of_word(word: bytes, qubits: int) -> tuple[bool, Factors]:
     """A signed string by its letters, or by a product as MPP has it."""
     bare = word[1:] if word[:1] in (b"+", b"-") else word
     negative = word[:1] == b"-"
     if all(byte in b"I_XYZ" for byte in bare):
         if len(bare) != qubits:
             raise Refused(3)
-        return negative, bare.decode().replace("_", "I")
+        return negative, [(letter, qubit) for qubit, letter in enumerate(bare.decode()) if letter in "XYZ"]
     factors = product_of(bare)
     if any(qubit >= qubits for _, qubit, _ in factors):
         raise Refused(6)
     negative ^= sum(inverted for *_, inverted in factors) % 2 == 1
-    return negative, states.letters_on([(letter, qubit) for letter, qubit, _ in factors], qubits)
+    return negative, [(letter, qubit) for letter, qubit, _ in factors]
+
+
+def block_text(first: bytes, lines: Iterator[bytes]) -> bytes:
+    """The text of a block that begins with a line, with the lines up to its end, or the last ones; 14 if one of them is too long, which
+    neither opens nor closes."""
+    opened, parts, is_short = 1, [first], True
+    for line in lines:
+        if len(line) > MOST_LINE:
+            is_short = False
+            continue
+        parts.append(content_of(line))
+        opened += -1 if parts[-1] == b"}" else int(parts[-1].endswith(b"{"))
+        if opened == 0:
+            break
+    if not is_short:
+        raise Refused(14)
+    return b"\n".join(parts)
 
 
 class Session:
-    """The items between two lines of a script, and what the lines so far were replied.
-
-    A framed one keeps the bits at the mark too; the first mark is at the opening.
-    """
+    """The items between two lines of a script, and what the lines so far were replied. A framed one keeps the bits at the mark too; the
+    first mark is at the opening."""
 
     def __init__(self, items: Items, qubits: int, coin: Callable[[int], int] = lambda number: 0, framed: bool = False) -> None:
         self.items = items
@@ -89,14 +109,14 @@ class Session:
         self.coin = coin
         self.framed = framed
         # The last run, and the items that it is of.
-        self.ran: tuple[Items, Run[State]] | None = None
+        self.ran: tuple[Items, Run] | None = None
         self.replies: list[bytes] = []
         self.refused = False
         if framed:
             self.mark = self.run()
             self.replies.append(b"ready 1 " + self.numbers())
 
-    def run(self) -> Run[State]:
+    def run(self) -> Run:
         if self.ran is None or self.ran[0] is not self.items:
             self.ran = self.items, states.run_of(self.items, self.qubits, self.coin)
         return self.ran[1]
@@ -104,10 +124,6 @@ class Session:
     def reply(self, text: bytes) -> None:
         """A reply that is no refusal, with its number of lines before it if it is framed."""
         self.replies.append(b"ok %d\n%b" % (text.count(b"\n"), text) if self.framed else text)
-
-    def refuse(self, refused: Refused) -> None:
-        self.refused = True
-        self.replies.append(f"refused {refused.number} {REFUSALS[refused.number]}\n".encode())
 
     def edit(self, kind: bytes, path: Path, text: bytes) -> None:
         """Edits the items, unless something refuses it."""
@@ -142,18 +158,14 @@ class Session:
         self.items = changed(self.items, path, cut)
         self.reply(b"")
 
-    def set_mark(self) -> None:
-        self.mark = self.run()
-        self.reply(b"")
-
     def shown(self, what: bytes) -> bytes:
         """What `show` writes."""
         if what == b"circuit":
             return printing.printed(self.items)
         if what == b"stabilisers":
             return states.rows_text(self.run().state)
-        if what in (b"measurements", b"free", b"detectors", b"observables"):
-            return formats.shot("01", getattr(self.run(), "records" if what == b"measurements" else what.decode()))
+        if what in LISTS:
+            return formats.shot("01", getattr(self.run(), LISTS[what]))
         if not self.framed:
             raise Refused(13)
         return self.shown_framed(*first_word(what))
@@ -168,8 +180,8 @@ class Session:
         if word == b"changed" and rest in (b"", b"records"):
             return self.changed_bits([("M", "records")] if rest else [("D", "detectors"), ("L", "observables")])
         if word == b"sign" and operand and not more:
-            negative, letters = string_of_word(operand, self.qubits)
-            sign = self.run().state.sign(letters)
+            negative, factors = string_of_word(operand, self.qubits)
+            sign = self.run().state.sign(factors)
             return b"0\n" if sign is None else b"-\n" if sign ^ negative else b"+\n"
         if word not in (b"item", b"place"):
             raise Refused(13)
@@ -199,80 +211,37 @@ class Session:
             counts += f"{kind} {len(old)} {len(new)}\n" if len(old) != len(new) else ""
         return f"{' '.join(names)}\n{counts}".encode()
 
-
-class Script:
-    """Lines given to a session, one after another, with the lines of a block gathered."""
-
-    def __init__(self, session: Session) -> None:
-        self.session = session
-        # How many blocks are open, what is to be done with the outermost, and its text so far: none once a line was too long.
-        self.opened = 0
-        self.kind, self.path = b"", list[int]()
-        self.text: bytes | None = None
-
-    def line(self, line: bytes) -> None:
-        try:
-            if self.opened:
-                self.gather(line)
-            elif len(line) > MOST_LINE:
-                raise Refused(14)
-            elif content_of(line):
-                self.command(*first_word(content_of(line)))
-        except Refused as refused:
-            self.session.refuse(refused)
-
-    def command(self, word: bytes, rest: bytes) -> None:
+    def command(self, word: bytes, rest: bytes, lines: Iterator[bytes]) -> None:
+        """Takes a line that is not empty, and those after it that are of its block."""
         operand, text = first_word(rest)
         if word in (b"insert", b"replace", b"delete"):
             path = place_of(operand)
             if (text == b"") != (word == b"delete"):
                 raise Refused(13)
-            if text.endswith(b"{"):
-                self.opened, self.kind, self.path, self.text = 1, word, path, text
-            else:
-                self.session.edit(word, path, text)
+            self.edit(word, path, block_text(text, lines) if text.endswith(b"{") else text)
         elif word == b"show":
-            self.session.reply(self.session.shown(rest))
-        elif word == b"mark" and self.session.framed and not rest:
-            self.session.set_mark()
-        elif word == b"split" and self.session.framed:
+            self.reply(self.shown(rest))
+        elif word == b"mark" and self.framed and not rest:
+            self.mark = self.run()
+            self.reply(b"")
+        elif word == b"split" and self.framed:
             round_word, more = first_word(text)
             if more:
                 raise Refused(13)
             number = number_of(round_word)
-            self.session.split(place_of(operand), number)
+            self.split(place_of(operand), number)
         else:
             raise Refused(13)
 
-    def gather(self, line: bytes) -> None:
-        """One more line of a block's text; one over its limit neither opens nor closes, and spoils the text."""
-        if len(line) > MOST_LINE:
-            self.text = None
-            return
-        content = content_of(line)
-        self.opened += -1 if content == b"}" else int(content.endswith(b"{"))
-        if self.text is not None:
-            self.text += b"\n" + content
-        if self.opened == 0:
-            self.end_block()
-
-    def end_block(self) -> None:
-        self.opened = 0
-        if self.text is None:
-            raise Refused(14)
-        self.session.edit(self.kind, self.path, self.text)
-
-    def end(self) -> None:
-        if self.opened:
+    def play(self, text: bytes) -> None:
+        """Takes the lines of a script."""
+        lines = iter(text.removesuffix(b"\n").split(b"\n"))
+        for line in lines:
             try:
-                self.end_block()
+                if len(line) > MOST_LINE:
+                    raise Refused(14)
+                if content := content_of(line):
+                    self.command(*first_word(content), lines)
             except Refused as refused:
-                self.session.refuse(refused)
-
-
-def play(session: Session, text: bytes) -> None:
-    """Gives a whole script to a session."""
-    script = Script(session)
-    for line in text.removesuffix(b"\n").split(b"\n") if text else []:
-        script.line(line)
-    script.end()
+                self.refused = True
+                self.replies.append(f"refused {refused.number} {REFUSALS[refused.number]}\n".encode())

@@ -6,20 +6,19 @@ from functools import lru_cache
 from . import formats, numbers
 from .numbers import Step
 from .printing import arguments_text
-from .reading import Items, Operation
-from .reading import item_at
+from .reading import Items, Operation, item_at
 from .states import Rows, Run, first_bit, refuse_if_large
 
 # A letter that is put in: how many steps are in front of it, the letter and the qubit.
 Placed = tuple[int, str, int]
 
 
-class NotSure(Exception):
-    """A detector or observable that is not the same for all random bits: the line that names it."""
+class NotDeterministic(Exception):
+    """A detector or observable that is not the same for all random bits, and the line that names it."""
 
 
 @lru_cache(2)
-def run_over_rows(qubits: int, observables: int, steps: tuple[Step, ...]) -> Run[Rows]:
+def run_over_rows(qubits: int, observables: int, steps: tuple[Step, ...]) -> Run:
     """The run with each coin as itself."""
     return Run(Rows(qubits), observables, steps, lambda coin: 2 << coin)
 
@@ -38,7 +37,7 @@ class Sums:
         self.run = run_over_rows(qubits, numbers.observables(items), tuple(self.steps_with(letters)))
         self.bits = self.run.bits()
         all_coins = (1 << len(self.coin_places)) - 1
-        self.sure = [sum_ >> 1 & all_coins == 0 for sum_ in self.bits]
+        self.deterministic = [sum_ >> 1 & all_coins == 0 for sum_ in self.bits]
 
     def steps_with(self, letters: Sequence[Placed]) -> Iterator[Step]:
         """The steps with each letter in its place, which is put in if its bit is 1."""
@@ -53,15 +52,11 @@ class Sums:
     def flipped(self, letter: int) -> list[bool]:
         """For each detector and observable whether it is deterministic and the letter of this number flips it."""
         at = 1 + len(self.coin_places) + letter
-        return [sure and sum_ >> at & 1 == 1 for sum_, sure in zip(self.bits, self.sure)]
-
-    def coin_rows(self) -> list[tuple[int, list[int]]]:
-        """Each coin that decides, with 1 for each record, detector and observable that it flips."""
-        return [(coin, [sum_ >> coin + 1 & 1 for sum_ in self.run.records + self.bits]) for coin, free in enumerate(self.run.free) if free]
+        return [is_deterministic and sum_ >> at & 1 == 1 for sum_, is_deterministic in zip(self.bits, self.deterministic)]
 
     def name(self, bit: int) -> str:
         """What dets calls a detector or observable."""
-        return f"D{bit}" if bit < len(self.paths) else f"L{bit - len(self.paths)}"
+        return formats.name(bit, len(self.paths))
 
     def names(self, flips: Sequence[int]) -> list[str]:
         """What dets calls those that are 1; records are first, if there are bits for them."""
@@ -73,13 +68,14 @@ class Sums:
         number = bit - len(self.paths)
         return self.paths[bit] if number < 0 else next(path for path, step in self.placed if step[:2] == ("observable", number))
 
-    def need_sure(self) -> None:
-        """Raises `NotSure` of the first bit that some coin decides, with its first coin."""
-        for bit in (bit for bit, sure in enumerate(self.sure) if not sure):
+    def need_deterministic(self) -> None:
+        """Raises `NotDeterministic` of the first bit that some coin decides, with its first coin."""
+        if not all(self.deterministic):
+            bit = self.deterministic.index(False)
             named = f"detector {bit}" if bit < len(self.paths) else f"observable {bit - len(self.paths)}"
             coin = first_bit(self.bits[bit] >> 1)
             where = self.coin_places[coin][1]
-            raise NotSure(f"stabsim: {named}, item {self.path(bit)}, is not the same for all coins: c{coin}@{where} decides it\n".encode())
+            raise NotDeterministic(f"stabsim: {named}, item {self.path(bit)}, is not the same for all coins: c{coin}@{where} decides it\n".encode())
 
 
 def value(sum_: int, coins: int) -> int:
@@ -90,14 +86,15 @@ def value(sum_: int, coins: int) -> int:
 def deterministic(items: Items, form: str) -> bytes:
     """What the command of this name writes."""
     sums = Sums(items)
-    return formats.shot(form, sums.sure, len(sums.paths))
+    return formats.shot(form, sums.deterministic, len(sums.paths))
 
 
 def coins_text(items: Items, form: str | None) -> bytes:
     """What the command `coins` writes, by lines or in a format. In `dets` records are named too."""
     sums = Sums(items)
     out = []
-    for coin, flips in sums.coin_rows():
+    for coin in (coin for coin, free in enumerate(sums.run.free) if free):
+        flips = [sum_ >> coin + 1 & 1 for sum_ in sums.run.records + sums.bits]
         before, path = sums.coin_places[coin]
         if form is None:
             out.append(" ".join([str(before), path, f"c{coin}", *sums.names(flips)]).encode() + b"\n")
@@ -125,25 +122,18 @@ def explained(items: Items) -> bytes:
 
 def sites(step: Step, everywhere: bool) -> list[tuple[int, bool]]:
     """The places for faults at a step: a qubit, and whether it is after the step."""
-    kind = step[0]
     if not everywhere:
         return [(step[2], False)] if step[:2] == ("gate", "I") else []
-    if kind in ("gate", "pair"):
-        return [(qubit, True) for qubit in step[2:]]
-    if kind == "controlled":
-        return [(step[3], True)]
-    if kind == "collapse":
-        return [(step[4], False), (step[4], True)] if step[2] else [(step[4], True)]
-    return [(qubit, after) for _, qubit, _ in step[1] for after in (False, True)] if kind == "product" else []
+    return [(qubit, after) for qubit in numbers.qubits_of(step) for after in ((False, True) if numbers.records_of(step) else (True,))]
 
 
-def faults(items: Items, form: str | None, everywhere: bool, sure_only: bool) -> bytes:
-    """What the command of this name writes; or `NotSure`, with the line that is printed."""
+def faults(items: Items, form: str | None, everywhere: bool, deterministic_only: bool) -> bytes:
+    """What the command of this name writes; or `NotDeterministic`, with the line that is printed."""
     found = [(path, (number + after, letter, qubit)) for number, (path, step) in enumerate(numbers.placed_steps(items))
              for qubit, after in sites(step, everywhere) for letter in "XZ"]
     sums = Sums(items, [letter for _, letter in found])
-    if not sure_only:
-        sums.need_sure()
+    if not deterministic_only:
+        sums.need_deterministic()
     out = []
     for number, (path, (before, letter, qubit)) in enumerate(found):
         flipped = sums.flipped(number)

@@ -1,9 +1,5 @@
-"""The shell and Python blocks of the pages print what the pages show, each page in a clean copy of its own.
-
-A block that begins with ```sh is run by sh, which stops at the first command that fails, and one with ```python by the Python that runs
-this, with the package of python/; it is also the python3 of shell blocks. If the next block of the page begins with ```output, that is
-what is printed. A block that can't be run here begins with ```sh not-run and a reason.
-"""
+"""The shell and Python blocks of the pages print what the ```output block below them shows, each page in a clean copy of its own. A block
+that can't be run here begins with ```sh not-run and a reason."""
 
 import os
 import pathlib

@@ -1,4 +1,4 @@
-"""Texts that are cut off, that never end or that break off, and as many qubits as there may be."""
+"""Texts that are cut off, that never end or that break off."""
 
 import fcntl
 import pathlib
@@ -9,37 +9,11 @@ import termios
 import pytest
 from oracle import numbers
 from oracle.reading import Refused, items_of
+from program import TOP
 from running import PROGRAM, READ_FAULT, TIME_LIMIT, TOO_LONG, Ended, run
 
-MOST_QUBITS = 1_024
-
 # A repetition code of distance 3 over three rounds, as Stim prints it.
-CODE = """\
-R 0 1 2 3 4
-TICK
-CX 0 1 2 3
-TICK
-CX 2 1 4 3
-TICK
-MR 1 3
-DETECTOR(1, 0) rec[-2]
-DETECTOR(3, 0) rec[-1]
-REPEAT 2 {
-    TICK
-    CX 0 1 2 3
-    TICK
-    CX 2 1 4 3
-    TICK
-    MR 1 3
-    SHIFT_COORDS(0, 1)
-    DETECTOR(1, 0) rec[-2] rec[-4]
-    DETECTOR(3, 0) rec[-1] rec[-3]
-}
-M 0 2 4
-DETECTOR(1, 1) rec[-2] rec[-3] rec[-5]
-DETECTOR(3, 1) rec[-1] rec[-2] rec[-4]
-OBSERVABLE_INCLUDE(0) rec[-1]
-"""
+CODE = "".join(line for line in (TOP / "examples/repetition_code.stim").read_text().splitlines(True) if line[0] not in "#X")
 # What some of the refusals are, by hand: that the oracle's rules are those of the pages.
 CUT_BY_HAND = {
     12: "", 13: "line 2: refused 1 UnsupportedName", 22: "line 3: refused 4 BadPairing", 65: "line 8: refused 11 BadLine",
@@ -115,10 +89,3 @@ def test_a_script_that_breaks_off_has_the_replies_to_whole_lines(tmp_path: pathl
     circuit.write_text("H 0\nM 0")
     assert length <= len(SCRIPT) == BROKEN[-1][1]
     assert run_broken(circuit, SCRIPT[:length]) == (1, replies, READ_FAULT)
-
-
-def test_there_are_as_many_rows_as_qubits() -> None:
-    last = MOST_QUBITS - 1
-    # Of X, which leads, on the last qubit, and then of Z on each other one.
-    rows = ["+" + "_" * last + "X", *("+" + "_" * qubit + "Z" + "_" * (last - qubit) for qubit in range(last))]
-    assert run(["stabilisers"], f"H {last}") == (0, "".join(row + "\n" for row in rows), "")

@@ -3,13 +3,10 @@
 import subprocess
 import sys
 
+import drive_edit
 import pytest
 from program import TOP
-from running import PROGRAM, TIME_LIMIT
-
-sys.path.insert(0, str(TOP / "examples"))
-
-import drive_edit  # noqa: E402: it is in a place that was named above
+from running import TIME_LIMIT, run
 
 DRIVEN = """\
 X 0 flips detectors [2] and observables []
@@ -21,7 +18,7 @@ a second X 4 leaves detectors []
 the circuit has 25 lines, and the group 5 rows
 status 0
 """
-# How many lines are written before a reply is read.
+# How many lines a script has that are alike.
 LINES = 10_000
 
 
@@ -44,46 +41,13 @@ def test_the_driver_takes_no_refusal_for_bits() -> None:
     assert (empty.lines("circuit"), empty.lines("stabilisers"), empty.close()) == ([], [], 0)
 
 
-class Framed:
-    """A session by `edit --framed`: each reply says how many lines it has."""
-
-    def __init__(self) -> None:
-        words = [str(PROGRAM), "edit", "--framed", "--in", str(TOP / "examples" / "repetition_code.stim")]
-        program = subprocess.Popen(words, stdin=subprocess.PIPE, stdout=subprocess.PIPE, text=True)
-        assert program.stdin and program.stdout
-        self.program, self.input, self.output = program, program.stdin, program.stdout
-        self.ready = self.line()
-
-    def line(self) -> str:
-        return self.output.readline().rstrip("\n")
-
-    def send(self, *lines: str) -> None:
-        self.input.write("".join(line + "\n" for line in lines))
-        self.input.flush()
-
-    def read(self) -> list[str] | str:
-        """The lines of a reply, or a refusal."""
-        head = self.line()
-        return [self.line() for _ in range(int(head[3:]))] if head.startswith("ok ") else head
-
-    def ask(self, *lines: str) -> list[str] | str:
-        self.send(*lines)
-        return self.read()
-
-    def close(self) -> int:
-        self.input.close()
-        return self.program.wait(TIME_LIMIT)
-
-
-def test_a_framed_session_answers_line_by_line_and_many_lines_at_once() -> None:
-    session = Framed()
-    assert session.ready == "ready 1 5 36 9 8 1"
-    assert [session.ask("delete 9"), session.ask("mark"), session.ask("insert 9 REPEAT 1 {", "X 2", "}")] == [[], [], []]
-    assert session.ask("show changed") == ["D2 D3"]
-    assert session.ask("show item 9") == ["REPEAT 1 {", "    X 2", "}"]
-    assert session.ask("show sign Z2") == ["-"]
-    assert session.ask("delete 99") == "refused 12 PlaceOutOfRange"
-    assert len(session.ask("show circuit")) == 27
-    session.send(*["mark"] * LINES)
-    assert [session.read() for _ in range(LINES)] == [[]] * LINES
-    assert (session.ask("show changed"), session.close()) == ([""], 3)
+def test_a_framed_session_answers_each_of_many_lines() -> None:
+    # The package's sessions wait for each reply before they send the next line.
+    asked = {
+        "delete 9": "ok 0", "mark": "ok 0", "insert 9 REPEAT 1 {\nX 2\n}": "ok 0", "show changed": "ok 1\nD2 D3",
+        "show item 9": "ok 3\nREPEAT 1 {\n    X 2\n}", "show sign Z2": "ok 1\n-", "delete 99": "refused 12 PlaceOutOfRange",
+        "\n".join(["mark"] * LINES): "\n".join(["ok 0"] * LINES), "show changed ": "ok 1\n",
+    }
+    status, written, told = run(["edit", "--framed", "--in", "examples/repetition_code.stim"], "".join(line + "\n" for line in asked))
+    assert (status, told) == (3, "")
+    assert written == "ready 1 5 36 9 8 1\n" + "".join(reply + "\n" for reply in asked.values())

@@ -1,18 +1,13 @@
-"""Files that the program reads and writes, and standard streams that are closed.
-
-An older file of --out keeps what it held until there is something to write; a file that is read is never written; a closed stream
-fails by itself and hands its number to no file; coins come from a file; a table of faults that is empty is explained; and a terminal
-gets the name of the command that says more of a circuit that is refused.
-"""
+"""Files that the program reads and writes, and standard streams that are closed or are a terminal."""
 
 import os
 import pathlib
 import pty
-import subprocess
 from collections.abc import Sequence
 
 import pytest
-from running import COMMANDS, FOLDER, MISSING, NO_MARKS, PROGRAM, READ_FAULT, TIME_LIMIT, TOO_LONG, WRITE_FAULT, run
+from oracle.reading import MOST_BYTES
+from running import COMMANDS, FOLDER, MISSING, NO_MARKS, READ_FAULT, TOO_LONG, WRITE_FAULT, Ended, run
 
 CIRCUIT = "X 0\nM 0 1\n"
 SHARED = "stabsim: --in and --out are one file\n"
@@ -22,7 +17,6 @@ COINS_TWICE = "stabsim: coins are given by --coins or by --coins_in, and not by 
 WRONG_COINS = "stabsim: coins are 0 and 1\n"
 HINT = "stabsim: what is wrong and where: give the same circuit to `stabsim check`\n"
 UNSUPPORTED = "stabsim: line 2: refused 1 UnsupportedName\n"
-MOST_BYTES = 16_777_216
 LONGEST_WORD = 131_072
 OLD = "what was there before\n"
 
@@ -67,14 +61,36 @@ def test_an_older_file_is_kept_by_a_run_that_is_refused(tmp_path: pathlib.Path, 
     assert out.read_text() == left
 
 
-def test_a_file_that_cannot_be_opened_or_made_is_told_by_its_name(tmp_path: pathlib.Path) -> None:
-    missing, inside = tmp_path / "none.stim", tmp_path / "none" / "out"
-    assert run(["sample", "--in", missing]) == (1, "", f"{READ_FAULT}stabsim: {missing}: {MISSING}\n")
-    for command in COMMANDS:
-        assert run([command, "--in", tmp_path]) == (1, "", f"{READ_FAULT}stabsim: {tmp_path}: {FOLDER}\n")
-    assert run(["sample", "--out", inside]) == (1, "", f"{WRITE_FAULT}stabsim: {inside}: {MISSING}\n")
-    assert run(["sample", "--out", "/dev/full"], "M 0\n") == (1, "", WRITE_FAULT)
+# Words, and what is said after the fault of reading or of writing; {} is a folder.
+@pytest.mark.parametrize("words, fault, told", [
+    ("sample --in {}/none.stim", READ_FAULT, f"stabsim: {{}}/none.stim: {MISSING}\n"),
+    *((f"{command} --in {{}}", READ_FAULT, f"stabsim: {{}}: {FOLDER}\n") for command in COMMANDS),
+    ("sample --in /proc/self/mem", READ_FAULT, "stabsim: /proc/self/mem: Input/output error (os error 5)\n"),
+    ("sample --out {}/none/out", WRITE_FAULT, f"stabsim: {{}}/none/out: {MISSING}\n"),
+    ("sample --out {}", WRITE_FAULT, f"stabsim: {{}}: {FOLDER}\n"),
+    ("sample --out /dev/full", WRITE_FAULT, ""),
+])
+def test_a_file_that_cannot_be_opened_or_made_is_told_by_its_name(tmp_path: pathlib.Path, words: str, fault: str, told: str) -> None:
+    assert run(words.format(tmp_path).split(), "M 0\n") == (1, "", fault + told.format(tmp_path))
     assert run(["sample", "--out", "/dev/null"], "M 0\n") == (0, "", "")
+
+
+@pytest.mark.skipif(os.geteuid() == 0, reason="root may read all files")
+def test_a_file_that_may_not_be_read_is_told_by_its_name(circuit: pathlib.Path) -> None:
+    circuit.chmod(0)
+    assert run(["sample", "--in", circuit])[2].startswith(f"{READ_FAULT}stabsim: {circuit}: ")
+
+
+@pytest.mark.parametrize("words", ["sample", "sample --shots 100000", "edit"])
+def test_a_full_disk_and_a_closed_pipe_are_write_faults(words: str) -> None:
+    asked = [*words.split(), "--in", "examples/repetition_code.stim"]
+    script = "show circuit\n" if words == "edit" else ""
+    with open("/dev/full", "wb") as full:
+        assert run(asked, script, output=full.fileno()) == (1, "", WRITE_FAULT)
+    source, sink = os.pipe()
+    os.close(source)
+    assert run(asked, script, output=sink) == (1, "", WRITE_FAULT)
+    os.close(sink)
 
 
 def test_a_closed_stream_fails_where_it_is_needed_and_changes_nothing_else(tmp_path: pathlib.Path, circuit: pathlib.Path) -> None:
@@ -97,70 +113,58 @@ def test_no_command_but_edit_reads_a_script(circuit: pathlib.Path, command: str)
     assert run(words, closed=(0,)) == (0, run(words)[1], NO_MARKS if command in ("faults", "distance") else "")
 
 
-def test_faults_says_that_no_place_is_marked(tmp_path: pathlib.Path, circuit: pathlib.Path) -> None:
-    out, words = tmp_path / "out", ["faults", "--in", circuit]
-    circuit.write_text("R 0\nM 0\nDETECTOR rec[-1]\n")
-    assert run(words) == (0, "", NO_MARKS)
-    assert run([*words, "--out_format", "dets"]) == (0, "", NO_MARKS)
-    assert (run([*words, "--out", out]), out.read_text()) == ((0, "", NO_MARKS), "")
+ZERO, MARKED_ZERO = "R 0\nM 0\nDETECTOR rec[-1]\n", "R 0\nI 0\nM 0\n"
+UNMARKED, MARKED = (f"R 0\n{mark}M 0\nOBSERVABLE_INCLUDE(0) rec[-1]\n" for mark in ("", "I[Y] 0\n"))
+# Two flips of a bit that is measured twice, and compared, are seen by no detector.
+TWICE = "R 0 1\nI[X] 0 1\nM 0 1\nDETECTOR rec[-1] rec[-2]\nOBSERVABLE_INCLUDE(0) rec[-1]\n"
+DISTANCE_OF_TWICE = "distance 2 of all errors\n2 1 X0 D0\n3 1 X1 D0 L0\n"
+
+
+# Words, a circuit, the answer, and what is said beside it.
+@pytest.mark.parametrize("words, text, answer, told", [
+    ("faults", ZERO, "", NO_MARKS),
+    ("faults --out_format dets", ZERO, "", NO_MARKS),
     # But not if all places are asked for, nor for faults without a byte.
-    assert run([*words, "--everywhere"]) == (0, "1 0 X0 D0\n1 0 Z0\n1 1 X0 D0\n1 1 Z0\n2 1 X0\n2 1 Z0\n", "")
-    circuit.write_text("R 0\nI 0\nM 0\n")
-    assert run(words) == (0, "1 1 X0\n1 1 Z0\n", "")
-    assert run([*words, "--out_format", "b8"]) == (0, "", "")
-    circuit.write_text("CX 0 0\n")
-    assert run(words) == (1, "", "stabsim: line 1: refused 4 BadPairing\n")
+    ("faults --everywhere", ZERO, "1 0 X0 D0\n1 0 Z0\n1 1 X0 D0\n1 1 Z0\n2 1 X0\n2 1 Z0\n", ""),
+    ("faults", MARKED_ZERO, "1 1 X0\n1 1 Z0\n", ""),
+    ("faults --out_format b8", MARKED_ZERO, "", ""),
+    ("distance", UNMARKED, "none\n", NO_MARKS),
+    ("distance --everywhere", UNMARKED, "distance 1 of all errors\n1 0 X0 L0\n", ""),
+    ("distance", MARKED, "distance 1 of all errors\n1 1 Y0 L0\n", ""),
+    ("distance", TWICE, DISTANCE_OF_TWICE, ""),
+    ("distance --progress", TWICE, DISTANCE_OF_TWICE, "distance: no set of 1\n"),
+    ("distance --progress --most 1", TWICE, "none up to 1\n", "distance: no set of 1\n"),
+])
+def test_marks_that_are_missing_and_progress_are_told(tmp_path: pathlib.Path, words: str, text: str, answer: str, told: str) -> None:
+    out = tmp_path / "out"
+    assert run(words.split(), text) == (0, answer, told)
+    assert (run([*words.split(), "--out", out], text), out.read_text()) == ((0, "", told), answer)
 
 
-def test_distance_says_that_no_error_is_marked(circuit: pathlib.Path) -> None:
-    words = ["distance", "--in", circuit]
-    circuit.write_text("R 0\nM 0\nOBSERVABLE_INCLUDE(0) rec[-1]\n")
-    assert run(words) == (0, "none\n", NO_MARKS)
-    assert run([*words, "--everywhere"])[2] == ""
-    circuit.write_text("R 0\nI[Y] 0\nM 0\nOBSERVABLE_INCLUDE(0) rec[-1]\n")
-    assert run(words) == (0, "distance 1 of all errors\n1 1 Y0 L0\n", "")
+@pytest.mark.parametrize("command", ["faults", "distance"])
+def test_a_refused_circuit_is_told_alone(command: str) -> None:
+    assert run([command], "CX 0 0\n") == (1, "", "stabsim: line 1: refused 4 BadPairing\n")
 
 
-def test_distance_reports_each_number_of_errors_that_is_excluded(circuit: pathlib.Path) -> None:
-    # Two flips of a bit that is measured twice, and compared, are seen by no detector.
-    circuit.write_text("R 0 1\nI[X] 0 1\nM 0 1\nDETECTOR rec[-1] rec[-2]\nOBSERVABLE_INCLUDE(0) rec[-1]\n")
-    words = ["distance", "--in", circuit]
-    answer = "distance 2 of all errors\n2 1 X0 D0\n3 1 X1 D0 L0\n"
-    assert run(words) == (0, answer, "")
-    assert run([*words, "--progress"]) == (0, answer, "distance: no set of 1\n")
-    assert run([*words, "--progress", "--most", "1"]) == (0, "none up to 1\n", "distance: no set of 1\n")
-
-
-@pytest.fixture(name="coins")
-def coins_file(tmp_path: pathlib.Path) -> pathlib.Path:
-    return tmp_path / "coins"
-
-
-def from_coins(circuit: pathlib.Path, coins: pathlib.Path, text: str, *words: str, given: str = "") -> tuple[int, str, str]:
-    """A run with this text as the file of coins."""
+def from_coins(circuit: pathlib.Path, text: str, *words: object, given: str = "") -> Ended:
+    """A run with this text as the file of coins, which is beside the circuit."""
+    coins = circuit.parent / "coins"
     coins.write_bytes(text.encode())
     return run([*words, "--in", circuit, "--coins_in", coins], given)
 
 
-def test_coins_of_a_file_are_those_of_each_command(circuit: pathlib.Path, coins: pathlib.Path) -> None:
+def test_coins_of_a_file_are_those_of_each_command(circuit: pathlib.Path) -> None:
+    coins = circuit.parent / "coins"
     circuit.write_text("H 0 1\nM 0 1\n")
     for text in ("01", "01\n", "01\r\n", "0111"):
-        assert from_coins(circuit, coins, text, "sample", "--shots", "2") == (0, "01\n01\n", "")
-        assert from_coins(circuit, coins, text, "sample", "--seed", "5") == (0, "01\n", "")
-    assert from_coins(circuit, coins, text, "stabilizers") == (0, "+Z_\n-_Z\n", "")
-    assert from_coins(circuit, coins, text, "edit", given="show measurements\n") == (0, "01\n", "")
-    assert from_coins(circuit, coins, text, "sample", "--coins", "1") == (2, "", COINS_TWICE)
-    assert from_coins(circuit, coins, text, "sample", "--out", str(coins)) == (2, "", SHARED_COINS)
-    assert from_coins(circuit, coins, "0" * (MOST_BYTES - 1) + "\n", "sample") == (0, "00\n", "")
-    assert from_coins(circuit, coins, "1" * (MOST_BYTES + 1), "sample") == (1, "", f"{TOO_LONG}stabsim: {coins}\n")
-
-
-@pytest.mark.parametrize("text", ["012", "0 1", "01\n\n", "01\r"])
-def test_wrong_coins_are_told_and_nothing_is_written(tmp_path: pathlib.Path, circuit: pathlib.Path, coins: pathlib.Path, text: str) -> None:
-    out = tmp_path / "out"
-    out.write_text(OLD)
-    assert from_coins(circuit, coins, text, "sample") == (2, "", WRONG_COINS)
-    assert (from_coins(circuit, coins, text, "sample", "--out", str(out))[0], out.read_text()) == (2, OLD)
+        assert from_coins(circuit, text, "sample", "--shots", "2") == (0, "01\n01\n", "")
+        assert from_coins(circuit, text, "sample", "--seed", "5") == (0, "01\n", "")
+    assert from_coins(circuit, text, "stabilizers") == (0, "+Z_\n-_Z\n", "")
+    assert from_coins(circuit, text, "edit", given="show measurements\n") == (0, "01\n", "")
+    assert from_coins(circuit, text, "sample", "--coins", "1") == (2, "", COINS_TWICE)
+    assert from_coins(circuit, text, "sample", "--out", coins) == (2, "", SHARED_COINS)
+    assert from_coins(circuit, "0" * (MOST_BYTES - 1) + "\n", "sample") == (0, "00\n", "")
+    assert from_coins(circuit, "1" * (MOST_BYTES + 1), "sample") == (1, "", f"{TOO_LONG}stabsim: {coins}\n")
 
 
 def test_a_file_of_coins_that_cannot_be_read_is_told_by_its_name(tmp_path: pathlib.Path) -> None:
@@ -171,11 +175,15 @@ def test_a_file_of_coins_that_cannot_be_read_is_told_by_its_name(tmp_path: pathl
 # A text of coins, and what four free outcomes are by them; none if it is no list: characters 0 and 1, and at most one line end.
 @pytest.mark.parametrize("text, bits", [
     ("", "0000"), ("\n", "0000"), ("\r\n", "0000"), ("0", "0000"), ("0110", "0110"), ("10\n", "1000"), ("1\r\n", "1000"),
-    ("1\n\n", None), ("1\n0", None), ("1 0", None), (" 1", None), ("1\r", None), ("012", None), ("1\t", None),
+    *((it, None) for it in ("1\n\n", "1\n0", "1 0", " 1", "1\r", "012", "1\t", "0 1", "01\n\n", "01\r")),
 ])
-def test_zeros_follow_the_coins_of_a_file(circuit: pathlib.Path, coins: pathlib.Path, text: str, bits: str | None) -> None:
+def test_zeros_follow_the_coins_of_a_file(tmp_path: pathlib.Path, circuit: pathlib.Path, text: str, bits: str | None) -> None:
     circuit.write_text("H 0 1 2 3\nM 0 1 2 3\n")
-    assert from_coins(circuit, coins, text, "sample") == ((2, "", WRONG_COINS) if bits is None else (0, f"{bits}\n", ""))
+    assert from_coins(circuit, text, "sample") == ((2, "", WRONG_COINS) if bits is None else (0, f"{bits}\n", ""))
+    out = tmp_path / "out"
+    out.write_text(OLD)
+    from_coins(circuit, text, "sample", "--out", out)
+    assert out.read_text() == (OLD if bits is None else f"{bits}\n")
 
 
 @pytest.mark.parametrize("coins", ["1 0", " "])
@@ -183,17 +191,17 @@ def test_a_word_of_coins_has_no_spacing_either(coins: str) -> None:
     assert run(["sample", "--coins", coins]) == (2, "", WRONG_COINS)
 
 
-def test_a_file_gives_more_coins_than_a_word_may_have(circuit: pathlib.Path, coins: pathlib.Path) -> None:
+def test_a_file_gives_more_coins_than_a_word_may_have(circuit: pathlib.Path) -> None:
     text = "".join("01"[at % 7 == 0] for at in range(LONGEST_WORD + 5)) + "\n"
     circuit.write_text(f"REPEAT {len(text) - 1} {{\n    H 0\n    M 0\n}}\n")
-    assert from_coins(circuit, coins, text, "sample") == (0, text, "")
+    assert from_coins(circuit, text, "sample") == (0, text, "")
 
 
 def on_terminal(words: Sequence[object], given: str) -> str:
     """What a run says on a terminal as its error output."""
     held, end = pty.openpty()
     try:
-        subprocess.run([PROGRAM, *map(str, words)], input=given.encode(), stdout=subprocess.DEVNULL, stderr=end, timeout=TIME_LIMIT, check=False)
+        run(words, given, errors=end)
         os.write(end, b"\4")
         told = b""
         while b"\4" not in told:

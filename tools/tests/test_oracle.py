@@ -3,9 +3,10 @@
 from random import Random
 
 import pytest
+from amplitudes import Amplitudes
 from oracle import making, numbers
 from oracle.reading import Refused, items_of
-from oracle.states import Amplitudes, Run
+from oracle.states import Run
 from oracle.sums import Sums, value
 
 # A record is a sum: 1 is the part that is known, and these are coins by their numbers.

@@ -1,12 +1,7 @@
-"""What the pages name is there, clauses, definitions, files and headings, and their words and those of comments are plain and not too many.
-
-What a clause or a definition says is not looked at.
-"""
+"""What the pages name is there, clauses, definitions, files and headings, and their words and those of comments are plain and not too many."""
 
 import functools
-import io
 import re
-import tokenize
 from collections.abc import Iterable, Iterator
 from pathlib import Path
 
@@ -19,7 +14,7 @@ PROVED, BELIEVE = DOCS / "trust" / "proved.md", DOCS / "trust" / "believe.md"
 FILE = re.compile(r"[\w./-]+\.(?:rt|antt|md|py|sh|rows|stim|script)")
 WORDS_WITHOUT_CONTENTS = 1500
 MOST_WORDS_OF_A_PAGE = 1500
-LONGER = {"docs/trust/proved.md": 2100, "docs/trust/believe.md": 2600, "docs/trust/tested.md": 1700, "docs/DECISIONS.md": 2200}
+LONGER = {"docs/trust/proved.md": 2100, "docs/trust/believe.md": 2600, "docs/DECISIONS.md": 2200}
 # How many words the pages that begin with these paths have together at most.
 MOST_WORDS = {
     ("README.md",): 700, ("CHANGELOG.md",): 900, ("docs/README.md",): 300, ("docs/use/",): 12000, ("docs/trust/",): 6000,
@@ -48,8 +43,11 @@ PLAINER = PLAINER_IN_COMMENTS | {
     r"\b[Ll]ater that (?:day|night|evening)\b": "what is, without what was",
     r"\bfrom nothing\b": "from scratch",
 }
-# How a comment begins in each kind of file; a docstring is a comment too.
-COMMENT_MARKS = {".rt": "//[/!]?", ".antt": "--", ".sh": "#", ".stim": "#", ".script": "#", ".rows": "#", ".js": "//", ".mjs": "//"}
+# What a comment is in each kind of file; a docstring is a comment too.
+COMMENTS = {
+    ".rt": "//.*", ".js": "//.*", ".mjs": "//.*", ".antt": "--.*", ".py": r'"""(?:.|\n)*?"""|#.*',
+    **dict.fromkeys((".sh", ".stim", ".script", ".rows"), "#.*"),
+}
 COMMENTED = ("crates/", "python/", "tools/", "examples/")
 # Files of which git knows, or will know once they are added.
 FILES = [name for name in files_of_git("-co", "--exclude-standard") if (TOP / name).is_file()]
@@ -85,15 +83,15 @@ def test_functions_have_the_clauses_of_the_table_of_promises() -> None:
     expect_none(it for it in named if it[0] not in labels_of(quoted(it[1])))
 
 
-def test_theorems_have_the_definitions_of_their_rows_in_the_number_that_is_said() -> None:
+def test_theorems_have_the_definitions_of_their_rows() -> None:
     found = count_definitions.all_definitions()
     made = {count_definitions.path_of(file): {name.strip("◌") for name in its.made} for file, its in found.items()}
     lines = [line for line in text_of(BELIEVE).split("\n") if count_definitions.ROW.match(line)]
     rows = [[cell.strip() for cell in re.split(r"(?<!\\)\|", line)[1:-1]] for line in lines]
-    named = [(file.strip("`"), name) for file, _, names, *_ in rows for name in quoted(names)]
+    named = [(file.strip("`"), name) for file, names, *_ in rows for name in quoted(names)]
     assert named
     expect_none(it for it in named if it[1] not in made.get(it[0], ()))
-    expect_none(count_definitions.with_counts(text_of(BELIEVE), found)[1])
+    expect_none(count_definitions.wrong_rows(text_of(BELIEVE), found))
 
 
 def test_files_that_pages_name_are_there() -> None:
@@ -163,31 +161,14 @@ def test_pages_have_no_phrase_that_has_a_plainer_form() -> None:
     expect_none(it for page in PAGES for it in plainer(name_of(page), prose(page), PLAINER))
 
 
-def comments_of_python(text: str) -> Iterator[tuple[int, str]]:
-    """The lines of comments and docstrings, after their numbers from 1."""
-    lines, before = text.split("\n"), tokenize.NEWLINE
-    for token in tokenize.generate_tokens(io.StringIO(text).readline):
-        if token.type == tokenize.COMMENT:
-            yield token.start[0], token.string.lstrip("# ")
-        elif token.type == tokenize.STRING and before in (tokenize.NEWLINE, tokenize.INDENT, tokenize.DEDENT):
-            yield from ((number, lines[number - 1].strip()) for number in range(token.start[0], token.end[0] + 1))
-        if token.type not in (tokenize.COMMENT, tokenize.NL):
-            before = token.type
-
-
 def comments_of(file: Path) -> str:
-    """What the comments of a file say, each on its own line, without their marks; a line without a comment is empty."""
-    text = text_of(file)
-    if file.suffix == ".py":
-        found = dict(comments_of_python(text))
-        return "\n".join(found.get(number, "") for number in range(1, text.count("\n") + 2))
-    comment = re.compile(rf"(?:^|\s){COMMENT_MARKS[file.suffix]}(?:\s|$)(.*)")
-    without_texts = (re.sub(r'"(?:[^"\\]|\\.)*"', '""', line) for line in text.split("\n"))
-    return "\n".join(it[1].strip() if (it := comment.search(line)) else "" for line in without_texts)
+    """What the comments of a file say, each on its own line, without their marks and what they quote."""
+    parts = re.split(rf"(?:(?<=\s)|^)({COMMENTS[file.suffix]})", text_of(file), flags=re.MULTILINE)
+    comments = (part.lstrip('/!#-" ') if number % 2 else "\n" * part.count("\n") for number, part in enumerate(parts))
+    return re.sub(r'^[ \t]+|"[^"\n]*"', "", "".join(comments), flags=re.MULTILINE)
 
 
 def test_comments_have_no_phrase_that_has_a_plainer_form() -> None:
     phrases = {phrase.replace(" ", r"[ \n]"): better for phrase, better in PLAINER_IN_COMMENTS.items()}
     files = [TOP / name for name in FILES if name.startswith(COMMENTED)]
-    commented = [file for file in files if file.suffix in (*COMMENT_MARKS, ".py")]
-    expect_none(it for file in commented for it in plainer(name_of(file), comments_of(file), phrases, re.IGNORECASE))
+    expect_none(it for file in files if file.suffix in COMMENTS for it in plainer(name_of(file), comments_of(file), phrases, re.IGNORECASE))

@@ -1,13 +1,9 @@
-"""What tools/release.sh makes, and what a user has from the repository alone, all without the toolchain and without a network.
-
-It needs dpkg-deb and a Python with pip, setuptools, wheel, venv, numpy and aiohttp: without one nothing is tried.
-"""
+"""What tools/release.sh makes, and what a user has from the repository alone, without the toolchain and without a network."""
 
 import hashlib
 import pathlib
 import shutil
 import subprocess
-import sys
 import urllib.request
 
 import pytest
@@ -18,7 +14,7 @@ Word = str | pathlib.Path
 
 # The toolchain and a Python of one's own lie elsewhere.
 ENVIRONMENT = {"PATH": "/usr/bin:/bin", "LANG": "C.UTF-8"}
-NEEDED = "import setuptools, wheel, pip, venv, ensurepip, numpy, aiohttp"
+NEEDED = ["setuptools", "wheel", "pip", "venv", "ensurepip", "numpy", "aiohttp"]
 OFFLINE = ["--quiet", "--no-index", "--disable-pip-version-check"]
 SAMPLE: list[Word] = ["sample", "--shots", "2", "--seed", "5", "--in", TOP / "examples/bell.stim"]
 README = [*blocks_of(text_of(TOP / "README.md"))]
@@ -27,10 +23,10 @@ COUNTS = "name,decoder,model,seed,first_shot,shots,errors,seconds,discards,metad
 
 @pytest.fixture(name="python")
 def able_python() -> str:
-    able = (it for it in (sys.executable, "/usr/bin/python3") if pathlib.Path(it).exists()
-            and subprocess.run([it, "-c", NEEDED], capture_output=True, check=False).returncode == 0)
-    found = next(able, None) if shutil.which("dpkg-deb") else None
-    return found or pytest.skip("no dpkg-deb, or no Python has pip, setuptools, wheel, venv, numpy and aiohttp")
+    found = subprocess.run([TOP / "tools/find_python.sh", *NEEDED], capture_output=True, text=True, check=False)
+    if found.returncode or not shutil.which("dpkg-deb"):
+        pytest.skip(f"no dpkg-deb, or {found.stderr}")
+    return found.stdout.strip()
 
 
 @pytest.fixture(name="top")

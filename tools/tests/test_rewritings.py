@@ -1,35 +1,19 @@
-"""The lines that `check` gives in place of each gate of Stim's that is not read are that gate, up to a phase, by matrices.
+"""The lines that `check` gives in place of each gate of Stim's that is not read make of letters what python/tests/gate_images.py says, and
+are read."""
 
-The definitions in Stim's list of gates say what a gate is: for a gate on one qubit, which letters it makes of X and Z, with their signs;
-for a controlled one, its two letters; for a square root, its product. The program must read the lines.
-"""
-
-import itertools
+from itertools import product
 
 import pytest
+from gate_images import ON_ONE, ON_TWO, images_of_root
 from oracle import numbers
-from oracle.matrices import LETTERS, SWAP, Matrix, adjoint, are_same, controlled, of_letters, rotation, scaled, times
-from oracle.reading import items_of
-from oracle.states import Amplitudes
+from oracle.reading import NAMES, items_of
+from oracle.states import images, sent, string_of
 from running import run
+from stabsim.reading import ALIASES
 
-CX, CZ = controlled("Z", "X"), controlled("Z", "Z")
-ISWAP: Matrix = ((1, 0, 0, 0), (0, 0, 1j, 0), (0, 1j, 0, 0), (0, 0, 0, 1))
-# What gates on one qubit make of X and of Z.
-ON_ONE = {
-    "H_XY": ("+Y", "-Z"), "H_YZ": ("-X", "+Y"), "H_NXY": ("-Y", "-Z"), "H_NXZ": ("-Z", "-X"), "H_NYZ": ("-X", "-Y"),
-    "C_NXYZ": ("-Y", "-X"), "C_XNYZ": ("-Y", "+X"), "C_XYNZ": ("+Y", "-X"),
-    "C_NZYX": ("-Z", "-Y"), "C_ZNYX": ("+Z", "-Y"), "C_ZYNX": ("-Z", "+Y"),
-}
-# Products of which gates are a square root: they multiply the eigenstates of -1 by i, and their inverses by -i.
-ROOTS = [("SQRT_XX{} 0 1", "XX"), ("SQRT_YY{} 0 1", "YY"), ("SQRT_ZZ{} 0 1", "ZZ"), ("SPP{} X0*Y1*Z2", "XYZ")]
-# Instructions on two and three qubits, and their matrices.
-OTHERS: dict[str, Matrix] = {
-    "II 0 1": of_letters("II"), "ISWAP 0 1": ISWAP, "ISWAP_DAG 0 1": adjoint(ISWAP),
-    "CXSWAP 0 1": times(SWAP, CX), "SWAPCX 0 1": times(CX, SWAP), "CZSWAP 0 1": times(SWAP, CZ), "SWAPCZ 0 1": times(CZ, SWAP),
-    **{f"{control}C{letter} 0 1": controlled(control, letter) for control, letter in itertools.product("XY", "XYZ")},
-    **{name.format(end): rotation(letters, turn) for name, letters in ROOTS for end, turn in (("", 1), ("_DAG", -1))},
-}
+ON_QUBITS = {**{f"{name} 0": it for name, it in ON_ONE.items()}, **{f"{name} 0 1": it for name, it in ON_TWO.items()}}
+IMAGES = {instruction: it.split() for instruction, it in ON_QUBITS.items() if instruction.split()[0] not in [*NAMES, *ALIASES]}
+IMAGES |= {f"SPP{end} X0*Y1*Z2": images_of_root("XYZ", end != "") for end in ("", "_DAG")}
 
 
 def lines_for(instruction: str) -> list[str]:
@@ -40,33 +24,18 @@ def lines_for(instruction: str) -> list[str]:
     return lines
 
 
-def of_lines(lines: list[str], size: int) -> Matrix:
-    """The matrix of lines, in which the first qubit is the highest bit: column by column what they make of the states."""
-    places = [sum(bit << qubit for qubit, bit in enumerate(bits)) for bits in itertools.product((0, 1), repeat=size)]
-    columns = []
-    for first in places:
-        state = Amplitudes(size)
-        state.amplitudes = [complex(place == first) for place in range(2**size)]
-        for _, name, *qubits in numbers.unroll(items_of("\n".join(lines).encode())):
-            state.gate(name, tuple(qubits))
-        columns.append([state.amplitudes[place] for place in places])
-    return tuple(zip(*columns))
+def made_of(lines: list[str], letter: str, qubit: int, size: int) -> str:
+    """What gates make of a letter: a sign, and a letter for each qubit."""
+    row = string_of([(letter, qubit)])
+    for _, name, *qubits in numbers.unroll(items_of("\n".join(lines).encode())):
+        row = sent(row, sum(1 << it for it in qubits), images(name, tuple(qubits)))
+    return "+-"[row.negative()] + row.letters(size).replace("I", "_")
 
 
-@pytest.mark.parametrize("name", ON_ONE)
-def test_lines_turn_letters_as_the_gate_does(name: str) -> None:
-    done = of_lines(lines_for(f"{name} 0"), 1)
-    for letter, signed in zip("XZ", ON_ONE[name]):
-        assert are_same(times(times(done, LETTERS[letter]), adjoint(done)), scaled(-1 if signed[0] == "-" else 1, LETTERS[signed[1]]))
-
-
-@pytest.mark.parametrize("instruction", OTHERS)
-def test_lines_have_the_matrix_of_the_gate_up_to_a_phase(instruction: str) -> None:
-    matrix = OTHERS[instruction]
-    done = of_lines(lines_for(instruction), len(matrix).bit_length() - 1)
-    pairs = [pair for row, others in zip(done, matrix) for pair in zip(row, others)]
-    entry, other = max(pairs, key=lambda pair: abs(pair[0]))
-    assert abs(other) > 0 and are_same(scaled(other / entry, done), matrix)
+@pytest.mark.parametrize("instruction", IMAGES)
+def test_lines_make_of_letters_what_the_gate_does(instruction: str) -> None:
+    lines, size = lines_for(instruction), len(IMAGES[instruction]) // 2
+    assert [made_of(lines, letter, qubit, size) for qubit, letter in product(range(size), "XZ")] == IMAGES[instruction]
 
 
 @pytest.mark.parametrize("letter", "XYZ")

@@ -1,10 +1,8 @@
-"""Runs in parts are one run: parts of several sizes, and those that the scripts of examples/scaling make by the real thing: GNU parallel
-on this machine, the same over an ssh server on the loopback address, and a Slurm of one node.
+"""Runs in parts are one run: parts of several sizes, and those that the scripts of examples/scaling make by GNU parallel on this machine,
+the same over an ssh server on the loopback address, and a Slurm of one node, while some parts are killed.
 
-On the way parts are killed, the program by its number and a task by scancel; then the same words run what is missing. A way whose
-packages are missing is skipped: parallel; openssh-server; slurmctld, slurmd, slurm-client and munge of Debian. The servers are
-started as root. What is started is ended, by its number.
-"""
+A way whose packages are missing is skipped: parallel; openssh-server; slurmctld, slurmd, slurm-client and munge of Debian. The servers
+are started as root, and what is started is ended, by its number."""
 
 import contextlib
 import os
@@ -18,6 +16,7 @@ import time
 from collections.abc import Callable, Iterator
 
 import pytest
+from oracle.formats import FORMATS
 from program import TOP
 from running import PROGRAM
 
@@ -137,7 +136,7 @@ def folder_for_all() -> Iterator[pathlib.Path]:
         yield work
 
 
-@pytest.mark.parametrize("form", ["01", "b8", "r8", "hits", "dets"])
+@pytest.mark.parametrize("form", FORMATS)
 @pytest.mark.parametrize("command", ["sample", "detect", "detect --append_observables"])
 def test_parts_of_any_size_are_the_whole(work: pathlib.Path, command: str, form: str) -> None:
     parts, words = Parts(work, form), [*command.split(), "--seed", "5"]
@@ -181,29 +180,30 @@ def test_parts_over_ssh_are_one_run(work: pathlib.Path) -> None:
         run_and_kill_on_machines(parts)
 
 
-CONFIGURATION = """\
+def configuration(folder: pathlib.Path, host: str) -> str:
+    return f"""\
 ClusterName=one
-SlurmctldHost=HOST(127.0.0.1)
+SlurmctldHost={host}(127.0.0.1)
 SlurmUser=root
 AuthType=auth/munge
-AuthInfo=socket=FOLDER/socket/munge
+AuthInfo=socket={folder}/socket/munge
 CryptoType=crypto/munge
 ProctrackType=proctrack/linuxproc
 TaskPlugin=task/none
 SelectType=select/cons_tres
 SelectTypeParameters=CR_Core
-SlurmctldPort=PORT1
-SlurmdPort=PORT2
-StateSaveLocation=FOLDER/state
-SlurmdSpoolDir=FOLDER/spool
-SlurmctldPidFile=FOLDER/slurmctld.pid
-SlurmdPidFile=FOLDER/slurmd.pid
-SlurmctldLogFile=FOLDER/slurmctld.log
-SlurmdLogFile=FOLDER/slurmd.log
+SlurmctldPort={30000 + os.getpid() % 10000}
+SlurmdPort={40000 + os.getpid() % 10000}
+StateSaveLocation={folder}/state
+SlurmdSpoolDir={folder}/spool
+SlurmctldPidFile={folder}/slurmctld.pid
+SlurmdPidFile={folder}/slurmd.pid
+SlurmctldLogFile={folder}/slurmctld.log
+SlurmdLogFile={folder}/slurmd.log
 SchedulerParameters=batch_sched_delay=0,sched_interval=1
 ReturnToService=2
-NodeName=HOST NodeAddr=127.0.0.1 CPUs=PROCESSORS State=UNKNOWN
-PartitionName=all Nodes=HOST Default=YES MaxTime=INFINITE State=UP
+NodeName={host} NodeAddr=127.0.0.1 CPUs={len(os.sched_getaffinity(0))} State=UNKNOWN
+PartitionName=all Nodes={host} Default=YES MaxTime=INFINITE State=UP
 """
 
 
@@ -217,12 +217,7 @@ def slurm_in(folder: pathlib.Path) -> Iterator[None]:
     for file, mode in ((munge / "key", 0o400), (munge, 0o700), (folder / "socket", 0o755)):
         shutil.chown(file, "munge")
         file.chmod(mode)
-    values = {"HOST": host, "FOLDER": str(folder), "PORT1": str(30000 + os.getpid() % 10000), "PORT2": str(40000 + os.getpid() % 10000),
-              "PROCESSORS": str(len(os.sched_getaffinity(0)))}
-    text = CONFIGURATION
-    for name, value in values.items():
-        text = text.replace(name, value)
-    (folder / "slurm.conf").write_text(text)
+    (folder / "slurm.conf").write_text(configuration(folder, host))
     files = {"key-file": "munge/key", "socket": "socket/munge", "pid-file": "munge/pid", "log-file": "munge/log", "seed-file": "munge/seed"}
     words = ["runuser", "-u", "munge", "--", "/usr/sbin/munged", "--foreground", *(f"--{name}={folder / file}" for name, file in files.items())]
     with contextlib.ExitStack() as stack:

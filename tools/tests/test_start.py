@@ -1,9 +1,10 @@
-"""How ./stabsim and the shipped programs start, and how tools/check_shipped.py compares these, in small trees with programs that say
-their names in place of the real ones."""
+"""How ./stabsim and the shipped programs start, how they are built, and how tools/check_shipped.py compares them, in small trees with
+programs that say their names in place of the real ones."""
 
 import hashlib
 import os
 import pathlib
+import signal
 import subprocess
 import time
 
@@ -20,12 +21,15 @@ echo "{name}: $*"
 [ "$1" = end ] && exit "$2"
 exit 0
 """
-BUILD = """import pathlib, sys
-made = pathlib.Path(__file__).parents[1] / "crates/stabsim/out/stabsim"
-made.parent.mkdir(parents=True, exist_ok=True)
-made.write_text("#!/bin/sh\\necho built, " + sys.argv[2] + ": $*\\n")
-made.chmod(0o755)
-"""
+# An rt that says how far it is, and builds a program.
+SAID = "rt: chose --jobs 4 for low\nso far: 1 of 2 functions; more\nrt: chose --jobs 4 for stabsim\nso far: 3 of 3 functions; more\n"
+TOLD = "stabsim: reads the sources\nstabsim: crate 1 of 5, low: 1 of 2 functions\nstabsim: crate 5 of 5, stabsim: 3 of 3 functions\n"
+BUILT = "built in the logic one of Rattle, --cpu=x86-64-v3: {}\n"
+RT = f"""[ "$1" = run ] || exec echo kit logic one
+printf '{SAID}'
+printf '#!/bin/sh\\necho built in the logic one of Rattle, %s: $*\\n' "$2" >out/stabsim
+chmod +x out/stabsim"""
+CRATES = "low: kit\n\nleft: low kit\nright: low\nstabsim: left right kit # the program\nother: stabsim\n"
 
 Ended = tuple[int, str, str]
 
@@ -44,16 +48,14 @@ class Tree:
     def __init__(self, folder: pathlib.Path) -> None:
         self.top = folder / "a tree"
         self.programs = self.top / "python/stabsim/programs"
-        self.source = self.top / "crates/stabsim/src/main.rt"
+        self.source, self.out = (self.top / "crates/stabsim" / it for it in ("src/main.rt", "out"))
         self.bin = folder / "bin"
         self.bin.mkdir()
         programs = [f"python/stabsim/programs/{name}" for name in ("choose", "stabsim")]
-        for name in ("stabsim", "tools/find_program.sh", "tools/sum_sources.sh", *programs):
+        for name in ("stabsim", "tools/build_program.sh", "tools/find_program.sh", "tools/sum_sources.sh", *programs):
             write(self.top / name, (TOP / name).read_text())
-        write(self.top / "crates.txt", "stabsim:\n")
+        write(self.top / "crates.txt", CRATES)
         write(self.source, "fn main() {}\n")
-        write(self.top / "tools/build_program.py", BUILD)
-        write(self.top / "tools/check_version.sh", "#!/bin/sh\n")
         self.environment = {"PATH": f"{self.bin}:/usr/bin:/bin", "XDG_CACHE_HOME": str(folder / "cache")}
         self.processor(V3)
         self.ship("0.1.0")
@@ -142,7 +144,7 @@ def test_sources_and_programs_are_looked_at_once(tree: Tree) -> None:
 
 
 def test_other_sources_are_refused_without_a_toolchain_and_built_with_one(tree: Tree) -> None:
-    shipped, built = (0, "v3: x\n", ""), "built, --cpu=x86-64-v3: {}\n"
+    shipped = 0, "v3: x\n", ""
     assert tree.run("x") == shipped
     write(tree.source, "fn main() {}\n// more\n")
     assert tree.refuses("not those of a shipped program", "rt is not on the PATH")
@@ -155,17 +157,25 @@ def test_other_sources_are_refused_without_a_toolchain_and_built_with_one(tree: 
     time.sleep(0.02)
     (tree.top / "crates.txt").unlink()
     assert tree.run("x")[0] == 2
-    write(tree.top / "crates.txt", "stabsim: std\n")
-    tree.command("rt", "exit 0")
-    assert tree.run("x")[:2] == (0, built.format("x"))
-    assert tree.run("y") == (0, built.format("y"), "")
+    write(tree.top / "crates.txt", CRATES + "more:\n")
+    tree.command("rt", RT)
+    assert tree.run("x")[:2] == (0, BUILT.format("x"))
+    assert tree.run("y") == (0, BUILT.format("y"), "")
     # What was built is run even if the same is shipped.
     tree.ship("0.1.0")
-    assert tree.run("y") == (0, built.format("y"), "")
+    assert tree.run("y") == (0, BUILT.format("y"), "")
+
+
+@pytest.mark.parametrize("logic, is_told", [("one", False), ("other", True)])
+def test_a_toolchain_of_another_logic_is_told(tree: Tree, logic: str, is_told: bool) -> None:
+    write(tree.source, "fn main() {}\n// more\n")
+    tree.command("rt", RT.replace("kit logic one", f"kit logic {logic}"))
+    status, output, said = tree.run("x")
+    assert (status, output, "another logic" in said) == (0, BUILT.format("x"), is_told)
 
 
 def test_damage_is_refused_although_there_is_a_toolchain(tree: Tree) -> None:
-    tree.command("rt", "exit 0")
+    tree.command("rt", RT)
     program = tree.programs / "stabsim-x86-64-v3"
     whole = program.read_text()
     assert tree.run("x") == (0, "v3: x\n", "")
@@ -184,22 +194,54 @@ def test_damage_is_refused_although_there_is_a_toolchain(tree: Tree) -> None:
     assert (status, output, said.count("\n"), "no program is shipped" in said) == (2, "", 1, True)
 
 
-@pytest.mark.parametrize("says, told", [("echo glibc 2.33", "glibc 2.33"), ("echo glibc 2.4", "glibc 2.4"), ("exit 1", "none")])
-def test_other_libraries_are_refused(tree: Tree, says: str, told: str) -> None:
-    tree.command("getconf", says)
-    assert tree.refuses("needs the GNU C library 2.34 or later", f"has {told}", "use a later system")
-
-
-@pytest.mark.parametrize("version", ["2.34", "2.36.9000", "2.100", "3.0"])
-def test_later_libraries_do(tree: Tree, version: str) -> None:
-    tree.command("getconf", f"echo glibc {version}")
-    assert tree.run("x") == (0, "v3: x\n", "")
+# The version of the C library, and whether it is late enough.
+@pytest.mark.parametrize("version, does", [
+    ("glibc 2.33", False), ("glibc 2.4", False), ("none", False), ("glibc 2.34", True), ("glibc 2.36.9000", True), ("glibc 2.100", True), ("glibc 3.0", True),
+])
+def test_the_c_library_has_to_be_late_enough(tree: Tree, version: str, does: bool) -> None:
+    tree.command("getconf", "exit 1" if version == "none" else f"echo {version}")
+    if does:
+        assert tree.run("x") == (0, "v3: x\n", "")
+    else:
+        assert tree.refuses("needs the GNU C library 2.34 or later", f"has {version}", "use a later system")
 
 
 def test_a_program_of_another_version_is_refused(tree: Tree) -> None:
     text = (tree.programs / "shipped.txt").read_text()
     write(tree.programs / "shipped.txt", text.replace("version 0.1.0", "version 0.1.2"))
     assert tree.refuses("does not run here", "'stabsim 0.1.0' and not 'stabsim 0.1.2'")
+
+
+def test_crates_come_in_order() -> None:
+    assert check_shipped.crates_of("stabsim", check_shipped.crates_in(CRATES)) == ["low", "left", "right", "stabsim"]
+
+
+@pytest.mark.parametrize("does, status, more", [("", 0, ""), ("exit 1", 1, ""), ("kill -9 $$", 137, "Killed\n")])
+def test_a_build_ends_as_rt_does_and_shows_what_it_said_if_it_failed(tree: Tree, does: str, status: int, more: str) -> None:
+    tree.command("rt", f"{RT}\n{does}")
+    said = SAID + more
+    assert tree.run("x86-64-v3", program="tools/build_program.sh") == (status, "", TOLD + (said if status else ""))
+    assert (tree.out / "build.log").read_text() == said
+    assert tree.run("x", program=tree.out / "stabsim") == (0, BUILT.format("x"), "")
+
+
+def test_an_interrupt_ends_a_build_and_keeps_what_rt_said(tree: Tree) -> None:
+    tree.command("rt", f"{RT}\nexec sleep 60")
+    # A shell starts what it runs in the background with interrupts ignored.
+    signal.signal(signal.SIGINT, signal.default_int_handler)
+    held, end = os.pipe()
+    build = subprocess.Popen([tree.top / "tools/build_program.sh", "x86-64-v3"], env=tree.environment, start_new_session=True, pass_fds=[end],
+                             stderr=subprocess.DEVNULL)
+    os.close(end)
+    log = tree.out / "build.log"
+    while not log.exists() or log.read_text() != SAID:
+        time.sleep(0.1)
+    # A terminal sends an interrupt to the whole group.
+    os.killpg(build.pid, signal.SIGINT)
+    # The pipe ends once all that it started has ended.
+    assert os.read(held, 1) == b""
+    os.close(held)
+    assert (build.wait(), log.read_text()) == (130, SAID)
 
 
 def test_what_is_shipped_is_compared_with_what_was_built(tree: Tree) -> None:

@@ -1,9 +1,5 @@
-"""Commands, options and named values of completions/ and man/ are those of the program's --help, and the names of instructions on the
-page and among the nearest ones are those of the tables of stab_lines.
-
-The completion for bash is asked as bash asks it, which takes the = of --out_format=dets for a word by itself. The tables have a row for
-each instruction, with the name that is printed first and its other names after it.
-"""
+"""Help ends with an example, which can be run at the top of the repository; commands, options and named values of completions/ and man/
+are those of --help; and the names of instructions on the page and among the nearest ones are those of the tables of stab_lines."""
 
 import re
 import subprocess
@@ -11,7 +7,7 @@ import subprocess
 import pytest
 from pages import quoted, rows_below, text_of
 from program import TOP
-from running import COMMANDS, run
+from running import COMMANDS, Ended, run
 
 OPTION = re.compile(r"--[a-z_]+")
 ASK_BASH = """
@@ -20,6 +16,20 @@ COMP_WORDS=(stabsim {words} '') COMP_CWORD={place}
 _stabsim
 printf '%s\\n' "${{COMPREPLY[@]}}"
 """
+# Words that ask for help, and the command of its example.
+ASKED = {
+    "--help": "sample", "-h": "sample", "help": "sample", "sample --help": "sample", "sample --shots 2 -h": "sample",
+    "help sample": "sample", "detect --help": "detect", "detect --coins 12 --help": "detect", "help detect": "detect",
+}
+# What each of the last five lines of a help begins and goes on with; the middle one is empty.
+LAST = [
+    ("Example", "at the top of the repository:"),
+    ("  ./stabsim ", " --in examples/"),
+    ("", ""),
+    ("raw", "no reference sample is subtracted."),
+    ("Refusals", "docs/use/refusals.md"),
+]
+STRIDE = "How many steps lie between two checkpoints"
 MANUAL = text_of(TOP / "man/stabsim.1").replace("\\-", "-")
 ZSH = text_of(TOP / "completions/_stabsim")
 PAGE = text_of(TOP / "docs/use/circuit-text.md")
@@ -28,7 +38,10 @@ ROWS = [re.findall(r'"(\w+)"', row)
 
 
 def help_of(*words: str) -> str:
-    return run([*words, "--help"])[1]
+    """The help that these words ask for, which is all that is written."""
+    status, text, told = run(words)
+    assert (status, told) == (0, "")
+    return text
 
 
 def section(text: str, head: str) -> list[str]:
@@ -37,7 +50,7 @@ def section(text: str, head: str) -> list[str]:
 
 
 def options_of(command: str) -> set[str]:
-    return {found[0] for line in section(help_of(command), "Options") if (found := OPTION.search(line))}
+    return {found[0] for line in section(help_of(command, "--help"), "Options") if (found := OPTION.search(line))}
 
 
 def bash_words(*words: str) -> set[str]:
@@ -53,8 +66,17 @@ def manual_section(head: str, end: str) -> str:
     return MANUAL.split(f"\n{head}\n", 1)[1].split(f"\n{end}", 1)[0]
 
 
+@pytest.mark.parametrize("words, command", ASKED.items())
+def test_help_ends_with_an_example(words: str, command: str) -> None:
+    last = help_of(*words.split()).splitlines()[-len(LAST) :]
+    assert all(part in line and rest in line and (line == "") == (part == "") for line, (part, rest) in zip(last, LAST, strict=True))
+    _, *example = last[1].split()
+    ended: Ended = run(example)
+    assert example[0] == command and ended == (0, ended[1], "") and ended[1] != ""
+
+
 def test_bash_and_help_know_the_commands() -> None:
-    commands = {line.split()[0] for line in section(help_of(), "Commands")}
+    commands = {line.split()[0] for line in section(help_of("--help"), "Commands")}
     assert commands == {*COMMANDS, "help"}
     assert bash_words() == commands | {"--help", "--version"}
     assert bash_words("help") == set(COMMANDS)
@@ -62,11 +84,14 @@ def test_bash_and_help_know_the_commands() -> None:
 
 @pytest.mark.parametrize("command", COMMANDS)
 def test_completions_and_manual_have_the_options_of_a_command(command: str) -> None:
-    options, text = options_of(command), help_of(command)
+    options, text = options_of(command), help_of(command, "--help")
     assert bash_words(command) == options
     assert zsh_words(command, OPTION.pattern) == options
     assert zsh_words(command, r"(--[a-z_]+)=\[") == set(re.findall(r"(--[a-z_]+) <", text))
     assert set(OPTION.findall(manual_section(f".SS {command}", ".S"))) == options
+    assert text == help_of("help", command)
+    [line] = [line for line in text.splitlines() if "--in <FILE>" in line]
+    assert line.endswith(f"in place of {'the empty circuit' if command == 'edit' else 'standard input'}")
     for option, names in re.findall(r"(--[a-z_]+) <.*\[possible values: (.*)\]", text):
         assert bash_words(command, option) == bash_words(command, option, "=") == set(names.split(", "))
 
@@ -77,7 +102,13 @@ def test_the_manual_has_all_options_and_the_lines_of_scripts() -> None:
     # What is in bold after each .TP.
     for line in re.findall(r"\.TP\n(\.BR? .*)", manual_section(".SH SCRIPT", ".SH")):
         found |= set(re.findall(r'"([a-z][^"]*)"', line)) or {line.removeprefix(".B ")}
-    assert found == set(re.findall(r"^  ([a-z].*?)  ", help_of("edit"), re.MULTILINE))
+    assert found == set(re.findall(r"^  ([a-z].*?)  ", help_of("edit", "--help"), re.MULTILINE))
+
+
+def test_a_checkpoint_has_one_name() -> None:
+    assert STRIDE in help_of("edit", "--help") and STRIDE in MANUAL
+    page = text_of(TOP / "docs/use/editing.md")
+    assert "A checkpoint is a copy of the state" in page and "copies of" not in page
 
 
 def test_the_page_has_the_instructions_and_their_other_names() -> None:
@@ -89,5 +120,5 @@ def test_the_page_has_the_instructions_and_their_other_names() -> None:
 
 
 def test_the_nearest_name_is_one_that_is_read() -> None:
-    nearest = text_of(TOP / "crates/stab_explain/src/nearest.rt").split("const READ", 1)[1].split(";", 1)[0]
+    nearest = text_of(TOP / "crates/stab_diagnostics/src/nearest.rt").split("const READ", 1)[1].split(";", 1)[0]
     assert set(re.findall(r'"(\w+)"', nearest)) == {"REPEAT"}.union(*ROWS)

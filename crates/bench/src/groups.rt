@@ -1,6 +1,6 @@
 //! Comparing the groups of two states, and the reduced rows of one.
 ghost use Rattle.std.specs.Prelude.{◌≡◌, ◌<◌, ◌≤◌, length, IfOk};
-ghost use Rattle.stab_letters.specs.Limits.{most_qubits};
+ghost use Rattle.stab_gates.specs.Limits.{most_qubits};
 
 use super::failure::Failure;
 use super::report::{Yardsticks, print_line};

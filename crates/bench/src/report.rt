@@ -1,5 +1,5 @@
 ghost use Rattle.std.specs.Prelude.{◌<◌, ◌≤◌};
-ghost use Rattle.stab_letters.specs.Limits.{most_qubits};
+ghost use Rattle.stab_gates.specs.Limits.{most_qubits};
 
 use super::columns::print_row;
 use super::failure::Failure;

@@ -1,5 +1,5 @@
 ghost use Rattle.std.specs.Prelude.{◌≡◌, ◌<◌, ◌≤◌, length, IfOk};
-ghost use Rattle.stab_letters.specs.Limits.{most_qubits};
+ghost use Rattle.stab_gates.specs.Limits.{most_qubits};
 
 use super::failure::Failure;
 use super::work::{TimedWork, Work};

@@ -1,8 +1,9 @@
 //! The files of a folder, and the sums of their rows.
 ghost use Rattle.std.specs.Prelude.{◌≡◌, ◌<◌, IsTrue};
 
+use crate::format::{Unread, Wrong, read_rows};
+use crate::row::WorkedRow;
 use crate::trial::first_difference;
-use row_texts::{Unread, WorkedRow, Wrong, read_rows};
 use std::fmt::{self, Display, Formatter, Write};
 use std::fs::DirEntry;
 use std::{fs, io};

@@ -1,8 +1,11 @@
 //! The program `rows`: runs the worked examples that are text in `data/`, each a row of what
 //! stabsim is asked and what it must write. `data/README` says how a row is written.
 //!
-//! What a row is, and how rows are read, is `row_texts`'.
+//! What a row is, and how rows are read, is `rows`'.
 //!
+//! - `text`: the texts of a row, with escapes, and bytes in hexadecimal.
+//! - `row`: a row, and whether bytes are what it wants.
+//! - `format`: the rows of a file.
 //! - `run`: a run of stabsim over devices in memory, and whether it is what a row wants.
 //! - `trial`: all the runs of a row, and where one differs from it.
 //! - `folder`: the files of a folder, and the sums of their rows.
@@ -11,11 +14,14 @@
 //! was no row at all.
 //!
 //! Proved: a run that is accepted as what its row wants has its status, and its bytes if the row says
-//! them all and not only parts.
+//! them all and not only parts; each row that is read has words, so it is run.
 #![tactic(auto)]
 
 mod folder;
+mod format;
+mod row;
 mod run;
+mod text;
 mod trial;
 
 use folder::{Sums, run_folder};

@@ -1,7 +1,7 @@
 //! Runs of stabsim over devices in memory.
 ghost use Rattle.std.specs.Prelude.{◌≡◌, vec_len, IsTrue};
 
-use row_texts::WorkedRow;
+use crate::row::WorkedRow;
 use stab_cli::{Job, Usage, run_job, write_usage};
 use stab_pauli::{CutInput, MemoryOutput};
 use std::alloc::{AllocError, Global};

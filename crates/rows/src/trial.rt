@@ -1,6 +1,7 @@
 //! The trial of a row: all its runs.
+use crate::row::WorkedRow;
 use crate::run::{Devices, Ended, run};
-use row_texts::{Shown, WorkedRow};
+use crate::text::Shown;
 use stab_cli::{Job, Usage, parse_words};
 use std::alloc::{AllocError, Global};
 use std::fmt::{self, Display, Formatter, Write};

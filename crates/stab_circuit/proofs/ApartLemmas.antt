@@ -1,22 +1,7 @@
 -- Items that lines stand for: the two qubits of each pair differ, and so do those of each product.
-use Rattle.std.proofs.Common.{◌≡◌, refl, sym, ℕ, zero, suc, List, [], ◌∷◌, map, All, Ok, Err}
-use Rattle.std.proofs.lemmas.List.Elements.{All-nil, All-cons, All-append, All-head, All-tail}
-use Rattle.stab_lines.specs.declared.axis.Axis.{Axis}
-use Rattle.stab_lines.specs.declared.control.ControlledPair.{ControlledPair}
+use Rattle.stab_circuit.proofs.Names.{◌≡◌, refl, sym, ℕ, zero, suc, List, [], ◌∷◌, map, All, Ok, Err, All-nil, All-cons, All-append, All-head, All-tail, Axis, ControlledPair, Kind, Close, content_of, meaning_of, IsLine, Each, IsQubit, IsMeasured, IsPair, IsControlled, IsProduct, IsGoodKind, IsGoodLine, line_good, Items, Meaning, Joins, nothing, blank_line, operation_line, block_lines, line_meanings, Step, controlled_step, steps_of, rounds, unroll, IsApart}
 use Rattle.stab_lines.specs.declared.control.ControlledPair.TheVariants as pair
-use Rattle.stab_lines.specs.declared.operation.Kind.{Kind}
 use Rattle.stab_lines.specs.declared.operation.Kind.TheVariants as kind
-use Rattle.stab_lines.specs.declared.meanings.Line.TheVariants.{Close}
-use Rattle.stab_lines.specs.Lines.{content_of}
-use Rattle.stab_lines.specs.Meanings.{meaning_of}
-use Rattle.stab_lines.specs.Laws.{IsLine}
-use Rattle.stab_lines.proofs.FreeLemmas.{Each}
-use Rattle.stab_lines.proofs.SureLemmas.{IsQubit, IsMeasured, IsPair, IsControlled, IsProduct, IsGoodKind, IsGoodLine}
-use Rattle.stab_lines.proofs.LineLaws.{line_good}
-use Rattle.stab_items.specs.Items.{Items}
-use Rattle.stab_items.specs.Circuits.{Meaning, Joins, nothing, blank_line, operation_line, block_lines, line_meanings}
-use Rattle.stab_items.specs.Steps.{Step, controlled_step, steps_of, rounds, unroll}
-use Rattle.stab_circuit.specs.Cursors.{IsApart}
 use Rattle.stab_circuit.proofs.RoundLemmas.{each_left, each_right}
 
 -- one step for each element of a list

@@ -1,19 +1,5 @@
 -- Changes of an inner list, one after another, and which of them come to a split.
-use Rattle.std.proofs.Common.{◌≡◌, ◌≤◌, ◌<◌, refl, ap, sym, ◌∙◌, ℕ, ◌+◌, suc, zero, Bool, true, false, List, [], ◌∷◌, ◌++◌, length, take, drop, set, arith, nat_lt, nat_le, if◌then◌else◌, Option, Some, None, Result, Ok, Err}
-use Rattle.std.specs.Prelude.{slice_get}
-use Rattle.std.specs.List.{insert}
-use Rattle.std.proofs.lemmas.List.{set-set, set_split, take_at, drop_at, length-take-le, length-append}
-use Rattle.std.proofs.lemmas.Option.{slice_get_within}
-use Rattle.stab_io.specs.declared.refusal.Refusal.{Refusal}
-use Rattle.stab_io.specs.declared.refusal.Refusal.TheVariants.{PlaceOutOfRange}
-use Rattle.stab_circuit.specs.declared.edit.Edit.{Edit}
-use Rattle.stab_circuit.specs.declared.edit.Edit.TheVariants.{Insert, Replace}
-use Rattle.stab_items.specs.Items.{Items, OneItem, operation, repeat, listed, entries}
-use Rattle.stab_circuit.specs.Paths.{Path}
-use Rattle.stab_circuit.specs.Places.{item_there, found_inside, item_in}
-use Rattle.stab_circuit.specs.Edits.{with_item, rebuilt, edited_inside, changed, edited_in, edited}
-use Rattle.stab_circuit.specs.inner.Changes.{ListChange, changed_in, parts_at}
-use Rattle.stab_circuit.specs.Splits.{parts_of_block, parts_of_item, with_parts, split_in, split}
+use Rattle.stab_circuit.proofs.Names.{◌≡◌, ◌≤◌, ◌<◌, refl, ap, sym, ◌∙◌, ℕ, ◌+◌, suc, zero, Bool, true, false, List, [], ◌∷◌, ◌++◌, length, take, drop, set, arith, nat_lt, nat_le, if◌then◌else◌, Option, Some, None, Result, Ok, Err, slice_get, insert, set-set, set_split, take_at, drop_at, length-take-le, length-append, slice_get_within, Refusal, PlaceOutOfRange, Edit, Insert, Replace, Items, OneItem, operation, repeat, listed, entries, Path, item_there, found_inside, item_in, with_item, rebuilt, edited_inside, changed, edited_in, edited, ListChange, changed_in, parts_at, parts_of_block, parts_of_item, with_parts, split_in, split}
 use Rattle.stab_circuit.proofs.EditLemmas.{entries-listed, rebuilds, if_ok, lt_holds}
 
 pub got_set : (xs : List OneItem) (b : ℕ) (x y : OneItem) → slice_get xs b ≡ Some x → slice_get (set xs b y) b ≡ Some y

@@ -1,12 +1,5 @@
 -- Every text is that of one circuit or has one fault.
-use Rattle.std.proofs.Common.{◌≡◌, refl, sym, ap, ◌∙◌, ℕ, List, Option, Some, None, ◌⊎◌, inl, inr}
-use Rattle.stab_io.specs.declared.refusal.Refusal.{Refusal}
-use Rattle.stab_io.specs.declared.refusal.Fault.{Fault}
-use Rattle.stab_io.specs.Refusals.{whole}
-use Rattle.stab_items.specs.Items.{Items}
-use Rattle.stab_items.specs.Circuits.{text_fault, StandsFor}
-use Rattle.stab_items.specs.Steps.{check_of}
-use Rattle.stab_circuit.specs.Readings.{IsCircuit, IsFaultOf, IsRefused}
+use Rattle.stab_circuit.proofs.Names.{◌≡◌, refl, sym, ap, ◌∙◌, ℕ, List, Option, Some, None, ◌⊎◌, inl, inr, Refusal, Fault, whole, Items, text_fault, StandsFor, check_of, IsCircuit, IsFaultOf, IsRefused}
 use Rattle.stab_circuit.proofs.RoundLemmas.{some_items, only_items}
 
 -- items that a text stands for are a circuit, or refused as a whole

@@ -1,19 +1,5 @@
 -- Deletions by way of an item that stands for nothing: it is put in place of the one to be deleted, and then deleted.
-use Rattle.std.proofs.Common.{◌≡◌, refl, ap, sym, ◌∙◌, ℕ, ◌+◌, suc, max, Bool, true, false, List, [], ◌∷◌, ◌++◌, length, take, drop, set, arith, nat_lt, if◌then◌else◌, Option, Some, None, Result, Ok, Err, ◌⊎◌, inl, inr}
-use Rattle.std.proofs.lemmas.List.{length-take-le}
-use Rattle.std.specs.List.{remove}
-use Rattle.std.specs.Prelude.{slice_get}
-use Rattle.stab_io.specs.declared.refusal.Refusal.{Refusal}
-use Rattle.stab_io.specs.declared.refusal.Refusal.TheVariants.{PlaceOutOfRange, NotABlock, QubitOutOfRange, LookbackTooFar, TooManySteps, TooDeep}
-use Rattle.stab_circuit.specs.declared.edit.Edit.TheVariants.{Replace, Delete}
-use Rattle.stab_lines.specs.declared.operation.Kind.{Kind}
-use Rattle.stab_items.specs.Items.{OneItem, operation, repeat, done, before, listed, entries, depth}
-use Rattle.stab_items.specs.Steps.{unroll, rounds, past_named, qubits_of, observables_of, named_qubits, named_observables, looks_too_far, most_steps, check_of, check_within}
-use Rattle.stab_circuit.specs.Edits.{with_item, rebuilt, edited_inside, changed, edited_in, edited, taken_in, taken, list_verdict, verdict}
-use Rattle.stab_circuit.specs.Paths.{Path}
-use Rattle.stab_items.specs.Nothings.{IsNothing}
-use Rattle.stab_items.proofs.ItemLemmas.{listed-append, depth-join}
-use Rattle.stab_items.proofs.SummaryLemmas.{past_named-join}
+use Rattle.stab_circuit.proofs.Names.{◌≡◌, refl, ap, sym, ◌∙◌, ℕ, ◌+◌, suc, max, Bool, true, false, List, [], ◌∷◌, ◌++◌, length, take, drop, set, arith, nat_lt, if◌then◌else◌, Option, Some, None, Result, Ok, Err, ◌⊎◌, inl, inr, length-take-le, remove, slice_get, Refusal, PlaceOutOfRange, NotABlock, QubitOutOfRange, LookbackTooFar, TooManySteps, TooDeep, Replace, Delete, Kind, OneItem, operation, repeat, done, before, listed, entries, depth, unroll, rounds, past_named, qubits_of, observables_of, named_qubits, named_observables, looks_too_far, most_steps, check_of, check_within, with_item, rebuilt, edited_inside, changed, edited_in, edited, taken_in, taken, list_verdict, verdict, Path, IsNothing, listed-append, depth-join, past_named-join}
 use Rattle.stab_circuit.proofs.EditLemmas.{listed-entries, steps-append, if_ok, changed_split, got_split, rebuilds}
 use Rattle.stab_circuit.proofs.UndoLemmas.{around, old_parts, new_parts, old_inner, edited_new, edited_old, deleted, replace-retaken}
 

@@ -1,14 +1,5 @@
 -- Edits in blocks keep the blocks right.
-use Rattle.std.proofs.Common.{◌≡◌, ◌≤◌, ◌<◌, ap, sym, ◌∙◌, subst, ℕ, ◌+◌, suc, zero, max, List, [], ◌∷◌, length, set, get_or, arith, Option, Some, Result, Ok, Err}
-use Rattle.std.specs.Prelude.{slice_get}
-use Rattle.std.proofs.lemmas.Option.{slice_get-get_or}
-use Rattle.std.specs.Result.{OnOk, OnErr}
-use Rattle.stab_io.specs.declared.refusal.Refusal.{Refusal}
-use Rattle.stab_circuit.specs.declared.edit.Edit.{Edit}
-use Rattle.stab_items.specs.Items.{Items, OneItem, operation, repeat, listed, before, depth, depth_of}
-use Rattle.stab_items.specs.inner.Blocks.{with_body}
-use Rattle.stab_circuit.specs.Edits.{with_item, rebuilt, edited_inside, edited_in, inner, taken_in}
-use Rattle.stab_circuit.specs.inner.Judgements.{IsShallow, IsShallowItem}
+use Rattle.stab_circuit.proofs.Names.{◌≡◌, ◌≤◌, ◌<◌, ap, sym, ◌∙◌, subst, ℕ, ◌+◌, suc, zero, max, List, [], ◌∷◌, length, set, get_or, arith, Option, Some, Result, Ok, Err, slice_get, slice_get-get_or, OnOk, OnErr, Refusal, Edit, Items, OneItem, operation, repeat, listed, before, depth, depth_of, with_body, with_item, rebuilt, edited_inside, edited_in, inner, taken_in, IsShallow, IsShallowItem}
 use Rattle.stab_circuit.proofs.EditLemmas.{entries-listed}
 
 pub depth-before : (x : OneItem) (xs : Items) → depth (before x xs) ≡ max (depth_of x) (depth xs)

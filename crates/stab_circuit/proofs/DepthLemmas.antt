@@ -1,17 +1,5 @@
 -- Edits at an item that put in one with blocks nested no deeper: they nest no block deeper in the list, and nothing refuses them.
-use Rattle.std.proofs.Common.{◌≡◌, ◌≤◌, ◌<◌, refl, ap, ◌∙◌, ℕ, suc, max, true, false, List, [], ◌∷◌, ◌++◌, length, take, drop, set, arith, nat_le, nat_lt, if◌then◌else◌, Option, Some, None, Result, Ok, Err}
-use Rattle.std.specs.Prelude.{slice_get}
-use Rattle.std.specs.List.{insert}
-use Rattle.std.proofs.lemmas.List.{take-append-drop, set_split}
-use Rattle.std.proofs.lemmas.Option.{slice_get_within}
-use Rattle.stab_io.specs.declared.refusal.Refusal.{Refusal}
-use Rattle.stab_io.specs.declared.refusal.Refusal.TheVariants.{PlaceOutOfRange, TooDeep}
-use Rattle.stab_circuit.specs.declared.edit.Edit.{Edit}
-use Rattle.stab_circuit.specs.declared.edit.Edit.TheVariants.{Insert, Replace}
-use Rattle.stab_items.specs.Items.{OneItem, operation, repeat, listed, entries, depth, depth_of}
-use Rattle.stab_circuit.specs.Paths.{Path}
-use Rattle.stab_circuit.specs.Places.{item_there, found_inside, item_in, item_at}
-use Rattle.stab_circuit.specs.Edits.{with_item, rebuilt, edited_inside, changed, edited_in, edited, edit_refusal, list_refusal}
+use Rattle.stab_circuit.proofs.Names.{◌≡◌, ◌≤◌, ◌<◌, refl, ap, ◌∙◌, ℕ, suc, max, true, false, List, [], ◌∷◌, ◌++◌, length, take, drop, set, arith, nat_le, nat_lt, if◌then◌else◌, Option, Some, None, Result, Ok, Err, slice_get, insert, take-append-drop, set_split, slice_get_within, Refusal, PlaceOutOfRange, TooDeep, Edit, Insert, Replace, OneItem, operation, repeat, listed, entries, depth, depth_of, Path, item_there, found_inside, item_in, item_at, with_item, rebuilt, edited_inside, changed, edited_in, edited, edit_refusal, list_refusal}
 use Rattle.stab_circuit.proofs.EditLemmas.{listed-entries, entries-listed, rebuilds, got_split}
 use Rattle.stab_circuit.proofs.CommitLemmas.{depth-before}
 use Rattle.stab_circuit.proofs.SplitLemmas.{depth-append}

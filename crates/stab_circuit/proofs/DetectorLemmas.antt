@@ -1,16 +1,5 @@
 -- Detectors that are next on a walk are taken together.
-use Rattle.std.proofs.Common.{◌≡◌, refl, sym, ◌∙◌, ap, ℕ, ◌+◌, zero, suc, true, List, [], ◌∷◌, ◌++◌, length, take, drop, map, Option, Some, None, arith}
-use Rattle.std.proofs.lemmas.List.{drop-drop, length-map}
-use Rattle.std.specs.List.{list_all}
-use Rattle.std.specs.Option.{is_some, unwrap_or}
-use Rattle.stab_circuit.specs.declared.detectors.Detectors.{Detectors}
-use Rattle.stab_circuit.specs.declared.walk.Walk.{Walk}
-use Rattle.stab_items.specs.Items.{OneItem, listed}
-use Rattle.stab_items.specs.Steps.{detector, detector_of, unroll}
-use Rattle.stab_circuit.specs.Detectors.{detects, lookbacks_at}
-use Rattle.stab_circuit.specs.Cursors.{lookbacks_of}
-use Rattle.stab_circuit.specs.inner.Walks.{kind_steps, walk_left}
-use Rattle.stab_items.proofs.StepLemmas.{detector_step}
+use Rattle.stab_circuit.proofs.Names.{◌≡◌, refl, sym, ◌∙◌, ap, ℕ, ◌+◌, zero, suc, true, List, [], ◌∷◌, ◌++◌, length, take, drop, map, Option, Some, None, arith, drop-drop, length-map, list_all, is_some, unwrap_or, Detectors, Walk, OneItem, listed, detector, detector_of, unroll, detects, lookbacks_at, lookbacks_of, kind_steps, walk_left, detector_step}
 use Rattle.stab_circuit.proofs.EditLemmas.{steps-append}
 use Rattle.stab_circuit.proofs.WalkLemmas.{unroll_before}
 use Rattle.stab_circuit.proofs.PastItemLemmas.{past_items, items_taken}

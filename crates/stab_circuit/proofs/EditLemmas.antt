@@ -1,20 +1,5 @@
 -- Edits of lists of items, and the steps that they leave.
-use Rattle.std.proofs.Common.{◌≡◌, ◌≤◌, ◌<◌, refl, ap, sym, ◌∙◌, subst, ℕ, ◌+◌, suc, zero, Bool, true, false, List, [], ◌∷◌, ◌++◌, length, take, drop, set, arith, append_assoc, nat_le, nat_lt, if◌then◌else◌, Option, Some, None, Result, Ok, Err, ◌⊎◌, inl, inr}
-use Rattle.std.proofs.lemmas.List.{set_split, take-append-drop, drop_at, take_at, length-take-le, length-append, drop-set-lt}
-use Rattle.std.specs.List.{insert, remove}
-use Rattle.std.specs.Prelude.{slice_get}
-use Rattle.std.proofs.lemmas.Option.{slice_get_within}
-use Rattle.stab_io.specs.declared.refusal.Refusal.{Refusal}
-use Rattle.stab_io.specs.declared.refusal.Refusal.TheVariants.{PlaceOutOfRange}
-use Rattle.stab_circuit.specs.declared.edit.Edit.{Edit}
-use Rattle.stab_circuit.specs.declared.edit.Edit.TheVariants.{Insert, Replace, Delete}
-use Rattle.stab_items.specs.Items.{Items, OneItem, operation, repeat, done, next, block, before, listed, entries}
-use Rattle.stab_items.specs.Steps.{Step, unroll, rounds}
-use Rattle.stab_circuit.specs.Edits.{with_item, rebuilt, edited_inside, edit_path, changed, edited_in, edited, inner, steps_in, steps_before, behind_taken, behind_put, outermost, first_changed, old_end, new_end}
-use Rattle.stab_circuit.specs.inner.Judgements.{BeginsWith}
-use Rattle.stab_circuit.specs.Laws.{LeavesTheRest}
-use Rattle.stab_items.proofs.ItemLemmas.{listed-append}
-use Rattle.stab_items.proofs.StepLemmas.{unroll-join}
+use Rattle.stab_circuit.proofs.Names.{◌≡◌, ◌≤◌, ◌<◌, refl, ap, sym, ◌∙◌, subst, ℕ, ◌+◌, suc, zero, Bool, true, false, List, [], ◌∷◌, ◌++◌, length, take, drop, set, arith, append_assoc, nat_le, nat_lt, if◌then◌else◌, Option, Some, None, Result, Ok, Err, ◌⊎◌, inl, inr, set_split, take-append-drop, drop_at, take_at, length-take-le, length-append, drop-set-lt, insert, remove, slice_get, slice_get_within, Refusal, PlaceOutOfRange, Edit, Insert, Replace, Delete, Items, OneItem, operation, repeat, done, next, block, before, listed, entries, Step, unroll, rounds, with_item, rebuilt, edited_inside, edit_path, changed, edited_in, edited, inner, steps_in, steps_before, behind_taken, behind_put, outermost, first_changed, old_end, new_end, BeginsWith, LeavesTheRest, listed-append, unroll-join}
 
 pub entries-before : (x : OneItem) (xs : Items) → entries (before x xs) ≡ x ∷ entries xs
 entries-before (operation op) xs = refl

@@ -1,26 +1,6 @@
 -- What a list of items comes to by an edit.
-use Rattle.std.proofs.Common.{◌≡◌, ◌≤◌, refl, ap, sym, ◌∙◌, subst, ℕ, ◌+◌, min, List, [], ◌∷◌, ◌++◌, length, take, drop, arith, append_assoc, append-nil, nat_le, nat_lt, All, Some, Result, Ok, Err, OnOk, IfOk}
-use Rattle.std.proofs.lemmas.List.{length-append, length-take-le, take_at, take-take, take-append-drop}
-use Rattle.std.proofs.lemmas.List.Elements.{All-append}
-use Rattle.std.specs.Prelude.{slice_get}
-use Rattle.stab_io.specs.declared.refusal.Refusal.{Refusal}
-use Rattle.stab_io.specs.declared.refusal.Refusal.TheVariants.{PlaceOutOfRange}
-use Rattle.stab_items.specs.declared.summary.Summary.{Summary}
-use Rattle.stab_circuit.specs.declared.judge.Judgement.{Judgement}
-use Rattle.stab_circuit.specs.declared.judge.EditResult.{EditResult}
-use Rattle.stab_circuit.specs.declared.edit.Edit.{Edit}
-use Rattle.stab_circuit.specs.declared.edit.Edit.TheVariants.{Insert, Replace, Delete}
-use Rattle.stab_items.specs.Items.{OneItem, listed}
-use Rattle.stab_items.specs.Steps.{Step, unroll}
-use Rattle.stab_circuit.specs.Cursors.{IsApart}
-use Rattle.stab_circuit.specs.Edits.{edited_inside, edit_path, edited_in, edited, steps_in, behind_taken, behind_put, outermost}
-use Rattle.stab_items.specs.inner.Summaries.{summary_of, followed_by, IsSummary, IsSumOf}
-use Rattle.stab_circuit.specs.inner.Splices.{Splice, splice_at, splice_block, splice_of, spliced, IsWithin}
-use Rattle.stab_circuit.specs.inner.Judgements.{judgement_of, BeginsWith}
-use Rattle.stab_circuit.specs.declared.circuit.stretches.Stretch.{Stretch}
-use Rattle.stab_circuit.specs.Paths.{numbers}
-use Rattle.stab_circuit.specs.inner.Stretches.{AreStretches, WereStretches}
-use Rattle.stab_circuit.specs.inner.EditResults.{steps_within, PutsApart, AreApart, edit_result_by, IsEditResult}
+use Rattle.stab_circuit.proofs.Names.{◌≡◌, ◌≤◌, refl, ap, sym, ◌∙◌, subst, ℕ, ◌+◌, min, List, [], ◌∷◌, ◌++◌, length, take, drop, arith, append_assoc, append-nil, nat_le, nat_lt, All, Some, Result, Ok, Err, IfOk, length-append, length-take-le, take_at, take-take, take-append-drop, All-append, slice_get, Refusal, PlaceOutOfRange, Summary, Judgement, EditResult, Edit, Insert, Replace, Delete, OneItem, listed, Step, unroll, IsApart, edited_inside, edit_path, edited_in, edited, steps_in, behind_taken, behind_put, outermost, summary_of, followed_by, IsSummary, IsSumOf, Splice, splice_at, splice_block, splice_of, spliced, IsWithin, judgement_of, BeginsWith, Stretch, numbers, AreStretches, WereStretches, steps_within, PutsApart, AreApart, edit_result_by, IsEditResult}
+use Rattle.std.proofs.Common.{OnOk}
 use Rattle.stab_circuit.proofs.EditLemmas.{if_ok, steps-append}
 use Rattle.stab_circuit.proofs.SpliceLemmas.{edited_spliced, splice_within}
 use Rattle.stab_circuit.proofs.JudgementLemmas.{summed_around, judged_within}
@@ -52,9 +32,6 @@ front_of : (xs : List OneItem) (s : Splice) → IsWithin s xs → take (s.first 
 front_of xs s w =
     let long : length (take s.first xs ++ s.put) ≡ s.first + length s.put = length-append (take s.first xs) s.put ∙ ap (λ n. n + length s.put) (length-take-le s.first xs (omega (arith, w.order, w.end))) in
     ap (take (s.first + length s.put)) (sym (append_assoc (take s.first xs) s.put (drop s.behind xs))) ∙ take_at (take s.first xs ++ s.put) (drop s.behind xs) (s.first + length s.put) long
-
-capped_ends : (a b m k : ℕ) → k ≡ min b 1048577 → m ≡ min (min a 1048577 + k) 1048577 → m ≡ min (a + b) 1048577
-capped_ends a b m k e f = omega (arith, e, f)
 
 -- where what is taken out ends
 taken_at : (edit : Edit) (n : ℕ) (s : Splice) → splice_at edit n ≡ Ok s → (behind_taken edit ≡ s.behind) × ((edit_path edit).place ≡ s.first)
@@ -200,7 +177,7 @@ edit_result_is edit blocks xs j before of behind o e small begins puts f g b put
     let left = edited_left edit blocks xs s found.1 in
     let at_first = ap (λ v. v.first) is in
     record {
-      total = summed_around edit blocks w xs front back j o.total e small refl refl (omega (arith, b.small.reach, ap (λ v. v.reach) b.value))
+      total = summed_around edit blocks w xs front back j o.total e small refl refl (omega (arith, b.small.window, ap (λ v. v.window) b.value))
           (ap (λ v. v.total) is ∙ ap (λ v. followed_by v (followed_by j.put behind)) f.value ∙ ap (λ v. followed_by (summary_of (listed front)) (followed_by j.put v)) b.value);
       small = all;
       first = ends_first edit blocks xs front s before.steps j.within o.first found.1 first (ap (λ v. v.steps) f.value) (ap (λ v. v.within) same) (ap (λ v. v.first) is);

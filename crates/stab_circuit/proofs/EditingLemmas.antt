@@ -1,22 +1,5 @@
 -- The calls that edit a circuit.
-use Rattle.std.proofs.Common.{◌≡◌, ◌≤◌, ◌<◌, refl, ap, sym, ◌∙◌, subst, ℕ, ◌+◌, min, Bool, true, false, List, [], ◌∷◌, ◌++◌, length, take, drop, get_or, arith, nat_lt, if◌then◌else◌, Option, Some, None, Result, Ok, Err}
-use Rattle.std.proofs.lemmas.Option.{slice_get-get_or}
-use Rattle.std.specs.Prelude.{slice_get}
-use Rattle.stab_io.specs.declared.refusal.Refusal.{Refusal}
-use Rattle.stab_io.specs.declared.refusal.Refusal.TheVariants.{PlaceOutOfRange, TooDeep, QubitOutOfRange, OutOfMemory}
-use Rattle.stab_io.specs.declared.refusal.Fault.{Fault}
-use Rattle.stab_io.specs.Refusals.{whole, IsCallFault}
-use Rattle.stab_items.specs.declared.summary.Summary.{Summary}
-use Rattle.stab_circuit.specs.declared.edit.Edit.{Edit}
-use Rattle.stab_circuit.specs.declared.edit.Edit.TheVariants.{Insert, Replace, Delete}
-use Rattle.stab_items.specs.Items.{OneItem, listed, entries, depth}
-use Rattle.stab_items.specs.Steps.{check_within, qubits_of}
-use Rattle.stab_circuit.specs.Paths.{Path}
-use Rattle.stab_circuit.specs.Edits.{edited_in, edited, list_refusal, list_verdict, edit_refusal, verdict, inner, taken_at, taken_in, taken, IsInsert}
-use Rattle.stab_items.specs.inner.Summaries.{summary_of, judged}
-use Rattle.stab_circuit.specs.inner.Splices.{Splice, splice_at, spliced}
-use Rattle.stab_circuit.specs.inner.Judgements.{summed, IsShallow}
-use Rattle.stab_items.proofs.SummaryLemmas.{check_judged}
+use Rattle.stab_circuit.proofs.Names.{◌≡◌, ◌≤◌, ◌<◌, refl, ap, sym, ◌∙◌, subst, ℕ, ◌+◌, min, Bool, true, false, List, [], ◌∷◌, ◌++◌, length, take, drop, get_or, arith, nat_lt, if◌then◌else◌, Option, Some, None, Result, Ok, Err, slice_get-get_or, slice_get, Refusal, PlaceOutOfRange, TooDeep, QubitOutOfRange, OutOfMemory, Fault, whole, IsCallFault, Summary, Edit, Insert, Replace, Delete, OneItem, listed, entries, depth, check_within, qubits_of, Path, edited_in, edited, list_refusal, list_verdict, edit_refusal, verdict, inner, taken_at, taken_in, taken, IsInsert, summary_of, judged, Splice, splice_at, spliced, summed, IsShallow, check_judged}
 use Rattle.stab_circuit.proofs.EditLemmas.{if_ok, lt_holds, rebuilds}
 use Rattle.stab_circuit.proofs.SpliceLemmas.{edited_spliced}
 

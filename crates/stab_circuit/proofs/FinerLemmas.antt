@@ -1,10 +1,5 @@
 -- Finer rounds: a block whose steps are the rounds of one block in it comes to this many more rounds of that one's steps.
-use Rattle.std.proofs.Common.{◌≡◌, ◌<◌, refl, ap, sym, ◌∙◌, subst, ℕ, ◌+◌, ◌*◌, zero, suc, Bool, true, false, nat_lt, nat_eq, if◌then◌else◌, Option, Some, None, List, [], ◌∷◌, ◌++◌, length, arith, append_assoc, append-nil}
-use Rattle.std.proofs.lemmas.List.{length-append}
-use Rattle.stab_items.specs.Items.{Items, done, next, block}
-use Rattle.stab_items.specs.Steps.{Step, rounds, unroll, steps_of}
-use Rattle.stab_items.proofs.StepLemmas.{length-rounds}
-use Rattle.stab_circuit.specs.inner.Repeats.{first_with_steps, finer_by, finer}
+use Rattle.stab_circuit.proofs.Names.{◌≡◌, ◌<◌, refl, ap, sym, ◌∙◌, subst, ℕ, ◌+◌, ◌*◌, zero, suc, Bool, true, false, nat_lt, nat_eq, if◌then◌else◌, Option, Some, None, List, [], ◌∷◌, ◌++◌, length, arith, append_assoc, append-nil, length-append, Items, done, next, block, Step, rounds, unroll, steps_of, length-rounds, first_with_steps, finer_by, finer}
 
 -- rounds of steps, said in another way
 pub record IsFiner (n : ℕ) (ss : List Step) (f : ℕ × List Step) : Type 0 where

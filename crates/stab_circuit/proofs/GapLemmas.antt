@@ -1,15 +1,5 @@
 -- Gaps as numbers: more on the last, and rounds of them.
-use Rattle.std.proofs.Common.{◌≡◌, ◌<◌, refl, ap, sym, ◌∙◌, ℕ, ◌+◌, ◌-◌, ◌*◌, suc, zero, List, [], ◌∷◌, ◌++◌, length, take, map, arith, append_assoc, append-nil}
-use Rattle.std.proofs.lemmas.List.{length-append, take_at, map-append}
-use Rattle.stab_items.specs.Steps.{Step}
-use Rattle.stab_circuit.specs.Rounds.{round_pieces}
-use Rattle.stab_circuit.specs.inner.Gaps.{with_more, copies, round_gaps}
-
--- lists that are the same are so without their last element
-pub fronts_same : {A : Type 0} (xs ys : List A) (x y : A) → xs ++ x ∷ [] ≡ ys ++ y ∷ [] → xs ≡ ys
-fronts_same xs ys x y e =
-    let long : length xs ≡ length ys = omega (arith, ap length e, length-append xs (x ∷ []), length-append ys (y ∷ [])) in
-    sym (take_at xs (x ∷ []) (length xs) refl) ∙ ap (take (length xs)) e ∙ take_at ys (y ∷ []) (length xs) (sym long)
+use Rattle.stab_circuit.proofs.Names.{◌≡◌, ◌<◌, refl, ap, sym, ◌∙◌, ℕ, ◌+◌, ◌-◌, ◌*◌, suc, zero, List, [], ◌∷◌, ◌++◌, length, take, map, arith, append_assoc, append-nil, length-append, take_at, map-append, Step, round_pieces, with_more, copies, round_gaps}
 
 -- more on the last of some numbers
 pub more-last : (n x : ℕ) (xs : List ℕ) → with_more n (xs ++ x ∷ []) ≡ xs ++ (x + n) ∷ []

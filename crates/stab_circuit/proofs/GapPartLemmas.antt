@@ -1,16 +1,5 @@
 -- The gaps after an item in blocks, list by list and block by block.
-use Rattle.std.proofs.Common.{◌≡◌, ◌≤◌, ◌<◌, refl, ap, sym, ◌∙◌, subst, ℕ, ◌+◌, ◌*◌, suc, zero, min, List, [], ◌∷◌, ◌++◌, length, take, drop, map, All, arith, append-nil, Option, Some, None, Result, Ok, Err, IfOk, IfSome, IfNone}
-use Rattle.std.proofs.lemmas.List.{length-append, drop_min, drop-drop, drop-take, length-map}
-use Rattle.std.specs.Prelude.{slice_get}
-use Rattle.stab_items.specs.declared.summary.Summary.{Summary}
-use Rattle.stab_items.specs.Items.{OneItem, repeat, listed}
-use Rattle.stab_items.specs.Steps.{Step, unroll, rounds}
-use Rattle.stab_items.specs.inner.Summaries.{summary_of}
-use Rattle.stab_circuit.specs.Paths.{Path}
-use Rattle.stab_circuit.specs.Places.{item_in, found_inside, item_at}
-use Rattle.stab_circuit.specs.Edits.{inner, steps_in, outermost}
-use Rattle.stab_circuit.specs.Rounds.{rounds_in, pieces_in, pieces, HaveRounds, AreGaps, item_steps}
-use Rattle.stab_circuit.specs.inner.Gaps.{with_more, round_gaps, block_pieces, AreGapsIn, AreGapsInside}
+use Rattle.stab_circuit.proofs.Names.{◌≡◌, ◌≤◌, ◌<◌, refl, ap, sym, ◌∙◌, subst, ℕ, ◌+◌, ◌*◌, suc, zero, min, List, [], ◌∷◌, ◌++◌, length, take, drop, map, All, arith, append-nil, Option, Some, None, Result, Ok, Err, IfOk, IfSome, IfNone, length-append, drop_min, drop-drop, drop-take, length-map, slice_get, Summary, OneItem, repeat, listed, Step, unroll, rounds, summary_of, Path, item_in, found_inside, item_at, inner, steps_in, outermost, rounds_in, pieces_in, pieces, HaveRounds, AreGaps, item_steps, with_more, round_gaps, block_pieces, AreGapsIn, AreGapsInside}
 use Rattle.stab_circuit.proofs.EditLemmas.{entries-listed, got_split, steps-append, steps_split, next_place}
 use Rattle.stab_circuit.proofs.PieceLemmas.{lengths-block_end, lengths-block_behind, count-block, count-block_behind, lead_short, gaps_short}
 
@@ -162,18 +151,6 @@ pieces-block path end b bs xs e =
     ap (λ l. pieces_in end l path.place (take (outermost end l) xs) []) e
     ∙ ap (λ l. block_pieces end bs path.place (slice_get (take (b + 1) xs) b) (steps l ++ [])) (nothing_left (b + 1) xs)
     ∙ ap (λ x. block_pieces end bs path.place x []) (got_taken xs b)
-
-no_blocks : (bs : List ℕ) → length bs ≡ 0 → bs ≡ []
-no_blocks [] e = refl
-no_blocks (b ∷ bs) e = absurd (omega (arith, e))
-
-pub gaps_outer : (path : Path) (xs : List OneItem) (gaps : List ℕ) → length path.blocks ≡ 0 → gaps ≡ 0 ∷ [] → AreGaps path xs gaps
-gaps_outer path xs gaps none is =
-    let outer = no_blocks path.blocks none in
-    record {
-      lengths = is ∙ ap (map length) (sym (pieces-outer path (path.place + 1) xs outer));
-      rounds = subst (λ bs. HaveRounds bs xs) (sym outer) tt;
-    }
 
 pub gaps_within : (path : Path) (b : ℕ) (bs : List ℕ) (xs : List OneItem) (gaps : List ℕ) → path.blocks ≡ b ∷ bs → AreGapsInside bs path.place (slice_get xs b) gaps → AreGaps path xs gaps
 gaps_within path b bs xs gaps e h = record {

@@ -1,12 +1,6 @@
 -- What an input gave when its text was read, whole or not.
-use Rattle.std.proofs.Common.{◌≡◌, ◌≤◌, ◌<◌, ℕ, ◌+◌, ◌-◌, List, ◌++◌, length, length-append, length-take, take, Result, Ok, Err, arith, inr}
-use Rattle.std.specs.Global.{Vec}
-use Rattle.std.specs.Result.{IsErrAnd}
-use Rattle.stab_io.specs.declared.refusal.Refusal.{Refusal}
-use Rattle.stab_io.specs.declared.refusal.Refusal.TheVariants.{OutOfMemory}
-use Rattle.stab_io.specs.Devices.{InputView, Gave}
-use Rattle.stab_io.proofs.DeviceLemmas.{gave_more}
-use Rattle.stab_circuit.specs.Inputs.{GaveTooMuch, GaveFront, ReadsText}
+use Rattle.stab_circuit.proofs.Names.{◌≡◌, ◌≤◌, ◌<◌, ℕ, ◌+◌, ◌-◌, List, ◌++◌, length, take, Result, Ok, Err, arith, inr, Vec, IsErrAnd, Refusal, OutOfMemory, InputView, Gave, gave_more, GaveTooMuch, GaveFront, ReadsText}
+use Rattle.std.proofs.Common.{length-append, length-take}
 
 -- a read that goes past the limit
 pub read_past : {a b c : InputView} (held buf : List ℕ) (n : ℕ) → length held ≤ 16777216 → length buf ≡ 4096 → n ≤ length buf → 16777216 - length held < n

@@ -1,14 +1,5 @@
 -- One item's text without a fault stands for one item, and for no other.
-use Rattle.std.proofs.Common.{◌≡◌, ◌≤◌, ap, refl, sym, ◌∙◌, subst, ℕ, List, [], Bool, true, false, nat_lt, length, Option, None, Some, Ok, arith, if◌then◌else◌}
-use Rattle.std.specs.List.{list_all, slice_split}
-use Rattle.stab_io.specs.declared.refusal.Refusal.TheVariants.{BadLine}
-use Rattle.stab_io.specs.declared.refusal.Fault.{Fault}
-use Rattle.stab_io.specs.Refusals.{whole}
-use Rattle.stab_lines.specs.Lines.{is_byte}
-use Rattle.stab_items.specs.Items.{Items, OneItem, operation, repeat, before, done, next, block}
-use Rattle.stab_items.specs.Circuits.{Joins, most_bytes, contents, meanings, fault_from, one_item, is_empty, item_fault, StandsForOne}
-use Rattle.stab_items.specs.inner.Readers.{before_reading, read_on}
-use Rattle.stab_circuit.specs.Laws.{StandsForOneOnly, AreLinesOf}
+use Rattle.stab_circuit.proofs.Names.{◌≡◌, ◌≤◌, ap, refl, sym, ◌∙◌, subst, ℕ, List, [], Bool, true, false, nat_lt, length, Option, None, Some, Ok, arith, if◌then◌else◌, list_all, slice_split, BadLine, Fault, whole, is_byte, Items, OneItem, operation, repeat, before, done, next, block, Joins, most_bytes, contents, meanings, fault_from, one_item, is_empty, item_fault, StandsForOne, before_reading, read_on, StandsForOneOnly, AreLinesOf}
 use Rattle.stab_circuit.proofs.ReadingLemmas.{one_list, some_list, read_joined}
 use Rattle.stab_circuit.proofs.OneItemLemmas.{read_blank, read_one, same_meanings, size}
 use Rattle.stab_circuit.proofs.RoundLemmas.{limit_case, text_lines, parts_free}

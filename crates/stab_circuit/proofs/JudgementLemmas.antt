@@ -1,34 +1,7 @@
 -- What an edit comes to, by kept summaries.
-use Rattle.std.proofs.Common.{◌≡◌, ◌≤◌, ◌<◌, refl, ap, sym, ◌∙◌, subst, ℕ, ◌+◌, ◌*◌, suc, zero, min, List, [], ◌∷◌, ◌++◌, length, take, drop, arith, append-nil, Option, Some, None, Result, Ok, Err, IfOk}
-use Rattle.std.proofs.lemmas.List.{length-append}
-use Rattle.std.specs.Prelude.{slice_get}
-use Rattle.stab_io.specs.declared.refusal.Refusal.{Refusal}
-use Rattle.stab_items.specs.declared.summary.Summary.{Summary}
-use Rattle.stab_circuit.specs.declared.judge.Judgement.{Judgement}
-use Rattle.stab_circuit.specs.declared.edit.Edit.{Edit}
-use Rattle.stab_items.specs.Items.{OneItem, operation, repeat, listed}
-use Rattle.stab_items.specs.Steps.{Step, unroll, rounds}
-use Rattle.stab_circuit.specs.Edits.{rebuilt, edited_inside, edit_path, edited_in, inner, steps_in}
-use Rattle.stab_items.specs.inner.Summaries.{summary_of, followed_by, repeated, reach, IsSummary}
-use Rattle.stab_circuit.specs.inner.Splices.{Splice, splice_block, splice_of, spliced, IsWithin}
-use Rattle.stab_circuit.specs.inner.Judgements.{summed, judgement_of, block_refusal, BeginsWith}
-use Rattle.stab_circuit.specs.inner.EditResults.{steps_within, PutsApart, AreApart}
-use Rattle.stab_items.proofs.ItemLemmas.{listed-append}
-use Rattle.stab_items.proofs.SummaryLemmas.{summary-join, block_summary}
-use Rattle.stab_items.proofs.StepApartLemmas.{block_apart}
+use Rattle.stab_circuit.proofs.Names.{◌≡◌, ◌≤◌, ◌<◌, refl, ap, sym, ◌∙◌, subst, ℕ, ◌+◌, ◌*◌, suc, zero, min, List, [], ◌∷◌, ◌++◌, length, take, drop, arith, Option, Some, None, Result, Ok, Err, IfOk, length-append, slice_get, Refusal, Summary, Judgement, Edit, OneItem, operation, repeat, listed, Step, unroll, rounds, rebuilt, edited_inside, edit_path, edited_in, inner, steps_in, summary_of, followed_by, repeated, window, IsSummary, Splice, splice_block, splice_of, spliced, IsWithin, summed, judgement_of, block_refusal, BeginsWith, steps_within, PutsApart, AreApart, listed-append, summary-join, block_summary, block_apart}
 use Rattle.stab_circuit.proofs.EditLemmas.{entries-listed, got_split, steps-append, steps_split, begins_before, begins_behind}
 use Rattle.stab_circuit.proofs.SpliceLemmas.{edited_spliced, splice_within}
-
-refused_inside : (edit : List OneItem → Result (List OneItem) Refusal) (g : Option OneItem) (r : Refusal) → block_refusal g ≡ Some r → edited_inside edit g ≡ Err r
-refused_inside edit None r e = cc
-refused_inside edit (Some (operation op)) r e = cc
-refused_inside edit (Some (repeat n tag body)) r e = absurd (cc)
-
--- no block
-pub judged_no_block : (edit : Edit) (b w : ℕ) (bs blocks : List ℕ) (xs : List OneItem) (r : Refusal) → blocks ≡ b ∷ bs → block_refusal (slice_get xs b) ≡ Some r
-    → Err r ≡ judgement_of w (splice_of edit blocks xs)
-judged_no_block edit b w bs blocks xs r e f =
-    sym (ap (λ l. judgement_of w (splice_of edit l xs)) e ∙ ap (λ q. judgement_of w (splice_block b q)) (refused_inside (edited_in edit bs) (slice_get xs b) r f))
 
 inside_is : (edit : List OneItem → Result (List OneItem) Refusal) (n : ℕ) (tag : List ℕ) (body : List OneItem) (g : Option OneItem) → g ≡ Some (repeat n tag (listed body)) → edited_inside edit g ≡ rebuilt n tag (edit body)
 inside_is edit n tag body g e = ap (edited_inside edit) e ∙ ap (λ l. rebuilt n tag (edit l)) (entries-listed body)
@@ -90,29 +63,29 @@ pub judged_within : (edit : Edit) (blocks : List ℕ) (w : ℕ) (xs : List OneIt
 judged_within edit blocks w xs j e = within_by (splice_of edit blocks xs) w j xs (λ s h. splice_within edit blocks xs s h) e
 
 -- the summary of a list with items put into it
-put_summary : (front put back : List OneItem) → (summary_of (listed put)).reach ≤ 16777215 → (summary_of (listed back)).reach ≤ 16777215
+put_summary : (front put back : List OneItem) → (summary_of (listed put)).window ≤ 16777215 → (summary_of (listed back)).window ≤ 16777215
     → summary_of (listed (front ++ (put ++ back))) ≡ followed_by (summary_of (listed front)) (followed_by (summary_of (listed put)) (summary_of (listed back)))
 put_summary front put back near far =
     let inner : summary_of (listed (put ++ back)) ≡ followed_by (summary_of (listed put)) (summary_of (listed back)) = ap summary_of (listed-append put back) ∙ summary-join (listed put) (listed back) far in
-    let small : reach (unroll (listed (put ++ back))) ≤ 16777215 = omega (arith, ap (λ s. s.reach) inner, near, far) in
+    let small : window (unroll (listed (put ++ back))) ≤ 16777215 = omega (arith, ap (λ s. s.window) inner, near, far) in
     ap summary_of (listed-append front (put ++ back)) ∙ summary-join (listed front) (listed (put ++ back)) small ∙ ap (followed_by (summary_of (listed front))) inner
 
-summed_by : (q : Result Splice Refusal) (w : ℕ) (j : Judgement) (xs : List OneItem) → Ok j ≡ judgement_of w q → IsSummary j.put → (summary_of (listed (drop j.behind xs))).reach ≤ 16777215
+summed_by : (q : Result Splice Refusal) (w : ℕ) (j : Judgement) (xs : List OneItem) → Ok j ≡ judgement_of w q → IsSummary j.put → (summary_of (listed (drop j.behind xs))).window ≤ 16777215
     → Ok (followed_by (summary_of (listed (take j.first xs))) (followed_by j.put (summary_of (listed (drop j.behind xs))))) ≡ summed (spliced xs q)
 summed_by (Ok s) w j xs e small far =
     let same : j ≡ record { first = s.first; behind = s.behind; put = summary_of (listed s.put); within = w } = cc in
     let first : j.first ≡ s.first = ap (λ t. t.first) same in
     let behind : j.behind ≡ s.behind = ap (λ t. t.behind) same in
     let put : j.put ≡ summary_of (listed s.put) = ap (λ t. t.put) same in
-    let near : (summary_of (listed s.put)).reach ≤ 16777215 = omega (arith, small.reach, ap (λ t. t.reach) put) in
-    let far' : (summary_of (listed (drop s.behind xs))).reach ≤ 16777215 = subst (λ n. (summary_of (listed (drop n xs))).reach ≤ 16777215) behind far in
+    let near : (summary_of (listed s.put)).window ≤ 16777215 = omega (arith, small.window, ap (λ t. t.window) put) in
+    let far' : (summary_of (listed (drop s.behind xs))).window ≤ 16777215 = subst (λ n. (summary_of (listed (drop n xs))).window ≤ 16777215) behind far in
     ap (λ n. Ok (followed_by (summary_of (listed (take n xs))) (followed_by j.put (summary_of (listed (drop j.behind xs)))))) first
     ∙ ap (λ n. Ok (followed_by (summary_of (listed (take s.first xs))) (followed_by j.put (summary_of (listed (drop n xs)))))) behind
     ∙ ap (λ t. Ok (followed_by (summary_of (listed (take s.first xs))) (followed_by t (summary_of (listed (drop s.behind xs)))))) put
     ∙ ap Ok (sym (put_summary (take s.first xs) s.put (drop s.behind xs) near far'))
 summed_by (Err r) w j xs e small far = absurd (cc)
 
-summed_judged : (edit : Edit) (blocks : List ℕ) (w : ℕ) (xs : List OneItem) (j : Judgement) → Ok j ≡ judgement_of w (splice_of edit blocks xs) → IsSummary j.put → (summary_of (listed (drop j.behind xs))).reach ≤ 16777215
+summed_judged : (edit : Edit) (blocks : List ℕ) (w : ℕ) (xs : List OneItem) (j : Judgement) → Ok j ≡ judgement_of w (splice_of edit blocks xs) → IsSummary j.put → (summary_of (listed (drop j.behind xs))).window ≤ 16777215
     → Ok (followed_by (summary_of (listed (take j.first xs))) (followed_by j.put (summary_of (listed (drop j.behind xs))))) ≡ summed (edited_in edit blocks xs)
 summed_judged edit blocks w xs j e small far = summed_by (splice_of edit blocks xs) w j xs e small far ∙ ap summed (sym (edited_spliced edit blocks xs))
 
@@ -124,13 +97,13 @@ pub edit_refused : (edit : Edit) (blocks : List ℕ) (w : ℕ) (xs : List OneIte
 edit_refused edit blocks w xs r e = edited_spliced edit blocks xs ∙ err_by (splice_of edit blocks xs) w xs r e
 
 pub summed_around : (edit : Edit) (blocks : List ℕ) (w : ℕ) (xs front back : List OneItem) (j : Judgement) (s : Summary) → Ok j ≡ judgement_of w (splice_of edit blocks xs) → IsSummary j.put
-    → front ≡ take j.first xs → back ≡ drop j.behind xs → (summary_of (listed back)).reach ≤ 16777215 → s ≡ followed_by (summary_of (listed front)) (followed_by j.put (summary_of (listed back)))
+    → front ≡ take j.first xs → back ≡ drop j.behind xs → (summary_of (listed back)).window ≤ 16777215 → s ≡ followed_by (summary_of (listed front)) (followed_by j.put (summary_of (listed back)))
     → Ok s ≡ summed (edited_in edit blocks xs)
 summed_around edit blocks w xs front back j s e small f g far h =
     ap Ok h
     ∙ ap (λ l. Ok (followed_by (summary_of (listed l)) (followed_by j.put (summary_of (listed back))))) f
     ∙ ap (λ l. Ok (followed_by (summary_of (listed (take j.first xs))) (followed_by j.put (summary_of (listed l))))) g
-    ∙ summed_judged edit blocks w xs j e small (subst (λ l. (summary_of (listed l)).reach ≤ 16777215) g far)
+    ∙ summed_judged edit blocks w xs j e small (subst (λ l. (summary_of (listed l)).window ≤ 16777215) g far)
 
 -- the steps before a place in nested blocks
 no_steps : (bs : List ℕ) (p : ℕ) → steps_in bs p [] ≡ []
@@ -144,13 +117,6 @@ nothing_in None r e = refl
 nothing_in (Some (operation op)) r e = refl
 nothing_in (Some (repeat n tag body)) r e = absurd (cc)
 
-steps_no_block : (b p : ℕ) (bs blocks : List ℕ) (xs : List OneItem) (r : Refusal) → blocks ≡ b ∷ bs → block_refusal (slice_get xs b) ≡ Some r → steps_in blocks p xs ≡ unroll (listed (take b xs))
-steps_no_block b p bs blocks xs r e f =
-    ap (λ l. steps_in l p xs) e
-    ∙ ap (λ l. unroll (listed (take b xs)) ++ steps_in bs p l) (nothing_in (slice_get xs b) r f)
-    ∙ ap (λ l. unroll (listed (take b xs)) ++ l) (no_steps bs p)
-    ∙ append-nil (unroll (listed (take b xs)))
-
 -- the steps of the first items
 pub begins_up_to : (n : ℕ) (xs : List OneItem) → BeginsWith (unroll (listed (take n xs))) (unroll (listed xs))
 begins_up_to n xs = (unroll (listed (drop n xs)), steps_split n xs)
@@ -158,9 +124,6 @@ begins_up_to n xs = (unroll (listed (drop n xs)), steps_split n xs)
 pub begins_at : (p : ℕ) (blocks : List ℕ) (xs : List OneItem) → length blocks ≡ 0 → BeginsWith (steps_in blocks p xs) (unroll (listed xs))
 begins_at p [] xs e = begins_up_to p xs
 begins_at p (b ∷ bs) xs e = absurd (omega arith)
-
-pub begins_no_block : (b p : ℕ) (bs blocks : List ℕ) (xs : List OneItem) (r : Refusal) → blocks ≡ b ∷ bs → block_refusal (slice_get xs b) ≡ Some r → BeginsWith (steps_in blocks p xs) (unroll (listed xs))
-begins_no_block b p bs blocks xs r e f = subst (λ l. BeginsWith l (unroll (listed xs))) (sym (steps_no_block b p bs blocks xs r e f)) (begins_up_to b xs)
 
 steps_block : (b p n : ℕ) (bs blocks tag : List ℕ) (xs body : List OneItem) → blocks ≡ b ∷ bs → slice_get xs b ≡ Some (repeat n tag (listed body)) → steps_in blocks p xs ≡ unroll (listed (take b xs)) ++ steps_in bs p body
 steps_block b p n bs blocks tag xs body e f =

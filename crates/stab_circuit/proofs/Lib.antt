@@ -1,3 +1,4 @@
+mod Names
 mod InputLemmas
 mod StepPartLemmas
 mod WalkLemmas

@@ -1,22 +1,5 @@
 -- Items that some lines stand for, and that edits leave such items.
-use Rattle.std.proofs.Common.{◌≡◌, ◌≤◌, refl, ap, sym, ◌∙◌, subst, ℕ, ◌+◌, suc, List, [], ◌∷◌, ◌++◌, true, nat_lt, length, take, drop, All, Option, None, Some, Result, Ok, append_assoc, append-nil, arith}
-use Rattle.std.specs.Prelude.{slice_get}
-use Rattle.std.proofs.lemmas.List.{take-append-drop, set_split}
-use Rattle.std.proofs.lemmas.List.Elements.{All-nil, All-cons}
-use Rattle.std.proofs.lemmas.Option.{slice_get_within}
-use Rattle.std.proofs.lemmas.Bool.Decides.{nat_tests}
-use Rattle.stab_io.specs.declared.refusal.Refusal.{Refusal}
-use Rattle.stab_lines.specs.declared.meanings.Line.TheVariants.{Close, Open}
-use Rattle.stab_lines.specs.Lines.{content_of}
-use Rattle.stab_lines.specs.Meanings.{meaning_of}
-use Rattle.stab_lines.specs.Laws.{IsLine}
-use Rattle.stab_lines.proofs.FreeLemmas.{Each, each-append}
-use Rattle.stab_circuit.specs.declared.edit.Edit.{Edit}
-use Rattle.stab_circuit.specs.declared.edit.Edit.TheVariants.{Insert, Replace, Delete}
-use Rattle.stab_items.specs.Items.{Items, OneItem, operation, repeat, done, next, block, before, listed, entries, depth}
-use Rattle.stab_items.specs.Circuits.{Meaning, Joins, line_meanings, fault_from}
-use Rattle.stab_circuit.specs.Edits.{with_item, edited_inside, edit_path, edited_in, edited, behind_taken, inner, taken_in, taken}
-use Rattle.stab_circuit.specs.Laws.{AreOfLines, PutsLines}
+use Rattle.stab_circuit.proofs.Names.{◌≡◌, ◌≤◌, refl, ap, sym, ◌∙◌, subst, ℕ, ◌+◌, suc, List, [], ◌∷◌, ◌++◌, true, nat_lt, length, take, drop, All, Option, None, Some, Result, Ok, append_assoc, append-nil, arith, slice_get, take-append-drop, set_split, All-nil, All-cons, slice_get_within, nat_tests, Refusal, Close, Open, content_of, meaning_of, IsLine, Each, each-append, Edit, Insert, Replace, Delete, Items, OneItem, operation, repeat, done, next, block, before, listed, entries, depth, Meaning, Joins, line_meanings, fault_from, with_item, edited_inside, edit_path, edited_in, edited, behind_taken, inner, taken_in, taken, AreOfLines, PutsLines}
 use Rattle.stab_circuit.proofs.BlankLemmas.{lines_of, lines_join, fault_operation, same_faultless}
 use Rattle.stab_circuit.proofs.ReadingLemmas.{few_open, fault_inside}
 use Rattle.stab_circuit.proofs.RoundLemmas.{IsOfLine, AreMeant, items_meant, each_left, each_right}

@@ -1,20 +1,8 @@
 -- One item's text: what is read of it is one item, or none if every line is blank.
-use Rattle.std.proofs.Common.{◌≡◌, ◌≤◌, refl, ap, sym, ◌∙◌, subst, ℕ, ◌+◌, ◌-◌, suc, List, [], ◌∷◌, Bool, true, false, ◌==◌, nat_lt, length, map, None, Some, Result, Ok, Err, if◌then◌else◌, arith}
-use Rattle.std.specs.List.{list_all}
-use Rattle.std.proofs.lemmas.Bool.Decides.{nat_tests}
-use Rattle.stab_io.specs.declared.refusal.Refusal.{Refusal}
-use Rattle.stab_io.specs.declared.refusal.Refusal.TheVariants.{BadLine, TooDeep}
-use Rattle.stab_lines.specs.declared.meanings.Line.TheVariants.{Blank, Close, Open}
+use Rattle.stab_circuit.proofs.Names.{◌≡◌, ◌≤◌, refl, ap, sym, ◌∙◌, subst, ℕ, ◌+◌, ◌-◌, suc, List, [], ◌∷◌, Bool, true, false, ◌==◌, nat_lt, length, map, None, Some, Result, Ok, Err, if◌then◌else◌, arith, list_all, nat_tests, Refusal, BadLine, TooDeep, Blank, Close, Open, Items, OneItem, operation, repeat, listed, done, next, block, join, meaning_of, is_close, blank_is_empty, Meaning, Joins, nothing, blank_line, operation_line, block_lines, at_line, fault_from, meaning_after, depth_after, ends_item, one_item, is_empty, OpenBlock, Progress, before_reading, closed, stepped, finished, read_on, is_whole, meaning_at, pending, chosen, passed, and_left, and_right, both, pending_taken, pending_refused, not_one, not_none, whole_kept, some_joined, nothing_pending}
 use Rattle.stab_lines.specs.declared.meanings.Line.TheVariants as line
-use Rattle.stab_items.specs.Items.{Items, OneItem, operation, repeat, listed, done, next, block, join}
-use Rattle.stab_lines.specs.Meanings.{meaning_of, is_close}
-use Rattle.stab_lines.proofs.LineLaws.{blank_is_empty}
-use Rattle.stab_items.specs.Circuits.{Meaning, Joins, nothing, blank_line, operation_line, block_lines, at_line, fault_from, meaning_after, depth_after, ends_item, one_item, is_empty}
-use Rattle.stab_items.specs.inner.Readers.{OpenBlock, Progress, before_reading, closed, stepped, finished, read_on, is_whole, meaning_at, pending}
-use Rattle.stab_lines.proofs.BoolLemmas.{chosen, passed, and_left, and_right, both}
 use Rattle.stab_circuit.proofs.FaultLemmas.{state, open_block}
 use Rattle.stab_circuit.proofs.ReadingLemmas.{joined_read, choice_none, fault_opens}
-use Rattle.stab_items.proofs.ReaderLemmas.{pending_taken, pending_refused, not_one, not_none, whole_kept, some_joined, nothing_pending}
 
 -- the blank contents are the empty ones
 blank_means : (c : List ℕ) → is_empty c ≡ true → meaning_of c ≡ Ok Blank

@@ -1,19 +1,5 @@
 -- Parts in place of an item, and the split that they come to.
-use Rattle.std.proofs.Common.{◌≡◌, ◌≤◌, ◌<◌, refl, ap, sym, ◌∙◌, subst, ℕ, ◌+◌, ◌-◌, suc, zero, Bool, true, false, List, [], ◌∷◌, ◌++◌, length, arith, append_assoc, nat_lt, if◌then◌else◌, All, Option, Some, None, Result, Ok, Err}
-use Rattle.std.specs.Prelude.{slice_get}
-use Rattle.std.proofs.lemmas.List.{length-append}
-use Rattle.std.proofs.lemmas.List.Elements.{All-nil, All-cons, All-head, All-tail, All-append}
-use Rattle.stab_io.specs.declared.refusal.Refusal.{Refusal}
-use Rattle.stab_io.specs.declared.refusal.Refusal.TheVariants.{PlaceOutOfRange, OutOfMemory}
-use Rattle.stab_io.specs.declared.refusal.Fault.{Fault}
-use Rattle.stab_io.specs.Refusals.{whole, IsCallFault}
-use Rattle.stab_circuit.specs.declared.edit.Edit.TheVariants.{Insert, Replace, Delete}
-use Rattle.stab_items.specs.Items.{Items, OneItem, operation, repeat, listed, entries, depth, depth_of}
-use Rattle.stab_circuit.specs.Paths.{Path}
-use Rattle.stab_circuit.specs.Places.{item_there, found_inside, item_in, item_at}
-use Rattle.stab_circuit.specs.Edits.{with_item, rebuilt, edited_inside, edited, edit_refusal, taken}
-use Rattle.stab_circuit.specs.Splits.{rounds_as_block, parts_of_block, parts_of_item, with_parts, split_in, split, refused_by, split_refusal}
-use Rattle.stab_circuit.specs.inner.Changes.{rounds_of, with_parts_at, AreAsDeep, AreBefore}
+use Rattle.stab_circuit.proofs.Names.{◌≡◌, ◌≤◌, ◌<◌, refl, ap, sym, ◌∙◌, subst, ℕ, ◌+◌, ◌-◌, suc, zero, Bool, true, false, List, [], ◌∷◌, ◌++◌, length, arith, append_assoc, nat_lt, if◌then◌else◌, All, Option, Some, None, Result, Ok, Err, slice_get, length-append, All-nil, All-cons, All-head, All-tail, All-append, Refusal, PlaceOutOfRange, OutOfMemory, Fault, whole, IsCallFault, Insert, Replace, Delete, Items, OneItem, operation, repeat, listed, entries, depth, depth_of, Path, item_there, found_inside, item_in, item_at, with_item, rebuilt, edited_inside, edited, edit_refusal, taken, rounds_as_block, parts_of_block, parts_of_item, with_parts, split_in, split, refused_by, split_refusal, with_parts_at, AreAsDeep, AreBefore}
 use Rattle.stab_circuit.proofs.ChangeLemmas.{replaced_by_last, inserted_before, are_split}
 use Rattle.stab_circuit.proofs.DepthLemmas.{shallow_allowed, insert_allowed, replace_allowed, inserted_there, replaced_there}
 use Rattle.stab_circuit.proofs.UndoLemmas.{insert-undone, replace-undone}
@@ -35,22 +21,6 @@ are_parts round (repeat count tag body) parts e = by_test (nat_lt round count) r
     by_test : (b : Bool) → nat_lt round count ≡ b → (if b then Ok (parts_of_block round count tag body) else Err PlaceOutOfRange) ≡ Ok parts → AreParts round (repeat count tag body) parts
     by_test false t e = absurd (cc)
     by_test true t e = record { count = count; tag = tag; body = body; block = refl; within = t; are = cc }
-
-rounds_are : (n count : ℕ) (tag : List ℕ) (body : Items) → rounds_of n (repeat count tag body) ≡ rounds_as_block n tag body
-rounds_are zero count tag body = refl
-rounds_are (suc n) count tag body = refl
-
-pub copied_are_parts : (round count : ℕ) (tag : List ℕ) (body : Items) (parts : List OneItem) → round < count
-    → parts ≡ rounds_of round (repeat count tag body) ++ (rounds_of 1 (repeat count tag body) ++ rounds_of (count - (round + 1)) (repeat count tag body))
-    → parts_of_item round (Some (repeat count tag body)) ≡ Ok parts
-copied_are_parts round count tag body parts lt e =
-    ap (λ b. if b then Ok (parts_of_block round count tag body) else Err PlaceOutOfRange) (lt_true round count lt)
-    ∙ ap Ok (sym (e
-    ∙ ap (λ l. l ++ (rounds_of 1 (repeat count tag body) ++ rounds_of (count - (round + 1)) (repeat count tag body))) (rounds_are round count tag body)
-    ∙ ap (λ l. rounds_as_block round tag body ++ repeat 1 tag body ∷ l) (rounds_are (count - (round + 1)) count tag body)))
-  where
-    lt_true : (m n : ℕ) → m < n → nat_lt m n ≡ true
-    lt_true m n h = grind arith
 
 -- each part is as deep as the block
 
@@ -163,9 +133,6 @@ module _ (path : Path) (parts rest : List OneItem) (x : OneItem) (xs : List OneI
 
   pub deep_replaced : (ys : List OneItem) → edited (Replace path x) xs ≡ Ok ys → AreAsDeep path rest ys
   deep_replaced ys e = record { item = x; there = replaced_there path x xs ys e; deep = others }
-
-pub none_before : (path : Path) (parts xs : List OneItem) → parts ≡ [] → AreBefore path parts xs xs
-none_before path parts xs e = record { put = λ others old h. ap (λ l. with_parts_at path (l ++ others) old) e ∙ h }
 
 pub one_before : (path : Path) (parts rest : List OneItem) (x : OneItem) (xs ys zs : List OneItem) → parts ≡ rest ++ x ∷ [] → edited (Insert path x) xs ≡ Ok ys
     → AreBefore path rest ys zs → AreBefore path parts xs zs

@@ -1,10 +1,5 @@
 -- Items that a walk goes past together.
-use Rattle.std.proofs.Common.{◌≡◌, ◌<◌, sym, ◌∙◌, ap, ℕ, ◌+◌, List, [], ◌∷◌, ◌++◌, length, take, drop, get_or, append_assoc}
-use Rattle.std.proofs.lemmas.List.{take_more, drop-drop}
-use Rattle.stab_circuit.specs.declared.walk.Walk.{Walk}
-use Rattle.stab_items.specs.Items.{OneItem, before, done, listed}
-use Rattle.stab_items.specs.Steps.{Step, rounds, unroll}
-use Rattle.stab_circuit.specs.inner.Walks.{kind_steps, levels_left, ahead, walk_left}
+use Rattle.stab_circuit.proofs.Names.{◌≡◌, ◌<◌, sym, ◌∙◌, ap, ℕ, ◌+◌, List, [], ◌∷◌, ◌++◌, length, take, drop, get_or, append_assoc, take_more, drop-drop, Walk, OneItem, before, done, listed, Step, rounds, unroll, kind_steps, levels_left, ahead, walk_left}
 use Rattle.stab_circuit.proofs.EditLemmas.{steps-append, steps_split}
 
 abbrev pub past_items : Walk → ℕ → Walk

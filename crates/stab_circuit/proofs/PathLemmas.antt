@@ -1,9 +1,5 @@
 -- Paths: their numbers and their text.
-use Rattle.std.proofs.Common.{◌≡◌, ◌<◌, refl, ap, sym, ◌∙◌, ℕ, ◌+◌, List, [], ◌∷◌, ◌++◌, length, drop, get_or, map, codes, append_assoc, append-nil}
-use Rattle.std.proofs.lemmas.List.{drop_more}
-use Rattle.std.specs.List.{flat_map, join_with_byte}
-use Rattle.std.specs.Fmt.{decimal}
-use Rattle.stab_circuit.specs.Paths.{Path, numbers, slash, path_text}
+use Rattle.stab_circuit.proofs.Names.{◌≡◌, ◌<◌, refl, ap, sym, ◌∙◌, ℕ, ◌+◌, List, [], ◌∷◌, ◌++◌, length, drop, get_or, map, codes, append_assoc, append-nil, drop_more, flat_map, join_with_byte, decimal, Path, numbers, slash, path_text}
 
 -- a list is determined by its last number and those before it
 last_is : (ls bs : List ℕ) (a b : ℕ) → ls ++ a ∷ [] ≡ bs ++ b ∷ [] → (ls ≡ bs) × (a ≡ b)
@@ -48,7 +44,3 @@ pub next_block : (bs : List ℕ) (i p : ℕ) → i < length bs → places_text (
 next_block bs i p h =
     ap (λ l. places_text l p) (drop_more bs i 0 h)
     ∙ append_assoc (block_text (get_or bs i 0)) (flat_map block_text (drop (i + 1) bs)) (decimal p)
-
--- after the last block the place is left
-pub no_block : (bs : List ℕ) (p : ℕ) → bs ≡ [] → places_text bs p ≡ decimal p
-no_block bs p e = ap (λ l. places_text l p) e

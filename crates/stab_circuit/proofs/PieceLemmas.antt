@@ -1,13 +1,5 @@
 -- Pieces: the steps of a list, as those before an item in blocks, and then the item's before each piece.
-use Rattle.std.proofs.Common.{◌≡◌, ◌≤◌, ◌<◌, refl, ap, sym, ◌∙◌, ℕ, ◌+◌, ◌*◌, suc, zero, List, [], ◌∷◌, ◌++◌, length, take, drop, map, All, arith, append_assoc, append-nil, Option, Some, None}
-use Rattle.std.proofs.lemmas.List.{length-append, take-take, length-map}
-use Rattle.std.proofs.lemmas.List.Elements.{All-nil, All-cons}
-use Rattle.std.specs.Prelude.{slice_get}
-use Rattle.stab_items.specs.Items.{OneItem, operation, repeat, listed}
-use Rattle.stab_items.specs.Steps.{Step, unroll, rounds}
-use Rattle.stab_circuit.specs.Edits.{inner, steps_in}
-use Rattle.stab_circuit.specs.Rounds.{interleaved, rounds_in, round_pieces, pieces_in, HaveRounds}
-use Rattle.stab_circuit.specs.inner.Gaps.{with_more, round_gaps, block_pieces}
+use Rattle.stab_circuit.proofs.Names.{◌≡◌, ◌≤◌, ◌<◌, refl, ap, sym, ◌∙◌, ℕ, ◌+◌, ◌*◌, suc, zero, List, [], ◌∷◌, ◌++◌, length, take, drop, map, All, arith, append_assoc, append-nil, Option, Some, None, length-append, take-take, length-map, All-nil, All-cons, slice_get, OneItem, operation, repeat, listed, Step, unroll, rounds, inner, steps_in, interleaved, rounds_in, round_pieces, pieces_in, HaveRounds, with_more, round_gaps, block_pieces}
 use Rattle.stab_circuit.proofs.EditLemmas.{steps-append, steps_split, got_split, listed-entries, next_place}
 use Rattle.stab_circuit.proofs.GapLemmas.{more-twice, more-none, length-more, length-rounds, lengths-rounds}
 

@@ -1,18 +1,6 @@
 -- What is found in a block, and at the place of an edit.
-use Rattle.std.proofs.Common.{◌≡◌, ◌≤◌, refl, ap, ◌∙◌, ℕ, suc, List, [], ◌∷◌, take, drop, arith, Option, Some, None, Result, Ok, Err}
-use Rattle.std.specs.Prelude.{slice_get}
+use Rattle.stab_circuit.proofs.Names.{◌≡◌, ◌≤◌, refl, ap, ◌∙◌, ℕ, suc, List, [], ◌∷◌, take, drop, arith, Option, Some, None, Result, Ok, Err, slice_get, Refusal, Kind, Edit, Insert, Replace, Delete, OneItem, operation, repeat, listed, before, done, past_named, item_there, found_inside, item_in, FindsItem, inner, taken_at, taken_in, block_refusal, listed-append, past_named-join}
 use Rattle.std.specs.Borrow.{Bor}
-use Rattle.stab_io.specs.declared.refusal.Refusal.{Refusal}
-use Rattle.stab_lines.specs.declared.operation.Kind.{Kind}
-use Rattle.stab_circuit.specs.declared.edit.Edit.{Edit}
-use Rattle.stab_circuit.specs.declared.edit.Edit.TheVariants.{Insert, Replace, Delete}
-use Rattle.stab_items.specs.Items.{OneItem, operation, repeat, listed, before, done}
-use Rattle.stab_items.specs.Steps.{past_named}
-use Rattle.stab_circuit.specs.Places.{item_there, found_inside, item_in, FindsItem}
-use Rattle.stab_circuit.specs.Edits.{inner, taken_at, taken_in}
-use Rattle.stab_circuit.specs.inner.Judgements.{block_refusal}
-use Rattle.stab_items.proofs.ItemLemmas.{listed-append}
-use Rattle.stab_items.proofs.SummaryLemmas.{past_named-join}
 use Rattle.stab_circuit.proofs.EditLemmas.{entries-listed, listed-entries, got_split}
 
 -- no block

@@ -1,15 +1,6 @@
 -- Which refusals a line can have.
-use Rattle.std.proofs.Common.{◌≡◌, ◌<◌, refl, subst, ℕ, ◌+◌, List, [], ◌∷◌, Bool, true, false, nat_lt, length, map, Option, Some, Ok, Err, if◌then◌else◌, arith}
-use Rattle.stab_io.specs.declared.refusal.Refusal.{Refusal}
-use Rattle.stab_io.specs.declared.refusal.Refusal.TheVariants.{BadBlock, TooDeep}
-use Rattle.stab_io.specs.declared.refusal.Fault.{Fault}
-use Rattle.stab_lines.specs.declared.meanings.Line.{Line}
-use Rattle.stab_lines.specs.declared.meanings.Line.TheVariants.{Blank, Close, Open}
+use Rattle.stab_circuit.proofs.Names.{◌≡◌, ◌<◌, refl, subst, ℕ, ◌+◌, List, [], ◌∷◌, Bool, true, false, nat_lt, length, map, Option, Some, Ok, Err, if◌then◌else◌, arith, Refusal, BadBlock, TooDeep, Fault, Line, Blank, Close, Open, is_close, meaning_of, is_of_line, Meaning, at_line, meaning_after, ends_item, depth_after, one_item, fault_from, is_empty, refused_as_line, has_line}
 use Rattle.stab_lines.specs.declared.meanings.Line.TheVariants as line
-use Rattle.stab_lines.specs.Meanings.{is_close, meaning_of, is_of_line}
-use Rattle.stab_items.specs.Circuits.{Meaning, at_line, meaning_after, ends_item, depth_after, one_item, fault_from, is_empty}
-use Rattle.stab_lines.proofs.LineLaws.{refused_as_line}
-use Rattle.stab_circuit.specs.Readings.{has_line}
 
 -- if a line is refused, such a refusal has a line
 abbrev pub OfLine : Meaning → Type 0

@@ -1,14 +1,5 @@
 -- Repeats: the blocks of a list, by the steps that they make.
-use Rattle.std.proofs.Common.{◌≡◌, ◌≤◌, ◌<◌, refl, ap, sym, ◌∙◌, subst, ℕ, ◌+◌, ◌*◌, zero, suc, min, Bool, true, false, ◌&&◌, nat_lt, if◌then◌else◌, List, [], ◌∷◌, ◌++◌, length, take, drop, arith, append_assoc, append-nil}
-use Rattle.std.proofs.lemmas.Bool.{ltb-true}
-use Rattle.std.proofs.lemmas.List.{length-append, drop_at, take_at}
-use Rattle.stab_circuit.specs.declared.circuit.repeats.Repeat.{Repeat}
-use Rattle.stab_items.specs.Items.{OneItem, operation, repeat, done, before, listed, depth}
-use Rattle.stab_items.specs.Steps.{Step, rounds, unroll, looks_too_far}
-use Rattle.stab_items.specs.inner.Summaries.{reach}
-use Rattle.stab_circuit.specs.Repeats.{IsRepeat, AreRepeats, repeated_blocks}
-use Rattle.stab_circuit.specs.inner.Repeats.{finer, repeat_as, repeats_in}
-use Rattle.stab_items.proofs.StepLemmas.{length-rounds, looks_too_far_reach}
+use Rattle.stab_circuit.proofs.Names.{◌≡◌, ◌≤◌, ◌<◌, refl, ap, sym, ◌∙◌, subst, ℕ, ◌+◌, ◌*◌, zero, suc, min, Bool, true, false, ◌&&◌, nat_lt, if◌then◌else◌, List, [], ◌∷◌, ◌++◌, length, take, drop, arith, append_assoc, append-nil, ltb-true, length-append, drop_at, take_at, Repeat, OneItem, operation, repeat, done, before, listed, depth, Step, rounds, unroll, looks_too_far, window, IsRepeat, AreRepeats, repeated_blocks, finer, repeat_as, repeats_in, length-rounds, looks_too_far_window}
 use Rattle.stab_circuit.proofs.FinerLemmas.{IsFiner, is-finer}
 use Rattle.stab_circuit.proofs.WalkLemmas.{unroll_before}
 
@@ -53,7 +44,7 @@ repeated front ss rest n some many =
       many = many;
       inside = omega (arith, length-append front (rounds n ss ++ rest), length-append (rounds n ss) rest, length-rounds n ss);
       again = ap (take (n * length ss)) behind ∙ take_at (rounds n ss) rest (n * length ss) (length-rounds n ss) ∙ ap (rounds n) (sym round);
-      within = ap (looks_too_far (reach ss)) round ∙ looks_too_far_reach (reach ss) ss ∙ below_itself (reach ss);
+      within = ap (looks_too_far (window ss)) round ∙ looks_too_far_window (window ss) ss ∙ below_itself (window ss);
     }
 
 -- a list after some steps

@@ -1,26 +1,6 @@
 -- A printed text stands for its items, and for no others.
-use Rattle.std.proofs.Common.{◌≡◌, ◌≤◌, refl, ap, sym, ◌∙◌, subst, ℕ, ◌*◌, suc, List, [], ◌∷◌, ◌++◌, Bool, true, false, nat_lt, length, map, replicate, All, Option, None, Some, Ok, append_assoc, arith, codes, if◌then◌else◌}
-use Rattle.std.specs.List.{slice_split, onto_first}
-use Rattle.std.proofs.lemmas.List.{map-append}
-use Rattle.std.proofs.lemmas.List.Elements.{All-nil, All-cons, All-head, All-tail}
-use Rattle.std.proofs.lemmas.List.Splits.{slice_split-cons_yes, slice_split-cons_no}
-use Rattle.std.proofs.lemmas.Bool.Decides.{nat_tests}
-use Rattle.stab_io.specs.declared.refusal.Refusal.TheVariants.{TooLong}
-use Rattle.stab_io.specs.declared.refusal.Fault.{Fault}
-use Rattle.stab_io.specs.Refusals.{whole}
-use Rattle.stab_lines.specs.declared.meanings.Line.{Line}
-use Rattle.stab_lines.specs.declared.meanings.Line.TheVariants.{Blank, Close, Open}
+use Rattle.stab_circuit.proofs.Names.{◌≡◌, ◌≤◌, refl, ap, sym, ◌∙◌, subst, ℕ, ◌*◌, suc, List, [], ◌∷◌, ◌++◌, Bool, true, false, nat_lt, length, map, replicate, All, Option, None, Some, Ok, append_assoc, arith, codes, if◌then◌else◌, slice_split, onto_first, map-append, All-nil, All-cons, All-head, All-tail, slice_split-cons_yes, slice_split-cons_no, nat_tests, TooLong, Fault, whole, Line, Blank, Close, Open, is_byte, content_of, meaning_of, IsLine, line_printed, Says, Items, done, next, block, Meaning, Joins, line_meanings, meanings, fault_from, text_fault, most_bytes, StandsFor, PrintedLine, printed_lines, text_of, printed, AreLinesOf, passed, Each, Free, each-append, free-append, free_spaces, free_any, any_free, split_free, printed_again, blank_is_empty}
 use Rattle.stab_lines.specs.declared.meanings.Line.TheVariants as line
-use Rattle.stab_lines.specs.Lines.{is_byte, content_of}
-use Rattle.stab_lines.specs.Meanings.{meaning_of}
-use Rattle.stab_lines.specs.Laws.{IsLine, line_printed, Says}
-use Rattle.stab_items.specs.Items.{Items, done, next, block}
-use Rattle.stab_items.specs.Circuits.{Meaning, Joins, line_meanings, meanings, fault_from, text_fault, most_bytes, StandsFor}
-use Rattle.stab_items.specs.Prints.{PrintedLine, printed_lines, text_of, printed}
-use Rattle.stab_circuit.specs.Laws.{AreLinesOf}
-use Rattle.stab_lines.proofs.BoolLemmas.{passed}
-use Rattle.stab_lines.proofs.FreeLemmas.{Each, Free, each-append, free-append, free_spaces, free_any, any_free, split_free}
-use Rattle.stab_lines.proofs.LineLaws.{printed_again, blank_is_empty}
 use Rattle.stab_circuit.proofs.BlankLemmas.{lines_of, lines_join, joins_end, unblank_joined, unblank_each, same_faultless}
 use Rattle.stab_circuit.proofs.ReadingLemmas.{one_list, some_list}
 

@@ -1,18 +1,5 @@
 -- Lists that are compared element by element, and the steps that they stand for.
-use Rattle.std.proofs.Common.{◌≡◌, ◌==◌, ◌&&◌, rules, refl, sym, ap, ◌∙◌, ℕ, Bool, true, false, List, [], ◌∷◌, map}
-use Rattle.std.proofs.lemmas.Bool.Decides.{Decides-eqb}
-use Rattle.std.specs.Bool.{beq, OnTrue}
-use Rattle.std.specs.Cmp.Lexicographic.{pointwise}
-use Rattle.std.proofs.lemmas.Bool.{OnTrue_from}
-use denote.Enum.Bare.{same_true, sameb}
-use Rattle.stab_lines.specs.contracts.axis.Axis.{the_type}
-use Rattle.stab_lines.specs.declared.axis.Axis.{Axis}
-use Rattle.stab_lines.specs.declared.control.ControlledPair.{ControlledPair}
-use Rattle.stab_lines.specs.declared.control.ControlledPair.TheVariants.{Qubits, Record}
-use Rattle.stab_lines.specs.declared.operation.Measurement.{Measurement}
-use Rattle.stab_lines.specs.declared.product.Factor.{Factor}
-use Rattle.stab_lines.specs.declared.range.MeasureTarget.{MeasureTarget}
-use Rattle.stab_items.specs.Steps.{Step}
+use Rattle.stab_circuit.proofs.Names.{◌≡◌, ◌==◌, ◌&&◌, rules, refl, sym, ap, ◌∙◌, ℕ, Bool, true, false, List, [], ◌∷◌, map, Decides-eqb, beq, OnTrue, pointwise, OnTrue_from, same_true, sameb, the_type, Axis, ControlledPair, Qubits, Record, Measurement, Factor, MeasureTarget, Step}
 
 pub both_true : (a b : Bool) → (a && b) ≡ true → (a ≡ true) × (b ≡ true)
 both_true true b e = (refl, e)

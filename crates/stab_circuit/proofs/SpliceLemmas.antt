@@ -1,16 +1,5 @@
 -- An edit as one exchange of items in the outermost list.
-use Rattle.std.proofs.Common.{◌≡◌, ◌<◌, refl, ap, ◌∙◌, subst, ℕ, ◌+◌, Bool, true, false, List, [], ◌∷◌, ◌++◌, length, take, drop, set, arith, nat_le, nat_lt, if◌then◌else◌, Option, Some, None, Result, Ok, Err}
-use Rattle.std.proofs.lemmas.List.{set_split}
-use Rattle.std.specs.List.{insert, remove}
-use Rattle.std.specs.Prelude.{slice_get}
-use Rattle.std.proofs.lemmas.Option.{slice_get_within}
-use Rattle.stab_io.specs.declared.refusal.Refusal.{Refusal}
-use Rattle.stab_io.specs.declared.refusal.Refusal.TheVariants.{PlaceOutOfRange}
-use Rattle.stab_circuit.specs.declared.edit.Edit.{Edit}
-use Rattle.stab_circuit.specs.declared.edit.Edit.TheVariants.{Insert, Replace, Delete}
-use Rattle.stab_items.specs.Items.{OneItem, operation, repeat}
-use Rattle.stab_circuit.specs.Edits.{with_item, edited_inside, changed, edited_in}
-use Rattle.stab_circuit.specs.inner.Splices.{Splice, splice_at, splice_block, splice_of, spliced, IsWithin}
+use Rattle.stab_circuit.proofs.Names.{◌≡◌, ◌<◌, refl, ap, ◌∙◌, subst, ℕ, ◌+◌, Bool, true, false, List, [], ◌∷◌, ◌++◌, length, take, drop, set, arith, nat_le, nat_lt, if◌then◌else◌, Option, Some, None, Result, Ok, Err, set_split, insert, remove, slice_get, slice_get_within, Refusal, PlaceOutOfRange, Edit, Insert, Replace, Delete, OneItem, operation, repeat, with_item, edited_inside, changed, edited_in, Splice, splice_at, splice_block, splice_of, spliced, IsWithin}
 use Rattle.stab_circuit.proofs.EditLemmas.{if_ok, le_holds, lt_holds, next_place}
 
 -- the list that is left by a splice

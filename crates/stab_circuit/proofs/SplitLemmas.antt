@@ -1,16 +1,6 @@
 -- Splits of blocks leave the steps, the depth of blocks and the greatest numbers that are named.
-use Rattle.std.proofs.Common.{◌≡◌, ◌≤◌, ◌<◌, refl, ap, sym, ◌∙◌, subst, ℕ, ◌+◌, ◌-◌, suc, zero, max, Bool, true, false, List, [], ◌∷◌, ◌++◌, take, drop, arith, append_assoc, nat_lt, if◌then◌else◌, Option, Some, None, Ok, Err}
-use Rattle.std.specs.Prelude.{slice_get}
-use Rattle.std.proofs.lemmas.List.{append-nil, set_split}
-use Rattle.std.proofs.lemmas.Option.{slice_get_within}
-use Rattle.stab_io.specs.declared.refusal.Refusal.TheVariants.{PlaceOutOfRange}
-use Rattle.stab_lines.specs.declared.operation.Kind.{Kind}
-use Rattle.stab_items.specs.Items.{Items, OneItem, operation, repeat, listed, entries, depth}
-use Rattle.stab_items.specs.Steps.{Step, unroll, rounds, past_named}
-use Rattle.stab_circuit.specs.Splits.{rounds_as_block, parts_of_block, parts_of_item, with_parts, split_in}
-use Rattle.stab_circuit.specs.Laws.{AreAlike}
-use Rattle.stab_items.proofs.ItemLemmas.{listed-append, depth-join}
-use Rattle.stab_items.proofs.SummaryLemmas.{past_named-join}
+use Rattle.stab_circuit.proofs.Names.{◌≡◌, ◌≤◌, ◌<◌, refl, ap, sym, ◌∙◌, subst, ℕ, ◌+◌, ◌-◌, suc, zero, max, Bool, true, false, List, [], ◌∷◌, ◌++◌, take, drop, arith, append_assoc, nat_lt, if◌then◌else◌, Option, Some, None, Ok, Err, slice_get, set_split, slice_get_within, PlaceOutOfRange, Kind, Items, OneItem, operation, repeat, listed, entries, depth, Step, unroll, rounds, past_named, rounds_as_block, parts_of_block, parts_of_item, with_parts, split_in, AreAlike, listed-append, depth-join, past_named-join}
+use Rattle.std.proofs.lemmas.List.{append-nil}
 use Rattle.stab_circuit.proofs.EditLemmas.{steps-append, listed-entries, lt_holds, rebuilds, got_split}
 
 -- rounds one after another

@@ -1,16 +1,5 @@
 -- Items that some lines stand for stay such items when a round is split off.
-use Rattle.std.proofs.Common.{◌≡◌, ◌≤◌, ◌<◌, refl, ap, sym, ◌∙◌, subst, ℕ, ◌+◌, ◌-◌, ◌^◌, suc, zero, Bool, true, false, List, [], ◌∷◌, ◌++◌, take, drop, arith, nat_lt, if◌then◌else◌, Option, Some, None, Ok, Err}
-use Rattle.std.specs.Prelude.{slice_get}
-use Rattle.stab_io.specs.declared.refusal.Refusal.TheVariants.{PlaceOutOfRange}
-use Rattle.stab_lines.specs.declared.meanings.Line.TheVariants.{Open}
-use Rattle.stab_lines.specs.Meanings.{meaning_of}
-use Rattle.stab_lines.specs.Laws.{line_printed}
-use Rattle.stab_lines.proofs.FreeLemmas.{Each, each-append}
-use Rattle.stab_lines.proofs.LineLaws.{line_good, good_said}
-use Rattle.stab_items.specs.Items.{Items, OneItem, operation, repeat, listed}
-use Rattle.stab_circuit.specs.Paths.{Path}
-use Rattle.stab_circuit.specs.Splits.{rounds_as_block, parts_of_block, parts_of_item, with_parts, split_in, split}
-use Rattle.stab_circuit.specs.Laws.{AreOfLines}
+use Rattle.stab_circuit.proofs.Names.{◌≡◌, ◌≤◌, ◌<◌, refl, ap, sym, ◌∙◌, subst, ℕ, ◌+◌, ◌-◌, ◌^◌, suc, zero, Bool, true, false, List, [], ◌∷◌, ◌++◌, take, drop, arith, nat_lt, if◌then◌else◌, Option, Some, None, Ok, Err, slice_get, PlaceOutOfRange, Open, meaning_of, line_printed, Each, each-append, line_good, good_said, Items, OneItem, operation, repeat, listed, Path, rounds_as_block, parts_of_block, parts_of_item, with_parts, split_in, split, AreOfLines}
 use Rattle.stab_circuit.proofs.RoundLemmas.{IsOfLine}
 use Rattle.stab_circuit.proofs.EditLemmas.{lt_holds}
 use Rattle.stab_circuit.proofs.SplitLemmas.{split_alike}

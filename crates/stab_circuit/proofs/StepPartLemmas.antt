@@ -1,7 +1,5 @@
 -- Parts of the steps of an instruction.
-use Rattle.std.proofs.Common.{◌≡◌, ◌≤◌, ℕ, ◌+◌, zero, suc, refl, sym, ◌∙◌, ap, subst, List, [], ◌∷◌, ◌++◌, length, take, drop, map, arith}
-use Rattle.std.proofs.lemmas.List.{take-map, drop-map, drop-drop, length-map, drop_all}
-use Rattle.stab_items.specs.Steps.{Step}
+use Rattle.stab_circuit.proofs.Names.{◌≡◌, ℕ, ◌+◌, zero, suc, refl, sym, ◌∙◌, ap, subst, List, [], ◌∷◌, ◌++◌, length, take, drop, map, take-map, drop-map, drop-drop, Step}
 
 cut : {X : Type 0} (n : ℕ) (xs : List X) → xs ≡ take n xs ++ drop (length (take n xs)) xs
 cut zero xs = refl
@@ -19,8 +17,3 @@ part-steps f xs seen part place most steps is same e =
     (cut most ys
     ∙ ap (λ p. p ++ drop (length p) ys) front
     ∙ ap (λ rest. map f part ++ rest) (drop-drop (length (map f part)) place (map f xs)))
-
--- and there are none if there are no targets
-pub part-none : {X : Type 0} (f : X → Step) (xs seen : List X) (place : ℕ) (steps : List Step) → steps ≡ map f xs → seen ≡ xs → length seen ≤ place → drop place steps ≡ []
-part-none f xs seen place steps is same few =
-    drop_all place steps (omega (arith, ap length is, length-map xs f, ap length same, few))

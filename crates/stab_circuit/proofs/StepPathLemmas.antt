@@ -1,14 +1,5 @@
 -- The item that each unrolled step is of.
-use Rattle.std.proofs.Common.{◌≡◌, ◌≤◌, ◌<◌, refl, ap, sym, ◌∙◌, subst, ℕ, ◌+◌, ◌*◌, ◌-◌, ◌/◌, ◌%◌, zero, suc, min, List, [], ◌∷◌, ◌++◌, length, take, drop, get_or, map, replicate, arith, append_assoc, append-nil}
-use Rattle.std.proofs.lemmas.List.{length-append, length-map, length-replicate, map-append, drop-map, drop-replicate, drop-append-le, length-take-le, take-append-drop}
-use Rattle.std.proofs.Math.Seq.{drop-append-add}
-use Rattle.std.proofs.Math.Nat.{div-lt_iff_lt-mul, div-add-mod, mod-lt}
-use Rattle.stab_lines.specs.declared.operation.Operation.{Operation}
-use Rattle.stab_items.specs.Items.{Items, OneItem, operation, repeat, done, next, block, before, listed}
-use Rattle.stab_items.specs.Steps.{steps_of, rounds, unroll}
-use Rattle.stab_circuit.specs.Paths.{Path, numbers}
-use Rattle.stab_circuit.specs.StepPaths.{outside, within, path_rounds, paths_from, paths_of}
-use Rattle.stab_items.proofs.StepLemmas.{length-rounds}
+use Rattle.stab_circuit.proofs.Names.{◌≡◌, ◌≤◌, ◌<◌, refl, ap, sym, ◌∙◌, subst, ℕ, ◌+◌, ◌*◌, ◌-◌, ◌/◌, ◌%◌, zero, suc, min, List, [], ◌∷◌, ◌++◌, length, take, drop, get_or, map, replicate, arith, append_assoc, append-nil, length-append, length-map, length-replicate, map-append, drop-map, drop-replicate, drop-append-le, length-take-le, take-append-drop, drop-append-add, div-lt_iff_lt-mul, div-add-mod, mod-lt, Operation, Items, OneItem, operation, repeat, done, next, block, before, listed, steps_of, rounds, unroll, Path, numbers, outside, within, path_rounds, paths_from, paths_of, length-rounds}
 use Rattle.stab_circuit.proofs.WalkLemmas.{unroll_before, items_from}
 use Rattle.stab_circuit.proofs.PathLemmas.{path_is}
 

@@ -1,12 +1,5 @@
 -- How many steps from a step on are its item's, in the same round.
-use Rattle.std.proofs.Common.{◌≡◌, ◌≤◌, ◌<◌, refl, ap, sym, ◌∙◌, ℕ, ◌+◌, ◌*◌, ◌-◌, ◌%◌, Bool, true, false, nat_lt, if◌then◌else◌, List, [], ◌∷◌, ◌++◌, length, take, drop, get_or, arith, append-nil}
-use Rattle.std.proofs.lemmas.List.{length-append, take-append-drop}
-use Rattle.std.proofs.lemmas.Bool.{ltb-true, lt-ltb}
-use Rattle.stab_lines.specs.declared.operation.Operation.{Operation}
-use Rattle.stab_items.specs.Items.{Items, OneItem, operation, repeat, done, before, listed}
-use Rattle.stab_items.specs.Steps.{steps_of, rounds, unroll}
-use Rattle.stab_circuit.specs.StepPaths.{item_steps_left}
-use Rattle.stab_items.proofs.StepLemmas.{length-rounds}
+use Rattle.stab_circuit.proofs.Names.{◌≡◌, ◌≤◌, ◌<◌, refl, ap, sym, ◌∙◌, ℕ, ◌+◌, ◌*◌, ◌-◌, ◌%◌, Bool, true, false, nat_lt, if◌then◌else◌, List, [], ◌∷◌, ◌++◌, length, take, drop, get_or, arith, append-nil, length-append, take-append-drop, ltb-true, lt-ltb, Operation, Items, OneItem, operation, repeat, done, before, listed, steps_of, rounds, unroll, item_steps_left, length-rounds}
 use Rattle.stab_circuit.proofs.WalkLemmas.{unroll_before, items_from}
 use Rattle.stab_circuit.proofs.StepPathLemmas.{InRound}
 

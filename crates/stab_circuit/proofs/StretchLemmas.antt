@@ -1,16 +1,5 @@
 -- Stretches of a list.
-use Rattle.std.proofs.Common.{◌≡◌, ◌≤◌, ◌<◌, refl, ap, sym, ◌∙◌, subst, ℕ, ◌+◌, ◌-◌, zero, suc, min, max, List, [], ◌∷◌, ◌++◌, length, take, drop, set, get_or, arith, drop-cons, append_assoc}
-use Rattle.std.proofs.lemmas.List.{drop-drop, drop-take, length-append, length-drop, length-take, length-take-le, take-append-drop, take-append-le, take-take, take_all}
-use Rattle.std.proofs.Math.Seq.{drop-append-add, drop-nil}
-use Rattle.stab_circuit.specs.declared.circuit.stretches.Stretch.{Stretch}
-use Rattle.stab_items.specs.declared.summary.Summary.{Summary}
-use Rattle.stab_items.specs.Items.{OneItem, listed}
-use Rattle.stab_items.specs.Steps.{unroll}
-use Rattle.stab_items.specs.inner.Summaries.{summary_of, followed_by, IsSummary, IsSumOf}
-use Rattle.stab_circuit.specs.inner.EditResults.{AreApart}
-use Rattle.stab_circuit.specs.inner.Stretches.{AreStretches, items_in, WereStretches}
-use Rattle.stab_items.proofs.ItemLemmas.{listed-append}
-use Rattle.stab_items.proofs.SummaryLemmas.{summary-join}
+use Rattle.stab_circuit.proofs.Names.{◌≡◌, ◌≤◌, ◌<◌, refl, ap, sym, ◌∙◌, subst, ℕ, ◌+◌, ◌-◌, zero, suc, min, max, List, [], ◌∷◌, ◌++◌, length, take, drop, set, get_or, arith, drop-cons, append_assoc, drop-drop, drop-take, length-append, length-drop, length-take, length-take-le, take-append-drop, take-append-le, take-take, take_all, drop-append-add, drop-nil, Stretch, Summary, OneItem, listed, unroll, summary_of, followed_by, IsSummary, IsSumOf, AreApart, AreStretches, items_in, WereStretches, listed-append, summary-join}
 use Rattle.stab_circuit.proofs.EditLemmas.{steps-append, steps_split}
 use Rattle.stab_circuit.proofs.EditResultLemmas.{apart_append}
 
@@ -20,7 +9,7 @@ sum_is xs ys s e value small apart = subst (λ l. IsSumOf (listed l) s) e (recor
 
 pub sum_joined : (all xs ys : List OneItem) (s t r : Summary) → all ≡ xs ++ ys → IsSumOf (listed xs) s → IsSumOf (listed ys) t → r ≡ followed_by s t → IsSummary r → IsSumOf (listed all) r
 sum_joined all xs ys s t r e a b f small =
-    let near : (summary_of (listed ys)).reach ≤ 16777215 = omega (arith, b.small.reach, ap (λ q. q.reach) b.value) in
+    let near : (summary_of (listed ys)).window ≤ 16777215 = omega (arith, b.small.window, ap (λ q. q.window) b.value) in
     let joined : followed_by s t ≡ summary_of (listed (xs ++ ys)) =
     ap (λ q. followed_by q t) a.value ∙ ap (followed_by (summary_of (listed xs))) b.value ∙ sym (summary-join (listed xs) (listed ys) near) ∙ ap summary_of (sym (listed-append xs ys)) in
     sum_is (xs ++ ys) all r (sym e) (f ∙ joined) small (apart_append xs ys a.apart b.apart)

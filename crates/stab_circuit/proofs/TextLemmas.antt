@@ -1,18 +1,7 @@
 -- What is read of a text is what it stands for, and what refuses it is its fault.
-use Rattle.std.proofs.Common.{◌≡◌, ◌≤◌, ◌<◌, refl, ap, sym, ◌∙◌, subst, ℕ, List, [], ◌∷◌, ◌++◌, Bool, true, false, nat_lt, length, length-append, Option, None, Some, Result, Ok, Err, if◌then◌else◌, arith, ◌⊎◌, inl, inr}
-use Rattle.std.specs.List.{list_all}
-use Rattle.std.specs.Result.{IfOk, IfErr}
-use Rattle.std.proofs.lemmas.Bool.Decides.{nat_tests}
-use Rattle.stab_io.specs.declared.refusal.Refusal.{Refusal}
-use Rattle.stab_io.specs.declared.refusal.Refusal.TheVariants.{LookbackTooFar, TooManySteps, TooLong, BadLine, OutOfMemory}
-use Rattle.stab_io.specs.declared.refusal.Fault.{Fault}
-use Rattle.stab_io.specs.Refusals.{whole}
-use Rattle.stab_items.specs.Items.{Items, OneItem, before, done, listed}
-use Rattle.stab_items.specs.Circuits.{Joins, contents, meanings, limited, text_fault, item_fault, StandsFor, StandsForOne, one_item, is_empty}
-use Rattle.stab_items.specs.Steps.{check_of, Checks, unroll, looks_too_far, most_steps}
-use Rattle.stab_items.specs.inner.Readers.{before_reading, read_on, reading}
-use Rattle.stab_circuit.specs.Readings.{IsCircuit, IsFaultOf, ReadsCircuit, IsPlaced, is_of_circuit, is_of_item}
-use Rattle.stab_lines.proofs.BoolLemmas.{chosen, passed}
+use Rattle.stab_circuit.proofs.Names.{◌≡◌, ◌≤◌, ◌<◌, refl, ap, sym, ◌∙◌, subst, ℕ, List, [], ◌∷◌, ◌++◌, Bool, true, false, nat_lt, length, Option, None, Some, Result, Ok, Err, if◌then◌else◌, arith, ◌⊎◌, inl, inr, list_all, IfErr, nat_tests, Refusal, LookbackTooFar, TooManySteps, TooLong, BadLine, OutOfMemory, Fault, whole, Items, OneItem, before, done, listed, Joins, contents, meanings, limited, text_fault, item_fault, StandsFor, StandsForOne, one_item, is_empty, check_of, Checks, unroll, looks_too_far, most_steps, before_reading, read_on, reading, IsCircuit, IsFaultOf, ReadsCircuit, IsPlaced, is_of_circuit, is_of_item, chosen, passed}
+use Rattle.std.proofs.Common.{length-append}
+use Rattle.std.specs.Result.{IfOk}
 use Rattle.stab_circuit.proofs.ReadingLemmas.{joined_read, fault_read}
 use Rattle.stab_circuit.proofs.OneItemLemmas.{blank_read, read_blank, read_one, same_meanings, size, size-listed}
 use Rattle.stab_circuit.proofs.RefusalLemmas.{IsLineFault, line_fault_found, meanings_lines, one_item_lines}
@@ -20,13 +9,6 @@ use Rattle.stab_circuit.proofs.RefusalLemmas.{IsLineFault, line_fault_found, mea
 -- a text within its limit
 within : (text : List ℕ) (fault : Option Fault) → length text ≤ 16777216 → limited text fault ≡ fault
 within text fault h = passed (nat_lt 16777216 (length text)) _ _ (grind (arith, nat_tests))
-
--- a text over its limit
-pub text_too_long : (text : List ℕ) → 16777216 < length text → text_fault text ≡ Some (whole TooLong)
-text_too_long text h = chosen (nat_lt 16777216 (length text)) _ _ (grind (arith, nat_tests))
-
-pub item_too_long : (text : List ℕ) → 16777216 < length text → item_fault text ≡ Some (whole TooLong)
-item_too_long text h = chosen (nat_lt 16777216 (length text)) _ _ (grind (arith, nat_tests))
 
 -- what is read as a circuit
 pub text_read : (text : List ℕ) (xs : Items) → length text ≤ 16777216 → reading false text ≡ Ok xs → StandsFor text xs

@@ -1,16 +1,5 @@
 -- Edits taken back: the edit that undoes an edit, and a deletion by way of an item that stands for nothing.
-use Rattle.std.proofs.Common.{◌≡◌, ◌<◌, refl, ap, sym, ◌∙◌, subst, ℕ, ◌+◌, suc, true, List, [], ◌∷◌, ◌++◌, length, take, drop, set, arith, nat_lt, if◌then◌else◌, Option, Some, None, Result, Ok, Err}
-use Rattle.std.proofs.lemmas.List.{set_split, take-append-drop, length-take-le, length-append}
-use Rattle.std.specs.List.{remove}
-use Rattle.std.specs.Prelude.{slice_get}
-use Rattle.std.proofs.lemmas.Option.{slice_get_within}
-use Rattle.stab_io.specs.declared.refusal.Refusal.{Refusal}
-use Rattle.stab_io.specs.declared.refusal.Refusal.TheVariants.{PlaceOutOfRange}
-use Rattle.stab_items.specs.Items.{Items, OneItem, repeat, listed, entries}
-use Rattle.stab_circuit.specs.declared.edit.Edit.{Edit}
-use Rattle.stab_circuit.specs.declared.edit.Edit.TheVariants.{Insert, Replace, Delete}
-use Rattle.stab_circuit.specs.Edits.{with_item, rebuilt, edited_inside, changed, edited_in, edited, inner, taken_at, taken_in, taken}
-use Rattle.stab_circuit.specs.Paths.{Path}
+use Rattle.stab_circuit.proofs.Names.{◌≡◌, ◌<◌, refl, ap, sym, ◌∙◌, subst, ℕ, ◌+◌, suc, true, List, [], ◌∷◌, ◌++◌, length, take, drop, set, arith, nat_lt, if◌then◌else◌, Option, Some, None, Result, Ok, Err, set_split, take-append-drop, length-take-le, length-append, remove, slice_get, slice_get_within, Refusal, PlaceOutOfRange, Items, OneItem, repeat, listed, entries, Edit, Insert, Replace, Delete, with_item, rebuilt, edited_inside, changed, edited_in, edited, inner, taken_at, taken_in, taken, Path}
 use Rattle.stab_circuit.proofs.EditLemmas.{entries-listed, listed-entries, changed_split, got_split, Rebuilds, rebuilds}
 
 -- lists around a place

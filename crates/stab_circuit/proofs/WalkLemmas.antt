@@ -1,17 +1,6 @@
 -- One step of a walk over nested blocks.
-use Rattle.std.proofs.Common.{◌≡◌, ◌≤◌, ◌<◌, refl, ap, sym, ◌∙◌, ℕ, ◌+◌, ◌*◌, ◌-◌, zero, suc, min, Bool, true, false, List, [], ◌∷◌, ◌++◌, length, drop, get_or, arith, drop-cons, append-nil, append_assoc, Bor, subst, Some, None}
+use Rattle.stab_circuit.proofs.Names.{◌≡◌, ◌≤◌, ◌<◌, refl, ap, sym, ◌∙◌, ℕ, ◌+◌, ◌*◌, ◌-◌, zero, suc, min, true, List, [], ◌∷◌, ◌++◌, length, drop, get_or, arith, drop-cons, append-nil, append_assoc, Bor, subst, Some, None, vec_capacity, length-append, drop_all, Level, Walk, Items, OneItem, operation, repeat, done, before, listed, depth, Step, rounds, unroll, kind_steps, level_left, levels_left, IsNested, weight, weight_at, level_weight, levels_weight, ahead, walk_left, walk_weight, IsWalk, SameKind, Takes, GoesOn, before-join, depth_at, unroll-join}
 use Rattle.std.specs.List.{slice_get}
-use Rattle.std.specs.Prelude.{vec_capacity}
-use Rattle.std.proofs.lemmas.List.{length-append, drop_all}
-use Rattle.stab_lines.specs.declared.operation.Operation.{Operation}
-use Rattle.stab_lines.specs.declared.operation.Kind.{Kind}
-use Rattle.stab_circuit.specs.declared.walk.Level.{Level}
-use Rattle.stab_circuit.specs.declared.walk.Walk.{Walk}
-use Rattle.stab_items.specs.Items.{Items, OneItem, operation, repeat, done, before, listed, depth}
-use Rattle.stab_items.specs.Steps.{Step, steps_of, rounds, unroll}
-use Rattle.stab_circuit.specs.inner.Walks.{kind_steps, level_left, levels_left, IsNested, weight, weight_at, level_weight, levels_weight, ahead, walk_left, walk_weight, IsWalk, SameKind, Takes, GoesOn}
-use Rattle.stab_items.proofs.ItemLemmas.{before-join, depth_at}
-use Rattle.stab_items.proofs.StepLemmas.{unroll-join}
 
 -- an item before others
 
@@ -192,30 +181,6 @@ given_left w e = ap (λ l. l ++ ahead w) e
 
 same_given : (old new : Walk) → SameKind old new → drop old.within (kind_steps old.kind) ≡ [] → drop new.within (kind_steps new.kind) ≡ []
 same_given old new s e = (λ i. drop (s.within i) (kind_steps (s.kind i))) ∙ e
-
--- nothing was left to take
-pub goes_out : (a b c : Walk) (r : Bool) → drop a.within (kind_steps a.kind) ≡ [] → SameKind a b → Takes a b None → SameKind b c → GoesOn (ahead b) (ahead c) b c r
-    → GoesOn (walk_left a) (walk_left c) a c r
-goes_out a b c true e s t u g =
-    (given_left c (same_given b c u (same_given a b s e)) ∙ g.0 ∙ t.0 ∙ sym (given_left a e), omega (arith, g.1, t.1))
-goes_out a b c false e s t u g =
-    (given_left a e ∙ sym t.0 ∙ g.0, given_left c (same_given b c u (same_given a b s e)) ∙ g.1)
-
--- an instruction was taken
-pub goes_into : (a b : Walk) (x : Bor OneItem) (op : Operation) (kind : Bor Kind) → drop a.within (kind_steps a.kind) ≡ [] → Takes a b (Some x) → x.now ≡ operation op → kind.now ≡ op.kind
-    → GoesOn (walk_left a) (walk_left (record { kind = Some kind; within = 0; top = b.top; around = b.around })) a (record { kind = Some kind; within = 0; top = b.top; around = b.around }) true
-goes_into a b x op kind e t is k = (
-  sym (given_left a e ∙ t.0 ∙ ap (λ y. unroll (before y done) ++ ahead b) is ∙ ap (λ l. l ++ ahead b) (append-nil (steps_of op.kind)) ∙ ap (λ q. steps_of q ++ ahead b) (sym k)),
-  omega (arith, t.1, ap (λ y. weight (before y done)) is),
-)
-
--- an instruction without steps was taken
-pub goes_over : (a b : Walk) (x : Bor OneItem) (op : Operation) → drop a.within (kind_steps a.kind) ≡ [] → SameKind a b → Takes a b (Some x) → x.now ≡ operation op → steps_of op.kind ≡ [] → GoesOn (walk_left a) (walk_left b) a b true
-goes_over a b x op e s t is none = (
-  given_left b (same_given a b s e)
-      ∙ sym (given_left a e ∙ t.0 ∙ ap (λ y. unroll (before y done) ++ ahead b) is ∙ ap (λ l. l ++ ahead b) (append-nil (steps_of op.kind) ∙ none)),
-  omega (arith, t.1, ap (λ y. weight (before y done)) is),
-)
 
 -- the steps of a block that was taken
 block_taken : (a b : Walk) (x : Bor OneItem) (count : ℕ) (tag : List ℕ) (body : Items) → drop a.within (kind_steps a.kind) ≡ [] → Takes a b (Some x) → x.now ≡ repeat count tag body

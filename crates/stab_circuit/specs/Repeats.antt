@@ -15,7 +15,7 @@ pub record IsRepeat (steps : List Step) (r : Repeat) : Type 0 where
   pub many : 1 < r.rounds
   pub inside : r.first + r.rounds * r.length ≤ length steps
   pub again : take (r.rounds * r.length) (drop r.first steps) ≡ rounds r.rounds (round_of r steps)
-  pub within : looks_too_far r.reach (round_of r steps) ≡ false
+  pub within : looks_too_far r.window (round_of r steps) ≡ false
 
 -- repeats one after the other, the first no earlier than at a step
 abbrev pub AreRepeats : ℕ → List Step → List Repeat → Type 0

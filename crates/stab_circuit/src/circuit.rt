@@ -63,7 +63,7 @@ impl Model for Circuit {
 impl Circuit {
     ghost use Rattle.std.specs.Prelude.{◌≡◌, ◌≤◌, [], All, min, length, IfOk};
     ghost use Rattle.stab_items.specs.Items.{listed, depth};
-    ghost use Rattle.stab_letters.specs.Limits.{most_qubits};
+    ghost use Rattle.stab_gates.specs.Limits.{most_qubits};
     ghost use Rattle.stab_items.specs.Steps.{unroll, records_of, detectors_of, qubits_of, observables_of, most_steps, steps_cap, check_of, check_within, Checks};
     ghost use Rattle.stab_circuit.specs.Cursors.{IsApart};
     ghost use Rattle.stab_circuit.specs.Views.{circuit_items};

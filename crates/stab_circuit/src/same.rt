@@ -1,14 +1,14 @@
 //! Instructions that stand for the same steps, and how many such begin two lists of items.
 ghost use Rattle.std.specs.Prelude.{◌≡◌, ◌≤◌, ◌+◌, ◌∷◌, [], true, false, length, map, take, IfSome};
 ghost use Rattle.std.specs.Bool.{OnTrue};
-ghost use Rattle.stab_letters.specs.declared.gate.PairGate.TheVariants as gate;
+ghost use Rattle.stab_gates.specs.declared.gate.PairGate.TheVariants as gate;
 ghost use Rattle.stab_lines.specs.Axes.{letter_of};
 ghost use Rattle.stab_items.specs.Items.{listed, before, done};
 ghost use Rattle.stab_items.specs.Steps.{one, two, collapse, observable, detector, measured as measured_of, measured_product, controlled_step, steps_of, unroll};
 
 use crate::instruction::step_count;
+use stab_gates::Gate;
 use stab_items::{Item, Part};
-use stab_letters::Gate;
 use stab_lines::{Axis, ControlledPair, Kind, MeasureTarget, Measurement, Pair, Product, Qubit};
 
 /// Whether an instruction is this gate on these qubits.

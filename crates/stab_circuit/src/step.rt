@@ -1,4 +1,4 @@
-use stab_letters::{Gate, Letter, PairGate};
+use stab_gates::{Gate, Letter, PairGate};
 use stab_lines::Factor;
 
 /// A step of an unrolled circuit. Qubits are numbered from 0.

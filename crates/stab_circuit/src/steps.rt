@@ -5,7 +5,7 @@ ghost use Rattle.stab_circuit.specs.Cursors.{steps_shown, IsApartAlone};
 use crate::detectors::Detectors;
 use crate::instruction::step_at;
 use crate::step::Step;
-use stab_letters::Gate;
+use stab_gates::Gate;
 use stab_lines::{Axis, ControlledPair, Kind, MeasureTarget, Measurement, Qubit};
 
 /// Steps of one instruction, or of detectors, one after the other, at least one.

@@ -4,10 +4,10 @@ use Rattle.std.specs.Prelude.{◌≡◌, ℕ, ◌⊎◌, string_bytes}
 use Rattle.stab_io.specs.Devices.{OutputView}
 use Rattle.stab_io.specs.declared.refusal.Refusal.TheVariants.{WriteFault, OutOfMemory}
 use Rattle.stab_io.specs.Refusals.{whole}
-use Rattle.stab_tables.specs.Endings.{TookAndFlushed, FailsToSend}
-use Rattle.stab_tables.specs.FaultLines.{TellsFault, TookOrFailed}
-use Rattle.stab_words.specs.declared.words.Usage.{Usage}
-use Rattle.stab_words.specs.declared.words.Usage.TheVariants.{Help, Fault as Wrong, Memory}
+use Rattle.stab_analysis.specs.Endings.{TookAndFlushed, FailsToSend}
+use Rattle.stab_analysis.specs.FaultLines.{TellsFault, TookOrFailed}
+use Rattle.stab_args.specs.declared.words.Usage.{Usage}
+use Rattle.stab_args.specs.declared.words.Usage.TheVariants.{Help, Fault as Wrong, Memory}
 
 -- Words that are no job are reported, with this status: help on the output, which is flushed, with 0, or as a failed write with 1 if the
 -- output failed; the text of bad arguments on the error output with 2; and refused memory as its fault with 1.

@@ -1,9 +1,5 @@
 -- Bits, inverted by others, and by what differs from them.
-use Rattle.std.proofs.Common.{◌≡◌, refl, sym, ◌∙◌, ap, Bool, List, [], ◌∷◌, length, arith}
-use Rattle.stab_letters.specs.Letters.{◌⊕◌}
-use Rattle.stab_frames.specs.Flips.{flipped}
-use Rattle.stab_frames.proofs.FlipLemmas.{length-flipped, flipped-empty}
-use Rattle.stab_coins.specs.Coins.{ShotBits, inverted}
+use Rattle.stab_coins.proofs.Names.{◌≡◌, refl, sym, ◌∙◌, ap, Bool, List, [], ◌∷◌, length, arith, ◌⊕◌, flipped, length-flipped, flipped-empty, ShotBits, inverted}
 
 -- two lists of bits, as long as one another
 

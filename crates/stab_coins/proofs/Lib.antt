@@ -1,4 +1,5 @@
+mod Names
 pub mod BitLemmas
-pub mod TurnedLemmas
+pub mod FramedLemmas
 pub mod RowLemmas
 pub mod PlaceLemmas

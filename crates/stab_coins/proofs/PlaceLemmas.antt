@@ -1,30 +1,6 @@
 -- Places of coins: those that flags show, one after another, and the steps that take them.
-use Rattle.std.proofs.Common.{◌≡◌, ℕ, zero, suc, ◌+◌, ◌-◌, ◌<◌, ◌≤◌, ◌==◌, refl, sym, ◌∙◌, ap, ap₂, subst, Bool, true, false, ◌&&◌, nat_lt, List, [], ◌∷◌, ◌++◌, append-nil, append_assoc, length, take, drop, map, get_or, inl, inr, arith}
-use Rattle.std.specs.Prelude.{if◌then◌else◌, All, ◌⊎◌}
-use Rattle.std.proofs.lemmas.Bool.Decides.{nat_tests}
-use Rattle.std.proofs.lemmas.List.{length-append, length-map, map-append, length-drop, length-take, take_all}
-use lib.Seq.{take-nil, get_or-drop}
-use Rattle.std.proofs.lemmas.List.Elements.{All-nil, All-cons, All-head, All-tail, All-map}
-use Rattle.stab_circuit.specs.Items.{Items}
-use Rattle.stab_circuit.specs.Steps.{Step, one, detector, measured, controlled_step, unroll, observables_of}
-use Rattle.stab_circuit.specs.declared.steps.Steps.{Steps}
-use Rattle.stab_circuit.specs.declared.steps.Steps.TheVariants.{Gates, Pairs, Measurements, Detectors, Single}
-use Rattle.stab_circuit.specs.Cursors.{step_shown, steps_shown, lookbacks_of}
-use Rattle.stab_lines.specs.declared.axis.Axis.{Axis}
-use Rattle.stab_lines.specs.declared.control.ControlledPair.{ControlledPair}
+use Rattle.stab_coins.proofs.Names.{◌≡◌, ℕ, zero, suc, ◌+◌, ◌-◌, ◌<◌, ◌≤◌, ◌==◌, refl, sym, ◌∙◌, ap, ap₂, subst, Bool, true, false, ◌&&◌, nat_lt, List, [], ◌∷◌, ◌++◌, append-nil, append_assoc, length, take, drop, map, get_or, inl, inr, arith, if◌then◌else◌, All, ◌⊎◌, nat_tests, length-append, length-map, map-append, length-drop, length-take, take_all, take-nil, get_or-drop, All-nil, All-cons, All-head, All-tail, All-map, Items, Step, one, detector, measured, controlled_step, unroll, observables_of, Steps, Gates, Pairs, Measurements, Detectors, Single, step_shown, steps_shown, lookbacks_of, Axis, ControlledPair, State, start, run_of, Point, origin, coins_of, all_coins_of, given, next_point, outputs, run-state, flags-given, coins-one, one_places_from, one_places, parity-false, AreAscending, unit_coin, run-items, coin_flipped, zero_coins, steps_before_coin, step_of_coin, coins_together}
 use Rattle.stab_lines.specs.declared.control.ControlledPair.TheVariants as pair
-use Rattle.stab_run.specs.Runs.{State, start, run_of}
-use Rattle.stab_run.specs.Points.{Point, origin, coins_of, all_coins_of, given, next_point, outputs}
-use Rattle.stab_laws.proofs.StateLemmas.{run-state}
-use Rattle.stab_laws.proofs.PointLemmas.{flags-given}
-use Rattle.stab_laws.proofs.CoinLemmas.{coins-one}
-use Rattle.stab_results.specs.Formats.{one_places_from, one_places}
-use Rattle.stab_letters.proofs.ParityLemmas.{parity-false}
-use Rattle.stab_shots.specs.Units.{AreAscending, unit_coin}
-use Rattle.stab_shots.proofs.RecordingLemmas.{run-items}
-use Rattle.stab_coins.specs.Coins.{turned, zero_coins}
-use Rattle.stab_coins.specs.Places.{steps_before_coin, step_of_coin}
-use Rattle.stab_coins.specs.inner.Groups.{coins_together}
 
 -- the places of 1 bits
 
@@ -290,9 +266,9 @@ flags-of-run n coins items =
     ∙ flags-counted n coins (unroll items) origin
 
 -- the coin that is 1 in a lane
-pub unit-turned : (numbers : List ℕ) (first l s : ℕ) → first + l < length numbers
-    → unit_coin (drop first numbers) l s ≡ turned (get_or numbers (first + l) 0) zero_coins s
-unit-turned numbers first l s within =
+pub unit-flipped : (numbers : List ℕ) (first l s : ℕ) → first + l < length numbers
+    → unit_coin (drop first numbers) l s ≡ coin_flipped (get_or numbers (first + l) 0) zero_coins s
+unit-flipped numbers first l s within =
     (λ i. is_less i && ((number-drop numbers first l i) == s))
     ∙ either (get_or numbers (first + l) 0) s
     ∙ sym (parity-false (s == get_or numbers (first + l) 0))

@@ -1,20 +1,7 @@
 -- Rows: each coin flips the same bits whatever the others are, and each run is the sum of the rows of its coins.
-use Rattle.std.proofs.Common.{◌≡◌, ℕ, zero, suc, ◌+◌, ◌-◌, ◌<◌, ◌≤◌, ◌==◌, refl, sym, ◌∙◌, ap, subst, Bool, true, false, List, [], ◌∷◌, map, get_or, arith, inl, inr}
-use Rattle.std.specs.Prelude.{All, ◌⊎◌, if◌then◌else◌}
-use Rattle.std.proofs.lemmas.Bool.{cases_eq, cases_lt}
-use Rattle.std.proofs.lemmas.List.Elements.{All-head, All-tail}
-use Rattle.stab_letters.specs.Letters.{◌⊕◌}
-use Rattle.stab_circuit.specs.Items.{Items}
-use Rattle.stab_circuit.specs.Steps.{unroll}
-use Rattle.stab_run.specs.Runs.{State, run_of}
-use Rattle.stab_run.specs.ProgramStates.{StepFits}
-use Rattle.stab_laws.proofs.StateLemmas.{run_of-same}
-use Rattle.stab_results.specs.Formats.{one_places_from, one_places}
-use Rattle.stab_coins.specs.Coins.{ShotBits, bits_of, inverted, turned, flips_of, zero_coins}
-use Rattle.stab_coins.specs.Tables.{CoinRow, row_by, with_rows, IsCoinTable, table_of}
-use Rattle.stab_coins.specs.CoinLaws.{CoinsHaveRows}
+use Rattle.stab_coins.proofs.Names.{◌≡◌, ℕ, zero, suc, ◌+◌, ◌-◌, ◌<◌, ◌≤◌, ◌==◌, refl, sym, ◌∙◌, ap, subst, Bool, true, false, List, [], ◌∷◌, map, get_or, arith, inl, inr, All, ◌⊎◌, if◌then◌else◌, cases_eq, cases_lt, All-head, All-tail, ◌⊕◌, Items, unroll, State, run_of, StepFits, run_of-same, one_places_from, one_places, ShotBits, bits_of, inverted, coin_flipped, flips_of, zero_coins, CoinRow, row_by, with_rows, IsCoinTable, table_of, CoinsHaveRows}
 use Rattle.stab_coins.proofs.BitLemmas.{AreAlike, inverted-alike, inverted-round, inverted-kept}
-use Rattle.stab_coins.proofs.TurnedLemmas.{flips_by, bits-changed, bits-zero, free-zero}
+use Rattle.stab_coins.proofs.FramedLemmas.{flips_by, bits-changed, bits-zero, free-zero}
 
 same : (s t : ℕ) → s ≡ t → (s == t) ≡ true
 same s t e = grind (arith, e)
@@ -22,11 +9,11 @@ same s t e = grind (arith, e)
 other : (s t : ℕ) → (s ≡ t → ⊥) → (s == t) ≡ false
 other s t ne = grind (arith, ne)
 
-turned-here : (t s : ℕ) (coins : ℕ → Bool) (b : Bool) → s ≡ t → coins s ≡ b → turned t coins s ≡ true ⊕ b
-turned-here t s coins b e is = λ i. same s t e i ⊕ is i
+conjugated-here : (t s : ℕ) (coins : ℕ → Bool) (b : Bool) → s ≡ t → coins s ≡ b → coin_flipped t coins s ≡ true ⊕ b
+conjugated-here t s coins b e is = λ i. same s t e i ⊕ is i
 
-turned-elsewhere : (t s : ℕ) (coins : ℕ → Bool) → (s ≡ t → ⊥) → turned t coins s ≡ coins s
-turned-elsewhere t s coins ne = ap (λ b. b ⊕ coins s) (other s t ne)
+flipped-elsewhere : (t s : ℕ) (coins : ℕ → Bool) → (s ≡ t → ⊥) → coin_flipped t coins s ≡ coins s
+flipped-elsewhere t s coins ne = ap (λ b. b ⊕ coins s) (other s t ne)
 
 module _ (n : ℕ) (items : Items) (fits : All (StepFits n) (unroll items)) where
   abbrev zeros : ShotBits
@@ -46,24 +33,24 @@ module _ (n : ℕ) (items : Items) (fits : All (StepFits n) (unroll items)) wher
       ∙ sym (inverted-round (bits_of (run_of n coins items)) zeros (flips_by n items fits (λ s. s == t)) (alike-zero coins))
       ∙ sym (row-is coins t)
 
-  row-inverts : (coins : ℕ → Bool) (t : ℕ) → inverted (bits_of (run_of n coins items)) (flips_of n items zero_coins t) ≡ bits_of (run_of n (turned t coins) items)
+  row-inverts : (coins : ℕ → Bool) (t : ℕ) → inverted (bits_of (run_of n coins items)) (flips_of n items zero_coins t) ≡ bits_of (run_of n (coin_flipped t coins) items)
   row-inverts coins t =
       ap (inverted (bits_of (run_of n coins items))) (row-is zero_coins t)
       ∙ inverted-kept (bits_of (run_of n coins items)) zeros (flips_by n items fits (λ s. s == t)) (alike-zero coins)
       ∙ sym (bits-changed n items fits coins (λ s. s == t))
 
   -- a coin that decides nothing
-  still : (coins : ℕ → Bool) (t : ℕ) → get_or (run_of n zero_coins items).free t false ≡ false → run_of n (turned t coins) items ≡ run_of n coins items
-  still coins t fixed = run_of-same n coins items (turned t coins) agree
+  still : (coins : ℕ → Bool) (t : ℕ) → get_or (run_of n zero_coins items).free t false ≡ false → run_of n (coin_flipped t coins) items ≡ run_of n coins items
+  still coins t fixed = run_of-same n coins items (coin_flipped t coins) agree
     where
-      agree : (s : ℕ) → get_or (run_of n coins items).free s false ≡ true → coins s ≡ turned t coins s
+      agree : (s : ℕ) → get_or (run_of n coins items).free s false ≡ true → coins s ≡ coin_flipped t coins s
       agree s free = by_cases (cases_eq s t)
         where
-          by_cases : (s ≡ t) ⊎ (s ≡ t → ⊥) → coins s ≡ turned t coins s
+          by_cases : (s ≡ t) ⊎ (s ≡ t → ⊥) → coins s ≡ coin_flipped t coins s
           by_cases (inl e) =
               let not' : true ≡ false = sym free ∙ ap (λ flags. get_or flags s false) (free-zero n items fits coins) ∙ ap (λ k. get_or (run_of n zero_coins items).free k false) e ∙ fixed in
               absurd (cc)
-          by_cases (inr ne) = sym (turned-elsewhere t s coins ne)
+          by_cases (inr ne) = sym (flipped-elsewhere t s coins ne)
 
   absent : (k : ℕ) (flags : List Bool) (i : ℕ) → All (λ (r : CoinRow). r.coin ≡ k + i → ⊥) (map (row_by n items zero_coins) (one_places_from k flags)) → get_or flags i false ≡ false
   absent k [] i all = refl
@@ -90,12 +77,12 @@ module _ (n : ℕ) (items : Items) (fits : All (StepFits n) (unroll items)) wher
     flags-rest : (k : ℕ) (b : Bool) (flags : List Bool) → AreFlags k (b ∷ flags) → AreFlags (k + 1) flags
     flags-rest k b flags are i = ap (λ m. get_or (run_of n zero_coins items).free m false) (omega arith) ∙ are (suc i)
 
-    below-turned : (k : ℕ) (some : ℕ → Bool) → coins k ≡ true → IsBelow k some → IsBelow (k + 1) (turned k some)
-    below-turned k some one is = record { below = λ s lt. at s lt (cases_eq s k); rest = λ s le. turned-elsewhere k s some (omega (arith, le)) ∙ is.rest s (omega (arith, le)) }
+    below-flipped : (k : ℕ) (some : ℕ → Bool) → coins k ≡ true → IsBelow k some → IsBelow (k + 1) (coin_flipped k some)
+    below-flipped k some one is = record { below = λ s lt. at s lt (cases_eq s k); rest = λ s le. flipped-elsewhere k s some (omega (arith, le)) ∙ is.rest s (omega (arith, le)) }
       where
-        at : (s : ℕ) → s < k + 1 → (s ≡ k) ⊎ (s ≡ k → ⊥) → turned k some s ≡ coins s
-        at s lt (inl e) = turned-here k s some false e (is.rest s (omega (arith, e))) ∙ sym (ap coins e ∙ one)
-        at s lt (inr ne) = turned-elsewhere k s some ne ∙ is.below s (omega (arith, lt, ne))
+        at : (s : ℕ) → s < k + 1 → (s ≡ k) ⊎ (s ≡ k → ⊥) → coin_flipped k some s ≡ coins s
+        at s lt (inl e) = conjugated-here k s some false e (is.rest s (omega (arith, e))) ∙ sym (ap coins e ∙ one)
+        at s lt (inr ne) = flipped-elsewhere k s some ne ∙ is.below s (omega (arith, lt, ne))
 
     below-same : (k : ℕ) (some : ℕ → Bool) → coins k ≡ false → IsBelow k some → IsBelow (k + 1) some
     below-same k some zero' is = record { below = λ s lt. at s lt (cases_eq s k); rest = λ s le. is.rest s (omega (arith, le)) }
@@ -126,7 +113,7 @@ module _ (n : ℕ) (items : Items) (fits : All (StepFits n) (unroll items)) wher
         by_coin : ((next : ℕ → Bool) → IsBelow (k + 1) next → with_rows coins (rows_from (k + 1) flags) (bits_of (run_of n next items)) ≡ bits_of (run_of n coins items))
             → (b : Bool) → coins k ≡ b → with_rows coins (rows_from (k + 1) flags) (bits_of (run_of n some items)) ≡ bits_of (run_of n coins items)
         by_coin later true one =
-            ap (λ (s : State). with_rows coins (rows_from (k + 1) flags) (bits_of s)) (sym (still some k fixed)) ∙ later (turned k some) (below-turned k some one is)
+            ap (λ (s : State). with_rows coins (rows_from (k + 1) flags) (bits_of s)) (sym (still some k fixed)) ∙ later (coin_flipped k some) (below-flipped k some one is)
         by_coin later false zero' = later some (below-same k some zero' is)
     sum-from k (true ∷ flags) some are is = by_coin (λ next. sum-from (k + 1) flags next (flags-rest k true flags are)) (coins k) refl
       where
@@ -137,7 +124,7 @@ module _ (n : ℕ) (items : Items) (fits : All (StepFits n) (unroll items)) wher
         by_coin later true one =
             ap (λ b. with_rows coins (rows_from (k + 1) flags) (if b then inverted (bits_of (run_of n some items)) (flips_of n items zero_coins k) else bits_of (run_of n some items))) one
             ∙ ap (with_rows coins (rows_from (k + 1) flags)) (row-inverts some k)
-            ∙ later (turned k some) (below-turned k some one is)
+            ∙ later (coin_flipped k some) (below-flipped k some one is)
         by_coin later false zero' =
             ap (λ b. with_rows coins (rows_from (k + 1) flags) (if b then inverted (bits_of (run_of n some items)) (flips_of n items zero_coins k) else bits_of (run_of n some items))) zero'
             ∙ later some (below-same k some zero' is)

@@ -2,7 +2,7 @@
 ghost use Rattle.std.specs.Prelude.{◌≡◌, ℕ, ◌+◌, ◌<◌, ◌≤◌, None, All, length, map, slice_index_or, IfOk, IfSome, IfErr, OnOk};
 ghost use Rattle.stab_io.specs.declared.refusal.Refusal.TheVariants.{OutOfMemory};
 ghost use Rattle.stab_io.specs.Refusals.{Refuses, whole};
-ghost use Rattle.stab_letters.specs.Limits.{most_qubits};
+ghost use Rattle.stab_gates.specs.Limits.{most_qubits};
 ghost use Rattle.stab_circuit.specs.Steps.{check_of, check_within, unroll};
 ghost use Rattle.stab_circuit.specs.Cursors.{IsApart};
 ghost use Rattle.stab_circuit.specs.Views.{circuit_items};
@@ -16,7 +16,8 @@ ghost use Rattle.stab_coins.specs.Runs.{AreCoinRuns, AreBits, free_coins};
 use crate::places::{CoinPlaces, coin_places};
 use stab_circuit::Circuit;
 use stab_io::Fault;
-use stab_run::{ListCoins, Shot, run_once};
+use stab_recording::{Shot, run_once};
+use stab_run::ListCoins;
 use stab_shots::{Reference, Shots, UnitLanes, UnitWord, flip_bits, run_lanes};
 use std::alloc::Global;
 

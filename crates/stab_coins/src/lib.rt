@@ -8,10 +8,10 @@
 //!
 //! In `specs/`, `Coins` and `Tables` say what a coin flips and what a table of coins is, and `Places` where a coin decides.
 //!
-//! Source: this project's own, by Pauli frames that are led over one run (`stab_shots`).
+//! Source: this project's own, by Pauli frames that are propagated over one run (`stab_shots`).
 //!
 //! Proved: the table of a circuit has a row for each coin that decides an outcome, and its bits are those in which runs
-//! with that coin turned differ from runs without, for all random bits; other coins change nothing, and each run is the run
+//! with that coin flipped differ from runs without, for all random bits; other coins change nothing, and each run is the run
 //! with all coins 0, inverted by the rows of its coins (`specs/Tables.antt`). The lanes of `CoinRuns` give these rows.
 #![tactic(auto)]
 

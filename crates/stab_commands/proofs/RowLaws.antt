@@ -1,8 +1,5 @@
 -- Laws of rows: the lines of strings, one after another.
-use Rattle.std.proofs.Common.{◌≡◌, ap, ◌∙◌, ℕ, ◌+◌, ◌<◌, List, ◌++◌, length, drop, get_or, add-one, sym}
-use Rattle.std.proofs.Math.Seq.{drop-cons}
-use Rattle.stab_pauli.specs.Paulis.{Signed}
-use Rattle.stab_tables.specs.Rows.{line_of, lines_of}
+use Rattle.stab_commands.proofs.Names.{◌≡◌, ap, ◌∙◌, ℕ, ◌+◌, ◌<◌, List, ◌++◌, length, drop, get_or, add-one, sym, drop-cons, Signed, line_of, lines_of}
 
 -- the line at a place, and those after it
 pub lines-drop : (rows : List Signed) (i : ℕ) (row : Signed) → i < length rows → row ≡ get_or rows i row → lines_of (drop i rows) ≡ line_of row ++ lines_of (drop (i + 1) rows)

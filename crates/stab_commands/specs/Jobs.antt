@@ -4,20 +4,20 @@ use Rattle.std.specs.Prelude.{◌≡◌, ℕ, Bool, true, false, List, Option, N
 pub use Rattle.stab_jobs.specs.Commands.{reads_script}
 use Rattle.stab_io.specs.Devices.{InputView, OutputView}
 use Rattle.stab_io.specs.declared.refusal.Fault.{Fault}
-use Rattle.stab_tables.specs.FaultLines.{TookOrFailed, told_text}
-use Rattle.stab_sampling.specs.Outputs.{EndsRun, sample_of, detect_of}
+use Rattle.stab_analysis.specs.FaultLines.{TookOrFailed, told_text}
+use Rattle.stab_commands.specs.Outputs.{EndsRun, sample_of, detect_of}
 use Rattle.stab_commands.specs.Stabilisers.{EndsStabilisers}
-use Rattle.stab_tables.specs.Checks.{EndsCheck}
-use Rattle.stab_tables.specs.Deterministic.{EndsDeterministic}
-use Rattle.stab_tables.specs.FaultTables.{EndsFaults}
-use Rattle.stab_tables.specs.CoinTables.{EndsCoins}
-use Rattle.stab_tables.specs.Reasons.{EndsExplain}
-use Rattle.stab_tables.specs.Distances.{EndsDistance}
-use Rattle.stab_scripts.specs.ScriptEndings.{EndsEdit}
-use Rattle.stab_scripts.specs.ScriptTurns.{EditsInTurn}
-use Rattle.stab_scripts.specs.Watchers.{Asked}
-use Rattle.stab_tables.specs.declared.unsure.Unsure.{Unsure}
-use Rattle.stab_jobs.specs.declared.source.Source.{Source}
+use Rattle.stab_analysis.specs.Checks.{EndsCheck}
+use Rattle.stab_analysis.specs.Deterministic.{EndsDeterministic}
+use Rattle.stab_analysis.specs.FaultTables.{EndsFaults}
+use Rattle.stab_analysis.specs.CoinTables.{EndsCoins}
+use Rattle.stab_analysis.specs.Reasons.{EndsExplain}
+use Rattle.stab_analysis.specs.Distances.{EndsDistance}
+use Rattle.stab_commands.specs.ScriptEndings.{EndsEdit}
+use Rattle.stab_commands.specs.ScriptTurns.{EditsInTurn}
+use Rattle.stab_script.specs.Watchers.{Asked}
+use Rattle.stab_analysis.specs.declared.random.Random.{Random}
+use Rattle.stab_jobs.specs.declared.job.Source.{Source}
 use Rattle.stab_jobs.specs.declared.job.Command.{Command}
 use Rattle.stab_jobs.specs.declared.job.Command.TheVariants.{Sample, Detect, Stabilisers, Check, Deterministic, Explain, Coins, Faults, Distance, Edit}
 use Rattle.stab_jobs.specs.declared.job.Job.{Job}
@@ -32,21 +32,21 @@ abbrev pub RefusesNone : (Result (Unit {0}) Fault → Type 0) → Result Bool Fa
 RefusesNone ends r = (answer : Result (Unit {0}) Fault) × ends answer × (r ≡ refusing_none answer)
 
 -- no bit was named as one that is not deterministic, no line of a script was refused, and the call ended in this way
-abbrev pub NamesNone : (Result (Unit {0}) Fault → Type 0) → Result Bool Fault → Option Unsure → Type 0
-NamesNone ends r unsure = (unsure ≡ None) × RefusesNone ends r
+abbrev pub NamesNone : (Result (Unit {0}) Fault → Type 0) → Result Bool Fault → Option Random → Type 0
+NamesNone ends r random = (random ≡ None) × RefusesNone ends r
 
 -- how the call of a command ends, with coins from the source: whether a line of the script was refused, and which bit, if any, was named as not deterministic
-abbrev pub EndsCommand : Command → Source → InputView → InputView → InputView → InputView → OutputView → OutputView → Result Bool Fault → Option Unsure → Type 0
-EndsCommand (Sample format shots) source i i' s s' o o' r unsure = NamesNone (EndsRun (sample_of format shots.first shots.number source) i i' o o') r unsure
-EndsCommand (Detect format shots append) source i i' s s' o o' r unsure = NamesNone (EndsRun (detect_of format append shots.first shots.number source) i i' o o') r unsure
-EndsCommand Stabilisers source i i' s s' o o' r unsure = NamesNone (EndsStabilisers source i i' o o') r unsure
-EndsCommand Check source i i' s s' o o' r unsure = NamesNone (EndsCheck i i' o o') r unsure
-EndsCommand (Deterministic format) source i i' s s' o o' r unsure = NamesNone (EndsDeterministic format i i' o o') r unsure
-EndsCommand Explain source i i' s s' o o' r unsure = NamesNone (EndsExplain i i' o o') r unsure
-EndsCommand (Coins layout) source i i' s s' o o' r unsure = NamesNone (EndsCoins layout i i' o o') r unsure
-EndsCommand (Faults layout everywhere sure_only) source i i' s s' o o' r unsure = RefusesNone (λ answer. EndsFaults layout everywhere sure_only i i' o o' answer unsure) r
-EndsCommand (Distance options) source i i' s s' o o' r unsure = RefusesNone (λ answer. EndsDistance options i i' o o' answer unsure) r
-EndsCommand (Edit framed qubits stride) source i i' s s' o o' r unsure = (unsure ≡ None) × EndsEdit framed qubits source i i' s s' o o' r
+abbrev pub EndsCommand : Command → Source → InputView → InputView → InputView → InputView → OutputView → OutputView → Result Bool Fault → Option Random → Type 0
+EndsCommand (Sample format shots) source i i' s s' o o' r random = NamesNone (EndsRun (sample_of format shots.first shots.number source) i i' o o') r random
+EndsCommand (Detect format shots append) source i i' s s' o o' r random = NamesNone (EndsRun (detect_of format append shots.first shots.number source) i i' o o') r random
+EndsCommand Stabilisers source i i' s s' o o' r random = NamesNone (EndsStabilisers source i i' o o') r random
+EndsCommand Check source i i' s s' o o' r random = NamesNone (EndsCheck i i' o o') r random
+EndsCommand (Deterministic format) source i i' s s' o o' r random = NamesNone (EndsDeterministic format i i' o o') r random
+EndsCommand Explain source i i' s s' o o' r random = NamesNone (EndsExplain i i' o o') r random
+EndsCommand (Coins layout) source i i' s s' o o' r random = NamesNone (EndsCoins layout i i' o o') r random
+EndsCommand (Faults layout everywhere deterministic_only) source i i' s s' o o' r random = RefusesNone (λ answer. EndsFaults layout everywhere deterministic_only i i' o o' answer random) r
+EndsCommand (Distance options) source i i' s s' o o' r random = RefusesNone (λ answer. EndsDistance options i i' o o' answer random) r
+EndsCommand (Edit framed qubits stride) source i i' s s' o o' r random = (random ≡ None) × EndsEdit framed qubits source i i' s s' o o' r
 
 -- how a command reads a script: `edit` in turn with its replies, and any other not at all
 abbrev pub CommandInTurn : Command → Source → InputView → InputView → InputView → InputView → OutputView → Option (List Asked) → Option (List Asked) → Type 0
@@ -60,14 +60,14 @@ status_of (Ok true) = 3
 status_of (Err f) = 1
 
 -- a run's fault is reported, with the bit that it names, if any; and without a fault the error output is untouched
-abbrev pub Tells : {T : Type 0} → Result T Fault → Option Unsure → OutputView → OutputView → Type 0
-Tells (Ok x) unsure old new = new ≡ old
-Tells (Err f) unsure old new = TookOrFailed old new (told_text f unsure)
+abbrev pub Tells : {T : Type 0} → Result T Fault → Option Random → OutputView → OutputView → Type 0
+Tells (Ok x) random old new = new ≡ old
+Tells (Err f) random old new = TookOrFailed old new (told_text f random)
 
 -- How a run of a job ends: as the call of its command ends, with that call's status, and its fault reported.
 pub record EndsJob (job : Job) (i i' s s' : InputView) (o o' e e' : OutputView) (status : ℕ) : Type 0 where
   pub answer : Result Bool Fault
-  pub unsure : Option Unsure
-  pub ends : EndsCommand job.command job.source i i' s s' o o' answer unsure
+  pub random : Option Random
+  pub ends : EndsCommand job.command job.source i i' s s' o o' answer random
   pub status_is : status ≡ status_of answer
-  pub told : Tells answer unsure e e'
+  pub told : Tells answer random e e'

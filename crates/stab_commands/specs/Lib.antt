@@ -1,5 +1,12 @@
+pub mod Outputs
+pub mod Sendings
+pub use Rattle.stab_script.specs.Scripts
+pub use Rattle.stab_script.specs.Watchers
+pub use Rattle.stab_script.specs.LoggedInputs
+pub mod ScriptLaws
+pub mod ScriptEndings
+pub mod ScriptTurns
 pub use Rattle.stab_jobs.specs.Limits
-pub use Rattle.stab_sampling.specs.Outputs
 pub mod Stabilisers
 pub mod Jobs
 pub mod inner

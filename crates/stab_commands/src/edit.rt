@@ -1,16 +1,17 @@
 //! The command that edits a circuit by a script.
 
-ghost use Rattle.std.specs.Prelude.{◌≤◌, IfSome, false};
-ghost use Rattle.stab_letters.specs.Limits.{most_qubits};
-ghost use Rattle.stab_run.specs.Limits.{most_stride};
-ghost use Rattle.stab_scripts.specs.ScriptEndings.{EndsEdit};
-ghost use Rattle.stab_scripts.specs.ScriptTurns.{EditsInTurn};
+ghost use Rattle.std.specs.Prelude.{◌≤◌, IfSome};
+ghost use Rattle.stab_gates.specs.Limits.{most_qubits};
+ghost use Rattle.stab_recording.specs.Limits.{most_stride};
+ghost use Rattle.stab_commands.specs.ScriptEndings.{EndsEdit, EndsPlainEdit};
+ghost use Rattle.stab_commands.specs.ScriptTurns.{EditsInTurn};
 
+use crate::session_edit::edit_circuit;
 use stab_circuit::read_circuit;
 use stab_io::{Fault, Input, Output};
 use stab_jobs::Source;
 use stab_run::{ListCoins, SeedCoins};
-use stab_scripts::{NoWatcher, Watcher, edit_circuit};
+use stab_script::{NoWatcher, Watcher};
 use std::alloc::Global;
 
 /// Reads a circuit, and edits it by a script, as `run_edit` does, with each read of the script made
@@ -94,7 +95,7 @@ pub fn run_edit<I: Input, S: Input, O: Output>(
     requires in_range { IfSome qubits (λ n. n ≤ most_qubits) }
     requires stride_above { 1 ≤ stride }
     requires stride_within { stride ≤ most_stride }
-    ensures ends { EndsEdit false qubits source.now (I.seen circuit_input.old) (I.seen circuit_input.new) (S.seen script_input.old) (S.seen script_input.new) (O.seen out.old) (O.seen out.new) result }
+    ensures ends { EndsPlainEdit qubits source.now (I.seen circuit_input.old) (I.seen circuit_input.new) (S.seen script_input.old) (S.seen script_input.new) (O.seen out.old) (O.seen out.new) result }
 {
     run_edit_watched::<I, S, O, NoWatcher>(
         alloc,

@@ -2,43 +2,75 @@
 //!
 //! In the order in which data flows; each module uses only those before it:
 //!
+//! - `widths`: how many shots go through a circuit at once.
+//! - `packed`: the bits of lanes in `01` and `b8`.
+//! - `lanes`: the bits of lanes in any format.
+//! - `bits`: what is shown of a shot.
+//! - `shots`: the shots of a circuit, written one after another.
 //! - `run`: the commands that write the shots of a circuit.
 //! - `stabilisers`: the command that writes the stabilisers of the state after a run.
+//! - `deterministic_bits`: which detectors and observables are the same for all random bits.
+//! - `distances`: the distance of a circuit.
+//! - `coin_replies`: the table of coins, and why a detector or an observable is random.
+//! - `marks`: the bits that changes are counted from.
+//! - `session_answers`: requests of a script, answered from a session.
+//! - `session_edit`: a script, answered from a session that is opened for it.
 //! - `edit`: the command that edits a circuit by a script.
 //! - `status`: running a job, with the status of the program.
+//! - `shot_laws`: outputs of parts are joined to that of all shots.
+//! - `script_laws`: each script has an answer, and no other if it asks for no distance.
 //! - `laws`: the laws of what commands write, passed on.
 //!
-//! Jobs are those of `stab_jobs`, shots are sent by `stab_sampling`, the commands that write about a circuit in one go
-//! are those of `stab_tables`, passed on, and scripts are answered by `stab_scripts`.
+//! Jobs are those of `stab_jobs`; the commands that write about a circuit in one go are those of `stab_analysis`, passed
+//! on; what the lines of a script ask for, and the texts of replies, are `stab_script`'s.
 //!
 //! Sources: Stim's commands `sample` and `detect` with its result formats, for the commands of those names;
-//! `docs/use/stim.md` says where they differ. All other commands and the script are this project's own.
+//! `docs/use/stim.md` says where they differ. How shots go through a circuit at once, all other commands and the script
+//! are this project's own.
 //!
 //! Proved on `run_sample` and `run_detect`: a call ends by cases. The text was refused, by its own fault
 //! or unread, and the output is untouched; or it was given whole, and the output took what the
 //! stabiliser rules give for its circuit and the coins of each shot, in the format asked for, and one
-//! flush; or it failed once, or memory was refused, after a prefix. `run_stabilisers` ends by such cases,
-//! over the reduced rows of the state after shot 0; memory is then refused before the first row. `run_job`
-//! carries the same for each command for a job, with its status and the lines that report its fault.
-//! `run_job_watched` says too that the reply to each line of a script is written before more of the
-//! script is asked for.
+//! flush; or it failed once, or memory was refused, after a prefix. How many shots go at once, and in which words, changes
+//! nothing of that. `run_stabilisers` ends by such cases, over the reduced rows of the state after shot 0; memory is then
+//! refused before the first row. `edit_circuit` writes exactly the replies that `specs/Scripts.antt` of `stab_script`
+//! gives for the script and the circuit's items, or ends by its own cases (`specs/ScriptEndings.antt`), and the reply to
+//! each line is written before more of the script is asked for (`specs/ScriptTurns.antt`). `run_job` carries the same for
+//! each command for a job, with its status and the lines that report its fault. `specs/inner/` has what only private
+//! contracts cite.
 #![tactic(auto)]
 
+mod bits;
+mod coin_replies;
+mod deterministic_bits;
+mod distances;
 mod edit;
+mod lanes;
 pub mod laws;
+mod marks;
+mod packed;
 mod run;
+pub mod script_laws;
+mod session_answers;
+mod session_edit;
+pub mod shot_laws;
+mod shots;
 mod stabilisers;
 mod status;
+mod widths;
 
+pub use bits::Shown;
 pub use edit::{run_edit, run_edit_watched};
 pub use run::{run_detect, run_detect_shots, run_sample, run_sample_shots};
+pub use session_edit::edit_circuit;
+pub use shots::send_shots;
+pub use stab_analysis::{
+    Bit, Decider, FaultsRefused, Progress, Random, Unwatched, run_check, run_coins,
+    run_deterministic, run_distance, run_explain, run_faults, write_fault, write_refused,
+};
 pub use stab_jobs::{
     Command, DistanceOptions, ErrorLetters, FaultLayout, Job, QubitCount, Shots, Source, Stride,
 };
-pub use stab_scripts::{KeepsLog, LoggedInput, LoggedRead, NoWatcher, Watcher};
-pub use stab_tables::{
-    Bit, Decider, FaultsRefused, Progress, Unsure, Unwatched, run_check, run_coins,
-    run_deterministic, run_distance, run_explain, run_faults, write_fault, write_refused,
-};
+pub use stab_script::{KeepsLog, LoggedInput, LoggedRead, NoWatcher, Watcher};
 pub use stabilisers::run_stabilisers;
 pub use status::{run_job, run_job_watched};

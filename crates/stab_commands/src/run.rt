@@ -3,16 +3,17 @@ ghost use Rattle.std.specs.Prelude.{◌≡◌, ◌≤◌, None};
 ghost use Rattle.stab_circuit.specs.Steps.{check_of};
 ghost use Rattle.stab_circuit.specs.Views.{circuit_items};
 ghost use Rattle.stab_jobs.specs.Limits.{most_shots};
-ghost use Rattle.stab_tables.specs.Endings.{Sends};
-ghost use Rattle.stab_sampling.specs.Outputs.{EndsRun, sample_of, detect_of};
-ghost use Rattle.stab_sampling.specs.Sendings.{shots_of};
+ghost use Rattle.stab_analysis.specs.Endings.{Sends};
+ghost use Rattle.stab_commands.specs.Outputs.{EndsRun, sample_of, detect_of};
+ghost use Rattle.stab_commands.specs.Sendings.{shots_of};
 
+use crate::bits::Shown;
+use crate::shots::send_shots;
+use stab_analysis::finish;
 use stab_circuit::{Circuit, read_circuit};
 use stab_io::{Fault, Input, Output};
 use stab_jobs::{Shots, Source};
 use stab_results::Format;
-use stab_sampling::{Shown, send_shots};
-use stab_tables::finish;
 use std::alloc::Global;
 
 /// Writes what is shown of a circuit's shots, and flushes.

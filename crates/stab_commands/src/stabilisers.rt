@@ -9,17 +9,18 @@ ghost use Rattle.stab_tableau.specs.Reduced.{AreReduced};
 ghost use Rattle.stab_circuit.specs.Steps.{check_of, qubits_of};
 ghost use Rattle.stab_circuit.specs.Views.{circuit_items};
 ghost use Rattle.stab_run.specs.Runs.{run_of};
-ghost use Rattle.stab_tables.specs.Rows.{line_of, lines_of};
-ghost use Rattle.stab_commands.specs.Stabilisers.{AreStabilisersOf, EndsStabilisers};
+ghost use Rattle.stab_analysis.specs.Rows.{line_of, lines_of};
+ghost use Rattle.stab_analysis.specs.Sources.{run_of_shot};
+ghost use Rattle.stab_commands.specs.Stabilisers.{EndsStabilisers};
 ghost use Rattle.stab_commands.specs.inner.Rows.{SendsLines};
 
+use stab_analysis::finish;
 use stab_circuit::{Circuit, read_circuit};
 use stab_io::{Fault, Input, Output, Refusal, write_all};
 use stab_jobs::Source;
 use stab_pauli::Pauli;
 use stab_run::{Coins, ListCoins, SeedCoins};
 use stab_session::Session;
-use stab_tables::finish;
 use std::alloc::Global;
 
 // The greatest stride: this session is never edited, so it needs no states on its way.
@@ -53,7 +54,7 @@ fn rows_of<C: Coins>(alloc: Global, session: Session<C>) -> Result<Vec<Pauli>, F
 /// The reduced rows after shot 0 of a circuit, with coins from this source.
 fn stabilisers_of(alloc: Global, circuit: Circuit, source: &Source) -> Result<Vec<Pauli>, Fault>
     requires checked { check_of (circuit_items circuit) ≡ None }
-    ensures rows { IfOk result (λ rows. AreStabilisersOf source.now (circuit_items circuit) rows.items) }
+    ensures rows { IfOk result (λ rows. AreReduced (qubits_of (circuit_items circuit)) (member (run_of_shot source.now (circuit_items circuit) 0).trace) rows.items) }
     ensures err { IfErr result (λ f. f ≡ whole OutOfMemory) }
 {
     match source {

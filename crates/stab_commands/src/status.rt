@@ -1,20 +1,20 @@
 //! Running a job, with the status of the program.
 ghost use Rattle.std.specs.Prelude.{◌≡◌, ◌≤◌, IfSome, None, false};
-ghost use Rattle.stab_letters.specs.Limits.{most_qubits};
-ghost use Rattle.stab_tables.specs.FaultTables.{fault_of, unsure_of};
+ghost use Rattle.stab_gates.specs.Limits.{most_qubits};
+ghost use Rattle.stab_analysis.specs.FaultTables.{fault_of, random_of};
 ghost use Rattle.stab_commands.specs.Jobs.{EndsCommand, EndsJob, reads_script, refusing_none};
 ghost use Rattle.stab_commands.specs.Jobs.{CommandInTurn};
 
 use crate::edit::run_edit_watched;
 use crate::run::{run_detect_shots, run_sample_shots};
 use crate::stabilisers::run_stabilisers;
-use stab_io::{Fault, Input, Output};
-use stab_jobs::{Command, Job, QubitCount};
-use stab_scripts::{NoWatcher, Watcher};
-use stab_tables::{
+use stab_analysis::{
     FaultsRefused, Progress, Unwatched, run_check, run_coins, run_deterministic, run_distance,
     run_explain, run_faults, write_refused,
 };
+use stab_io::{Fault, Input, Output};
+use stab_jobs::{Command, Job, QubitCount};
+use stab_script::{NoWatcher, Watcher};
 use std::alloc::Global;
 
 /// How many qubits, if a number is asked for.
@@ -31,7 +31,7 @@ fn number_of(qubits: Option<QubitCount>) -> Option<usize>
 /// A call of any command except `faults` and `distance` names no detector or observable.
 fn names_none<T>(answer: Result<T, Fault>) -> Result<T, FaultsRefused>
     ensures value { fault_of result ≡ answer }
-    ensures none { unsure_of result ≡ None }
+    ensures none { random_of result ≡ None }
 {
     match answer {
         Ok(value) => Ok(value),
@@ -42,7 +42,7 @@ fn names_none<T>(answer: Result<T, Fault>) -> Result<T, FaultsRefused>
 /// A call that reads no script refuses no line of it.
 fn refuses_none(answer: Result<(), FaultsRefused>) -> Result<bool, FaultsRefused>
     ensures value { fault_of result ≡ refusing_none (fault_of answer) }
-    ensures same { unsure_of result ≡ unsure_of answer }
+    ensures same { random_of result ≡ random_of answer }
 {
     match answer {
         Ok(()) => Ok(false),
@@ -53,7 +53,7 @@ fn refuses_none(answer: Result<(), FaultsRefused>) -> Result<bool, FaultsRefused
 /// A call that reads no script and names no detector or observable.
 fn plain_answer(answer: Result<(), Fault>) -> Result<bool, FaultsRefused>
     ensures value { fault_of result ≡ refusing_none answer }
-    ensures none { unsure_of result ≡ None }
+    ensures none { random_of result ≡ None }
 {
     refuses_none(names_none(answer))
 }
@@ -67,7 +67,7 @@ fn run_command<I: Input, S: Input, O: Output, W: Watcher<S, O>, P: Progress>(
     out: &mut O,
     progress: &mut P,
 ) -> Result<bool, FaultsRefused>
-    ensures ends { EndsCommand job.now.command job.now.source (I.seen input.old) (I.seen input.new) (S.seen script.old) (S.seen script.new) (O.seen out.old) (O.seen out.new) (fault_of result) (unsure_of result) }
+    ensures ends { EndsCommand job.now.command job.now.source (I.seen input.old) (I.seen input.new) (S.seen script.old) (S.seen script.new) (O.seen out.old) (O.seen out.new) (fault_of result) (random_of result) }
     ensures script { reads_script job.now.command ≡ false → script.new ≡ script.old }
     ensures turns { CommandInTurn job.now.command job.now.source (I.seen input.old) (I.seen input.new) (S.seen script.old) (S.seen script.new) (O.seen out.old) (W.log script.old) (W.log script.new) }
 {
@@ -91,8 +91,8 @@ fn run_command<I: Input, S: Input, O: Output, W: Watcher<S, O>, P: Progress>(
         Command::Faults {
             layout,
             everywhere,
-            sure_only,
-        } => refuses_none(run_faults(alloc, input, out, layout, everywhere, sure_only)),
+            deterministic_only,
+        } => refuses_none(run_faults(alloc, input, out, layout, everywhere, deterministic_only)),
         Command::Distance(options) => {
             refuses_none(run_distance(alloc, input, out, options, progress))
         }

@@ -1,15 +1,6 @@
 -- Answers: each table has one, since all lists of a number of rows can be tried.
-use Rattle.std.proofs.Common.{◌≡◌, ℕ, zero, suc, ◌+◌, ◌≤◌, ◌<◌, ◌⊎◌, inl, inr, refl, sym, ◌∙◌, subst, arith, Bool, true, false, List, [], ◌∷◌, ◌++◌, length, append-nil, append_assoc, ◌^◌}
-use Rattle.std.specs.Global.{Vec}
-use denote.RawPtr.{null_ptr}
-use Rattle.std.proofs.lemmas.Bool.{cases_lt, ne_eqb, false≢true}
-use Rattle.stab_letters.specs.Letters.{◌⊕◌}
-use Rattle.stab_distance.specs.declared.answer.Answer.{Answer}
-use Rattle.stab_distance.specs.declared.answer.Answer.TheVariants.{Least, NoneWithin}
-use Rattle.stab_distance.specs.Tables.{ErrorTable, odd, flips}
-use Rattle.stab_distance.specs.LogicalErrors.{IsLogicalError, HasNoneWithin, IsAnswer}
-use Rattle.stab_distance.specs.inner.Lists.{Each}
-use Rattle.stab_distance.specs.inner.Shortest.{IsShortest}
+use Rattle.stab_distance.proofs.Names.{◌≡◌, ℕ, zero, suc, ◌+◌, ◌≤◌, ◌<◌, ◌⊎◌, inl, inr, refl, sym, ◌∙◌, subst, arith, Bool, true, false, List, [], ◌∷◌, ◌++◌, length, append-nil, append_assoc, ◌^◌, Vec, null_ptr, cases_lt, false≢true, ◌⊕◌, Answer, Least, NoneWithin, ErrorTable, odd, flips, IsLogicalError, HasNoneWithin, IsAnswer, Each, IsShortest}
+use Rattle.std.proofs.lemmas.Bool.{ne_eqb}
 use Rattle.stab_distance.proofs.FlipLemmas.{named_by, odd-named}
 use Rattle.stab_distance.proofs.ListLemmas.{by-bit, all-each, each-all, each-push}
 use Rattle.stab_distance.proofs.ShortestLemmas.{gathering, gathered-logical, none-empty}

@@ -1,13 +1,5 @@
 -- Ascending lists: merged ones ascend, and a number is in one once or not at all.
-use Rattle.std.proofs.Common.{◌≡◌, ℕ, suc, ◌+◌, ◌≤◌, ◌<◌, ◌⊎◌, inl, inr, refl, sym, ◌∙◌, ap, subst, arith, Bool, true, false, ◌||◌, List, [], ◌∷◌, ◌++◌, append-nil, append_assoc, drop-cons, length, drop, get_or, ne_eqb}
-use Rattle.std.specs.Prelude.{◌==◌}
-use Rattle.std.specs.List.{list_any}
-use Rattle.std.proofs.lemmas.Bool.{eqb-true}
-use Rattle.std.proofs.Math.ListN.{drop_of_length-le}
-use Rattle.stab_letters.specs.Letters.{◌⊕◌}
-use Rattle.stab_distance.specs.Ascending.{AscendsFrom, IsAscending}
-use Rattle.stab_distance.specs.Tables.{odd}
-use Rattle.stab_distance.specs.inner.Lists.{Each}
+use Rattle.stab_distance.proofs.Names.{◌≡◌, ℕ, suc, ◌+◌, ◌≤◌, ◌<◌, ◌⊎◌, inl, inr, refl, sym, ◌∙◌, ap, subst, arith, Bool, true, false, ◌||◌, List, [], ◌∷◌, ◌++◌, append-nil, append_assoc, drop-cons, length, drop, get_or, ne_eqb, ◌==◌, list_any, eqb-true, drop_of_length-le, ◌⊕◌, AscendsFrom, IsAscending, odd, Each}
 
 ascends-lower : (m k : ℕ) (xs : List ℕ) → m ≤ k → AscendsFrom k xs → AscendsFrom m xs
 ascends-lower m k [] le a = tt

@@ -1,10 +1,5 @@
 -- Bounds: of logical errors by those of each observable, and of a table by its distinct rows.
-use Rattle.std.proofs.Common.{◌≡◌, ℕ, ◌+◌, ◌≤◌, ◌<◌, ◌⊎◌, inl, inr, sym, ◌∙◌, subst, arith, false, List, length, min}
-use Rattle.std.proofs.lemmas.Bool.{cases_lt, false≢true}
-use Rattle.stab_distance.specs.Tables.{ErrorTable, odd, row}
-use Rattle.stab_distance.specs.LogicalErrors.{IsLeast, HasNoneWithin}
-use Rattle.stab_distance.specs.inner.Graphs.{HasAtLeast, HasBound}
-use Rattle.stab_distance.specs.inner.Shortest.{IsLogicalSet}
+use Rattle.stab_distance.proofs.Names.{◌≡◌, ℕ, ◌+◌, ◌≤◌, ◌<◌, ◌⊎◌, inl, inr, sym, ◌∙◌, subst, arith, false, List, length, min, cases_lt, false≢true, ErrorTable, odd, row, IsLeast, HasNoneWithin, HasAtLeast, HasBound, IsLogicalSet}
 use Rattle.stab_distance.proofs.CertificateLemmas.{unnamed}
 use Rattle.stab_distance.proofs.ShortestLemmas.{none-up_to}
 

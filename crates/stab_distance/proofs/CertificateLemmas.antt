@@ -1,13 +1,5 @@
 -- Certificates: what members add up to over some errors.
-use Rattle.std.proofs.Common.{◌≡◌, ℕ, zero, suc, ◌+◌, ◌≤◌, ◌<◌, ◌⊎◌, inl, inr, refl, sym, ◌∙◌, ap, subst, arith, Bool, true, false, List, [], ◌∷◌, ◌++◌, length, get_or, drop, ne_eqb}
-use Rattle.std.specs.Prelude.{◌==◌}
-use Rattle.std.proofs.lemmas.Bool.{eq-eqb, cases_eq, cases_lt, false≢true}
-use Rattle.stab_letters.specs.Letters.{◌⊕◌}
-use Rattle.stab_letters.proofs.ParityLemmas.{parity-mid}
-use Rattle.stab_distance.specs.Tables.{ErrorTable, odd, row, flips}
-use Rattle.stab_distance.specs.LogicalErrors.{HasNone}
-use Rattle.stab_distance.specs.inner.Lists.{Each}
-use Rattle.stab_distance.specs.inner.Certificates.{odd_members, IsCertificate, FollowsDetectors}
+use Rattle.stab_distance.proofs.Names.{◌≡◌, ℕ, zero, suc, ◌+◌, ◌≤◌, ◌<◌, ◌⊎◌, inl, inr, refl, sym, ◌∙◌, ap, subst, arith, Bool, true, false, List, [], ◌∷◌, ◌++◌, length, get_or, drop, ne_eqb, ◌==◌, eq-eqb, cases_eq, cases_lt, false≢true, ◌⊕◌, parity-mid, ErrorTable, odd, row, flips, HasNone, Each, odd_members, IsCertificate, FollowsDetectors}
 use Rattle.stab_distance.proofs.ListLemmas.{by-bit, each-all}
 use Rattle.stab_distance.proofs.Totals.{total, bits, total-append, total-none}
 use Rattle.stab_distance.proofs.FlipLemmas.{named_by, odd-named}

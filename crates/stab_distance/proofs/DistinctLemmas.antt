@@ -1,13 +1,5 @@
 -- Distinct rows: what holds of them holds of the table.
-use Rattle.std.proofs.Common.{◌≡◌, ℕ, suc, ◌<◌, refl, sym, ◌∙◌, ap, subst, arith, List, [], ◌∷◌, length, map}
-use Rattle.std.specs.Prelude.{slice_index}
-use Rattle.stab_letters.specs.Letters.{◌⊕◌}
-use Rattle.stab_distance.specs.Tables.{ErrorTable, odd, row, flips}
-use Rattle.stab_distance.specs.LogicalErrors.{IsLogicalError, IsLeast, HasNone, HasNoneWithin}
-use Rattle.stab_distance.specs.inner.Lists.{Each}
-use Rattle.stab_distance.specs.inner.Errors.{AreRowsOf, HasRow}
-use Rattle.stab_distance.specs.inner.Graphs.{HasBound}
-use Rattle.stab_distance.specs.inner.Shortest.{IsShortest, IsGathered}
+use Rattle.stab_distance.proofs.Names.{◌≡◌, ℕ, suc, ◌<◌, refl, sym, ◌∙◌, ap, subst, arith, List, [], ◌∷◌, length, map, slice_index, ◌⊕◌, ErrorTable, odd, row, flips, IsLogicalError, IsLeast, HasNone, HasNoneWithin, Each, AreRowsOf, HasRow, HasBound, IsShortest, IsGathered}
 use Rattle.stab_distance.proofs.ListLemmas.{each-all, all-each}
 
 module _ (detectors : ℕ) (rows chosen : List (List ℕ)) (all : (r : ℕ) → r < length rows → HasRow chosen (row rows r)) where

@@ -1,15 +1,5 @@
 -- Edges: ascending rows that flip at most two detectors, and their nodes.
-use Rattle.std.proofs.Common.{◌≡◌, ℕ, zero, suc, ◌+◌, ◌≤◌, ◌<◌, ◌⊎◌, inl, inr, refl, sym, ◌∙◌, ap, subst, arith, Bool, true, false, List, [], ◌∷◌, ◌++◌, length, get_or, min, ne_eqb}
-use Rattle.std.specs.Prelude.{◌==◌}
-use Rattle.std.proofs.lemmas.Bool.{eqb-true, eq-eqb, cases_eq, cases_lt}
-use Rattle.stab_letters.specs.Letters.{◌⊕◌}
-use Rattle.stab_letters.proofs.ParityLemmas.{parity-false}
-use Rattle.stab_distance.specs.declared.edges.Edge.{Edge}
-use Rattle.stab_distance.specs.Ascending.{AscendsFrom, IsAscending}
-use Rattle.stab_distance.specs.Tables.{odd, row}
-use Rattle.stab_distance.specs.Graphlike.{IsGraphlike}
-use Rattle.stab_distance.specs.inner.Lists.{has}
-use Rattle.stab_distance.specs.inner.Graphs.{IsEdge, edge}
+use Rattle.stab_distance.proofs.Names.{◌≡◌, ℕ, zero, suc, ◌+◌, ◌≤◌, ◌<◌, ◌⊎◌, inl, inr, refl, sym, ◌∙◌, ap, subst, arith, Bool, true, false, List, [], ◌∷◌, ◌++◌, length, get_or, min, ne_eqb, ◌==◌, eqb-true, eq-eqb, cases_eq, cases_lt, ◌⊕◌, parity-false, Edge, AscendsFrom, IsAscending, odd, row, IsGraphlike, has, IsEdge, edge}
 use Rattle.stab_distance.proofs.ListLemmas.{has-here, has-there}
 use Rattle.stab_distance.proofs.AscendingLemmas.{odd-below, named-ascending}
 

@@ -1,16 +1,5 @@
 -- Ends: an error is tried, or none is left to try.
-use Rattle.std.proofs.Common.{◌≡◌, ℕ, ◌+◌, ◌≤◌, ◌<◌, refl, sym, ◌∙◌, ap, subst, arith, Bool, true, false, ◌||◌, List, [], ◌∷◌, ◌++◌, length, get_or}
-use Rattle.std.specs.Prelude.{bit_xor}
-use Rattle.std.proofs.lemmas.Bool.{eq-eqb, false≢true}
-use Rattle.std.proofs.lemmas.List.{length-append}
-use Rattle.stab_letters.specs.Letters.{◌⊕◌}
-use Rattle.stab_letters.proofs.ParityLemmas.{parity-comm, parity-assoc, parity-false, parity-self, parity-twice}
-use Rattle.stab_distance.specs.Ascending.{IsAscending}
-use Rattle.stab_distance.specs.Tables.{ErrorTable, odd, row, flips}
-use Rattle.stab_distance.specs.LogicalErrors.{HasNoneWithin}
-use Rattle.stab_distance.specs.inner.Lists.{has}
-use Rattle.stab_distance.specs.inner.Errors.{key_of}
-use Rattle.stab_distance.specs.inner.Ends.{Ends, EndsWithin, NoEnds, NoEndsBy}
+use Rattle.stab_distance.proofs.Names.{◌≡◌, ℕ, ◌+◌, ◌≤◌, ◌<◌, refl, sym, ◌∙◌, ap, subst, arith, Bool, true, false, ◌||◌, List, [], ◌∷◌, ◌++◌, length, get_or, bit_xor, eq-eqb, false≢true, length-append, ◌⊕◌, parity-comm, parity-assoc, parity-false, parity-self, parity-twice, IsAscending, ErrorTable, odd, row, flips, HasNoneWithin, has, key_of, Ends, EndsWithin, NoEnds, NoEndsBy}
 use Rattle.stab_distance.proofs.AscendingLemmas.{odd-below}
 use Rattle.stab_distance.proofs.FlipLemmas.{flips-push, flips-without, namer, key-same, key-sum}
 use Rattle.stab_distance.proofs.Totals.{odd-append}

@@ -1,7 +1,5 @@
 -- Equal lists: those that a comparison finds equal.
-use Rattle.std.proofs.Common.{◌≡◌, ℕ, true, List, [], ◌∷◌, eqb}
-use Rattle.std.specs.Cmp.Lexicographic.{pointwise}
-use Rattle.std.proofs.lemmas.Bool.{eqb-true, false≢true, and_parts}
+use Rattle.stab_distance.proofs.Names.{◌≡◌, ℕ, true, List, [], ◌∷◌, eqb, pointwise, eqb-true, false≢true, and_parts}
 
 pub pointwise-true : (xs ys : List ℕ) → pointwise eqb xs ys ≡ true → xs ≡ ys
 pointwise-true [] [] e = λ i. []

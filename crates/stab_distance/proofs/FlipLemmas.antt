@@ -1,12 +1,5 @@
 -- What errors flip together when one is put after others, left out or toggled; their totals and keys.
-use Rattle.std.proofs.Common.{◌≡◌, ℕ, zero, suc, ◌≤◌, ◌<◌, ◌⊎◌, inl, inr, refl, sym, ◌∙◌, ap, arith, true, false, List, [], ◌∷◌, ◌++◌, length, get_or}
-use Rattle.std.specs.Prelude.{bit_xor}
-use Rattle.std.proofs.lemmas.Bool.{cases_lt, false≢true}
-use Rattle.stab_letters.specs.Letters.{◌⊕◌}
-use Rattle.stab_letters.proofs.ParityLemmas.{parity-false}
-use Rattle.stab_distance.specs.Tables.{odd, row, flips}
-use Rattle.stab_distance.specs.inner.Lists.{has, toggle}
-use Rattle.stab_distance.specs.inner.Errors.{key_of}
+use Rattle.stab_distance.proofs.Names.{◌≡◌, ℕ, zero, suc, ◌≤◌, ◌<◌, ◌⊎◌, inl, inr, refl, sym, ◌∙◌, ap, arith, true, false, List, [], ◌∷◌, ◌++◌, length, get_or, bit_xor, cases_lt, false≢true, ◌⊕◌, parity-false, odd, row, flips, has, toggle, key_of}
 use Rattle.stab_distance.proofs.ListLemmas.{by-bit, has-here, has-there, without}
 use Rattle.stab_distance.proofs.Totals.{total, bits, masks, total-append, total-without, total-toggle, total-same, odd-append}
 

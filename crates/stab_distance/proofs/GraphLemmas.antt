@@ -1,15 +1,5 @@
 -- Graphs: labels that differ by at most 1 along each edge bound the number of errors that flip an observable and no detector.
-use Rattle.std.proofs.Common.{◌≡◌, ℕ, zero, suc, ◌+◌, ◌≤◌, ◌<◌, ◌⊎◌, inl, inr, refl, sym, ◌∙◌, ap, subst, arith, Bool, true, false, List, [], ◌∷◌, length, map, get_or, ne_eqb, lt-ltb, le-ltb}
-use Rattle.std.specs.Prelude.{◌==◌, nat_lt}
-use Rattle.std.proofs.lemmas.Bool.{eqb-true, eq-eqb, cases_eq, cases_lt, false≢true}
-use Rattle.stab_letters.specs.Letters.{◌⊕◌}
-use Rattle.stab_letters.proofs.ParityLemmas.{parity-false, parity-self, parity-comm, parity-assoc, parity-mid, parity-twice}
-use Rattle.stab_distance.specs.declared.edges.Edge.{Edge}
-use Rattle.stab_distance.specs.declared.labels.Labels.{Labels}
-use Rattle.stab_distance.specs.Tables.{ErrorTable, odd, row, flips}
-use Rattle.stab_distance.specs.inner.Lists.{Each, has}
-use Rattle.stab_distance.specs.inner.Graphs.{edge, AreEdges, AreBits, HasAtLeast}
-use Rattle.stab_distance.specs.inner.Labels.{label, AreLabels, IsFar, AreCovered}
+use Rattle.stab_distance.proofs.Names.{◌≡◌, ℕ, zero, suc, ◌+◌, ◌≤◌, ◌<◌, ◌⊎◌, inl, inr, refl, sym, ◌∙◌, ap, subst, arith, Bool, true, false, List, [], ◌∷◌, length, map, get_or, ne_eqb, lt-ltb, le-ltb, ◌==◌, nat_lt, eqb-true, eq-eqb, cases_eq, cases_lt, false≢true, ◌⊕◌, parity-false, parity-self, parity-comm, parity-assoc, parity-mid, parity-twice, Edge, Labels, ErrorTable, odd, row, flips, Each, has, edge, AreEdges, AreBits, HasAtLeast, label, AreLabels, IsFar, AreCovered}
 use Rattle.stab_distance.proofs.ListLemmas.{by-bit, each-all, each-has, each-without, without, length-without}
 use Rattle.stab_distance.proofs.Totals.{total, bits as group, total-append, total-none, odd-total}
 use Rattle.stab_distance.proofs.FlipLemmas.{flips-without, namer, named_by, odd-named}

@@ -1,11 +1,6 @@
 -- Index: what is listed at a place, when a list is added or written.
-use Rattle.std.proofs.Common.{◌≡◌, ℕ, zero, suc, ◌+◌, ◌≤◌, ◌<◌, ◌⊎◌, inl, inr, refl, sym, ◌∙◌, ap, subst, arith, true, List, [], ◌∷◌, ◌++◌, length, get_or, set}
+use Rattle.stab_distance.proofs.Names.{◌≡◌, ℕ, zero, suc, ◌+◌, ◌≤◌, ◌<◌, ◌⊎◌, inl, inr, refl, sym, ◌∙◌, ap, subst, arith, true, List, [], ◌∷◌, ◌++◌, length, get_or, set, Vec, cases_eq, cases_lt, odd, row, Each, has, listed}
 use Rattle.std.specs.Prelude.{◌≢◌}
-use Rattle.std.specs.Global.{Vec}
-use Rattle.std.proofs.lemmas.Bool.{cases_eq, cases_lt}
-use Rattle.stab_distance.specs.Tables.{odd, row}
-use Rattle.stab_distance.specs.inner.Lists.{Each, has}
-use Rattle.stab_distance.specs.inner.Indexes.{listed}
 use Rattle.stab_distance.proofs.ListLemmas.{each-push, has-push, has-before}
 use Rattle.stab_distance.proofs.Totals.{has-odd}
 

@@ -1,3 +1,4 @@
+mod Names
 pub mod ListLemmas
 pub mod Totals
 pub mod AscendingLemmas

@@ -1,11 +1,6 @@
 -- Lists of numbers: each of a list, those that are among them, and one left out or toggled.
-use Rattle.std.proofs.Common.{◌≡◌, ℕ, zero, suc, ◌+◌, ◌≤◌, ◌<◌, refl, sym, ◌∙◌, ap, subst, arith, Bool, true, false, ◌||◌, List, [], ◌∷◌, ◌++◌, length, get_or, ne_eqb, lt-ltb, le-ltb}
-use Rattle.std.specs.Prelude.{◌≢◌, ◌==◌, nat_lt, All, if◌then◌else◌}
-use Rattle.std.proofs.lemmas.Bool.{eqb-true, eqb-false, eq-eqb, ltb-true, ltb-false, false≢true, or_left, or_right}
-use Rattle.std.proofs.lemmas.List.Elements.{All-nil, All-cons, All-head, All-tail}
-use Rattle.std.proofs.lemmas.List.Folds.{list_any-append}
-use Rattle.stab_distance.specs.Ascending.{AscendsFrom}
-use Rattle.stab_distance.specs.inner.Lists.{Each, has, toggle}
+use Rattle.stab_distance.proofs.Names.{◌≡◌, ℕ, zero, suc, ◌+◌, ◌≤◌, ◌<◌, refl, sym, ◌∙◌, ap, subst, arith, Bool, true, false, ◌||◌, List, [], ◌∷◌, ◌++◌, length, get_or, ne_eqb, lt-ltb, le-ltb, ◌==◌, nat_lt, All, if◌then◌else◌, eqb-true, eqb-false, eq-eqb, ltb-true, ltb-false, false≢true, or_left, or_right, All-nil, All-cons, All-head, All-tail, list_any-append, AscendsFrom, Each, has, toggle}
+use Rattle.std.specs.Prelude.{◌≢◌}
 
 -- cases of a bit, with the equation
 pub by-bit : {P : Type 0} (b : Bool) → (b ≡ true → P) → (b ≡ false → P) → P

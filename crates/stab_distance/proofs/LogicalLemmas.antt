@@ -1,10 +1,5 @@
 -- Logical errors: what errors flip together, by the list that is made of their rows one by one.
-use Rattle.std.proofs.Common.{◌≡◌, ℕ, suc, ◌+◌, ◌≤◌, ◌<◌, sym, ◌∙◌, ap, arith, List, [], ◌∷◌, length, get_or, take}
-use Rattle.std.proofs.lemmas.List.Elements.{All-from_get_or}
-use Rattle.stab_letters.specs.Letters.{◌⊕◌}
-use Rattle.stab_distance.specs.Ascending.{IsAscending}
-use Rattle.stab_distance.specs.Tables.{ErrorTable, odd, row, flips}
-use Rattle.stab_distance.specs.LogicalErrors.{IsLogicalError}
+use Rattle.stab_distance.proofs.Names.{◌≡◌, ℕ, suc, ◌+◌, ◌≤◌, ◌<◌, sym, ◌∙◌, ap, arith, List, [], ◌∷◌, length, get_or, take, All-from_get_or, ◌⊕◌, IsAscending, ErrorTable, odd, row, flips, IsLogicalError}
 use Rattle.stab_distance.proofs.ListLemmas.{has-here}
 use Rattle.stab_distance.proofs.AscendingLemmas.{odd-below, named-ascending}
 use Rattle.stab_distance.proofs.FlipLemmas.{flips-push}

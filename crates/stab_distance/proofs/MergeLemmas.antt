@@ -1,9 +1,5 @@
 -- Rows of numbers: which are named an odd number of times, when lists are joined, cut and merged.
-use Rattle.std.proofs.Common.{◌≡◌, ℕ, zero, suc, ◌+◌, ◌<◌, refl, sym, ◌∙◌, ap, arith, Bool, false, List, [], ◌∷◌, ◌++◌, length, drop, get_or}
-use Rattle.std.specs.Prelude.{◌==◌}
-use Rattle.stab_letters.specs.Letters.{◌⊕◌}
-use Rattle.stab_letters.proofs.ParityLemmas.{parity-assoc}
-use Rattle.stab_distance.specs.Tables.{odd}
+use Rattle.stab_distance.proofs.Names.{◌≡◌, ℕ, zero, suc, ◌+◌, ◌<◌, refl, sym, ◌∙◌, ap, arith, Bool, false, List, [], ◌∷◌, ◌++◌, length, drop, get_or, ◌==◌, ◌⊕◌, parity-assoc, odd}
 use Rattle.stab_distance.proofs.Totals.{odd-append}
 
 -- the rest of a list, by its head

@@ -1,15 +1,5 @@
 -- Parts: what holds of a table's graph-like part holds of the graph-like errors of the table.
-use Rattle.std.proofs.Common.{◌≡◌, ℕ, zero, suc, ◌+◌, ◌≤◌, ◌<◌, ◌⊎◌, inl, inr, refl, sym, ◌∙◌, ap, subst, arith, true, List, [], ◌∷◌, ◌++◌, length, min}
-use Rattle.std.specs.Prelude.{All}
-use Rattle.std.proofs.lemmas.Bool.{cases_lt}
-use Rattle.stab_letters.specs.Letters.{◌⊕◌}
-use Rattle.stab_distance.specs.declared.answer.Answer.{Answer}
-use Rattle.stab_distance.specs.declared.answer.Answer.TheVariants.{Least, NoneWithin, NoneAtAll}
-use Rattle.stab_distance.specs.Tables.{ErrorTable, odd, row, flips}
-use Rattle.stab_distance.specs.LogicalErrors.{IsLogicalError, IsLeast, IsAnswer}
-use Rattle.stab_distance.specs.Graphlike.{IsGraphlike, IsGraphlikeError, IsLeastGraphlike, IsGraphlikeAnswer}
-use Rattle.stab_distance.specs.inner.Lists.{Each, has}
-use Rattle.stab_distance.specs.inner.Parts.{IsGraphlikePart}
+use Rattle.stab_distance.proofs.Names.{◌≡◌, ℕ, zero, suc, ◌+◌, ◌≤◌, ◌<◌, ◌⊎◌, inl, inr, refl, sym, ◌∙◌, ap, subst, arith, true, List, [], ◌∷◌, ◌++◌, length, min, All, cases_lt, ◌⊕◌, Answer, Least, NoneWithin, NoneAtAll, ErrorTable, odd, row, flips, IsLogicalError, IsLeast, IsAnswer, IsGraphlike, IsGraphlikeError, IsLeastGraphlike, IsGraphlikeAnswer, Each, has, IsGraphlikePart}
 use Rattle.stab_distance.proofs.ListLemmas.{each-all, all-each, each-has, each-without, has-here, has-there, without, length-without}
 use Rattle.stab_distance.proofs.FlipLemmas.{flips-without}
 use Rattle.stab_distance.proofs.ShortestLemmas.{none-up_to_each}

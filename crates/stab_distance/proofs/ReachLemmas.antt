@@ -1,12 +1,5 @@
 -- Reach: this many errors do not flip more detectors of a class than they name.
-use Rattle.std.proofs.Common.{◌≡◌, ℕ, zero, suc, ◌+◌, ◌*◌, ◌≤◌, ◌<◌, refl, sym, ◌∙◌, ap, arith, true, ◌||◌, List, [], ◌∷◌, ◌++◌, length, get_or, drop}
-use Rattle.std.specs.Prelude.{◌==◌, if◌then◌else◌}
-use Rattle.std.proofs.lemmas.Bool.{eqb-true, false≢true}
-use Rattle.stab_distance.specs.Ascending.{AscendsFrom, IsAscending}
-use Rattle.stab_distance.specs.Tables.{ErrorTable, row}
-use Rattle.stab_distance.specs.inner.Lists.{Each, has}
-use Rattle.stab_distance.specs.inner.Ends.{NoEnds}
-use Rattle.stab_distance.specs.inner.Reach.{of_class, IsReach}
+use Rattle.stab_distance.proofs.Names.{◌≡◌, ℕ, zero, suc, ◌+◌, ◌*◌, ◌≤◌, ◌<◌, refl, sym, ◌∙◌, ap, arith, true, ◌||◌, List, [], ◌∷◌, ◌++◌, length, get_or, drop, ◌==◌, if◌then◌else◌, eqb-true, false≢true, AscendsFrom, IsAscending, ErrorTable, row, Each, has, NoEnds, of_class, IsReach}
 use Rattle.stab_distance.proofs.AscendingLemmas.{named-ascending}
 use Rattle.stab_distance.proofs.FlipLemmas.{named_by, odd-named}
 use Rattle.stab_distance.proofs.ListLemmas.{by-bit, each-above, has-here, has-there, without, without-here, without-there, has-without}

@@ -1,16 +1,5 @@
 -- Shortest logical errors: sets of a list, and the first error of a set.
-use Rattle.std.proofs.Common.{◌≡◌, ℕ, zero, suc, ◌+◌, ◌≤◌, ◌<◌, ◌⊎◌, inl, inr, refl, sym, ◌∙◌, ap, subst, arith, Bool, false, List, [], ◌∷◌, ◌++◌, length, get_or, take, drop, map, min}
-use Rattle.std.proofs.lemmas.Bool.{cases_lt, false≢true}
-use Rattle.std.proofs.lemmas.List.{length-append}
-use Rattle.stab_letters.specs.Letters.{◌⊕◌}
-use Rattle.stab_letters.proofs.ParityLemmas.{parity-comm, parity-twice, parity-self, parity-false}
-use Rattle.stab_distance.specs.Ascending.{AscendsFrom, IsAscending}
-use Rattle.stab_distance.specs.Tables.{ErrorTable, odd, row, flips}
-use Rattle.stab_distance.specs.LogicalErrors.{IsLogicalError, HasNoneWithin}
-use Rattle.stab_distance.specs.inner.Lists.{Each, toggle}
-use Rattle.stab_distance.specs.inner.Ends.{Ends, EndsWithin, NoEnds}
-use Rattle.stab_distance.specs.inner.Errors.{FlipNoObservable}
-use Rattle.stab_distance.specs.inner.Shortest.{IsLogicalWithin, IsShortest, IsGathered}
+use Rattle.stab_distance.proofs.Names.{◌≡◌, ℕ, zero, suc, ◌+◌, ◌≤◌, ◌<◌, ◌⊎◌, inl, inr, refl, sym, ◌∙◌, ap, subst, arith, Bool, false, List, [], ◌∷◌, ◌++◌, length, get_or, take, drop, map, min, cases_lt, false≢true, length-append, ◌⊕◌, parity-comm, parity-twice, parity-self, parity-false, AscendsFrom, IsAscending, ErrorTable, odd, row, flips, IsLogicalError, HasNoneWithin, Each, toggle, Ends, EndsWithin, NoEnds, FlipNoObservable, IsLogicalWithin, IsShortest, IsGathered}
 use Rattle.stab_distance.proofs.FlipLemmas.{flips-push, flips-toggle}
 use Rattle.stab_distance.proofs.ListLemmas.{each-map, each-all, all-each, each-above, each-push, each-toggle, length-toggle, ascends-toggle, toggle-here, toggle-out, toggle-there}
 

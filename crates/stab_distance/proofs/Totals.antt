@@ -1,12 +1,6 @@
 -- Totals of lists in a group in which each element is its own inverse, such as bits and numbers by exclusive or.
-use Rattle.std.proofs.Common.{◌≡◌, ℕ, zero, suc, ◌≤◌, ◌⊎◌, inl, inr, refl, sym, ◌∙◌, ap, arith, Bool, true, false, not, ◌||◌, List, [], ◌∷◌, ◌++◌, length, ne_eqb}
-use Rattle.std.specs.Prelude.{◌≢◌, ◌==◌, bit_xor}
-use Rattle.std.proofs.lemmas.Bool.{eqb-true, eq-eqb, cases_eq, false≢true, or_left, or_right}
-use lib.Bits.{xor_comm, xor_assoc, xor_self, xor_zero_r}
-use Rattle.stab_letters.specs.Letters.{◌⊕◌}
-use Rattle.stab_letters.proofs.ParityLemmas.{parity-comm, parity-assoc, parity-self, parity-twice}
-use Rattle.stab_distance.specs.Tables.{odd}
-use Rattle.stab_distance.specs.inner.Lists.{has, toggle}
+use Rattle.stab_distance.proofs.Names.{◌≡◌, ℕ, zero, suc, ◌≤◌, ◌⊎◌, inl, inr, refl, sym, ◌∙◌, ap, arith, Bool, true, false, not, ◌||◌, List, [], ◌∷◌, ◌++◌, length, ne_eqb, ◌==◌, bit_xor, eqb-true, eq-eqb, cases_eq, false≢true, or_left, or_right, xor_comm, xor_assoc, xor_self, xor_zero_r, ◌⊕◌, parity-comm, parity-assoc, parity-self, parity-twice, odd, has, toggle}
+use Rattle.std.specs.Prelude.{◌≢◌}
 use Rattle.stab_distance.proofs.ListLemmas.{by-bit, without, without-here, without-there, length-without, toggle-here, toggle-out, toggle-there, by-place}
 
 -- a group in which each element is its own inverse

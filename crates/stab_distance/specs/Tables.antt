@@ -1,7 +1,7 @@
 -- Tables of errors: the detectors and observables that each error flips, and what several errors flip together.
 -- Source: C. Gidney, Stim: a fast stabilizer circuit simulator (2021), detector error models.
 use Rattle.std.specs.Prelude.{ℕ, ◌==◌, Bool, false, List, [], ◌∷◌, slice_index_or}
-use Rattle.stab_letters.specs.Letters.{◌⊕◌}
+use Rattle.stab_gates.specs.Letters.{◌⊕◌}
 
 -- a table: a row for each error, with the numbers of what it flips; a number below `detectors` is a detector, any other an observable
 pub record ErrorTable : Type 0 where

@@ -50,6 +50,3 @@ pub use graphlike::least_graphlike_error;
 pub use least::least_logical_error;
 pub use merging::merge_into;
 pub use table::Table;
-
-#[cfg(test)]
-mod tests;

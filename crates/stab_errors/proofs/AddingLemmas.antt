@@ -1,19 +1,7 @@
 -- Adding errors: errors put after others, one after another, and where their rows are in a list of faults.
-use Rattle.std.proofs.Common.{◌≡◌, ℕ, ◌+◌, refl, sym, ap, ◌∙◌, subst, List, [], ◌∷◌, ◌++◌, append_assoc, append-nil, map, take, drop, get_or, length, ◌<◌}
-use Rattle.std.specs.Prelude.{All, Option, Some, None, IfSome}
-use Rattle.std.proofs.lemmas.List.{map-append, drop-drop, take_more}
-use Rattle.std.proofs.Math.Seq.{drop-append_seam}
-use Rattle.std.proofs.lemmas.List.Elements.{All-append, All-cons, All-nil}
-use Rattle.stab_letters.specs.declared.letter.Letter.{Letter}
-use Rattle.stab_letters.specs.declared.letter.Letter.TheVariants as letter
-use Rattle.stab_jobs.specs.declared.error_letters.ErrorLetters.{ErrorLetters}
-use Rattle.stab_regions.specs.Faults.{Site, FaultPlace, fault_on, faults_on}
-use Rattle.stab_errors.specs.Errors.{Error, each_letter, each_product}
-use Rattle.stab_errors.specs.Placed.{letter_at, error_shown}
-use Rattle.stab_errors.specs.inner.Adding.{Stands, ErrorStands, Adds, HasFrom, IsUnderWay}
-use Rattle.stab_errors.specs.declared.placed.Place.{Place}
-use Rattle.stab_errors.specs.declared.placed.PlacedLetter.{PlacedLetter}
-use Rattle.stab_errors.specs.declared.placed.Error.{Error as ErrorValue}
+use Rattle.stab_errors.proofs.Names.{◌≡◌, ℕ, ◌+◌, refl, sym, ap, ◌∙◌, subst, List, [], ◌∷◌, ◌++◌, append_assoc, append-nil, map, take, drop, get_or, length, ◌<◌, All, None, IfSome, map-append, drop-drop, take_more, drop-append_seam, All-append, All-cons, All-nil, Letter, ErrorLetters, Site, FaultPlace, fault_on, faults_on, Error, each_letter, each_product, letter_at, error_shown, Stands, ErrorStands, Adds, HasFrom, IsUnderWay, Place, PlacedLetter, ErrorValue}
+use Rattle.std.specs.Prelude.{Option, Some}
+use Rattle.stab_gates.specs.declared.letter.Letter.TheVariants as letter
 use Rattle.stab_errors.specs.declared.placed.Error.TheVariants as error
 
 pub adds-none : (Is : List FaultPlace → Type 0) (old : List ErrorValue) → Adds Is [] old old

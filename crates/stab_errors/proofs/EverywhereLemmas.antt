@@ -1,16 +1,5 @@
 -- Errors everywhere: the faults of a table at a step, and at the factors of a product.
-use Rattle.std.proofs.Common.{◌≡◌, ℕ, ◌+◌, ◌*◌, ◌≤◌, refl, Bool, true, false, List, [], ◌∷◌, ◌++◌, length, arith}
-use Rattle.stab_letters.specs.declared.letter.Letter.{Letter}
-use Rattle.stab_lines.specs.declared.product.Factor.{Factor}
-use Rattle.stab_circuit.specs.Steps.{Step, one, two, controlled, collapse, product, detector, observable, makes}
-use Rattle.stab_regions.specs.Faults.{FaultPlace, in_front, behind, fault_on, faults_on}
-use Rattle.stab_jobs.specs.declared.error_letters.ErrorLetters.{ErrorLetters}
-use Rattle.stab_errors.specs.Errors.{Error, each_letter, errors_at, letters_asked, wrong_record}
-use Rattle.stab_errors.specs.Placed.{letter_at}
-use Rattle.stab_errors.specs.inner.Adding.{Stands, Adds, HasFrom, IsUnderWay}
-use Rattle.stab_errors.specs.inner.Everywhere.{factor_errors, factor_faults, measured_errors}
-use Rattle.stab_errors.specs.declared.placed.Place.{Place}
-use Rattle.stab_errors.specs.declared.placed.Error.{Error as ErrorValue}
+use Rattle.stab_errors.proofs.Names.{◌≡◌, ℕ, ◌+◌, ◌*◌, ◌≤◌, refl, Bool, true, false, List, [], ◌∷◌, ◌++◌, length, arith, Letter, Factor, Step, one, two, controlled, collapse, product, detector, observable, makes, FaultPlace, in_front, behind, fault_on, faults_on, ErrorLetters, Error, each_letter, errors_at, letters_asked, wrong_record, letter_at, Stands, Adds, HasFrom, IsUnderWay, factor_errors, factor_faults, measured_errors, Place, ErrorValue}
 use Rattle.stab_errors.proofs.AddingLemmas.{adds-same, adds-weaker, both-stand, has-first, letters-there, stands-at, under-way-more}
 
 pub long-factors : (t : ℕ) (factors : List Factor) → length (factor_faults t factors) ≡ 4 * length factors

@@ -1,36 +1,9 @@
 -- Errors that fit a circuit: what they flip adds, and they have a table.
-use Rattle.std.proofs.Common.{◌≡◌, ℕ, ◌<◌, refl, sym, ap, ◌∙◌, subst, Bool, true, false, List, [], ◌∷◌, ◌++◌, map, arith, zero-add, ◌↔◌}
-use Rattle.std.specs.Prelude.{All, Contains, ◌&&◌, slice_index_or}
-use Rattle.std.specs.List.{flat_map, range_with_len}
-use Rattle.std.proofs.lemmas.List.Elements.{All-nil, All-head, All-tail, All-append, All-contains}
-use Rattle.std.proofs.lemmas.List.FromFn.{length-map-range_with_len, get_or-map-range_with_len}
-use Rattle.stab_letters.specs.Letters.{◌⊕◌}
-use Rattle.stab_letters.proofs.ParityLemmas.{parity-assoc}
-use Rattle.stab_circuit.specs.Items.{Items}
-use Rattle.stab_circuit.specs.Steps.{unroll, detectors_of}
-use Rattle.stab_run.specs.ProgramStates.{StepFits}
-use Rattle.stab_regions.specs.Parities.{parity_sure}
-use Rattle.stab_regions.specs.Faults.{FaultPlace, bits_in, IsSure, AreSure, flips}
-use Rattle.stab_regions.specs.FaultLaws.{FaultFits, flips_together, FaultsAdd, SureParities, PlacesFlipSureParities}
-use Rattle.stab_regions.proofs.AscentLemmas.{where-same}
-use Rattle.stab_errors.specs.Errors.{Error, faults_in}
-use Rattle.stab_errors.specs.ErrorTables.{ErrorTableState, IsErrorTable, flip_together, flipped_by, flip_each, ErrorsAdd}
+use Rattle.stab_errors.proofs.Names.{◌≡◌, ℕ, ◌<◌, refl, sym, ap, ◌∙◌, Bool, true, false, List, [], ◌∷◌, ◌++◌, map, arith, All, Contains, ◌&&◌, slice_index_or, flat_map, All-nil, All-head, All-tail, All-append, All-contains, ◌⊕◌, parity-assoc, Items, unroll, detectors_of, StepFits, FaultPlace, bits_in, IsDeterministic, AreDeterministic, flips, FaultFits, flips_together, FaultsAdd, DeterministicParities, PlacesFlipDeterministicParities, where-same, Error, faults_in, ErrorTableState, IsErrorTable, flip_together, flipped_by, flip_each, ErrorsAdd, observables_of, deterministic-found}
 
 together-append : (g : FaultPlace → Bool) (xs ys : List FaultPlace) → flips_together g (xs ++ ys) ≡ flips_together g xs ⊕ flips_together g ys
 together-append g [] ys = refl
 together-append g (x ∷ xs) ys = ap (λ b. g x ⊕ b) (together-append g xs ys) ∙ sym (parity-assoc (g x) (flips_together g xs) (flips_together g ys))
-
--- the pass backwards finds which bits are sure
-pub sure-found : SureParities → (n : ℕ) (items : Items) → All (StepFits n) (unroll items) → (sure : List Bool) × AreSure n items sure
-sure-found law n items fits =
-    let pass : ℕ → Bool = λ i. parity_sure n (detectors_of (unroll items)) i (unroll items) in (
-      map pass (range_with_len 0 (bits_in items)),
-      record {
-        count = length-map-range_with_len pass 0 (bits_in items);
-        exact = λ i lt.
-            subst (λ b. (b ≡ true) ↔ IsSure n items i) (sym (get_or-map-range_with_len pass 0 (bits_in items) i i false lt (zero-add i))) (law n items i fits lt);
-      },
-    )
 
 -- all faults of an error fit
 abbrev pub Fits : (n : ℕ) → Items → Error → Type 0
@@ -44,7 +17,7 @@ module _ (n : ℕ) (items : Items) (fits : All (StepFits n) (unroll items)) (add
   all-fit [] fit = All-nil Fit
   all-fit (e ∷ es) fit = All-append Fit (faults_in e) (flat_map faults_in es) (All-head (Fits n items) e es fit) (all-fit es (All-tail (Fits n items) e es fit))
 
-  module _ (i : ℕ) (lt : i < bits_in items) (same : IsSure n items i) (coins : ℕ → Bool) where
+  module _ (i : ℕ) (lt : i < bits_in items) (same : IsDeterministic n items i) (coins : ℕ → Bool) where
     each-alone : (errors : List Error) → All (Fits n items) errors → flips_together (λ f. flips n items coins f i) (flat_map faults_in errors) ≡ flip_each n items coins errors i
     each-alone [] fit = refl
     each-alone (e ∷ es) fit =
@@ -60,18 +33,18 @@ module _ (n : ℕ) (items : Items) (fits : All (StepFits n) (unroll items)) (add
   pub errors-add : (errors : List Error) → All (Fits n items) errors → ErrorsAdd n items errors
   errors-add errors fit some i are lt same coins = fit-add i lt same coins some (some-fit errors some fit are)
 
--- what an error flips of sure bits does not depend on coins
+-- what an error flips of deterministic bits does not depend on coins
 
-module _ (n : ℕ) (items : Items) (sure : List Bool) (fits : All (StepFits n) (unroll items)) (are_sure : AreSure n items sure)
-    (found : SureParities) (places : PlacesFlipSureParities) (adds : FaultsAdd) (coins others : ℕ → Bool) where
-  module _ (i : ℕ) (lt : i < bits_in items) (same : IsSure n items i) where
+module _ (n : ℕ) (items : Items) (deterministic : List Bool) (fits : All (StepFits n) (unroll items)) (are_deterministic : AreDeterministic n items deterministic)
+    (found : DeterministicParities) (places : PlacesFlipDeterministicParities) (adds : FaultsAdd) (coins others : ℕ → Bool) where
+  module _ (i : ℕ) (lt : i < bits_in items) (same : IsDeterministic n items i) where
     faults-alike : (fs : List FaultPlace) → All (FaultFits n (unroll items)) fs → flips_together (λ f. flips n items coins f i) fs ≡ flips_together (λ f. flips n items others f i) fs
     faults-alike [] fit = refl
     faults-alike (f ∷ fs) fit =
         let here = All-head (FaultFits n (unroll items)) f fs fit in
-        let is_sure = (found n items i fits lt).1 same in
+        let is_deterministic = (found n (observables_of items) (unroll items) i fits lt).1 same in
         (λ t.
-        (places n items i f fits lt here.qubit is_sure coins ∙ sym (places n items i f fits lt here.qubit is_sure others)) t
+        (places n items i f fits lt here.qubit is_deterministic coins ∙ sym (places n items i f fits lt here.qubit is_deterministic others)) t
         ⊕ faults-alike fs (All-tail (FaultFits n (unroll items)) f fs fit) t)
 
     error-alike : (e : Error) → Fits n items e → flip_together n items coins (faults_in e) i ≡ flip_together n items others (faults_in e) i
@@ -81,35 +54,35 @@ module _ (n : ℕ) (items : Items) (sure : List Bool) (fits : All (StepFits n) (
         ∙ sym (adds n items i (faults_in e) fits lt fit same others)
 
   bit-alike : (e : Error) → Fits n items e → (i : ℕ) → i < bits_in items
-      → (slice_index_or sure i false && flip_together n items coins (faults_in e) i) ≡ (slice_index_or sure i false && flip_together n items others (faults_in e) i)
-  bit-alike e fit i lt = by_bit (slice_index_or sure i false) refl
+      → (slice_index_or deterministic i false && flip_together n items coins (faults_in e) i) ≡ (slice_index_or deterministic i false && flip_together n items others (faults_in e) i)
+  bit-alike e fit i lt = by_bit (slice_index_or deterministic i false) refl
     where
-      by_bit : (b : Bool) → slice_index_or sure i false ≡ b → (b && flip_together n items coins (faults_in e) i) ≡ (b && flip_together n items others (faults_in e) i)
-      by_bit true is = error-alike i lt ((are_sure.exact i lt).0 is) e fit
+      by_bit : (b : Bool) → slice_index_or deterministic i false ≡ b → (b && flip_together n items coins (faults_in e) i) ≡ (b && flip_together n items others (faults_in e) i)
+      by_bit true is = error-alike i lt ((are_deterministic.exact i lt).0 is) e fit
       by_bit false is = refl
 
-  pub rows-alike : (errors : List Error) → All (Fits n items) errors → map (flipped_by n items sure coins) errors ≡ map (flipped_by n items sure others) errors
+  pub rows-alike : (errors : List Error) → All (Fits n items) errors → map (flipped_by n items deterministic coins) errors ≡ map (flipped_by n items deterministic others) errors
   rows-alike [] fit = refl
   rows-alike (e ∷ es) fit =
       (λ t.
-      where-same (λ i. slice_index_or sure i false && flip_together n items coins (faults_in e) i)
-      (λ i. slice_index_or sure i false && flip_together n items others (faults_in e) i) 0 (bits_in items)
+      where-same (λ i. slice_index_or deterministic i false && flip_together n items coins (faults_in e) i)
+      (λ i. slice_index_or deterministic i false && flip_together n items others (faults_in e) i) 0 (bits_in items)
       (λ m ge less. bit-alike e (All-head (Fits n items) e es fit) m (omega (arith, less))) t
       ∷ rows-alike es (All-tail (Fits n items) e es fit) t)
 
 -- so there is a table
 
-module _ (n : ℕ) (items : Items) (fits : All (StepFits n) (unroll items)) (found : SureParities) (places : PlacesFlipSureParities) (adds : FaultsAdd) where
+module _ (n : ℕ) (items : Items) (fits : All (StepFits n) (unroll items)) (found : DeterministicParities) (places : PlacesFlipDeterministicParities) (adds : FaultsAdd) where
   pub table-found : (errors : List Error) → All (Fits n items) errors → (t : ErrorTableState) × (t.errors ≡ errors) × IsErrorTable n items t
   table-found errors fit =
-      let sure = sure-found found n items fits in
+      let deterministic = deterministic-found found n items fits in
       let coins : ℕ → Bool = λ k. false in (
-        record { sure = sure.0; errors = errors; table = record { detectors = detectors_of (unroll items); rows = map (flipped_by n items sure.0 coins) errors } },
+        record { deterministic = deterministic.0; errors = errors; table = record { detectors = detectors_of (unroll items); rows = map (flipped_by n items deterministic.0 coins) errors } },
         refl,
         record {
-          are_sure = sure.1;
+          are_deterministic = deterministic.1;
           detectors = refl;
-          are_flipped = λ others. rows-alike n items sure.0 fits sure.1 found places adds coins others errors fit;
+          are_flipped = λ others. rows-alike n items deterministic.0 fits deterministic.1 found places adds coins others errors fit;
           add = errors-add n items fits adds errors fit;
         },
       )

@@ -1,34 +1,8 @@
 -- Flips: what an error flips of a run, by the rows of a table of faults.
-use Rattle.std.proofs.Common.{◌≡◌, ℕ, zero, suc, ◌+◌, ◌<◌, ◌≤◌, ◌⊎◌, inl, inr, refl, sym, ap, ◌∙◌, subst, Bool, true, false, List, [], ◌∷◌, map, length, drop, arith}
-use Rattle.std.specs.Prelude.{All, ◌==◌, ◌&&◌, Some, None, slice_index_or, if◌then◌else◌}
-use Rattle.std.proofs.lemmas.Bool.{cases_lt, ne_eqb}
-use Rattle.std.proofs.lemmas.List.{get_or-map, get_or_past, length-map, drop-drop}
-use Rattle.std.proofs.lemmas.List.Elements.{All-nil, All-cons, All-head, All-tail}
-use Rattle.stab_letters.specs.declared.letter.Letter.{Letter}
-use Rattle.stab_letters.specs.declared.letter.Letter.TheVariants as letter
-use Rattle.stab_letters.specs.Letters.{◌⊕◌, letters_anticommute}
-use Rattle.stab_letters.proofs.ParityLemmas.{parity-false}
-use Rattle.stab_tableau.specs.Gates.{letter_at as letter_of_string}
-use Rattle.stab_tableau.proofs.OneLetterLemmas.{one_letter-anticommute}
-use Rattle.stab_circuit.specs.Items.{Items}
-use Rattle.stab_circuit.specs.Steps.{unroll, detectors_of}
-use Rattle.stab_run.specs.ProgramStates.{StepFits}
-use Rattle.stab_regions.specs.Rows.{odd, row, bits_at}
-use Rattle.stab_regions.specs.Parities.{parity_region}
-use Rattle.stab_regions.specs.Faults.{FaultPlace, in_front, fault_on, faults_of, fault_at, numbers_where, bits_in, IsSure, IsFaultTable, flips, flipped}
-use Rattle.stab_regions.specs.FaultLaws.{FaultFits, flips_together, FaultsAdd, SureParities, PlacesFlipSureParities}
-use Rattle.stab_regions.proofs.ShowLemmas.{bits-letter}
-use Rattle.stab_regions.proofs.MoveLemmas.{long-parity}
-use Rattle.stab_regions.proofs.AscentLemmas.{ascending-is, ascends-below, where-same}
-use Rattle.stab_regions.proofs.FaultSumLemmas.{fault-fits, odd-where, row-names}
-use Rattle.stab_errors.specs.Errors.{faults_in}
-use Rattle.stab_errors.specs.Placed.{letter_at, fault_shown, error_shown}
-use Rattle.stab_errors.specs.ErrorTables.{IsErrorTable, flip_together, flipped_by}
-use Rattle.stab_errors.specs.inner.Adding.{Stands, ErrorStands}
-use Rattle.stab_errors.specs.inner.ErrorRows.{letter_names, error_names, IsRowOf, AreRowsOf}
-use Rattle.stab_errors.specs.declared.placed.Place.{Place}
-use Rattle.stab_errors.specs.declared.placed.PlacedLetter.{PlacedLetter}
-use Rattle.stab_errors.specs.declared.placed.Error.{Error as ErrorValue}
+use Rattle.stab_errors.proofs.Names.{◌≡◌, ℕ, zero, suc, ◌+◌, ◌<◌, ◌≤◌, ◌⊎◌, inl, inr, refl, sym, ap, ◌∙◌, subst, Bool, true, false, List, [], ◌∷◌, map, length, drop, arith, All, ◌==◌, ◌&&◌, None, slice_index_or, if◌then◌else◌, cases_lt, ne_eqb, get_or-map, get_or_past, length-map, drop-drop, All-nil, All-cons, All-head, All-tail, Letter, ◌⊕◌, letters_anticommute, parity-false, letter_of_string, one_letter-anticommute, Items, unroll, detectors_of, StepFits, row, bits_at, parity_region, FaultPlace, in_front, fault_on, faults_of, fault_at, numbers_where, bits_in, IsDeterministic, IsFaultTable, flips, flipped, FaultFits, flips_together, FaultsAdd, DeterministicParities, PlacesFlipDeterministicParities, bits-letter, long-parity, ascending-is, ascends-below, where-same, fault-fits, odd-where, row-names, faults_in, letter_at, fault_shown, error_shown, IsErrorTable, flip_together, flipped_by, Stands, ErrorStands, letter_names, error_names, IsRowOf, AreRowsOf, Place, PlacedLetter, ErrorValue, observables_of}
+use Rattle.std.specs.Prelude.{Some}
+use Rattle.stab_gates.specs.declared.letter.Letter.TheVariants as letter
+use Rattle.stab_regions.specs.Rows.{odd}
 use Rattle.stab_errors.specs.declared.placed.Error.TheVariants as error
 use Rattle.stab_errors.proofs.FitLemmas.{Fits, errors-add}
 
@@ -66,13 +40,13 @@ set b other e = ap (λ c. c && other) e
 
 -- letters at one place
 
-module _ (n : ℕ) (everywhere : Bool) (items : Items) (sure : List Bool) (rows : List (List ℕ)) (fits : All (StepFits n) (unroll items))
-    (table : IsFaultTable n everywhere items sure rows) (found : SureParities) (places : PlacesFlipSureParities) (adds : FaultsAdd) where
+module _ (n : ℕ) (everywhere : Bool) (items : Items) (deterministic : List Bool) (rows : List (List ℕ)) (fits : All (StepFits n) (unroll items))
+    (table : IsFaultTable n everywhere items deterministic rows) (found : DeterministicParities) (places : PlacesFlipDeterministicParities) (adds : FaultsAdd) where
   abbrev faults : List FaultPlace
   faults = faults_of everywhere (unroll items)
 
   as-many : length rows ≡ length faults
-  as-many = ap length (table.are_flipped (λ t. false)) ∙ length-map faults (flipped n items sure (λ t. false))
+  as-many = ap length (table.are_flipped (λ t. false)) ∙ length-map faults (flipped n items deterministic (λ t. false))
 
   -- a place where X and Z are has its numbers
 
@@ -90,16 +64,16 @@ module _ (n : ℕ) (everywhere : Bool) (items : Items) (sure : List Bool) (rows 
       let fit : FaultFits n (unroll items) (letter_at p letter.X) = subst (FaultFits n (unroll items)) x.1 (fault-fits n everywhere (unroll items) p.row fits x.0) in
       record { qubit = fit.qubit; before = fit.before }
 
-  module _ (i : ℕ) (lt : i < bits_in items) (same : IsSure n items i) (coins : ℕ → Bool) where
+  module _ (i : ℕ) (lt : i < bits_in items) (same : IsDeterministic n items i) (coins : ℕ → Bool) where
     x-flips : (p : Place) → Stands p faults → flips n items coins (letter_at p letter.X) i ≡ odd i (row rows p.row)
     x-flips p stands =
         let x = x-place p stands in
-        ap (λ f. flips n items coins f i) (sym x.1) ∙ row-names n everywhere items sure rows fits table i lt same coins p.row (omega (arith, x.0, as-many))
+        ap (λ f. flips n items coins f i) (sym x.1) ∙ row-names n everywhere items deterministic rows fits table i lt same coins p.row (omega (arith, x.0, as-many))
 
     z-flips : (p : Place) → Stands p faults → flips n items coins (letter_at p letter.Z) i ≡ odd i (row rows (p.row + 1))
     z-flips p stands =
         let z = z-place p stands in
-        ap (λ f. flips n items coins f i) (sym z.1) ∙ row-names n everywhere items sure rows fits table i lt same coins (p.row + 1) (omega (arith, z.0, as-many))
+        ap (λ f. flips n items coins f i) (sym z.1) ∙ row-names n everywhere items deterministic rows fits table i lt same coins (p.row + 1) (omega (arith, z.0, as-many))
 
     -- a letter flips the bit if it anticommutes with the region's letter there
     letter-meets : (p : Place) (l : Letter) → Stands p faults
@@ -107,7 +81,7 @@ module _ (n : ℕ) (everywhere : Bool) (items : Items) (sure : List Bool) (rows 
         ≡ letters_anticommute l (letter_of_string (parity_region n (detectors_of (unroll items)) i (drop p.before (unroll items))).string.letters p.qubit)
     letter-meets p l stands =
         let fit = place-fits p l stands in
-        places n items i (letter_at p l) fits lt fit.qubit ((found n items i fits lt).1 same) coins
+        places n items i (letter_at p l) fits lt fit.qubit ((found n (observables_of items) (unroll items) i fits lt).1 same) coins
         ∙ one_letter-anticommute n p.qubit l (parity_region n (detectors_of (unroll items)) i (drop p.before (unroll items))).string.letters
         (long-parity n (detectors_of (unroll items)) i (drop p.before (unroll items))) fit.qubit
 
@@ -138,7 +112,7 @@ module _ (n : ℕ) (everywhere : Bool) (items : Items) (sure : List Bool) (rows 
       All-cons (FaultFits n (unroll items)) (fault_shown f) (fault_shown g ∷ []) (place-fits f.place f.letter stands.0)
       (All-cons (FaultFits n (unroll items)) (fault_shown g) [] (place-fits g.place g.letter stands.1) (All-nil (FaultFits n (unroll items))))
 
-  module _ (i : ℕ) (lt : i < bits_in items) (same : IsSure n items i) (coins : ℕ → Bool) where
+  module _ (i : ℕ) (lt : i < bits_in items) (same : IsDeterministic n items i) (coins : ℕ → Bool) where
     -- letters at one and at two places
     one-flips : (f : PlacedLetter) → Stands f.place faults → flips_together (λ g. flips n items coins g i) (fault_shown f ∷ []) ≡ letter_names i rows f
     one-flips f stands = parity-false (flips n items coins (fault_shown f) i) ∙ letter-flips i lt same coins f.place f.letter stands
@@ -159,7 +133,7 @@ module _ (n : ℕ) (everywhere : Bool) (items : Items) (sure : List Bool) (rows 
 
   -- bits that are not deterministic, and numbers that are of no bit, are in no row
 
-  row-without : (i : ℕ) → (i < bits_in items → slice_index_or sure i false ≡ false) → (k : ℕ) → odd i (row rows k) ≡ false
+  row-without : (i : ℕ) → (i < bits_in items → slice_index_or deterministic i false ≡ false) → (k : ℕ) → odd i (row rows k) ≡ false
   row-without i without k = by_place (cases_lt k (length rows))
     where
       coins : ℕ → Bool
@@ -169,9 +143,9 @@ module _ (n : ℕ) (everywhere : Bool) (items : Items) (sure : List Bool) (rows 
       by_place (inl less) =
           ap (odd i)
           (ap (λ rs. row rs k) (table.are_flipped coins)
-          ∙ get_or-map (flipped n items sure coins) faults k (fault_on 0 (in_front 0) letter.X) [] (omega (arith, less, as-many)))
-          ∙ odd-without (λ m. slice_index_or sure m false && flips n items coins (fault_at everywhere (unroll items) k) m) (bits_in items) i
-          (λ inside. unset (slice_index_or sure i false) (flips n items coins (fault_at everywhere (unroll items) k) i) (without inside))
+          ∙ get_or-map (flipped n items deterministic coins) faults k (fault_on 0 (in_front 0) letter.X) [] (omega (arith, less, as-many)))
+          ∙ odd-without (λ m. slice_index_or deterministic m false && flips n items coins (fault_at everywhere (unroll items) k) m) (bits_in items) i
+          (λ inside. unset (slice_index_or deterministic i false) (flips n items coins (fault_at everywhere (unroll items) k) i) (without inside))
       by_place (inr more) = ap (odd i) (get_or_past rows k [] more)
 
   bits-without : (i : ℕ) (l : Letter) (by_x by_z : List ℕ) → odd i by_x ≡ false → odd i by_z ≡ false → bits_at i l by_x by_z ≡ false
@@ -180,7 +154,7 @@ module _ (n : ℕ) (everywhere : Bool) (items : Items) (sure : List Bool) (rows 
   bits-without i letter.Y by_x by_z x z = (λ t. x t ⊕ z t)
   bits-without i letter.Z by_x by_z x z = z
 
-  module _ (i : ℕ) (without : i < bits_in items → slice_index_or sure i false ≡ false) where
+  module _ (i : ℕ) (without : i < bits_in items → slice_index_or deterministic i false ≡ false) where
     letter-without : (f : PlacedLetter) → letter_names i rows f ≡ false
     letter-without f = bits-without i f.letter (row rows f.place.row) (row rows (f.place.row + 1)) (row-without i without f.place.row) (row-without i without (f.place.row + 1))
 
@@ -193,26 +167,26 @@ module _ (n : ℕ) (everywhere : Bool) (items : Items) (sure : List Bool) (rows 
   -- so the row of an error is what it flips
 
   module _ (coins : ℕ → Bool) (e : ErrorValue) (stands : ErrorStands faults e) (r : List ℕ) (is : IsRowOf rows e r) where
-    tells : (m : ℕ) → m < bits_in items → (b : Bool) → slice_index_or sure m false ≡ b
-        → odd m r ≡ (slice_index_or sure m false && flip_together n items coins (faults_in (error_shown e)) m)
-    tells m inside true e_sure =
-        is.value m ∙ sym (error-flips m inside ((table.are_sure.exact m inside).0 e_sure) coins e stands)
-        ∙ sym (set (slice_index_or sure m false) (flip_together n items coins (faults_in (error_shown e)) m) e_sure)
-    tells m inside false e_sure =
-        is.value m ∙ error-without m (λ t. e_sure) e
-        ∙ sym (unset (slice_index_or sure m false) (flip_together n items coins (faults_in (error_shown e)) m) e_sure)
+    tells : (m : ℕ) → m < bits_in items → (b : Bool) → slice_index_or deterministic m false ≡ b
+        → odd m r ≡ (slice_index_or deterministic m false && flip_together n items coins (faults_in (error_shown e)) m)
+    tells m inside true e_deterministic =
+        is.value m ∙ sym (error-flips m inside ((table.are_deterministic.exact m inside).0 e_deterministic) coins e stands)
+        ∙ sym (set (slice_index_or deterministic m false) (flip_together n items coins (faults_in (error_shown e)) m) e_deterministic)
+    tells m inside false e_deterministic =
+        is.value m ∙ error-without m (λ t. e_deterministic) e
+        ∙ sym (unset (slice_index_or deterministic m false) (flip_together n items coins (faults_in (error_shown e)) m) e_deterministic)
 
     past : (m : ℕ) → bits_in items ≤ m → odd m r ≡ false
     past m ge = is.value m ∙ error-without m (λ inside. absurd (omega (arith, inside, ge))) e
 
-    row-is : r ≡ flipped_by n items sure coins (error_shown e)
+    row-is : r ≡ flipped_by n items deterministic coins (error_shown e)
     row-is =
         ascending-is (bits_in items) 0 r (ascends-below 0 (0 + bits_in items) r is.ascending (λ m ge. past m (omega (arith, ge))))
-        ∙ where-same (λ m. odd m r) (λ m. slice_index_or sure m false && flip_together n items coins (faults_in (error_shown e)) m) 0 (bits_in items)
-        (λ m ge inside. tells m (omega (arith, inside)) (slice_index_or sure m false) refl)
+        ∙ where-same (λ m. odd m r) (λ m. slice_index_or deterministic m false && flip_together n items coins (faults_in (error_shown e)) m) 0 (bits_in items)
+        (λ m ge inside. tells m (omega (arith, inside)) (slice_index_or deterministic m false) refl)
 
   rows-are : (coins : ℕ → Bool) (errors : List ErrorValue) (made : List (List ℕ)) → All (ErrorStands faults) errors → AreRowsOf rows errors made
-      → made ≡ map (flipped_by n items sure coins) (map error_shown errors)
+      → made ≡ map (flipped_by n items deterministic coins) (map error_shown errors)
   rows-are coins [] [] stand are = refl
   rows-are coins [] (r ∷ rs) stand are = absurd are
   rows-are coins (e ∷ es) [] stand are = absurd are
@@ -227,9 +201,9 @@ module _ (n : ℕ) (everywhere : Bool) (items : Items) (sure : List Bool) (rows 
       All-cons (Fits n items) (error_shown e) (map error_shown es) (error-fits e (All-head (ErrorStands faults) e es stand)) (errors-fit es (All-tail (ErrorStands faults) e es stand))
 
   pub table-is : (detectors : ℕ) → detectors ≡ detectors_of (unroll items) → (errors : List ErrorValue) (made : List (List ℕ)) → All (ErrorStands faults) errors → AreRowsOf rows errors made
-      → IsErrorTable n items (record { sure = sure; errors = map error_shown errors; table = record { detectors = detectors; rows = made } })
+      → IsErrorTable n items (record { deterministic = deterministic; errors = map error_shown errors; table = record { detectors = detectors; rows = made } })
   table-is detectors is errors made stand are = record {
-    are_sure = table.are_sure;
+    are_deterministic = table.are_deterministic;
     detectors = is;
     are_flipped = λ coins. rows-are coins errors made stand are;
     add = errors-add n items fits adds (map error_shown errors) (errors-fit errors stand);

@@ -1,22 +1,8 @@
 -- Graph-like errors: those of a table are those that flip at most two detectors by runs, and their least sets.
-use Rattle.std.proofs.Common.{◌≡◌, ℕ, ◌<◌, ◌⊎◌, sym, ◌∙◌, subst, Bool, true, false, List, [], ◌∷◌, length, arith, Option, Some, None}
-use Rattle.std.specs.Prelude.{All}
-use Rattle.std.specs.Option.{unwrap_or}
-use Rattle.std.proofs.lemmas.List.{length-map}
-use Rattle.std.proofs.lemmas.List.Elements.{All-nil, All-cons, All-head, All-tail, All-weaker}
-use Rattle.stab_letters.specs.Letters.{◌⊕◌}
-use Rattle.stab_letters.proofs.ParityLemmas.{parity-false}
-use Rattle.stab_circuit.specs.Items.{Items}
-use Rattle.stab_regions.specs.Faults.{bits_in, IsSure}
-use Rattle.stab_distance.specs.declared.answer.Answer.{Answer}
-use Rattle.stab_distance.specs.declared.answer.Answer.TheVariants.{Least, NoneWithin, NoneAtAll}
-use Rattle.stab_distance.specs.Tables.{odd, row}
-use Rattle.stab_distance.specs.Graphlike.{IsGraphlike, IsGraphlikeError, IsLeastGraphlike, IsGraphlikeAnswer}
-use Rattle.stab_distance.proofs.PartLemmas.{graphlike-up_to}
-use Rattle.stab_errors.specs.Errors.{Error}
-use Rattle.stab_errors.specs.ErrorTables.{ErrorTableState, IsErrorTable}
-use Rattle.stab_errors.specs.Unseen.{AreUnseen, error_at, errors_at_numbers, bit_with, bit_without, FlipsTwo, AreGraphlikeUnseenOf, AreLeastGraphlike, IsGraphlikeDistance}
-use Rattle.stab_errors.proofs.UnseenLemmas.{difference, other-bits, as-many, together, sure-number, numbers-at, logical-unseen, logical-of}
+use Rattle.stab_errors.proofs.Names.{◌≡◌, ℕ, ◌<◌, ◌⊎◌, refl, sym, ◌∙◌, subst, Bool, true, false, List, [], ◌∷◌, length, arith, Option, Some, All, unwrap_or, length-map, All-nil, All-cons, All-head, All-tail, All-weaker, parity-false, Items, bits_in, IsDeterministic, Answer, Least, NoneWithin, NoneAtAll, odd, IsGraphlike, IsGraphlikeError, IsLeastGraphlike, IsGraphlikeAnswer, graphlike-up_to, Error, faults_in, ErrorTableState, IsErrorTable, flip_together, AreUnseen, FlipsTwo, AreUnseenOf, AreLeastUnseen, IsDistance, error_at, errors_at_numbers}
+use Rattle.std.proofs.Common.{None}
+use Rattle.stab_distance.specs.Tables.{row}
+use Rattle.stab_errors.proofs.UnseenLemmas.{as-many, row-names, deterministic-number, numbers-at, logical-unseen, logical-of}
 
 module _ (n : ℕ) (items : Items) (t : ErrorTableState) (table : IsErrorTable n items t) where
   abbrev rows : List (List ℕ)
@@ -32,20 +18,15 @@ module _ (n : ℕ) (items : Items) (t : ErrorTableState) (table : IsErrorTable n
   one k less = All-cons Inside k [] less (All-nil Inside)
 
   -- a deterministic detector that an error flips by runs is named by its row
-  run-names : (coins : ℕ → Bool) (k d : ℕ) → Inside k → d < bits_in items → IsSure n items d
-      → bit_with n items coins (error_at t.errors k ∷ []) d ⊕ bit_without n items coins d ≡ odd d (row rows k)
-  run-names coins k d less inside is_sure =
-      together n items t table coins (k ∷ []) d (one k less) inside ((table.are_sure.exact d inside).1 is_sure)
-      ∙ parity-false (odd d (row rows k))
+  run-names : (coins : ℕ → Bool) (k d : ℕ) → Inside k → d < bits_in items → IsDeterministic n items d
+      → odd d (row rows k) ≡ flip_together n items coins (faults_in (error_at t.errors k)) d
+  run-names coins k d less inside is_deterministic = row-names n items t table coins k d less inside ((table.are_deterministic.exact d inside).1 is_deterministic)
 
   pub row-two : (k : ℕ) → Inside k → Graphlike k → FlipsTwo n items (error_at t.errors k)
   row-two k less graphlike = (
     graphlike.0,
     graphlike.1,
-    λ coins d before is_sure other.
-        graphlike.2 d (omega (arith, before, table.detectors))
-        (sym (run-names coins k d less (omega (arith, before)) is_sure)
-        ∙ difference (bit_with n items coins (error_at t.errors k ∷ []) d) (bit_without n items coins d) other),
+    λ coins d before is_deterministic flips. graphlike.2 d (omega (arith, before, table.detectors)) (run-names coins k d less (omega (arith, before)) is_deterministic ∙ flips),
   )
 
   pub two-row : (k : ℕ) → Inside k → FlipsTwo n items (error_at t.errors k) → Graphlike k
@@ -56,10 +37,9 @@ module _ (n : ℕ) (items : Items) (t : ErrorTableState) (table : IsErrorTable n
 
       by_run : (d : ℕ) → d < t.table.detectors → odd d (row rows k) ≡ true → (d ≡ two.0) ⊎ (d ≡ two.1)
       by_run d before named =
-          let is = sure-number n items t table (k ∷ []) d (one k less) (parity-false (odd d (row rows k)) ∙ named) in
-          let is_sure = (table.are_sure.exact d is.0).0 is.1 in
-          two.2 coins d (omega (arith, before, table.detectors)) is_sure
-          (other-bits (bit_with n items coins (error_at t.errors k ∷ []) d) (bit_without n items coins d) (run-names coins k d less is.0 is_sure ∙ named))
+          let is = deterministic-number n items t table (k ∷ []) d (one k less) (parity-false (odd d (row rows k)) ∙ named) in
+          let is_deterministic = (table.are_deterministic.exact d is.0).0 is.1 in
+          two.2 coins d (omega (arith, before, table.detectors)) is_deterministic (sym (run-names coins k d less is.0 is_deterministic) ∙ named)
 
   rows-two : (ks : List ℕ) → All Inside ks → All Graphlike ks → All (FlipsTwo n items) (errors_at_numbers t.errors ks)
   rows-two [] less graphlike = All-nil (FlipsTwo n items)
@@ -75,26 +55,23 @@ module _ (n : ℕ) (items : Items) (t : ErrorTableState) (table : IsErrorTable n
       (two-row k (All-head Inside k ks less) (All-head (FlipsTwo n items) (error_at t.errors k) (errors_at_numbers t.errors ks) two))
       (two-rows ks (All-tail Inside k ks less) (All-tail (FlipsTwo n items) (error_at t.errors k) (errors_at_numbers t.errors ks) two))
 
-  graphlike-unseen : (ks : List ℕ) → IsGraphlikeError t.table ks → AreGraphlikeUnseenOf n items t.errors (errors_at_numbers t.errors ks)
-  graphlike-unseen ks e = record {
-    unseen = logical-unseen n items t table ks e.logical;
-    graphlike = rows-two ks e.logical.inside e.graphlike;
-  }
+  graphlike-unseen : (ks : List ℕ) → IsGraphlikeError t.table ks → AreUnseenOf true n items t.errors (errors_at_numbers t.errors ks)
+  graphlike-unseen ks e = logical-unseen n items t table true ks e.logical (λ asked. rows-two ks e.logical.inside e.graphlike)
 
-  unseen-graphlike : (errors : List Error) → AreGraphlikeUnseenOf n items t.errors errors → (ks : List ℕ) × IsGraphlikeError t.table ks × (length ks ≡ length errors)
+  unseen-graphlike : (errors : List Error) → AreUnseenOf true n items t.errors errors → (ks : List ℕ) × IsGraphlikeError t.table ks × (length ks ≡ length errors)
   unseen-graphlike errors e =
-      let numbers = numbers-at n items t table errors e.unseen.of in (
+      let numbers = numbers-at n items t table errors e.of in (
         numbers.0,
         record {
-          logical = logical-of n items t table numbers.0 numbers.1 (subst (AreUnseen n items) (sym numbers.2) e.unseen.unseen);
-          graphlike = two-rows numbers.0 numbers.1 (subst (All (FlipsTwo n items)) (sym numbers.2) e.graphlike);
+          logical = logical-of n items t table numbers.0 numbers.1 (subst (AreUnseen n items) (sym numbers.2) e.unseen);
+          graphlike = two-rows numbers.0 numbers.1 (subst (All (FlipsTwo n items)) (sym numbers.2) (e.two refl));
         },
         numbers.3,
       )
 
   -- answers
 
-  least-graphlike : (most : ℕ) (ks : List ℕ) → IsLeastGraphlike t.table most ks → All (λ k. k < length t.errors) ks × AreLeastGraphlike n items t.errors (errors_at_numbers t.errors ks)
+  least-graphlike : (most : ℕ) (ks : List ℕ) → IsLeastGraphlike t.table most ks → All (λ k. k < length t.errors) ks × AreLeastUnseen true n items t.errors (errors_at_numbers t.errors ks)
   least-graphlike most ks least = (
     All-weaker Inside (λ k. k < length t.errors) (λ k less. omega (arith, less, as-many n items t table)) ks least.logical.logical.inside,
     record {
@@ -105,7 +82,7 @@ module _ (n : ℕ) (items : Items) (t : ErrorTableState) (table : IsErrorTable n
     },
   )
 
-  pub graphlike-answer : (most : Option ℕ) (bound : ℕ) (a : Answer) → bound ≡ unwrap_or most (length rows) → IsGraphlikeAnswer t.table bound a → IsGraphlikeDistance n items t.errors most a
+  pub graphlike-answer : (most : Option ℕ) (bound : ℕ) (a : Answer) → bound ≡ unwrap_or most (length rows) → IsGraphlikeAnswer t.table bound a → IsDistance true n items t.errors most a
   graphlike-answer most bound (Least ks) e is = least-graphlike bound ks.items is
   graphlike-answer most bound NoneAtAll e none = λ others are. let numbers = unseen-graphlike others are in none numbers.0 numbers.1
   graphlike-answer (Some w) bound NoneWithin e none = λ others are.

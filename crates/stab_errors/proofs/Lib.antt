@@ -1,3 +1,4 @@
+mod Names
 mod AddingLemmas
 mod MarkLemmas
 mod MarkedLemmas

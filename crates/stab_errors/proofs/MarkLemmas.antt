@@ -1,26 +1,10 @@
 -- Marks: what items mark, one after another and in rounds, and which faults of the table are at marks.
-use Rattle.std.proofs.Common.{◌≡◌, ℕ, zero, suc, ◌+◌, ◌*◌, ◌<◌, ◌≤◌, refl, sym, ap, ◌∙◌, Bool, true, List, [], ◌∷◌, ◌++◌, append_assoc, append-nil, map, take, drop, get_or, length, arith, false, take-append-drop}
-use Rattle.std.specs.Prelude.{All, if◌then◌else◌}
-use Rattle.std.specs.List.{flat_map}
-use Rattle.std.proofs.lemmas.List.{length-append, length-map, take_more}
-use Rattle.std.proofs.lemmas.List.Concat.{flat_map-append}
-use Rattle.std.proofs.lemmas.List.Elements.{All-append, All-cons, All-head, All-nil, All-tail}
-use Rattle.stab_letters.specs.declared.gate.Gate.{Gate}
-use Rattle.stab_letters.specs.declared.gate.Gate.TheVariants as gate
-use Rattle.stab_letters.specs.declared.gate.PairGate.TheVariants as swap
-use Rattle.stab_lines.specs.declared.control.ControlledPair.{ControlledPair}
+use Rattle.stab_errors.proofs.Names.{◌≡◌, ℕ, zero, suc, ◌+◌, ◌*◌, ◌<◌, ◌≤◌, refl, sym, ap, ◌∙◌, Bool, true, List, [], ◌∷◌, ◌++◌, append_assoc, append-nil, map, take, drop, get_or, length, arith, false, take-append-drop, All, if◌then◌else◌, flat_map, length-append, length-map, take_more, flat_map-append, All-append, All-cons, All-head, All-nil, All-tail, Gate, ControlledPair, letter_of, Operation, Kind, Items, OneItem, next, block, join, listed-append, listed_pushed, Step, one, two, collapse, steps_of, unroll, rounds, controlled_step, measured, measured_product, length-rounds, unroll-join, FaultPlace, faults_from, faults_on, in_front, marked_at, Marks, instruction_rounds, instructions, is_idle, marks_by, marks_from, marks_of, target_faults, marked_faults}
+use Rattle.stab_gates.specs.declared.gate.Gate.TheVariants as gate
+use Rattle.stab_gates.specs.declared.gate.PairGate.TheVariants as swap
 use Rattle.stab_lines.specs.declared.control.ControlledPair.TheVariants as pair
-use Rattle.stab_lines.specs.Axes.{letter_of}
-use Rattle.stab_lines.specs.declared.operation.Operation.{Operation}
-use Rattle.stab_lines.specs.declared.operation.Kind.{Kind}
 use Rattle.stab_lines.specs.declared.operation.Kind.TheVariants as kind
-use Rattle.stab_circuit.specs.Items.{Items, OneItem, done, next, block, join, before, listed}
-use Rattle.stab_items.proofs.ItemLemmas.{listed-append, listed_pushed}
-use Rattle.stab_circuit.specs.Steps.{Step, one, two, collapse, steps_of, unroll, rounds, controlled_step, measured, measured_product}
-use Rattle.stab_items.proofs.StepLemmas.{length-rounds, unroll-join}
-use Rattle.stab_regions.specs.Faults.{FaultPlace, faults_from, faults_on, in_front, marked_at}
-use Rattle.stab_errors.specs.Errors.{Marks, instruction_rounds, instructions, is_idle, marks_by, marks_from, marks_of}
-use Rattle.stab_errors.specs.inner.Marked.{target_faults, marked_faults}
+use Rattle.stab_circuit.specs.Items.{done, before, listed}
 
 -- the steps of instructions
 abbrev pub steps_in : List Operation → List Step

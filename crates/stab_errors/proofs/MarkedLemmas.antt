@@ -1,21 +1,5 @@
 -- Errors at marks: those at one target, or at two, and then those at the rest.
-use Rattle.std.proofs.Common.{◌≡◌, ℕ, ◌+◌, ◌*◌, ◌<◌, ◌≤◌, refl, sym, ap, ◌∙◌, subst, List, [], ◌∷◌, ◌++◌, map, drop, get_or, length, arith}
-use Rattle.std.specs.Prelude.{All, None}
-use Rattle.std.specs.List.{flat_map}
-use Rattle.std.proofs.lemmas.List.{drop_more, get_or-map, length-append, length-map}
-use Rattle.stab_letters.specs.declared.letter.Letter.{Letter}
-use Rattle.stab_items.proofs.SummaryLemmas.{few_steps}
-use Rattle.stab_circuit.specs.Items.{Items}
-use Rattle.stab_circuit.specs.Steps.{check_of, most_steps}
-use Rattle.stab_jobs.specs.declared.error_letters.ErrorLetters.{ErrorLetters}
-use Rattle.stab_regions.specs.Faults.{FaultPlace, in_front, fault_on, faults_on}
-use Rattle.stab_errors.specs.Errors.{Error, each_letter, each_product, each_target, each_two_targets, instructions, marks_from}
-use Rattle.stab_errors.specs.Placed.{letter_at}
-use Rattle.stab_errors.specs.inner.Adding.{Stands, Adds, IsUnderWay}
-use Rattle.stab_errors.specs.inner.Marked.{marks_shown, marked_faults, target_faults}
-use Rattle.stab_errors.specs.declared.marks.Marks.{Marks as MarksValue}
-use Rattle.stab_errors.specs.declared.placed.Place.{Place}
-use Rattle.stab_errors.specs.declared.placed.Error.{Error as ErrorValue}
+use Rattle.stab_errors.proofs.Names.{◌≡◌, ℕ, ◌+◌, ◌*◌, ◌<◌, ◌≤◌, refl, sym, ap, ◌∙◌, subst, List, [], ◌∷◌, ◌++◌, map, drop, get_or, length, arith, All, None, flat_map, drop_more, get_or-map, length-append, length-map, Letter, few_steps, Items, check_of, most_steps, ErrorLetters, FaultPlace, in_front, fault_on, faults_on, Error, each_letter, each_product, each_target, each_two_targets, instructions, marks_from, letter_at, Stands, Adds, IsUnderWay, marks_shown, marked_faults, target_faults, MarksValue, Place, ErrorValue}
 use Rattle.stab_errors.proofs.AddingLemmas.{letters-at, products-at, under-way-more}
 use Rattle.stab_errors.proofs.MarkLemmas.{EndsBy, long-unrolled, marks-end}
 

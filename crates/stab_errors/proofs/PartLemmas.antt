@@ -1,21 +1,5 @@
 -- Parts: which errors give way to theirs, by rows and by runs.
-use Rattle.std.proofs.Common.{◌≡◌, ℕ, ◌⊎◌, inl, inr, refl, sym, ap, ◌∙◌, subst, Bool, true, false, List, [], ◌∷◌, ◌++◌, append_assoc, append-nil, map, arith}
-use Rattle.std.specs.Prelude.{All}
-use Rattle.std.proofs.lemmas.List.Elements.{All-nil, All-cons, All-head, All-tail}
-use Rattle.stab_circuit.specs.Items.{Items}
-use Rattle.stab_circuit.specs.Steps.{unroll, detectors_of}
-use Rattle.stab_run.specs.ProgramStates.{StepFits}
-use Rattle.stab_regions.specs.Faults.{FaultPlace, faults_of, IsFaultTable}
-use Rattle.stab_regions.specs.FaultLaws.{FaultsAdd, SureParities, PlacesFlipSureParities}
-use Rattle.stab_distance.specs.Graphlike.{IsGraphlike}
-use Rattle.stab_errors.specs.Errors.{Error}
-use Rattle.stab_errors.specs.ErrorTables.{ErrorTableState, IsErrorTable}
-use Rattle.stab_errors.specs.Parts.{IsSplit, AreSplit, AreSearched, parts_of}
-use Rattle.stab_errors.specs.Placed.{error_shown}
-use Rattle.stab_errors.specs.inner.Adding.{Adds, ErrorStands}
-use Rattle.stab_errors.specs.inner.ErrorRows.{IsRowOf}
-use Rattle.stab_errors.specs.inner.RowParts.{IsSplitByRow, SplitByRows, AreSplitByRows, AreSearchedByRows}
-use Rattle.stab_errors.specs.declared.placed.Error.{Error as ErrorValue}
+use Rattle.stab_errors.proofs.Names.{◌≡◌, ℕ, ◌⊎◌, inl, inr, refl, sym, ap, ◌∙◌, subst, Bool, true, false, List, [], ◌∷◌, ◌++◌, append_assoc, append-nil, map, arith, All, All-nil, All-cons, All-head, All-tail, Items, unroll, detectors_of, StepFits, FaultPlace, faults_of, IsFaultTable, FaultsAdd, DeterministicParities, PlacesFlipDeterministicParities, IsGraphlike, Error, ErrorTableState, IsErrorTable, IsSplit, AreSplit, AreSearched, parts_of, error_shown, Adds, ErrorStands, IsRowOf, IsSplitByRow, SplitByRows, AreSplitByRows, AreSearchedByRows, ErrorValue}
 use Rattle.stab_errors.proofs.FlipLemmas.{table-is}
 use Rattle.stab_errors.proofs.GraphlikeLemmas.{row-two, two-row}
 
@@ -48,18 +32,18 @@ searched-stand true rows detectors whole searched faults is stand = is.stand fau
 
 -- by runs
 
-module _ (n : ℕ) (everywhere : Bool) (items : Items) (sure : List Bool) (rows : List (List ℕ)) (fits : All (StepFits n) (unroll items))
-    (table : IsFaultTable n everywhere items sure rows) (found : SureParities) (places : PlacesFlipSureParities) (adds : FaultsAdd)
+module _ (n : ℕ) (everywhere : Bool) (items : Items) (deterministic : List Bool) (rows : List (List ℕ)) (fits : All (StepFits n) (unroll items))
+    (table : IsFaultTable n everywhere items deterministic rows) (found : DeterministicParities) (places : PlacesFlipDeterministicParities) (adds : FaultsAdd)
     (detectors : ℕ) (count : detectors ≡ detectors_of (unroll items)) where
   abbrev Stand : ErrorValue → Type 0
   Stand = ErrorStands (faults_of everywhere (unroll items))
 
   -- the table of one error
   abbrev alone : ErrorValue → List ℕ → ErrorTableState
-  alone e row = record { sure = sure; errors = error_shown e ∷ []; table = record { detectors = detectors; rows = row ∷ [] } }
+  alone e row = record { deterministic = deterministic; errors = error_shown e ∷ []; table = record { detectors = detectors; rows = row ∷ [] } }
 
   alone-is : (e : ErrorValue) (row : List ℕ) → Stand e → IsRowOf rows e row → IsErrorTable n items (alone e row)
-  alone-is e row stands is = table-is n everywhere items sure rows fits table found places adds detectors count (e ∷ []) (row ∷ []) (All-cons Stand e [] stands (All-nil Stand)) (is, tt)
+  alone-is e row stands is = table-is n everywhere items deterministic rows fits table found places adds detectors count (e ∷ []) (row ∷ []) (All-cons Stand e [] stands (All-nil Stand)) (is, tt)
 
   row-split : (e : ErrorValue) (given : List Error) → Stand e → IsSplitByRow rows detectors e given → IsSplit n items (error_shown e) given
   row-split e given stands (row, is, kept) = by_row kept

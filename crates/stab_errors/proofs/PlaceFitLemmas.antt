@@ -1,23 +1,5 @@
 -- Errors of a circuit: each fits it, those everywhere and those that it marks.
-use Rattle.std.proofs.Common.{◌≡◌, ℕ, ◌+◌, ◌≤◌, ◌<◌, subst, Bool, true, false, List, [], ◌∷◌, ◌++◌, length, arith}
-use Rattle.std.specs.Prelude.{All, bytes_eq, codes, if◌then◌else◌}
-use Rattle.std.specs.List.{flat_map}
-use Rattle.std.proofs.lemmas.List.{get_or_default}
-use Rattle.std.proofs.lemmas.List.Elements.{All-nil, All-cons, All-head, All-tail, All-append, All-map}
-use Rattle.stab_letters.specs.declared.letter.Letter.{Letter}
-use Rattle.stab_letters.specs.declared.letter.Letter.TheVariants.{I, X, Y, Z}
-use Rattle.stab_lines.specs.declared.product.Factor.{Factor}
-use Rattle.stab_lines.specs.Axes.{letter_of}
-use Rattle.stab_circuit.specs.Items.{Items}
-use Rattle.stab_circuit.specs.Steps.{Step, one, two, controlled, collapse, product, detector, observable, unroll, makes}
-use Rattle.stab_run.specs.ProgramStates.{StepFits}
-use Rattle.stab_run.specs.Runs.{flip_of}
-use Rattle.stab_jobs.specs.declared.error_letters.ErrorLetters.{ErrorLetters}
-use Rattle.stab_regions.specs.Faults.{FaultPlace, Site, in_front, behind, fault_on, faults_on, faults_of}
-use Rattle.stab_regions.specs.FaultLaws.{FaultFits}
-use Rattle.stab_regions.proofs.FaultSumLemmas.{fault-fits}
-use Rattle.stab_errors.specs.Errors.{Error, Marks, letter, wrong_record, letters_asked, pairs_asked, each_letter, product_at, each_product, wrong_product, errors_at, errors_from, instructions, marks_from, letters_left, each_target, each_two_targets, errors_marked, errors_of}
-use Rattle.stab_errors.specs.inner.Marked.{target_faults, marked_faults}
+use Rattle.stab_errors.proofs.Names.{◌≡◌, ℕ, ◌+◌, ◌≤◌, ◌<◌, subst, Bool, true, false, List, [], ◌∷◌, ◌++◌, length, arith, All, bytes_eq, codes, if◌then◌else◌, flat_map, get_or_default, All-nil, All-cons, All-head, All-tail, All-append, All-map, Letter, I, X, Y, Z, Factor, letter_of, Items, Step, one, two, controlled, collapse, product, detector, observable, unroll, makes, StepFits, flip_of, ErrorLetters, FaultPlace, Site, in_front, behind, fault_on, faults_on, faults_of, FaultFits, fault-fits, Error, Marks, letter, wrong_record, letters_asked, pairs_asked, each_letter, product_at, each_product, wrong_product, errors_at, errors_from, instructions, marks_from, letters_left, each_target, each_two_targets, errors_marked, errors_of, target_faults, marked_faults}
 use Rattle.stab_errors.proofs.FitLemmas.{Fits}
 use Rattle.stab_errors.proofs.MarkLemmas.{marked-all}
 

@@ -1,15 +1,6 @@
 -- Rows: those of a table of faults ascend, and rows that are put together name what errors flip.
-use Rattle.std.proofs.Common.{◌≡◌, ℕ, zero, suc, ◌+◌, ◌<◌, ◌≤◌, ◌⊎◌, inl, inr, sym, ap, ◌∙◌, subst, Bool, true, false, List, [], ◌∷◌, ◌++◌, length, arith}
-use Rattle.std.specs.Prelude.{if◌then◌else◌}
-use Rattle.std.proofs.lemmas.Bool.{cases_lt}
-use Rattle.std.proofs.lemmas.List.{get_or-map, get_or_past, length-map}
-use Rattle.stab_letters.specs.declared.letter.Letter.TheVariants as letter
-use Rattle.stab_circuit.specs.Items.{Items}
-use Rattle.stab_circuit.specs.Steps.{unroll}
-use Rattle.stab_regions.specs.Rows.{row}
-use Rattle.stab_regions.specs.Faults.{in_front, fault_on, faults_of, numbers_where, bits_in, flipped, IsFaultTable}
-use Rattle.stab_distance.specs.Ascending.{AscendsFrom, IsAscending}
-use Rattle.stab_errors.specs.inner.ErrorRows.{RowsAscend, IsRowOf, AreRowsOf}
+use Rattle.stab_errors.proofs.Names.{◌≡◌, ℕ, zero, suc, ◌+◌, ◌<◌, ◌≤◌, ◌⊎◌, inl, inr, sym, ap, ◌∙◌, subst, Bool, true, false, List, [], ◌∷◌, ◌++◌, length, arith, if◌then◌else◌, cases_lt, get_or-map, get_or_past, length-map, Items, unroll, row, in_front, fault_on, faults_of, numbers_where, bits_in, flipped, IsFaultTable, AscendsFrom, IsAscending, RowsAscend, IsRowOf, AreRowsOf}
+use Rattle.stab_gates.specs.declared.letter.Letter.TheVariants as letter
 use Rattle.stab_errors.specs.declared.placed.Error.{Error}
 
 weaker : (from more : ℕ) (ks : List ℕ) → from ≤ more → AscendsFrom more ks → AscendsFrom from ks
@@ -24,20 +15,20 @@ where-ascends : (f : ℕ → Bool) (i k : ℕ) → AscendsFrom i (numbers_where 
 where-ascends f i zero = tt
 where-ascends f i (suc k) = ascends-step (f i) i (numbers_where f (i + 1) k) (where-ascends f (i + 1) k)
 
-pub rows-ascend : (n : ℕ) (everywhere : Bool) (items : Items) (sure : List Bool) (rows : List (List ℕ)) → IsFaultTable n everywhere items sure rows → RowsAscend rows
-rows-ascend n everywhere items sure rows table k = by_place (cases_lt k (length rows))
+pub rows-ascend : (n : ℕ) (everywhere : Bool) (items : Items) (deterministic : List Bool) (rows : List (List ℕ)) → IsFaultTable n everywhere items deterministic rows → RowsAscend rows
+rows-ascend n everywhere items deterministic rows table k = by_place (cases_lt k (length rows))
   where
     coins : ℕ → Bool
     coins = λ t. false
 
     as-many : length rows ≡ length (faults_of everywhere (unroll items))
-    as-many = ap length (table.are_flipped coins) ∙ length-map (faults_of everywhere (unroll items)) (flipped n items sure coins)
+    as-many = ap length (table.are_flipped coins) ∙ length-map (faults_of everywhere (unroll items)) (flipped n items deterministic coins)
 
     by_place : (k < length rows) ⊎ (length rows ≤ k) → IsAscending (row rows k)
     by_place (inl less) =
         subst IsAscending
         (sym (ap (λ rs. row rs k) (table.are_flipped coins)
-        ∙ get_or-map (flipped n items sure coins) (faults_of everywhere (unroll items)) k (fault_on 0 (in_front 0) letter.X) [] (omega (arith, less, as-many))))
+        ∙ get_or-map (flipped n items deterministic coins) (faults_of everywhere (unroll items)) k (fault_on 0 (in_front 0) letter.X) [] (omega (arith, less, as-many))))
         (where-ascends _ 0 (bits_in items))
     by_place (inr more) = subst IsAscending (sym (get_or_past rows k [] more)) tt
 

@@ -1,18 +1,7 @@
 -- Steps: the step of each error is one of the circuit's.
-use Rattle.std.proofs.Common.{ℕ, ◌+◌, ◌<◌, ◌≤◌, subst, Bool, List, [], ◌∷◌, map, length, arith}
-use Rattle.std.specs.Prelude.{All, Some, None}
-use Rattle.std.specs.List.{flat_map}
-use Rattle.std.proofs.lemmas.List.Elements.{All-append, All-cons, All-map, All-nil, All-weaker}
-use Rattle.stab_letters.specs.declared.letter.Letter.TheVariants as letter
-use Rattle.stab_circuit.specs.Items.{Items}
-use Rattle.stab_circuit.specs.Steps.{Step, unroll}
-use Rattle.stab_regions.specs.Faults.{FaultPlace, Site, fault_on, faults_from, faults_of, faults_on, in_front, sites_at}
-use Rattle.stab_errors.specs.Errors.{first_fault}
-use Rattle.stab_errors.specs.ErrorTables.{StepsInside}
-use Rattle.stab_errors.specs.Placed.{error_shown, letter_at}
-use Rattle.stab_errors.specs.inner.Adding.{ErrorStands, Stands}
-use Rattle.stab_errors.specs.declared.placed.Place.{Place}
-use Rattle.stab_errors.specs.declared.placed.Error.{Error as ErrorValue}
+use Rattle.stab_errors.proofs.Names.{ℕ, ◌+◌, ◌<◌, ◌≤◌, subst, Bool, List, [], ◌∷◌, map, length, arith, All, None, flat_map, All-append, All-cons, All-map, All-nil, All-weaker, Items, Step, unroll, FaultPlace, Site, fault_on, faults_from, faults_of, faults_on, in_front, sites_at, first_fault, StepsInside, error_shown, letter_at, ErrorStands, Stands, Place, ErrorValue}
+use Rattle.std.specs.Prelude.{Some}
+use Rattle.stab_gates.specs.declared.letter.Letter.TheVariants as letter
 use Rattle.stab_errors.specs.declared.placed.Error.TheVariants as error
 use Rattle.stab_errors.proofs.FlipLemmas.{dropped-first}
 

@@ -3,10 +3,10 @@
 -- fast stabilizer circuit simulator (2021).
 use Rattle.std.specs.Prelude.{ℕ, ◌+◌, zero, suc, Bool, true, false, List, [], ◌∷◌, ◌++◌, length, map, codes, bytes_eq, if◌then◌else◌}
 use Rattle.std.specs.List.{flat_map}
-use Rattle.stab_letters.specs.declared.letter.Letter.{Letter}
-use Rattle.stab_letters.specs.declared.letter.Letter.TheVariants.{I, X, Y, Z}
-use Rattle.stab_letters.specs.declared.gate.Gate.{Gate}
-use Rattle.stab_letters.specs.declared.gate.Gate.TheVariants as gate
+use Rattle.stab_gates.specs.declared.letter.Letter.{Letter}
+use Rattle.stab_gates.specs.declared.letter.Letter.TheVariants.{I, X, Y, Z}
+use Rattle.stab_gates.specs.declared.gate.Gate.{Gate}
+use Rattle.stab_gates.specs.declared.gate.Gate.TheVariants as gate
 use Rattle.stab_lines.specs.declared.operation.Operation.{Operation}
 use Rattle.stab_lines.specs.declared.operation.Kind.{Kind}
 use Rattle.stab_lines.specs.declared.operation.Kind.TheVariants as kind
@@ -16,8 +16,8 @@ use Rattle.stab_circuit.specs.Items.{Items, done, next, block}
 use Rattle.stab_circuit.specs.Steps.{Step, one, two, controlled, collapse, product, detector, observable, steps_of, unroll, makes}
 use Rattle.stab_run.specs.Runs.{flip_of}
 use Rattle.stab_regions.specs.Faults.{in_front, behind, FaultPlace, fault_on}
-use Rattle.stab_jobs.specs.declared.error_letters.ErrorLetters.{ErrorLetters}
-use Rattle.stab_jobs.specs.declared.error_letters.ErrorLetters.TheVariants.{All, XAndZ}
+use Rattle.stab_jobs.specs.declared.job.ErrorLetters.{ErrorLetters}
+use Rattle.stab_jobs.specs.declared.job.ErrorLetters.TheVariants.{All, XAndZ}
 
 -- an error: a letter at a place; letters at two places, both at once; or the record of this number by itself: a letter in front of its
 -- measurement flips the outcome, and if the qubit isn't reset the same letter after it takes the flip of the qubit back

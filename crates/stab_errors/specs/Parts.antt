@@ -1,8 +1,8 @@
 -- Parts: what takes the place of an error that flips more than two detectors, if graph-like errors are asked for.
 -- Source: C. Gidney, Stim: a fast stabilizer circuit simulator (2021), errors decomposed into graph-like ones.
 use Rattle.std.specs.Prelude.{◌≡◌, ℕ, ◌⊎◌, Bool, true, false, List, [], ◌∷◌, ◌++◌}
-use Rattle.stab_letters.specs.declared.letter.Letter.{Letter}
-use Rattle.stab_letters.specs.declared.letter.Letter.TheVariants.{I, X, Y, Z}
+use Rattle.stab_gates.specs.declared.letter.Letter.{Letter}
+use Rattle.stab_gates.specs.declared.letter.Letter.TheVariants.{I, X, Y, Z}
 use Rattle.stab_circuit.specs.Items.{Items}
 use Rattle.stab_regions.specs.Faults.{FaultPlace}
 use Rattle.stab_errors.specs.Errors.{Error, letter, letters, wrong_record, each_letter}

@@ -1,7 +1,7 @@
 -- Placed letters: which errors the values of the code stand for.
 -- Source: this project's own.
 use Rattle.std.specs.Prelude.{List, [], ◌∷◌, Option, Some, None}
-use Rattle.stab_letters.specs.declared.letter.Letter.{Letter}
+use Rattle.stab_gates.specs.declared.letter.Letter.{Letter}
 use Rattle.stab_regions.specs.Faults.{FaultPlace}
 use Rattle.stab_errors.specs.Errors.{Error}
 use Rattle.stab_errors.specs.Errors.{letter as one_letter, letters as two_letters, wrong_record}

@@ -6,8 +6,8 @@ ghost use Rattle.stab_errors.specs.inner.Adding.{Adds, Stands, ErrorStands};
 
 use crate::letters::pairs_asked;
 use crate::placed::{Error, Place, product_at};
+use stab_gates::Letter;
 use stab_jobs::ErrorLetters;
-use stab_letters::Letter;
 use std::alloc::AllocError;
 
 /// Adds an error.

@@ -2,7 +2,7 @@
 ghost use Rattle.std.specs.Prelude.{◌≡◌, ◌≤◌, List, ◌∷◌, [], ◌++◌, map, None, All, length, IfOk, IfErr, OnOk};
 ghost use Rattle.stab_io.specs.Refusals.{Refuses};
 ghost use Rattle.stab_io.specs.declared.refusal.Refusal.TheVariants.{OutOfMemory};
-ghost use Rattle.stab_letters.specs.Limits.{most_qubits};
+ghost use Rattle.stab_gates.specs.Limits.{most_qubits};
 ghost use Rattle.stab_circuit.specs.Steps.{check_of, check_within, detectors_of, unroll};
 ghost use Rattle.stab_circuit.specs.Views.{circuit_items};
 ghost use Rattle.stab_run.specs.ProgramStates.{StepFits};
@@ -25,7 +25,7 @@ use stab_circuit::Circuit;
 use stab_distance::Table;
 use stab_io::{Fault, Refusal};
 use stab_jobs::ErrorLetters;
-use stab_regions::fault_laws::{faults_add, faults_flip_sure_parities, sure_parities};
+use stab_regions::fault_laws::{deterministic_parities, faults_add, faults_flip_parities};
 use stab_regions::{FaultTable, faults};
 use std::alloc::Global;
 use std::marker::Model;
@@ -33,7 +33,7 @@ use std::marker::Model;
 /// The errors of a circuit, and which of its deterministic detectors and observables each of them flips.
 #[derive(Drop)]
 pub struct ErrorTable {
-    sure: Vec<bool>,
+    deterministic: Vec<bool>,
     errors: Vec<Error>,
     table: Table,
 }
@@ -45,7 +45,7 @@ impl Model for ErrorTable {
 
     ghost Value = { ErrorTableState };
 
-    ghost view = { λ t. record { sure = t.sure.items; errors = map error_shown t.errors.items; table = t.table } };
+    ghost view = { λ t. record { deterministic = t.deterministic.items; errors = map error_shown t.errors.items; table = t.table } };
 }
 
 impl ErrorTable {
@@ -53,10 +53,10 @@ impl ErrorTable {
     ghost use Rattle.stab_errors.specs.Placed.{error_shown};
 
     /// For each detector and then each observable, whether its bit is the same for all random bits.
-    pub fn sure(&self) -> &[bool]
-        ensures value { result.now ≡ self.now.sure }
+    pub fn deterministic(&self) -> &[bool]
+        ensures value { result.now ≡ self.now.deterministic }
     {
-        self.sure.as_slice()
+        self.deterministic.as_slice()
     }
 
     /// The number of errors.
@@ -187,23 +187,23 @@ fn table_of(
     faults: &FaultTable,
 ) -> Result<ErrorTable, Refusal>
     requires checked { check_within n (circuit_items circuit.now) ≡ None }
-    requires table { IsFaultTable n everywhere (circuit_items circuit.now) faults.now.sure faults.now.rows }
+    requires table { IsFaultTable n everywhere (circuit_items circuit.now) faults.now.deterministic faults.now.rows }
     ensures errors { IfOk result (λ t. AreSearched graphlike n (circuit_items circuit.now) (errors_of everywhere letters (circuit_items circuit.now)) t.errors) }
     ensures table { IfOk result (IsErrorTable n (circuit_items circuit.now)) }
     ensures steps { IfOk result (λ t. StepsInside (circuit_items circuit.now) t.errors) }
     ensures err { IfErr result (λ r. r ≡ OutOfMemory) }
 {
     let whole = errors_asked(alloc, circuit, everywhere, letters, faults.len())?;
-    let sure = copied(alloc, faults.sure())?;
-    let detectors = sure.len() - circuit.observables();
+    let deterministic = copied(alloc, faults.deterministic())?;
+    let detectors = deterministic.len() - circuit.observables();
     let errors = searched_errors(alloc, faults, whole, detectors, graphlike)?;
     let table = rows_of(alloc, faults, errors.as_slice(), detectors)?;
     steps_fit(circuit, n);
-    sure_parities();
-    faults_flip_sure_parities();
+    deterministic_parities();
+    faults_flip_parities();
     faults_add();
     Ok(ErrorTable {
-        sure,
+        deterministic,
         errors,
         table,
     })

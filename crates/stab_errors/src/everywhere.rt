@@ -15,10 +15,10 @@ use crate::adding::{add_error, add_letters, add_products};
 use crate::letters::letters_asked;
 use crate::placed::{Error, Place, PlacedLetter};
 use stab_circuit::{Circuit, Cursor, Factor, Step};
+use stab_gates::Letter;
 use stab_io::Refusal;
 use stab_jobs::ErrorLetters;
-use stab_letters::Letter;
-use stab_steps::flip;
+use stab_run::flip;
 use std::alloc::{AllocError, Global};
 
 /// The letter that takes a flip of a qubit back after its measurement, unless the qubit is reset.

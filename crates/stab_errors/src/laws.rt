@@ -3,15 +3,15 @@
 ghost use Rattle.stab_errors.specs.Laws.{CircuitsHaveDistances};
 
 use stab_distance::laws::tables_have_answers;
-use stab_regions::fault_laws::{faults_add, faults_flip_sure_parities, sure_parities};
+use stab_regions::fault_laws::{deterministic_parities, faults_add, faults_flip_parities};
 
 /// Each circuit whose steps fit has a table of errors, and a distance of them: a least unseen set, or that none is
 /// within the number asked for, if that is below 2^63.
 pub fn circuits_have_distances()
     ensures law { CircuitsHaveDistances }
 {
-    sure_parities();
-    faults_flip_sure_parities();
+    deterministic_parities();
+    faults_flip_parities();
     faults_add();
     tables_have_answers();
 }

@@ -2,8 +2,8 @@
 ghost use Rattle.std.specs.Prelude.{◌≡◌};
 ghost use Rattle.stab_errors.specs.Errors.{letters_asked, pairs_asked};
 
+use stab_gates::Letter::{self, I, X, Y, Z};
 use stab_jobs::ErrorLetters;
-use stab_letters::Letter::{self, I, X, Y, Z};
 
 /// The letters of errors on one qubit.
 pub fn letters_asked(letters: ErrorLetters) -> &'static [Letter]

@@ -16,9 +16,9 @@ use crate::marks::{Marks, mark_items};
 use crate::placed::{Error, Place};
 use crate::tags::{is_pairs, letters_left};
 use stab_circuit::{Circuit, Qubit};
+use stab_gates::Letter;
 use stab_io::Refusal;
 use stab_jobs::ErrorLetters;
-use stab_letters::Letter;
 use std::alloc::{AllocError, Global};
 
 /// Adds letters at each of some targets, the first of which is at this step and has this row.

@@ -6,8 +6,8 @@ ghost use Rattle.stab_errors.specs.Errors.{instruction_rounds, instructions, is_
 ghost use Rattle.stab_errors.specs.inner.Marked.{marks_shown};
 
 use stab_circuit::{Item, Qubit};
+use stab_gates::Gate;
 use stab_items::Part;
-use stab_letters::Gate;
 use stab_lines::Kind;
 use std::alloc::AllocError;
 

@@ -11,7 +11,7 @@ use crate::adding::{add_error, add_letters};
 use crate::placed::{Error, PlacedLetter};
 use crate::rows::error_row;
 use stab_distance::is_graphlike;
-use stab_letters::Letter;
+use stab_gates::Letter;
 use stab_regions::FaultTable;
 use std::alloc::{AllocError, Global};
 

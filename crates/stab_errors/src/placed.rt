@@ -5,7 +5,7 @@ ghost use Rattle.stab_errors.specs.inner.Adding.{ErrorStands, Stands};
 ghost use Rattle.stab_errors.specs.Placed.{error_shown, fault_shown, letter_at};
 ghost use Rattle.stab_errors.specs.Errors.{product_at};
 
-use stab_letters::Letter;
+use stab_gates::Letter;
 
 /// A place for errors: a qubit in front of a step or after it.
 #[derive(Clone, Copy)]
@@ -87,7 +87,7 @@ impl PlacedLetter {
 
 impl Place {
     ghost use Rattle.std.specs.Prelude.{◌≡◌, ◌≤◌};
-    ghost use Rattle.stab_letters.specs.declared.letter.Letter.{Letter};
+    ghost use Rattle.stab_gates.specs.declared.letter.Letter.{Letter};
     ghost use Rattle.stab_circuit.specs.Steps.{most_steps};
     ghost use Rattle.stab_regions.specs.Faults.{fault_on, in_front as site_in_front, behind as site_behind};
     ghost use Rattle.stab_errors.specs.Placed.{fault_shown, letter_at};

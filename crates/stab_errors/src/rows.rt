@@ -1,6 +1,6 @@
 //! What an error flips, by the table of faults.
 ghost use Rattle.std.specs.Prelude.{◌≡◌, ℕ, ◌+◌, IfOk};
-ghost use Rattle.stab_letters.specs.Letters.{◌⊕◌};
+ghost use Rattle.stab_gates.specs.Letters.{◌⊕◌};
 ghost use Rattle.stab_regions.specs.Rows.{row};
 ghost use Rattle.stab_distance.specs.Ascending.{IsAscending};
 ghost use Rattle.stab_distance.specs.Tables.{odd};
@@ -8,7 +8,7 @@ ghost use Rattle.stab_errors.specs.inner.ErrorRows.{RowsAscend, letter_names, er
 
 use crate::placed::{Error, Place, PlacedLetter};
 use stab_distance::merge_into;
-use stab_letters::Letter;
+use stab_gates::Letter;
 use stab_regions::FaultTable;
 use std::alloc::{AllocError, Global};
 

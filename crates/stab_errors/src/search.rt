@@ -1,9 +1,9 @@
 //! The least number of a circuit's errors that flip an observable and no detector.
-ghost use Rattle.std.specs.Prelude.{◌≡◌, ℕ, IfOk, IfErr};
+ghost use Rattle.std.specs.Prelude.{◌≡◌, ℕ, true, false, IfOk, IfErr};
 ghost use Rattle.stab_io.specs.declared.refusal.Refusal.TheVariants.{OutOfMemory};
 ghost use Rattle.stab_circuit.specs.Items.{Items};
 ghost use Rattle.stab_errors.specs.ErrorTables.{IsErrorTable};
-ghost use Rattle.stab_errors.specs.Unseen.{IsDistance, IsGraphlikeDistance};
+ghost use Rattle.stab_errors.specs.Unseen.{IsDistance};
 
 use crate::error_table::ErrorTable;
 use stab_distance::{Answer, Progress, least_graphlike_error, least_logical_error};
@@ -13,8 +13,8 @@ use std::alloc::Global;
 /// A least set of a circuit's errors that are unseen together, if there is one; of at most `most` errors, if that is
 /// given. `progress` hears of the number of errors, and then of each number of them that no such set has.
 ///
-/// Errors are unseen together if the run with all of them put in has, whatever the coins, the sure
-/// detectors of the run without, and differs from it in a sure observable.
+/// Errors are unseen together if the run with all of them put in has, whatever the coins, the deterministic
+/// detectors of the run without, and differs from it in a deterministic observable.
 ///
 /// The only refusal is `OutOfMemory`.
 pub fn distance<P: Progress>(
@@ -23,7 +23,7 @@ pub fn distance<P: Progress>(
     most: Option<usize>,
     progress: &mut P,
 ) -> Result<Answer, Refusal>
-    ensures distance { IfOk result (λ a. (n : ℕ) (items : Items) → IsErrorTable n items errors.now → IsDistance n items errors.now.errors most a) }
+    ensures distance { IfOk result (λ a. (n : ℕ) (items : Items) → IsErrorTable n items errors.now → IsDistance false n items errors.now.errors most a) }
     ensures err { IfErr result (λ r. r ≡ OutOfMemory) }
 {
     let table = errors.table();
@@ -31,7 +31,7 @@ pub fn distance<P: Progress>(
     least_logical_error(alloc, table, bound, progress)
 }
 
-/// The same of those errors alone that flip at most two sure detectors, by shortest paths in the graph whose edges
+/// The same of those errors alone that flip at most two deterministic detectors, by shortest paths in the graph whose edges
 /// they are: fast on large circuits. `progress` hears of the number of errors.
 ///
 /// The only refusal is `OutOfMemory`.
@@ -41,7 +41,7 @@ pub fn graphlike_distance<P: Progress>(
     most: Option<usize>,
     progress: &mut P,
 ) -> Result<Answer, Refusal>
-    ensures distance { IfOk result (λ a. (n : ℕ) (items : Items) → IsErrorTable n items errors.now → IsGraphlikeDistance n items errors.now.errors most a) }
+    ensures distance { IfOk result (λ a. (n : ℕ) (items : Items) → IsErrorTable n items errors.now → IsDistance true n items errors.now.errors most a) }
     ensures err { IfErr result (λ r. r ≡ OutOfMemory) }
 {
     let table = errors.table();

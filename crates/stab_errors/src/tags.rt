@@ -3,8 +3,8 @@ ghost use Rattle.std.specs.Prelude.{◌≡◌, bytes_eq, codes};
 ghost use Rattle.stab_errors.specs.Errors.{letters_left, y_asked};
 
 use crate::letters::letters_asked;
+use stab_gates::Letter;
 use stab_jobs::ErrorLetters;
-use stab_letters::Letter;
 
 /// Whether a tag asks for products on each two targets.
 pub fn is_pairs(tag: &[u8]) -> bool

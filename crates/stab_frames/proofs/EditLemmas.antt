@@ -1,22 +1,9 @@
 -- Edits that put Pauli gates in the place of others: the run of the edited circuit is the old one, flipped.
-use Rattle.std.proofs.Common.{◌≡◌, ℕ, ◌<◌, refl, ◌∙◌, ap, Bool, List, [], ◌∷◌, ◌++◌, map}
+use Rattle.stab_frames.proofs.Names.{◌≡◌, ℕ, ◌<◌, refl, ◌∙◌, ap, Bool, List, [], ◌∷◌, ◌++◌, map, All-nil, All-cons, All-head, All-tail, All-append, Letter, Step, one, gate_of, RunOutput, origin, nothing, joined, point_after, outputs, StepFits, lengths_of, Matches, flipped_output, unflipped, identity_frame, same_coins, changed, frame_over, flips_over, edit_frame, IsFlippedRun, FrontsFlip, FrontsGoOn, FrontsTakePaulis, PauliFronts, PauliEditsFlip, CoinsFlip, CheckpointsTakeFrames}
 use Rattle.std.specs.Prelude.{All}
-use Rattle.std.proofs.lemmas.List.Elements.{All-nil, All-cons, All-head, All-tail, All-append}
-use Rattle.stab_letters.specs.declared.letter.Letter.{Letter}
-use Rattle.stab_circuit.specs.Steps.{Step, one}
-use Rattle.stab_steps.specs.Runs.{gate_of}
-use Rattle.stab_steps.specs.Points.{RunOutput, origin, nothing, joined, point_after, outputs}
-use Rattle.stab_steps.specs.ProgramStates.{StepFits}
-use Rattle.stab_steps.specs.Cuts.{lengths_of}
-use Rattle.stab_frames.specs.Flips.{Matches, flipped_output, unflipped}
-use Rattle.stab_frames.specs.Frames.{identity_frame}
-use Rattle.stab_frames.specs.Notes.{same_coins, changed}
-use Rattle.stab_frames.specs.FrameSteps.{frame_over, flips_over}
-use Rattle.stab_frames.specs.Fronts.{edit_frame, IsFlippedRun}
-use Rattle.stab_frames.specs.RunLaws.{FrontsFlip, FrontsGoOn, FrontsTakePaulis, PauliFronts, PauliEditsFlip, CoinsFlip, CopiesTurn}
 use Rattle.stab_frames.proofs.FlipLemmas.{length-flipped, length-flipped_additions}
 use Rattle.stab_frames.proofs.StartLemmas.{framed-same}
-use Rattle.stab_frames.proofs.TableauLemmas.{turned-group}
+use Rattle.stab_frames.proofs.TableauLemmas.{conjugated-group}
 use Rattle.stab_frames.proofs.FrontLemmas.{fronts-outputs, fronts-matches, fronts-framed, paulis-front, paulis-given, paulis-match, gates-framed, gates-given, gates-match, records-flipped, flags-flipped, detectors-flipped, observables-flipped}
 
 pub gates-fit : (n : ℕ) (l : Letter) (qs : List ℕ) → All (λ q. q < n) qs → All (StepFits n) (map (one (gate_of l)) qs)
@@ -35,18 +22,18 @@ flipped-run n coins others xs ys flips given matches = record {
 }
 
 pub fronts-flip : FrontsFlip
-fronts-flip n coins notes us vs xs f flips fits later fronts enough = (
-  flipped-run n coins (changed coins notes.changes) (us ++ xs) (vs ++ xs) (joined flips (flips_over n notes xs (point_after n coins us origin).coin f))
-      (fronts-outputs n coins notes us vs xs f flips fits later fronts enough)
-      (fronts-matches n coins notes us vs xs f flips fits later fronts enough),
-  fronts-framed n coins notes us vs xs f flips fits later fronts enough,
+fronts-flip n coins pivots us vs xs f flips fits later fronts enough = (
+  flipped-run n coins (changed coins pivots.changes) (us ++ xs) (vs ++ xs) (joined flips (flips_over n pivots xs (point_after n coins us origin).coin f))
+      (fronts-outputs n coins pivots us vs xs f flips fits later fronts enough)
+      (fronts-matches n coins pivots us vs xs f flips fits later fronts enough),
+  fronts-framed n coins pivots us vs xs f flips fits later fronts enough,
 )
 
 pub fronts-go-on : FrontsGoOn
-fronts-go-on n coins notes us vs xs f flips fits later fronts enough = record {
-  framed = fronts-framed n coins notes us vs xs f flips fits later fronts enough;
-  given = fronts-outputs n coins notes us vs xs f flips fits later fronts enough;
-  matches = fronts-matches n coins notes us vs xs f flips fits later fronts enough;
+fronts-go-on n coins pivots us vs xs f flips fits later fronts enough = record {
+  framed = fronts-framed n coins pivots us vs xs f flips fits later fronts enough;
+  given = fronts-outputs n coins pivots us vs xs f flips fits later fronts enough;
+  matches = fronts-matches n coins pivots us vs xs f flips fits later fronts enough;
 }
 
 -- Pauli gates
@@ -75,8 +62,8 @@ paulis-flip n coins strings front back l m qs rs fits later left right enough =
 -- coins
 
 pub coins-flip : CoinsFlip
-coins-flip n coins notes xs fits enough =
-    (fronts-flip n coins notes [] [] xs (identity_frame n 0) nothing (All-nil (StepFits n)) fits
+coins-flip n coins pivots xs fits enough =
+    (fronts-flip n coins pivots [] [] xs (identity_frame n 0) nothing (All-nil (StepFits n)) fits
     (record { framed = framed-same n origin; given = refl; matches = record { records = refl; free = refl; detectors = refl; observables = refl } })
     enough).0
 
@@ -90,10 +77,10 @@ same-lengths o flips = λ i. record {
   additions = length-flipped_additions o.additions flips.additions i;
 }
 
-pub copies-turn : CopiesTurn
-copies-turn n coins notes us vs xs f flips fits later fronts enough t rows same = (
-  turned-group n (frame_over n notes xs (point_after n coins us origin).coin f) (point_after n coins (us ++ xs) origin)
-      (point_after n (changed coins notes.changes) (vs ++ xs) origin) (fronts-framed n coins notes us vs xs f flips fits later fronts enough) t rows same,
-  ap lengths_of (fronts-outputs n coins notes us vs xs f flips fits later fronts enough)
-      ∙ same-lengths (outputs n coins (us ++ xs) origin) (joined flips (flips_over n notes xs (point_after n coins us origin).coin f)),
+pub copies-conjugate : CheckpointsTakeFrames
+copies-conjugate n coins pivots us vs xs f flips fits later fronts enough t rows same = (
+  conjugated-group n (frame_over n pivots xs (point_after n coins us origin).coin f) (point_after n coins (us ++ xs) origin)
+      (point_after n (changed coins pivots.changes) (vs ++ xs) origin) (fronts-framed n coins pivots us vs xs f flips fits later fronts enough) t rows same,
+  ap lengths_of (fronts-outputs n coins pivots us vs xs f flips fits later fronts enough)
+      ∙ same-lengths (outputs n coins (us ++ xs) origin) (joined flips (flips_over n pivots xs (point_after n coins us origin).coin f)),
 )

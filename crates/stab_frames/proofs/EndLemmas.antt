@@ -1,11 +1,6 @@
--- Where frames end: a frame turns nothing, and has flipped no record as far back as rec[-m].
-use Rattle.std.proofs.Common.{◌≤◌, sym, ◌∙◌, ap, subst, false, replicate}
-use Rattle.std.proofs.lemmas.List.{length-replicate}
-use Rattle.stab_letters.specs.Letters.{◌⊕◌}
-use Rattle.stab_steps.specs.Records.{looked_up}
-use Rattle.stab_laws.proofs.LookbackLemmas.{looked_up-near, looked_up-zeros}
+-- Where frames end: a frame flips no sign, and has flipped no record as far back as rec[-m].
+use Rattle.stab_frames.proofs.Names.{◌≤◌, sym, ◌∙◌, ap, subst, false, replicate, length-replicate, ◌⊕◌, looked_up, looked_up-near, looked_up-zeros, FramesEnd}
 use Rattle.stab_frames.proofs.FlipLemmas.{looked_up-flipped}
-use Rattle.stab_frames.specs.StepLaws.{FramesEnd}
 
 pub framed-end : FramesEnd
 framed-end n m f early a b framed quiet flips = record {

@@ -1,23 +1,5 @@
 -- Factors: whether a string anticommutes with a product, by its factors one after another, and with one letter.
-use Rattle.std.proofs.Common.{◌≡◌, ◌≢◌, ℕ, zero, suc, ◌<◌, refl, sym, ◌∙◌, ap, subst, Bool, true, false, ◌||◌, List, [], ◌∷◌, length, replicate, get_or, set, All, arith}
-use Rattle.std.specs.Prelude.{◌==◌}
-use Rattle.std.proofs.lemmas.List.{length-replicate, length-set, get_or-set_other}
-use Rattle.std.proofs.lemmas.List.Elements.{All-head, All-tail}
-use Rattle.stab_letters.specs.declared.letter.Letter.{Letter}
-use Rattle.stab_letters.specs.declared.letter.Letter.TheVariants.{I}
-use Rattle.stab_letters.specs.Letters.{◌⊕◌, letters_anticommute}
-use Rattle.stab_pauli.specs.Paulis.{single, strings_anticommute}
-use Rattle.stab_letters.proofs.ParityLemmas.{parity-false, parity-comm, parity-assoc}
-use Rattle.stab_letters.proofs.LetterLemmas.{letters_anticommute-I, letters_anticommute-comm}
-use Rattle.stab_pauli.proofs.StringLemmas.{strings_anticommute-comm, strings_anticommute-blank_right}
-use Rattle.stab_tableau.proofs.OneLetterLemmas.{one_letter-anticommute}
-use Rattle.stab_tableau.proofs.PlaceLemmas.{get_or-blank}
-use Rattle.stab_lines.specs.declared.product.Factor.{Factor}
-use Rattle.stab_lines.specs.Axes.{letter_of}
-use Rattle.stab_lines.specs.Products.{is_on, names_twice}
-use Rattle.stab_steps.specs.Runs.{with_factors, string_of}
-use Rattle.stab_laws.proofs.LookbackLemmas.{or-left, or-right}
-use Rattle.stab_frames.specs.inner.Passes.{factors_anticommute}
+use Rattle.stab_frames.proofs.Names.{◌≡◌, ◌≢◌, ℕ, zero, suc, ◌<◌, refl, sym, ◌∙◌, ap, subst, Bool, true, false, ◌||◌, List, [], ◌∷◌, length, replicate, get_or, set, All, arith, ◌==◌, length-replicate, length-set, get_or-set_other, All-head, All-tail, Letter, I, ◌⊕◌, letters_anticommute, single, strings_anticommute, parity-false, parity-comm, parity-assoc, letters_anticommute-I, letters_anticommute-comm, strings_anticommute-comm, strings_anticommute-blank_right, one_letter-anticommute, get_or-blank, Factor, letter_of, is_on, names_twice, with_factors, string_of, or-left, or-right, factors_anticommute}
 
 -- with one letter
 pub single-anticommute : (n q : ℕ) (l : Letter) (f : List Letter) → length f ≡ n → q < n

@@ -1,14 +1,5 @@
 -- Flipped bits: lookbacks and parities of them, and lists of them one after another.
-use Rattle.std.proofs.Common.{◌≡◌, ℕ, zero, suc, ◌+◌, ◌-◌, refl, sym, ◌∙◌, ap, Bool, true, false, ◌&&◌, List, [], ◌∷◌, ◌++◌, length, map, replicate, get_or, set, drop, nat_lt, arith}
-use Rattle.std.specs.Prelude.{if◌then◌else◌}
-use Rattle.std.proofs.lemmas.List.{length-append, length-replicate, length-set, length-map, map-append}
-use Rattle.stab_letters.specs.Letters.{◌⊕◌}
-use Rattle.stab_letters.proofs.ParityLemmas.{parity-assoc, parity-mid, parity-twice}
-use Rattle.stab_steps.specs.declared.records.Addition.{Addition}
-use Rattle.stab_steps.specs.Records.{looked_up, parity}
-use Rattle.stab_steps.specs.Runs.{when, added}
-use Rattle.stab_steps.specs.Points.{RunOutput, nothing, joined, with_additions}
-use Rattle.stab_frames.specs.Flips.{flipped, flipped_additions, flipped_output, unflipped, Matches}
+use Rattle.stab_frames.proofs.Names.{◌≡◌, ℕ, zero, suc, ◌+◌, ◌-◌, refl, sym, ◌∙◌, ap, Bool, true, false, ◌&&◌, List, [], ◌∷◌, ◌++◌, length, map, replicate, get_or, set, drop, nat_lt, arith, if◌then◌else◌, length-append, length-replicate, length-set, length-map, map-append, ◌⊕◌, parity-assoc, parity-mid, parity-twice, Addition, looked_up, parity, when, added, RunOutput, nothing, joined, with_additions, flipped, flipped_additions, flipped_output, unflipped, Matches}
 
 pub length-flipped : (bits flips : List Bool) → length (flipped bits flips) ≡ length bits
 length-flipped [] flips = refl

@@ -1,10 +1,5 @@
 -- Flipped lists: bits put after others one after another, flipped as far as there are flips.
-use Rattle.std.proofs.Common.{◌≡◌, ℕ, zero, suc, ◌+◌, ◌-◌, ◌<◌, min, refl, sym, ◌∙◌, ap, subst, Bool, false, not, List, [], ◌∷◌, ◌++◌, append_assoc, length, take, drop, get_or, arith}
-use Rattle.std.proofs.Math.Bool.{beq}
-use Rattle.stab_letters.specs.Letters.{◌⊕◌}
-use Rattle.stab_tableau.proofs.FrameLemmas.{differ}
-use Rattle.stab_steps.specs.declared.records.Addition.{Addition}
-use Rattle.stab_frames.specs.Flips.{flipped, flipped_additions}
+use Rattle.stab_frames.proofs.Names.{◌≡◌, ℕ, zero, suc, ◌+◌, ◌-◌, ◌<◌, min, refl, sym, ◌∙◌, ap, subst, Bool, false, not, List, [], ◌∷◌, ◌++◌, append_assoc, length, take, drop, get_or, arith, beq, ◌⊕◌, differ, Addition, flipped, flipped_additions}
 
 flipped-next : (i : ℕ) (bits flips : List Bool) → i < length flips → i < length bits
     → flipped (take (suc i) bits) (take (suc i) flips) ≡ flipped (take i bits) (take i flips) ++ (get_or flips i false ⊕ get_or bits i false) ∷ []

@@ -1,15 +1,5 @@
 -- Free outcomes: how many of them there are, strings of them, and how often their coins are asked for.
-use Rattle.std.proofs.Common.{◌≡◌, ℕ, zero, suc, ◌+◌, ◌-◌, ◌<◌, ◌≤◌, refl, sym, ◌∙◌, ap, Bool, true, false, List, [], ◌∷◌, length, take, drop, get_or, arith}
-use Rattle.std.specs.Prelude.{Option, Some, None, slice_get, if◌then◌else◌}
-use Rattle.std.proofs.lemmas.Option.{slice_get-get_or}
-use Rattle.std.proofs.Math.Seq.{take-add}
-use Rattle.stab_letters.specs.declared.letter.Letter.{Letter}
-use Rattle.stab_steps.specs.Records.{ones}
-use Rattle.stab_steps.proofs.RecordLemmas.{ones-append}
-use Rattle.stab_frames.specs.KeptStrings.{note_at}
-use Rattle.stab_frames.specs.Walks.{WalkState, IsPlaced}
-use Rattle.stab_frames.specs.inner.Draws.{AsksFree}
-use Rattle.stab_frames.specs.inner.Passes.{IsMissing}
+use Rattle.stab_frames.proofs.Names.{◌≡◌, ℕ, zero, suc, ◌+◌, ◌-◌, ◌<◌, ◌≤◌, refl, sym, ◌∙◌, ap, Bool, true, false, List, [], ◌∷◌, length, take, drop, get_or, arith, Option, Some, None, slice_get, if◌then◌else◌, slice_get-get_or, take-add, Letter, ones, ones-append, pivot_at, PropagationState, IsPlaced, AsksFree, IsMissing}
 
 -- how many are free
 
@@ -39,19 +29,19 @@ taken-next (false ∷ free) (suc coin) flag e = taken-next free coin flag e
 pub ones-next : (free : List Bool) (coin : ℕ) (flag : Bool) → get_or free coin false ≡ flag → ones (take coin free) + ones (flag ∷ []) ≡ ones (take (coin + 1) free)
 ones-next free coin flag e = taken-next free coin flag e ∙ ap (λ k. ones (take k free)) (one_more coin)
 
-pub placed-next : (free : List Bool) (flag : Bool) (old new : WalkState) → IsPlaced free old → get_or free old.coin false ≡ flag
+pub placed-next : (free : List Bool) (flag : Bool) (old new : PropagationState) → IsPlaced free old → get_or free old.coin false ≡ flag
     → new.coin ≡ old.coin + 1 → new.number ≡ old.number + ones (flag ∷ []) → IsPlaced free new
 placed-next free flag old new placed e coin number =
     number ∙ ap (λ k. k + ones (flag ∷ [])) placed ∙ ones-next free old.coin flag e ∙ ap (λ k. ones (take k free)) (sym coin)
 
--- the note of an outcome that was fixed, and of a free one whose string was kept
+-- the pivot of an outcome that was fixed, and of a free one whose string was kept
 
-pub note-none : (strings : List (List Letter)) (free : List Bool) (coin : ℕ) → get_or free coin false ≡ false → note_at strings free coin ≡ None
-note-none strings free coin e = ap (λ b. if b then slice_get strings (ones (take coin free)) else None) e
+pub pivot-none : (strings : List (List Letter)) (free : List Bool) (coin : ℕ) → get_or free coin false ≡ false → pivot_at strings free coin ≡ None
+pivot-none strings free coin e = ap (λ b. if b then slice_get strings (ones (take coin free)) else None) e
 
-pub note-some : (strings : List (List Letter)) (free : List Bool) (coin number : ℕ) → get_or free coin false ≡ true → number ≡ ones (take coin free)
-    → number < length strings → note_at strings free coin ≡ Some (get_or strings number [])
-note-some strings free coin number e placed lt =
+pub pivot-some : (strings : List (List Letter)) (free : List Bool) (coin number : ℕ) → get_or free coin false ≡ true → number ≡ ones (take coin free)
+    → number < length strings → pivot_at strings free coin ≡ Some (get_or strings number [])
+pivot-some strings free coin number e placed lt =
     ap (λ b. if b then slice_get strings (ones (take coin free)) else None) e
     ∙ ap (slice_get strings) (sym placed)
     ∙ slice_get-get_or strings number [] lt

@@ -1,30 +1,9 @@
 -- Runs of two circuits that differ by Pauli gates at one place.
-use Rattle.std.proofs.Common.{◌≡◌, ℕ, ◌<◌, refl, sym, ◌∙◌, ap, subst, Bool, false, List, [], ◌∷◌, ◌++◌, length, map, replicate}
+use Rattle.stab_frames.proofs.Names.{◌≡◌, ℕ, ◌<◌, refl, sym, ◌∙◌, ap, subst, Bool, false, List, [], ◌∷◌, ◌++◌, length, map, replicate, length-replicate, All-head, All-tail, Letter, string_product, member, IsStabiliserGroup, group-zeros, Step, one, State, start, gate_of, run, Point, RunOutput, origin, nothing, joined, next_point, point_after, outputs, with_additions, StepFits, Matches, flipped, flipped_output, unflipped, Frame, PointsDifferBy, frame_of, RunPivots, changed, frame_over, flips_over, AreEnough, letters_on, AreFronts, joined-nothing, after-append, outputs-append, run-state, records-are-records}
 use Rattle.std.specs.Prelude.{All}
-use Rattle.std.proofs.lemmas.List.{length-replicate}
-use Rattle.std.proofs.lemmas.List.Elements.{All-head, All-tail}
-use Rattle.stab_letters.specs.declared.letter.Letter.{Letter}
-use Rattle.stab_pauli.specs.Paulis.{string_product}
-use Rattle.stab_tableau.specs.Traces.{member}
-use Rattle.stab_tableau.specs.Groups.{IsStabiliserGroup}
-use Rattle.stab_tableau.proofs.GroupLemmas.{group-zeros}
-use Rattle.stab_circuit.specs.Steps.{Step, one}
-use Rattle.stab_steps.specs.Runs.{State, start, gate_of, run}
-use Rattle.stab_steps.specs.Points.{Point, RunOutput, origin, nothing, joined, next_point, point_after, outputs, with_additions}
-use Rattle.stab_steps.specs.ProgramStates.{StepFits}
-use Rattle.stab_frames.specs.Flips.{Matches, flipped, flipped_output, unflipped}
-use Rattle.stab_frames.specs.Frames.{Frame, PointsDifferBy, frame_of}
-use Rattle.stab_frames.specs.Notes.{Notes, changed}
-use Rattle.stab_frames.specs.FrameSteps.{frame_over, flips_over}
-use Rattle.stab_frames.specs.StepNotes.{AreEnough}
-use Rattle.stab_frames.specs.Starts.{letters_on}
-use Rattle.stab_frames.specs.Fronts.{AreFronts}
 use Rattle.stab_frames.proofs.FlipLemmas.{flipped-joined, joined-matches, flipped-none, unflipped-output, unflipped-matches, additions-flipped}
 use Rattle.stab_frames.proofs.StepLemmas.{group-next, outputs-matches, over-framed}
 use Rattle.stab_frames.proofs.StartLemmas.{framed-exchanged, framed-gates}
-use Rattle.stab_steps.proofs.RunLemmas.{joined-nothing, after-append, outputs-append}
-use Rattle.stab_laws.proofs.StateLemmas.{run-state}
-use Rattle.stab_laws.proofs.PointLemmas.{records-are-records}
 
 -- the strings at a point of a run are a group
 
@@ -39,40 +18,40 @@ group-origin n coins xs fits = group-after n coins xs origin fits (group-zeros n
 
 -- two fronts that differ by a frame, and the same steps after them
 
-module _ (n : ℕ) (coins : ℕ → Bool) (notes : Notes) (us vs xs : List Step) (f : Frame) (flips : RunOutput)
+module _ (n : ℕ) (coins : ℕ → Bool) (pivots : RunPivots) (us vs xs : List Step) (f : Frame) (flips : RunOutput)
     (fits : All (StepFits n) us) (later : All (StepFits n) xs)
-    (fronts : AreFronts n coins (changed coins notes.changes) us vs f flips)
-    (enough : AreEnough n coins notes xs f (point_after n coins us origin)) where
+    (fronts : AreFronts n coins (changed coins pivots.changes) us vs f flips)
+    (enough : AreEnough n coins pivots xs f (point_after n coins us origin)) where
   abbrev whole : RunOutput
-  whole = joined flips (flips_over n notes xs (point_after n coins us origin).coin f)
+  whole = joined flips (flips_over n pivots xs (point_after n coins us origin).coin f)
 
-  behind : (outputs n (changed coins notes.changes) xs (point_after n (changed coins notes.changes) vs origin)
-      ≡ flipped_output (outputs n coins xs (point_after n coins us origin)) (flips_over n notes xs (point_after n coins us origin).coin f))
-      × PointsDifferBy n (frame_over n notes xs (point_after n coins us origin).coin f) (point_after n coins xs (point_after n coins us origin))
-      (point_after n (changed coins notes.changes) xs (point_after n (changed coins notes.changes) vs origin))
+  behind : (outputs n (changed coins pivots.changes) xs (point_after n (changed coins pivots.changes) vs origin)
+      ≡ flipped_output (outputs n coins xs (point_after n coins us origin)) (flips_over n pivots xs (point_after n coins us origin).coin f))
+      × PointsDifferBy n (frame_over n pivots xs (point_after n coins us origin).coin f) (point_after n coins xs (point_after n coins us origin))
+      (point_after n (changed coins pivots.changes) xs (point_after n (changed coins pivots.changes) vs origin))
   behind =
-      over-framed n coins notes xs f (point_after n coins us origin) (point_after n (changed coins notes.changes) vs origin) later (group-origin n coins us fits) enough fronts.framed
+      over-framed n coins pivots xs f (point_after n coins us origin) (point_after n (changed coins pivots.changes) vs origin) later (group-origin n coins us fits) enough fronts.framed
 
-  pub fronts-outputs : outputs n (changed coins notes.changes) (vs ++ xs) origin ≡ flipped_output (outputs n coins (us ++ xs) origin) whole
+  pub fronts-outputs : outputs n (changed coins pivots.changes) (vs ++ xs) origin ≡ flipped_output (outputs n coins (us ++ xs) origin) whole
   fronts-outputs =
-      outputs-append n (changed coins notes.changes) vs xs origin
+      outputs-append n (changed coins pivots.changes) vs xs origin
       ∙ (λ i. joined (fronts.given i) (behind.0 i))
       ∙ sym (flipped-joined (outputs n coins us origin) (outputs n coins xs (point_after n coins us origin)) flips
-      (flips_over n notes xs (point_after n coins us origin).coin f) fronts.matches)
+      (flips_over n pivots xs (point_after n coins us origin).coin f) fronts.matches)
       ∙ ap (λ o. flipped_output o whole) (sym (outputs-append n coins us xs origin))
 
   pub fronts-matches : Matches (outputs n coins (us ++ xs) origin) whole
   fronts-matches =
       subst (λ o. Matches o whole) (sym (outputs-append n coins us xs origin))
       (joined-matches (outputs n coins us origin) (outputs n coins xs (point_after n coins us origin)) flips
-      (flips_over n notes xs (point_after n coins us origin).coin f) fronts.matches
-      (outputs-matches n coins notes xs (point_after n coins us origin) (point_after n coins us origin).coin f))
+      (flips_over n pivots xs (point_after n coins us origin).coin f) fronts.matches
+      (outputs-matches n coins pivots xs (point_after n coins us origin) (point_after n coins us origin).coin f))
 
-  pub fronts-framed : PointsDifferBy n (frame_over n notes xs (point_after n coins us origin).coin f) (point_after n coins (us ++ xs) origin) (point_after n (changed coins notes.changes) (vs ++ xs) origin)
+  pub fronts-framed : PointsDifferBy n (frame_over n pivots xs (point_after n coins us origin).coin f) (point_after n coins (us ++ xs) origin) (point_after n (changed coins pivots.changes) (vs ++ xs) origin)
   fronts-framed =
-      subst (λ p. PointsDifferBy n (frame_over n notes xs (point_after n coins us origin).coin f) p (point_after n (changed coins notes.changes) (vs ++ xs) origin)) (sym (after-append n coins us xs origin))
-      (subst (PointsDifferBy n (frame_over n notes xs (point_after n coins us origin).coin f) (point_after n coins xs (point_after n coins us origin)))
-      (sym (after-append n (changed coins notes.changes) vs xs origin)) behind.1)
+      subst (λ p. PointsDifferBy n (frame_over n pivots xs (point_after n coins us origin).coin f) p (point_after n (changed coins pivots.changes) (vs ++ xs) origin)) (sym (after-append n coins us xs origin))
+      (subst (PointsDifferBy n (frame_over n pivots xs (point_after n coins us origin).coin f) (point_after n coins xs (point_after n coins us origin)))
+      (sym (after-append n (changed coins pivots.changes) vs xs origin)) behind.1)
 
 -- Pauli gates give nothing
 

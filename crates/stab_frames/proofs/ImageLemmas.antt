@@ -1,11 +1,5 @@
 -- Images: what gates make of the letters of a frame.
-use Rattle.std.proofs.Common.{◌≡◌, ℕ, ◌∙◌, ap, List, get_or, set}
-use Rattle.stab_letters.specs.declared.letter.Letter.{Letter}
-use Rattle.stab_letters.specs.declared.letter.Letter.TheVariants.{I}
-use Rattle.stab_letters.specs.declared.gate.Gate.{Gate}
-use Rattle.stab_letters.specs.declared.gate.PairGate.{PairGate}
-use Rattle.stab_tableau.specs.Gates.{letter_at, letter_image, pair_letters, image, image_pair}
-use Rattle.stab_frames.specs.Frames.{plus}
+use Rattle.stab_frames.proofs.Names.{◌≡◌, ℕ, ◌∙◌, ap, List, get_or, set, Letter, I, Gate, PairGate, letter_at, letter_image, pair_letters, image, image_pair, plus}
 
 pub gate-image : (g : Gate) (letters : List Letter) (q : ℕ) (l r : Letter) → l ≡ get_or letters q I → r ≡ (letter_image g l).letter
     → set letters q r ≡ (image g q (plus letters)).letters

@@ -1,21 +1,8 @@
--- Measured tests: what a measurement answers and leaves by two tests that differ by the letters of a frame, with a note of it.
-use Rattle.std.proofs.Common.{◌≡◌, ℕ, refl, sym, ◌∙◌, ap, subst, Bool, true, false, not, ◌&&◌, ◌||◌, List, length, arith}
-use Rattle.std.specs.Prelude.{Option, Some, None, if◌then◌else◌}
-use Rattle.stab_letters.specs.declared.letter.Letter.{Letter}
-use Rattle.stab_letters.specs.Letters.{◌⊕◌}
-use Rattle.stab_pauli.specs.Paulis.{Signed, minus, with_sign, anticommute, strings_anticommute, string_product, product}
-use Rattle.stab_pauli.proofs.StringLemmas.{strings_anticommute-product_right, length-string_product}
-use Rattle.stab_tableau.specs.Rules.{outcome_by, is_free_by, projected_by}
-use Rattle.stab_tableau.specs.Groups.{IsStabiliserGroup}
-use Rattle.stab_tableau.specs.Turns.{IsTurned}
-use Rattle.stab_tableau.specs.Exchanges.{Exchanges}
-use Rattle.stab_tableau.proofs.TestLemmas.{not-true, not_both}
-use Rattle.stab_laws.proofs.StateLemmas.{both_false, both_true}
-use Rattle.stab_frames.specs.Frames.{times_where}
-use Rattle.stab_frames.specs.Notes.{IsNoteOf, IsEnough}
-use Rattle.stab_frames.specs.FrameSteps.{flipped_by, letters_by}
+-- Measured tests: what a measurement answers and leaves by two tests that differ by the letters of a frame, with a pivot of it.
+use Rattle.stab_frames.proofs.Names.{◌≡◌, ℕ, refl, sym, ◌∙◌, ap, subst, Bool, true, false, not, ◌&&◌, ◌||◌, List, length, arith, Option, Some, None, if◌then◌else◌, Letter, ◌⊕◌, Signed, minus, with_sign, anticommute, strings_anticommute, string_product, strings_anticommute-product_right, length-string_product, outcome_by, is_free_by, projected_by, IsStabiliserGroup, IsConjugated, IsPivot, not-true, not_both, both_false, both_true, times_where, IsPivotOf, IsEnough, flipped_by, letters_by}
+use Rattle.stab_pauli.specs.Paulis.{product}
 use Rattle.stab_frames.proofs.SignLemmas.{sign-sign, sign-twice, product-sign_left, product-sign_right}
-use Rattle.stab_frames.proofs.TurnedLemmas.{turned-over, turned-comm, turned-stabiliser}
+use Rattle.stab_frames.proofs.FramedLemmas.{conjugated-over, conjugated-comm, conjugated-stabiliser}
 
 -- what is free stays free
 free-sides : (u v : Signed → Bool) (q : Signed) (x : Bool) → v q ≡ u (with_sign x q) → v (minus q) ≡ u (with_sign x (minus q)) → is_free_by v q ≡ is_free_by u q
@@ -26,9 +13,9 @@ free-sides u v q true e g =
     swapped : (a b : Bool) → (not a && not b) ≡ (not b && not a)
     swapped a b = grind arith
 
-pub turned-free : (n : ℕ) (f : List Letter) (u v : Signed → Bool) → IsTurned n f u v → (q : Signed) → length q.letters ≡ n
+pub conjugated-free : (n : ℕ) (f : List Letter) (u v : Signed → Bool) → IsConjugated n f u v → (q : Signed) → length q.letters ≡ n
     → is_free_by v q ≡ is_free_by u q
-turned-free n f u v h q l = free-sides u v q (strings_anticommute f q.letters) (h q l) (h (minus q) l)
+conjugated-free n f u v h q l = free-sides u v q (strings_anticommute f q.letters) (h q l) (h (minus q) l)
 
 -- on the other coin each outcome is flipped, fixed or free, if the letters anticommute with what is measured
 
@@ -43,13 +30,13 @@ opposite false false coin apart = refl
 parities : (x a o : Bool) → (x ⊕ a) ⊕ (x ⊕ o) ≡ o ⊕ a
 parities x a o = grind arith
 
-module _ (n : ℕ) (f : List Letter) (u v : Signed → Bool) (h : IsTurned n f u v) (q : Signed) (lq : length q.letters ≡ n) (o : Bool) where
+module _ (n : ℕ) (f : List Letter) (u v : Signed → Bool) (h : IsConjugated n f u v) (q : Signed) (lq : length q.letters ≡ n) (o : Bool) where
   abbrev x : Bool
   x = strings_anticommute f q.letters
 
-  product-turned : (p : Signed) → length p.letters ≡ n → anticommute q p ≡ false
+  product-conjugated : (p : Signed) → length p.letters ≡ n → anticommute q p ≡ false
       → v (product (with_sign (x ⊕ o) q) p) ≡ u (product (with_sign o q) (with_sign (strings_anticommute f p.letters) p))
-  product-turned p lp e =
+  product-conjugated p lp e =
       ap v (product-sign_left (x ⊕ o) q p e)
       ∙ h (with_sign (x ⊕ o) (product q p)) (length-both)
       ∙ ap u (sign-sign (strings_anticommute f (string_product q.letters p.letters)) (x ⊕ o) (product q p))
@@ -68,35 +55,35 @@ module _ (n : ℕ) (f : List Letter) (u v : Signed → Bool) (h : IsTurned n f u
       ap (λ c. not c && (v p || v (product (with_sign (x ⊕ o) q) p))) e
       ∙ sym (ap (λ c. not c && (u (with_sign (strings_anticommute f p.letters) p)
       || u (product (with_sign o q) (with_sign (strings_anticommute f p.letters) p)))) e)
-  projected-sides p lp false e = λ i. not (anticommute q p) && (h p lp i || product-turned p lp e i)
+  projected-sides p lp false e = λ i. not (anticommute q p) && (h p lp i || product-conjugated p lp e i)
 
-  pub turned-projected : IsTurned n f (projected_by u q o) (projected_by v q (strings_anticommute f q.letters ⊕ o))
-  turned-projected p lp = projected-sides p lp (anticommute q p) refl
+  pub conjugated-projected : IsConjugated n f (projected_by u q o) (projected_by v q (strings_anticommute f q.letters ⊕ o))
+  conjugated-projected p lp = projected-sides p lp (anticommute q p) refl
 
--- with a string that exchanges the outcomes multiplied on, the outcomes differ if without it they don't
-pub turned-exchanged : (n : ℕ) (f s : List Letter) (u v : Signed → Bool) → IsTurned n f u v → IsStabiliserGroup n u → (q : Signed) → length q.letters ≡ n
-    → Exchanges n u q s → (o : Bool) → IsTurned n (string_product f s) (projected_by u q o) (projected_by v q (strings_anticommute f q.letters ⊕ not o))
-turned-exchanged n f s u v h group q lq e o =
-    turned-comm n s f (projected_by u q o) (projected_by v q (strings_anticommute f q.letters ⊕ not o))
-    (turned-over n s f (projected_by u q o) (projected_by u q (not o)) (projected_by v q (strings_anticommute f q.letters ⊕ not o))
-    (subst (λ b. IsTurned n s (projected_by u q o) (projected_by u q (b ⊕ o))) e.apart
-    (turned-projected n s u u (turned-stabiliser n s u group e.size e.negative e.stabilises) q lq o))
-    (turned-projected n f u v h q lq (not o)))
+-- with a pivot multiplied on, the outcomes differ if without it they don't
+pub conjugated-pivoted : (n : ℕ) (f s : List Letter) (u v : Signed → Bool) → IsConjugated n f u v → IsStabiliserGroup n u → (q : Signed) → length q.letters ≡ n
+    → IsPivot n u q s → (o : Bool) → IsConjugated n (string_product f s) (projected_by u q o) (projected_by v q (strings_anticommute f q.letters ⊕ not o))
+conjugated-pivoted n f s u v h group q lq e o =
+    conjugated-comm n s f (projected_by u q o) (projected_by v q (strings_anticommute f q.letters ⊕ not o))
+    (conjugated-over n s f (projected_by u q o) (projected_by u q (not o)) (projected_by v q (strings_anticommute f q.letters ⊕ not o))
+    (subst (λ b. IsConjugated n s (projected_by u q o) (projected_by u q (b ⊕ o))) e.apart
+    (conjugated-projected n s u u (conjugated-stabiliser n s u group e.size e.negative e.stabilises) q lq o))
+    (conjugated-projected n f u v h q lq (not o)))
 
--- if a string exchanges the outcomes, the outcome is free
-pub exchanged-free : (n : ℕ) (u : Signed → Bool) → IsStabiliserGroup n u → (q : Signed) → length q.letters ≡ n → (s : List Letter) → Exchanges n u q s
+-- if there is a pivot, the outcome is random
+pub pivoted-free : (n : ℕ) (u : Signed → Bool) → IsStabiliserGroup n u → (q : Signed) → length q.letters ≡ n → (s : List Letter) → IsPivot n u q s
     → is_free_by u q ≡ true
-exchanged-free n u group q lq s e = λ i. not (out q lq e.apart i) && not (out (minus q) lq e.apart i)
+pivoted-free n u group q lq s e = λ i. not (out q lq e.apart i) && not (out (minus q) lq e.apart i)
   where
     out : (r : Signed) → length r.letters ≡ n → strings_anticommute s r.letters ≡ true → u r ≡ false
     out r lr apart = not-true (u r) (λ m. not_both _ (group.commuting (record { negative = e.negative; letters = s }) r e.size lr e.stabilises m) apart)
 
--- a measurement, with a note of it
+-- a measurement, with a pivot of it
 
 not-twice : (b : Bool) → not (not b) ≡ b
 not-twice b = grind arith
 
-module _ (n : ℕ) (f : List Letter) (u v : Signed → Bool) (h : IsTurned n f u v) (group : IsStabiliserGroup n u) (q : Signed) (lq : length q.letters ≡ n) where
+module _ (n : ℕ) (f : List Letter) (u v : Signed → Bool) (h : IsConjugated n f u v) (group : IsStabiliserGroup n u) (q : Signed) (lq : length q.letters ≡ n) where
   -- what commutes with the letters has the same outcome
   outcome-commuting : (coin : Bool) → strings_anticommute f q.letters ≡ false → outcome_by v q coin ≡ outcome_by u q coin
   outcome-commuting coin e = λ i.
@@ -111,10 +98,10 @@ module _ (n : ℕ) (f : List Letter) (u v : Signed → Bool) (h : IsTurned n f u
       ∙ opposite (u q) (u (minus q)) coin (group.one_sign q lq)
 
   -- a free outcome is the coin in both
-  outcome-free : (s : List Letter) → Exchanges n u q s → (coin other : Bool) → (outcome_by u q coin ≡ coin) × (outcome_by v q other ≡ other)
+  outcome-free : (s : List Letter) → IsPivot n u q s → (coin other : Bool) → (outcome_by u q coin ≡ coin) × (outcome_by v q other ≡ other)
   outcome-free s e coin other =
-      let free : is_free_by u q ≡ true = exchanged-free n u group q lq s e in
-      (both_true (u q) (u (minus q)) coin free, both_true (v q) (v (minus q)) other (turned-free n f u v h q lq ∙ free))
+      let free : is_free_by u q ≡ true = pivoted-free n u group q lq s e in
+      (both_true (u q) (u (minus q)) coin free, both_true (v q) (v (minus q)) other (conjugated-free n f u v h q lq ∙ free))
 
   -- and a fixed outcome depends on no coin
   outcome-fixed : (coin other b : Bool) → strings_anticommute f q.letters ≡ b → is_free_by u q ≡ false → outcome_by v q other ≡ b ⊕ outcome_by u q coin
@@ -124,53 +111,53 @@ module _ (n : ℕ) (f : List Letter) (u v : Signed → Bool) (h : IsTurned n f u
       ∙ outcome-opposite (not other) e
       ∙ ap not (both_false (u q) (u (minus q)) (not other) coin fixed)
 
-  flipped-same : (note : Option (List Letter)) (change : Bool) → strings_anticommute f q.letters ≡ change → flipped_by note change q f ≡ change
+  flipped-same : (pivot : Option (List Letter)) (change : Bool) → strings_anticommute f q.letters ≡ change → flipped_by pivot change q f ≡ change
   flipped-same None change e = e
   flipped-same (Some s) change e = refl
 
-  -- by a right note
-  outcome-noted : (note : Option (List Letter)) (change : Bool) → IsNoteOf n u q note → (coin : Bool)
-      → outcome_by v q (change ⊕ coin) ≡ flipped_by note change q f ⊕ outcome_by u q coin
-  outcome-noted None change right coin = outcome-fixed coin (change ⊕ coin) (strings_anticommute f q.letters) refl right
-  outcome-noted (Some s) change right coin =
+  -- by a right pivot
+  outcome-has_pivots : (pivot : Option (List Letter)) (change : Bool) → IsPivotOf n u q pivot → (coin : Bool)
+      → outcome_by v q (change ⊕ coin) ≡ flipped_by pivot change q f ⊕ outcome_by u q coin
+  outcome-has_pivots None change right coin = outcome-fixed coin (change ⊕ coin) (strings_anticommute f q.letters) refl right
+  outcome-has_pivots (Some s) change right coin =
       let free = outcome-free s right coin (change ⊕ coin) in
       free.1 ∙ ap (λ o. change ⊕ o) (sym free.0)
 
-  outcome-enough : (note : Option (List Letter)) (change b : Bool) → strings_anticommute f q.letters ≡ b → (change ⊕ b ≡ true → IsNoteOf n u q note) → (coin : Bool)
-      → outcome_by v q (change ⊕ coin) ≡ flipped_by note change q f ⊕ outcome_by u q coin
-  outcome-enough note false false e enough coin = outcome-commuting coin e ∙ ap (λ b. b ⊕ outcome_by u q coin) (sym (flipped-same note false e))
-  outcome-enough note true true e enough coin = outcome-opposite coin e ∙ ap (λ b. b ⊕ outcome_by u q coin) (sym (flipped-same note true e))
-  outcome-enough note true false e enough coin = outcome-noted note true (enough refl) coin
-  outcome-enough note false true e enough coin = outcome-noted note false (enough refl) coin
+  outcome-enough : (pivot : Option (List Letter)) (change b : Bool) → strings_anticommute f q.letters ≡ b → (change ⊕ b ≡ true → IsPivotOf n u q pivot) → (coin : Bool)
+      → outcome_by v q (change ⊕ coin) ≡ flipped_by pivot change q f ⊕ outcome_by u q coin
+  outcome-enough pivot false false e enough coin = outcome-commuting coin e ∙ ap (λ b. b ⊕ outcome_by u q coin) (sym (flipped-same pivot false e))
+  outcome-enough pivot true true e enough coin = outcome-opposite coin e ∙ ap (λ b. b ⊕ outcome_by u q coin) (sym (flipped-same pivot true e))
+  outcome-enough pivot true false e enough coin = outcome-has_pivots pivot true (enough refl) coin
+  outcome-enough pivot false true e enough coin = outcome-has_pivots pivot false (enough refl) coin
 
-  pub outcome-flipped : (note : Option (List Letter)) (change : Bool) → IsEnough n u q f change note → (coin : Bool)
-      → outcome_by v q (change ⊕ coin) ≡ flipped_by note change q f ⊕ outcome_by u q coin
-  outcome-flipped note change enough coin = outcome-enough note change (strings_anticommute f q.letters) refl enough coin
+  pub outcome-flipped : (pivot : Option (List Letter)) (change : Bool) → IsEnough n u q f change pivot → (coin : Bool)
+      → outcome_by v q (change ⊕ coin) ≡ flipped_by pivot change q f ⊕ outcome_by u q coin
+  outcome-flipped pivot change enough coin = outcome-enough pivot change (strings_anticommute f q.letters) refl enough coin
 
-  -- the letters after a measurement of which a string is noted, by whether the coins differ and the letters anticommute with what is measured
-  exchanged-turned : (s : List Letter) (change b : Bool) → strings_anticommute f q.letters ≡ b → (change ⊕ b ≡ true → Exchanges n u q s) → (o : Bool)
-      → IsTurned n (times_where (change ⊕ b) s f) (projected_by u q o) (projected_by v q (change ⊕ o))
-  exchanged-turned s false false e enough o =
-      subst (λ b. IsTurned n f (projected_by u q o) (projected_by v q (b ⊕ o))) e (turned-projected n f u v h q lq o)
-  exchanged-turned s true true e enough o =
-      subst (λ b. IsTurned n f (projected_by u q o) (projected_by v q (b ⊕ o))) e (turned-projected n f u v h q lq o)
-  exchanged-turned s true false e enough o =
-      subst (λ b. IsTurned n (string_product f s) (projected_by u q o) (projected_by v q (b ⊕ not o))) e (turned-exchanged n f s u v h group q lq (enough refl) o)
-  exchanged-turned s false true e enough o =
-      subst (λ b. IsTurned n (string_product f s) (projected_by u q o) (projected_by v q b)) (not-twice o)
-      (subst (λ b. IsTurned n (string_product f s) (projected_by u q o) (projected_by v q (b ⊕ not o))) e (turned-exchanged n f s u v h group q lq (enough refl) o))
+  -- the letters after a measurement of which a string is recorded, by whether the coins differ and the letters anticommute with what is measured
+  pivoted-conjugated : (s : List Letter) (change b : Bool) → strings_anticommute f q.letters ≡ b → (change ⊕ b ≡ true → IsPivot n u q s) → (o : Bool)
+      → IsConjugated n (times_where (change ⊕ b) s f) (projected_by u q o) (projected_by v q (change ⊕ o))
+  pivoted-conjugated s false false e enough o =
+      subst (λ b. IsConjugated n f (projected_by u q o) (projected_by v q (b ⊕ o))) e (conjugated-projected n f u v h q lq o)
+  pivoted-conjugated s true true e enough o =
+      subst (λ b. IsConjugated n f (projected_by u q o) (projected_by v q (b ⊕ o))) e (conjugated-projected n f u v h q lq o)
+  pivoted-conjugated s true false e enough o =
+      subst (λ b. IsConjugated n (string_product f s) (projected_by u q o) (projected_by v q (b ⊕ not o))) e (conjugated-pivoted n f s u v h group q lq (enough refl) o)
+  pivoted-conjugated s false true e enough o =
+      subst (λ b. IsConjugated n (string_product f s) (projected_by u q o) (projected_by v q b)) (not-twice o)
+      (subst (λ b. IsConjugated n (string_product f s) (projected_by u q o) (projected_by v q (b ⊕ not o))) e (conjugated-pivoted n f s u v h group q lq (enough refl) o))
 
-  pub measured-turned : (note : Option (List Letter)) (change : Bool) → IsEnough n u q f change note → (o : Bool)
-      → IsTurned n (letters_by note change q f) (projected_by u q o) (projected_by v q (flipped_by note change q f ⊕ o))
-  measured-turned None change enough o = turned-projected n f u v h q lq o
-  measured-turned (Some s) change enough o = exchanged-turned s change (strings_anticommute f q.letters) refl enough o
+  pub measured-conjugated : (pivot : Option (List Letter)) (change : Bool) → IsEnough n u q f change pivot → (o : Bool)
+      → IsConjugated n (letters_by pivot change q f) (projected_by u q o) (projected_by v q (flipped_by pivot change q f ⊕ o))
+  measured-conjugated None change enough o = conjugated-projected n f u v h q lq o
+  measured-conjugated (Some s) change enough o = pivoted-conjugated s change (strings_anticommute f q.letters) refl enough o
 
-  exchanged-length : length f ≡ n → (s : List Letter) (change b : Bool) → (change ⊕ b ≡ true → Exchanges n u q s) → length (times_where (change ⊕ b) s f) ≡ n
-  exchanged-length size s false false enough = size
-  exchanged-length size s true true enough = size
-  exchanged-length size s true false enough = length-string_product n f s size (enough refl).size
-  exchanged-length size s false true enough = length-string_product n f s size (enough refl).size
+  pivoted-length : length f ≡ n → (s : List Letter) (change b : Bool) → (change ⊕ b ≡ true → IsPivot n u q s) → length (times_where (change ⊕ b) s f) ≡ n
+  pivoted-length size s false false enough = size
+  pivoted-length size s true true enough = size
+  pivoted-length size s true false enough = length-string_product n f s size (enough refl).size
+  pivoted-length size s false true enough = length-string_product n f s size (enough refl).size
 
-  pub length-measured : length f ≡ n → (note : Option (List Letter)) (change : Bool) → IsEnough n u q f change note → length (letters_by note change q f) ≡ n
+  pub length-measured : length f ≡ n → (pivot : Option (List Letter)) (change : Bool) → IsEnough n u q f change pivot → length (letters_by pivot change q f) ≡ n
   length-measured size None change enough = size
-  length-measured size (Some s) change enough = exchanged-length size s change (strings_anticommute f q.letters) enough
+  length-measured size (Some s) change enough = pivoted-length size s change (strings_anticommute f q.letters) enough

@@ -1,25 +1,7 @@
 -- Other coins: a frame on its way to a run with other coins, from each run that gave the records there.
-use Rattle.std.proofs.Common.{◌≡◌, ℕ, ◌+◌, ◌-◌, ◌<◌, ◌≤◌, refl, sym, ◌∙◌, ap, subst, Bool, true, false, List, [], ◌∷◌, ◌++◌, append_assoc, length, length-append, take, drop, get_or, arith}
-use Rattle.std.proofs.lemmas.List.{take-append-drop}
-use Rattle.std.proofs.Math.Seq.{take-append_seam}
-use Rattle.stab_letters.specs.declared.letter.Letter.{Letter}
-use Rattle.stab_letters.specs.Letters.{◌⊕◌}
-use Rattle.stab_pauli.specs.Paulis.{Signed, single}
-use Rattle.stab_tableau.specs.Traces.{Event, is_free}
-use Rattle.stab_circuit.specs.Steps.{Step, one, two, controlled, collapse, product, detector, observable}
-use Rattle.stab_steps.specs.Records.{ones}
-use Rattle.stab_steps.specs.Runs.{string_of, outcome_at}
-use Rattle.stab_steps.specs.Points.{Point, coins_of, all_coins_of, given, next_point, outputs}
-use Rattle.stab_laws.proofs.StateLemmas.{free-outcome}
-use Rattle.stab_frames.specs.KeptStrings.{note_at}
-use Rattle.stab_frames.specs.Walks.{WalkState, frame_at}
-use Rattle.stab_frames.specs.OtherCoins.{WalksToOthers}
-use Rattle.stab_frames.specs.inner.Draws.{is_inverted, record_of, differing, IsDrawn, AreDrawn}
-use Rattle.stab_frames.specs.Stops.{IsStop}
-use Rattle.stab_frames.specs.declared.steps.Stop.{Stop}
-use Rattle.stab_frames.specs.declared.steps.Stop.TheVariants.{Behind, Gone, NoString}
-use Rattle.stab_frames.specs.inner.Passes.{AreTold, IsMissing, GoesOver}
-use Rattle.stab_frames.proofs.PassLemmas.{first-flag, told-enough}
+use Rattle.stab_frames.proofs.Names.{◌≡◌, ℕ, ◌+◌, ◌-◌, ◌<◌, ◌≤◌, refl, sym, ◌∙◌, ap, subst, Bool, true, false, List, [], ◌∷◌, ◌++◌, append_assoc, length, take, drop, get_or, arith, take-append-drop, take-append_seam, Letter, ◌⊕◌, Signed, single, Event, is_free, Step, one, two, controlled, collapse, product, detector, observable, ones, string_of, outcome_at, Point, coins_of, all_coins_of, given, next_point, outputs, free-outcome, pivot_at, PropagationState, frame_at, PropagatesToOthers, is_inverted, record_of, differing, IsDrawn, AreDrawn, IsStop, Stop, Behind, Gone, NoString, AreTold, IsMissing, GoesOver}
+use Rattle.std.proofs.Common.{length-append}
+use Rattle.stab_frames.proofs.PropagatedLemmas.{first-flag, told-enough}
 pub use Rattle.stab_frames.proofs.FreeLemmas.{ones-split}
 
 -- a record gives the coin of a free outcome
@@ -120,9 +102,9 @@ module _ (n : ℕ) (coins others : ℕ → Bool) (free records : List Bool) (sta
 
 -- from each run that gave the records
 
-pub walk-others : (n : ℕ) (strings : List (List Letter)) (free records : List Bool) (others : ℕ → Bool) (xs : List Step) (old new : WalkState)
-    → GoesOver n strings free (differing (record_of records old.coin) others) xs old new → WalksToOthers n (note_at strings free) free records others xs old new
-walk-others n strings free records others xs old new goes = λ coins a gone.
+pub propagation-others : (n : ℕ) (strings : List (List Letter)) (free records : List Bool) (others : ℕ → Bool) (xs : List Step) (old new : PropagationState)
+    → GoesOver n strings free (differing (record_of records old.coin) others) xs old new → PropagatesToOthers n (pivot_at strings free) free records others xs old new
+propagation-others n strings free records others xs old new goes = λ coins a gone.
     let rest = drop (all_coins_of xs) (drop old.coin free) in
     let flags : drop old.coin free ≡ (outputs n coins xs a).free ++ rest = sym (take-append-drop (all_coins_of xs) (drop old.coin free)) ∙ ap (λ bits. bits ++ rest) (sym gone.flags) in
     let there : drop a.coin free ≡ (outputs n coins xs a).free ++ rest = ap (λ k. drop k free) gone.coin ∙ flags in
@@ -136,14 +118,14 @@ walk-others n strings free records others xs old new goes = λ coins a gone.
           gone.are_true rest there,
     )
 
--- a walk that may not end before, and whose strings are kept, passes all steps
-pub walk-whole : (n m steps most coin : ℕ) (strings : List (List Letter)) (free : List Bool) (xs : List Step) (new : WalkState) (stop : Stop)
+-- a propagation that may not end before, and whose strings are kept, passes all steps
+pub propagation-whole : (n m steps most coin : ℕ) (strings : List (List Letter)) (free : List Bool) (xs : List Step) (new : PropagationState) (stop : Stop)
     → IsStop n m steps (length (take most xs)) new stop → (stop ≡ Gone → false ≡ true) → (stop ≡ NoString → IsMissing strings free coin)
     → ones (take coin free) ≤ length strings → take steps xs ≡ take most xs
-walk-whole n m steps most coin strings free xs new Behind is gone missing kept =
+propagation-whole n m steps most coin strings free xs new Behind is gone missing kept =
     ap (λ k. take k xs) is ∙ ap (take (length (take most xs))) (sym (take-append-drop most xs)) ∙ take-append_seam (take most xs) (drop most xs)
-walk-whole n m steps most coin strings free xs new Gone is gone missing kept = absurd (false-true (gone refl))
+propagation-whole n m steps most coin strings free xs new Gone is gone missing kept = absurd (false-true (gone refl))
   where
     false-true : false ≡ true → ⊥
     false-true e = cc
-walk-whole n m steps most coin strings free xs new NoString is gone missing kept = absurd (omega (arith, missing refl, kept))
+propagation-whole n m steps most coin strings free xs new NoString is gone missing kept = absurd (omega (arith, missing refl, kept))

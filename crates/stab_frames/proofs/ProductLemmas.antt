@@ -1,17 +1,6 @@
 -- Letters that are multiplied by those of a string: from one that is not I to the next, and then 64 at a time.
-use Rattle.std.proofs.Common.{◌≡◌, ◌≢◌, ℕ, ◌+◌, ◌-◌, ◌*◌, ◌<◌, ◌≤◌, true, false, refl, sym, ◌∙◌, ap, subst, List, length, get_or, set, arith, inl, inr}
+use Rattle.stab_frames.proofs.Names.{◌≡◌, ◌≢◌, ℕ, ◌+◌, ◌-◌, ◌*◌, ◌<◌, ◌≤◌, true, false, refl, sym, ◌∙◌, ap, subst, List, length, get_or, set, arith, inl, inr, cases_order, cases_lt, length-set, get_or-set_same, get_or-set_other, ext_get_or, Letter, I, letter_product, string_product, chooses, clash, length-string_product, get_or-string_product, PropagationState, AreMultiplied}
 use Rattle.std.specs.Prelude.{◌⊎◌}
-use Rattle.std.proofs.lemmas.Bool.{cases_order, cases_lt}
-use Rattle.std.proofs.lemmas.List.{length-set, get_or-set_same, get_or-set_other, ext_get_or}
-use Rattle.stab_letters.specs.declared.letter.Letter.{Letter}
-use Rattle.stab_letters.specs.declared.letter.Letter.TheVariants.{I}
-use Rattle.stab_letters.specs.Letters.{letter_product}
-use Rattle.stab_pauli.specs.Paulis.{string_product}
-use Rattle.stab_pauli.specs.Masks.{chooses}
-use Rattle.stab_pauli.proofs.MaskLemmas.{clash}
-use Rattle.stab_pauli.proofs.StringLemmas.{length-string_product, get_or-string_product}
-use Rattle.stab_frames.specs.Walks.{WalkState}
-use Rattle.stab_frames.specs.inner.Products.{AreMultiplied}
 
 -- letters multiplied by those of a string, except for those that are left in the rest of a mask
 pub record IsWalked (first rest : ℕ) (string old now : List Letter) : Type 0 where
@@ -23,7 +12,7 @@ pub record IsWalked (first rest : ℕ) (string old now : List Letter) : Type 0 w
 
 module _ (first : ℕ) (string old : List Letter) where
   -- one letter further
-  module _ (now : List Letter) (rest b : ℕ) (walked : IsWalked first rest string old now) (lb : b < 64) (one : chooses rest b ≡ true) (l r : Letter)
+  module _ (now : List Letter) (rest b : ℕ) (propagated : IsWalked first rest string old now) (lb : b < 64) (one : chooses rest b ≡ true) (l r : Letter)
       (el : l ≡ get_or now (first + b) I) (er : r ≡ letter_product l (get_or string (first + b) I)) (new : List Letter) (put : new ≡ set now (first + b) r)
       (next : ℕ) (gone : chooses next b ≡ false) (kept : (j : ℕ) → j ≢ b → j < 64 → chooses next j ≡ chooses rest j) where
     other : (q : ℕ) → q ≢ first + b → get_or new q I ≡ get_or now q I
@@ -31,14 +20,14 @@ module _ (first : ℕ) (string old : List Letter) where
 
     here : get_or new (first + b) I ≡ letter_product (get_or old (first + b) I) (get_or string (first + b) I)
     here =
-        ap (λ p. get_or p (first + b) I) put ∙ get_or-set_same now (first + b) r I (omega (arith, walked.size, walked.inside b lb one))
-        ∙ er ∙ ap (λ x. letter_product x (get_or string (first + b) I)) (el ∙ walked.left b lb one)
+        ap (λ p. get_or p (first + b) I) put ∙ get_or-set_same now (first + b) r I (omega (arith, propagated.size, propagated.inside b lb one))
+        ∙ er ∙ ap (λ x. letter_product x (get_or string (first + b) I)) (el ∙ propagated.left b lb one)
 
     inside-next : (j : ℕ) → j < 64 → chooses next j ≡ true → first + j < length old
     inside-next j lj chosen = by_place (cases_order j b)
       where
         apart : j ≢ b → first + j < length old
-        apart ne = walked.inside j lj (sym (kept j ne lj) ∙ chosen)
+        apart ne = propagated.inside j lj (sym (kept j ne lj) ∙ chosen)
 
         by_place : (j ≡ b) ⊎ ((j < b) ⊎ (b < j)) → first + j < length old
         by_place (inl e) = clash (chooses next b) (ap (chooses next) (sym e) ∙ chosen) gone
@@ -49,7 +38,7 @@ module _ (first : ℕ) (string old : List Letter) where
     done-next j lj none = by_place (cases_order j b)
       where
         apart : j ≢ b → get_or new (first + j) I ≡ letter_product (get_or old (first + j) I) (get_or string (first + j) I)
-        apart ne = other (first + j) (omega arith) ∙ walked.done j lj (sym (kept j ne lj) ∙ none)
+        apart ne = other (first + j) (omega arith) ∙ propagated.done j lj (sym (kept j ne lj) ∙ none)
 
         by_place : (j ≡ b) ⊎ ((j < b) ⊎ (b < j)) → get_or new (first + j) I ≡ letter_product (get_or old (first + j) I) (get_or string (first + j) I)
         by_place (inl e) = subst (λ i. get_or new (first + i) I ≡ letter_product (get_or old (first + i) I) (get_or string (first + i) I)) (sym e) here
@@ -60,7 +49,7 @@ module _ (first : ℕ) (string old : List Letter) where
     left-next j lj chosen = by_place (cases_order j b)
       where
         apart : j ≢ b → get_or new (first + j) I ≡ get_or old (first + j) I
-        apart ne = other (first + j) (omega arith) ∙ walked.left j lj (sym (kept j ne lj) ∙ chosen)
+        apart ne = other (first + j) (omega arith) ∙ propagated.left j lj (sym (kept j ne lj) ∙ chosen)
 
         by_place : (j ≡ b) ⊎ ((j < b) ⊎ (b < j)) → get_or new (first + j) I ≡ get_or old (first + j) I
         by_place (inl e) = clash (chooses next b) (ap (chooses next) (sym e) ∙ chosen) gone
@@ -68,12 +57,12 @@ module _ (first : ℕ) (string old : List Letter) where
         by_place (inr (inr gt)) = apart (omega arith)
 
     others-next : (q : ℕ) → (q < first) ⊎ (first + 64 ≤ q) → get_or new q I ≡ get_or old q I
-    others-next q (inl lt) = other q (omega arith) ∙ walked.others q (inl lt)
-    others-next q (inr le) = other q (omega arith) ∙ walked.others q (inr le)
+    others-next q (inl lt) = other q (omega arith) ∙ propagated.others q (inl lt)
+    others-next q (inr le) = other q (omega arith) ∙ propagated.others q (inr le)
 
-    pub walk-step : IsWalked first next string old new
-    walk-step = record {
-      size = ap length put ∙ length-set now (first + b) r ∙ walked.size;
+    pub propagation-step : IsWalked first next string old new
+    propagation-step = record {
+      size = ap length put ∙ length-set now (first + b) r ∙ propagated.size;
       inside = inside-next;
       done = done-next;
       left = left-next;
@@ -110,12 +99,12 @@ all-multiplied k string old now e le so =
 
 -- a frame of which the letters alone have changed
 
-pub put-letters : (now new : WalkState) (letters : List Letter) → new ≡ record now { letters = letters } → new.letters ≡ letters
-put-letters now new letters is = ap (λ (w : WalkState). w.letters) is
+pub put-letters : (now new : PropagationState) (letters : List Letter) → new ≡ record now { letters = letters } → new.letters ≡ letters
+put-letters now new letters is = ap (λ (w : PropagationState). w.letters) is
 
-pub letters-alone : (now new : WalkState) (letters : List Letter) → new ≡ record now { letters = letters } → new ≡ record now { letters = new.letters }
+pub letters-alone : (now new : PropagationState) (letters : List Letter) → new ≡ record now { letters = letters } → new ≡ record now { letters = new.letters }
 letters-alone now new letters is = is ∙ (λ i. record now { letters = sym (put-letters now new letters is) i })
 
-pub still-alone : (w now new : WalkState) → now ≡ record w { letters = now.letters } → new ≡ record now { letters = new.letters }
+pub still-alone : (w now new : PropagationState) → now ≡ record w { letters = now.letters } → new ≡ record now { letters = new.letters }
     → new ≡ record w { letters = new.letters }
 still-alone w now new is then = then ∙ (λ i. record (is i) { letters = new.letters })

@@ -1,15 +1,6 @@
--- Signs: they pass through products, and a letter that is applied as a gate turns the sign of what it anticommutes with.
-use Rattle.std.proofs.Common.{◌≡◌, ℕ, ◌<◌, refl, sym, ◌∙◌, ap, arith, Bool, true, false, length, get_or}
-use Rattle.std.proofs.lemmas.List.{set-get_or}
-use Rattle.stab_letters.specs.declared.letter.Letter.{Letter}
-use Rattle.stab_letters.specs.declared.letter.Letter.TheVariants.{I}
-use Rattle.stab_letters.specs.Letters.{◌⊕◌, letters_anticommute}
-use Rattle.stab_pauli.specs.Paulis.{Signed, single, minus, with_sign, anticommute, product}
-use Rattle.stab_letters.proofs.ParityLemmas.{parity-assoc, parity-self}
-use Rattle.stab_pauli.proofs.SignedLemmas.{signed_path, product-comm, product-minus_right, anticommute-comm}
-use Rattle.stab_tableau.specs.Gates.{letter_image, put_letter, inverse, back}
-use Rattle.stab_tableau.proofs.OneLetterLemmas.{one_letter-anticommute}
-use Rattle.stab_steps.specs.Runs.{gate_of}
+-- Signs: they pass through products, and a letter that is applied as a gate flips the sign of what it anticommutes with.
+use Rattle.stab_frames.proofs.Names.{◌≡◌, ℕ, ◌<◌, refl, sym, ◌∙◌, ap, arith, Bool, true, false, length, get_or, set-get_or, Letter, I, ◌⊕◌, letters_anticommute, Signed, single, minus, with_sign, anticommute, parity-assoc, parity-self, signed_path, product-comm, product-minus_right, anticommute-comm, letter_image, put_letter, inverse, back, one_letter-anticommute, gate_of}
+use Rattle.stab_pauli.specs.Paulis.{product}
 
 pub sign-sign : (a b : Bool) (p : Signed) → with_sign a (with_sign b p) ≡ with_sign (a ⊕ b) p
 sign-sign a b p = signed_path _ _ (sym (parity-assoc a b p.negative)) refl
@@ -25,8 +16,8 @@ product-sign_right true p q e = product-minus_right p q e
 
 product-minus_left : (p q : Signed) → anticommute p q ≡ false → product (minus p) q ≡ minus (product p q)
 product-minus_left p q e =
-    let turned : anticommute q p ≡ false = anticommute-comm q p ∙ e in
-    product-comm (minus p) q e ∙ product-minus_right q p turned ∙ ap minus (product-comm q p turned)
+    let conjugated : anticommute q p ≡ false = anticommute-comm q p ∙ e in
+    product-comm (minus p) q e ∙ product-minus_right q p conjugated ∙ ap minus (product-comm q p conjugated)
 
 pub product-sign_left : (b : Bool) (p q : Signed) → anticommute p q ≡ false → product (with_sign b p) q ≡ with_sign b (product p q)
 product-sign_left false p q e = refl

@@ -1,29 +1,16 @@
 -- Where frames begin: at Pauli gates that are in one circuit alone; and frames one after another.
-use Rattle.std.proofs.Common.{◌≡◌, ℕ, ◌<◌, refl, sym, ◌∙◌, ap, subst, Bool, true, false, List, [], ◌∷◌, append-nil, add-zero, length, map, replicate}
+use Rattle.stab_frames.proofs.Names.{◌≡◌, ℕ, ◌<◌, refl, sym, ◌∙◌, ap, subst, Bool, true, false, List, [], ◌∷◌, append-nil, add-zero, length, map, replicate, length-replicate, All-head, All-tail, Letter, single, string_product, length-string_product, string_product-assoc, string_product-comm, member, length-one_letter, one, flipped, Frame, PointsDifferBy, identity_frame, frame_of, frame_product, letters_on, gate_of, Point, next_point, point_after}
 use Rattle.std.specs.Prelude.{All}
-use Rattle.std.proofs.lemmas.List.{length-replicate}
-use Rattle.std.proofs.lemmas.List.Elements.{All-head, All-tail}
-use Rattle.stab_letters.specs.declared.letter.Letter.{Letter}
-use Rattle.stab_letters.specs.declared.letter.Letter.TheVariants as letter
-use Rattle.stab_pauli.specs.Paulis.{single, string_product}
-use Rattle.stab_pauli.proofs.StringLemmas.{length-string_product, string_product-assoc, string_product-comm}
-use Rattle.stab_tableau.specs.Traces.{member}
-use Rattle.stab_tableau.proofs.OneLetterLemmas.{length-one_letter}
-use Rattle.stab_circuit.specs.Steps.{one}
-use Rattle.stab_frames.specs.Flips.{flipped}
-use Rattle.stab_frames.specs.Frames.{Frame, PointsDifferBy, identity_frame, frame_of, frame_product}
-use Rattle.stab_frames.specs.Starts.{letters_on}
-use Rattle.stab_frames.proofs.TurnedLemmas.{turned-blank, turned-over, turned-back, turned-pauli}
+use Rattle.stab_gates.specs.declared.letter.Letter.TheVariants as letter
+use Rattle.stab_frames.proofs.FramedLemmas.{conjugated-blank, conjugated-over, conjugated-back, conjugated-pauli}
 use Rattle.stab_frames.proofs.FlipLemmas.{length-flipped, flipped-none, flipped-twice, flipped-back}
-use Rattle.stab_steps.specs.Runs.{gate_of}
-use Rattle.stab_steps.specs.Points.{Point, next_point, point_after}
 
 -- frames one after another
 
 pub framed-same : (n : ℕ) (a : Point) → PointsDifferBy n (identity_frame n (length a.records)) a a
 framed-same n a = record {
   size = length-replicate n letter.I;
-  group = turned-blank n (member a.trace);
+  group = conjugated-blank n (member a.trace);
   coin = refl;
   count = length-replicate (length a.records) false;
   records = sym (flipped-none a.records);
@@ -32,7 +19,7 @@ framed-same n a = record {
 pub framed-over : (n : ℕ) (f g : Frame) (a b c : Point) → PointsDifferBy n f a b → PointsDifferBy n g b c → PointsDifferBy n (frame_product f g) a c
 framed-over n f g a b c h k = record {
   size = length-string_product n f.letters g.letters h.size k.size;
-  group = turned-over n f.letters g.letters (member a.trace) (member b.trace) (member c.trace) h.group k.group;
+  group = conjugated-over n f.letters g.letters (member a.trace) (member b.trace) (member c.trace) h.group k.group;
   coin = k.coin ∙ h.coin;
   count = length-flipped f.flips g.flips ∙ h.count;
   records = k.records ∙ ap (λ r. flipped r g.flips) h.records ∙ flipped-twice a.records f.flips g.flips h.count other;
@@ -44,7 +31,7 @@ framed-over n f g a b c h k = record {
 pub framed-back : (n : ℕ) (f : Frame) (a b : Point) → PointsDifferBy n f a b → PointsDifferBy n f b a
 framed-back n f a b h = record {
   size = h.size;
-  group = turned-back n f.letters (member a.trace) (member b.trace) h.group;
+  group = conjugated-back n f.letters (member a.trace) (member b.trace) h.group;
   coin = sym h.coin;
   count = h.count ∙ sym (ap length h.records ∙ length-flipped a.records f.flips);
   records = sym (ap (λ r. flipped r f.flips) h.records ∙ flipped-back a.records f.flips h.count);
@@ -61,7 +48,7 @@ pub framed-pauli : (n : ℕ) (coins : ℕ → Bool) (l : Letter) (q : ℕ) → q
     → PointsDifferBy n (frame_of (single n q l).letters (length a.records)) a (next_point n coins (one (gate_of l) q) a)
 framed-pauli n coins l q lt a = record {
   size = length-one_letter n q l;
-  group = turned-pauli n l q lt (member a.trace);
+  group = conjugated-pauli n l q lt (member a.trace);
   coin = add-zero a.coin;
   count = length-replicate (length a.records) false;
   records = append-nil a.records ∙ sym (flipped-none a.records);

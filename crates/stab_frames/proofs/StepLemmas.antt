@@ -1,33 +1,8 @@
 -- Frames: what a step makes of one, and what steps make of one.
-use Rattle.std.proofs.Common.{◌≡◌, ℕ, ◌+◌, ◌<◌, refl, sym, ◌∙◌, ap, subst, Bool, true, false, ◌&&◌, List, [], ◌∷◌, ◌++◌, length, arith}
-use Rattle.std.proofs.lemmas.List.{length-append}
-use Rattle.std.proofs.lemmas.List.Elements.{All-head, All-tail}
-use Rattle.stab_letters.specs.declared.letter.Letter.{Letter}
-use Rattle.stab_letters.specs.Letters.{◌⊕◌}
-use Rattle.stab_pauli.specs.Paulis.{Signed, single}
-use Rattle.stab_tableau.specs.Gates.{inverse, back, back_pair}
-use Rattle.stab_tableau.specs.Traces.{Event, projected, member, is_free}
-use Rattle.stab_tableau.specs.Groups.{IsStabiliserGroup}
-use Rattle.stab_tableau.specs.Turns.{IsTurned}
-use Rattle.stab_tableau.proofs.OneLetterLemmas.{length-one_letter}
-use Rattle.stab_tableau.proofs.SymmetryLemmas.{IsSymmetry-image, IsSymmetry-pair, image-length, pair-length}
-use Rattle.stab_tableau.proofs.GroupLemmas.{group-back, group-projected}
-use Rattle.stab_tableau.proofs.TraceLemmas.{outcome-only}
-use Rattle.stab_circuit.specs.Steps.{Step, one, two, controlled, collapse, product, detector, observable}
-use Rattle.stab_steps.specs.Records.{looked_up, parity}
-use Rattle.stab_steps.specs.Runs.{when, string_of, gate_of, flip_of, applied_where, outcome_at}
-use Rattle.stab_steps.specs.Points.{Point, nothing, joined, given, trace_after, coins_of, next_point, outputs}
-use Rattle.stab_steps.specs.ProgramStates.{StepFits}
-use Rattle.stab_frames.specs.Flips.{flipped_output, Matches}
-use Rattle.stab_frames.specs.Frames.{plus, Frame, PointsDifferBy, times_where}
-use Rattle.stab_frames.specs.Notes.{Notes, changed, IsEnough}
-use Rattle.stab_frames.specs.FrameSteps.{flips_outcome, letters_measured, letters_after, flips_given, frame_after, flips_over}
-use Rattle.stab_frames.specs.StepNotes.{IsEnoughAt}
-use Rattle.stab_frames.specs.StepLaws.{StepsKeepFrames, RunsKeepFrames}
-use Rattle.stab_frames.proofs.TurnedLemmas.{turned-applied, turned-applied_pair, turned-where, length-times}
-use Rattle.stab_frames.proofs.MeasuredLemmas.{turned-free, outcome-flipped, measured-turned, length-measured}
+use Rattle.stab_frames.proofs.Names.{◌≡◌, ℕ, ◌+◌, ◌<◌, refl, sym, ◌∙◌, ap, subst, Bool, true, false, ◌&&◌, List, [], ◌∷◌, ◌++◌, length, arith, length-append, All-head, All-tail, Letter, ◌⊕◌, Signed, single, inverse, back, back_pair, Event, projected, member, is_free, IsStabiliserGroup, IsConjugated, length-one_letter, IsSymmetry-image, IsSymmetry-pair, image-length, pair-length, group-back, group-projected, outcome-only, Step, one, two, controlled, collapse, product, detector, observable, looked_up, parity, when, string_of, gate_of, flip_of, applied_where, outcome_at, Point, nothing, joined, given, trace_after, coins_of, next_point, outputs, StepFits, flipped_output, Matches, plus, Frame, PointsDifferBy, times_where, RunPivots, changed, IsEnough, flips_outcome, letters_measured, letters_after, flips_given, frame_after, flips_over, IsEnoughAt, StepsKeepFrames, RunsKeepFrames, length-string_of}
+use Rattle.stab_frames.proofs.FramedLemmas.{conjugated-applied, conjugated-applied_pair, conjugated-where, length-times}
+use Rattle.stab_frames.proofs.MeasuredLemmas.{conjugated-free, outcome-flipped, measured-conjugated, length-measured}
 use Rattle.stab_frames.proofs.FlipLemmas.{looked_up-flipped, parity-flipped, flipped-append, flipped-joined, joined-matches, flipped-when, and-parity, same-when}
-use Rattle.stab_steps.proofs.ProductLemmas.{length-string_of}
 
 -- the strings at a point are a group, and so they are after a step
 
@@ -59,57 +34,57 @@ past-inverted i x o = grind arith
 
 -- there is a flip for each bit that a step gives
 
-pub given-matches : (n : ℕ) (coins : ℕ → Bool) (notes : Notes) (x : Step) (a : Point) (c : ℕ) (f : Frame)
-    → Matches (given n coins x a) (flips_given n notes x c f)
-given-matches n coins notes (one g q) a c f = record { records = refl; free = refl; detectors = refl; observables = refl }
-given-matches n coins notes (two g p q) a c f = record { records = refl; free = refl; detectors = refl; observables = refl }
-given-matches n coins notes (controlled l k q) a c f = record { records = refl; free = refl; detectors = refl; observables = refl }
-given-matches n coins notes (collapse l q recorded inverted resets) a c f =
+pub given-matches : (n : ℕ) (coins : ℕ → Bool) (pivots : RunPivots) (x : Step) (a : Point) (c : ℕ) (f : Frame)
+    → Matches (given n coins x a) (flips_given n pivots x c f)
+given-matches n coins pivots (one g q) a c f = record { records = refl; free = refl; detectors = refl; observables = refl }
+given-matches n coins pivots (two g p q) a c f = record { records = refl; free = refl; detectors = refl; observables = refl }
+given-matches n coins pivots (controlled l k q) a c f = record { records = refl; free = refl; detectors = refl; observables = refl }
+given-matches n coins pivots (collapse l q recorded inverted resets) a c f =
     record { records = same-when recorded _ _; free = refl; detectors = refl; observables = refl }
-given-matches n coins notes (product factors inverted) a c f = record { records = refl; free = refl; detectors = refl; observables = refl }
-given-matches n coins notes (detector ks) a c f = record { records = refl; free = refl; detectors = refl; observables = refl }
-given-matches n coins notes (observable j ks) a c f = record { records = refl; free = refl; detectors = refl; observables = refl }
+given-matches n coins pivots (product factors inverted) a c f = record { records = refl; free = refl; detectors = refl; observables = refl }
+given-matches n coins pivots (detector ks) a c f = record { records = refl; free = refl; detectors = refl; observables = refl }
+given-matches n coins pivots (observable j ks) a c f = record { records = refl; free = refl; detectors = refl; observables = refl }
 
 -- one step
 
-module _ (n : ℕ) (coins : ℕ → Bool) (notes : Notes) (f : Frame) (a b : Point) (framed : PointsDifferBy n f a b)
+module _ (n : ℕ) (coins : ℕ → Bool) (pivots : RunPivots) (f : Frame) (a b : Point) (framed : PointsDifferBy n f a b)
     (group : IsStabiliserGroup n (member a.trace)) where
   -- a measurement of a string
-  module _ (m : Signed) (size : length m.letters ≡ n) (enough : IsEnough n (member a.trace) m f.letters (notes.changes a.coin) (notes.strings a.coin)) where
-    outcome-given : outcome_at (changed coins notes.changes) m b.trace b.coin ≡ flips_outcome notes a.coin m f.letters ⊕ outcome_at coins m a.trace a.coin
+  module _ (m : Signed) (size : length m.letters ≡ n) (enough : IsEnough n (member a.trace) m f.letters (pivots.changes a.coin) (pivots.strings a.coin)) where
+    outcome-given : outcome_at (changed coins pivots.changes) m b.trace b.coin ≡ flips_outcome pivots a.coin m f.letters ⊕ outcome_at coins m a.trace a.coin
     outcome-given =
-        ap (λ c. outcome_at (changed coins notes.changes) m b.trace c) framed.coin
-        ∙ outcome-flipped n f.letters (member a.trace) (member b.trace) framed.group group m size (notes.strings a.coin) (notes.changes a.coin) enough (coins a.coin)
+        ap (λ c. outcome_at (changed coins pivots.changes) m b.trace c) framed.coin
+        ∙ outcome-flipped n f.letters (member a.trace) (member b.trace) framed.group group m size (pivots.strings a.coin) (pivots.changes a.coin) enough (coins a.coin)
 
     free-given : is_free b.trace m ≡ is_free a.trace m
-    free-given = turned-free n f.letters (member a.trace) (member b.trace) framed.group m size
+    free-given = conjugated-free n f.letters (member a.trace) (member b.trace) framed.group m size
 
-    trace-measured : IsTurned n (letters_measured notes a.coin m f.letters)
+    trace-measured : IsConjugated n (letters_measured pivots a.coin m f.letters)
         (member (projected m (outcome_at coins m a.trace a.coin) ∷ a.trace))
-        (member (projected m (flips_outcome notes a.coin m f.letters ⊕ outcome_at coins m a.trace a.coin) ∷ b.trace))
+        (member (projected m (flips_outcome pivots a.coin m f.letters ⊕ outcome_at coins m a.trace a.coin) ∷ b.trace))
     trace-measured =
-        measured-turned n f.letters (member a.trace) (member b.trace) framed.group group m size (notes.strings a.coin) (notes.changes a.coin) enough
+        measured-conjugated n f.letters (member a.trace) (member b.trace) framed.group group m size (pivots.strings a.coin) (pivots.changes a.coin) enough
         (outcome_at coins m a.trace a.coin)
 
-    letters-size : length (letters_measured notes a.coin m f.letters) ≡ n
-    letters-size = length-measured n f.letters (member a.trace) (member b.trace) framed.group group m size framed.size (notes.strings a.coin) (notes.changes a.coin) enough
+    letters-size : length (letters_measured pivots a.coin m f.letters) ≡ n
+    letters-size = length-measured n f.letters (member a.trace) (member b.trace) framed.group group m size framed.size (pivots.strings a.coin) (pivots.changes a.coin) enough
 
     -- and a letter that is applied if a reset has outcome 1
     trace-reset : (l : Letter) (q : ℕ) → q < n → (resets : Bool)
-        → IsTurned n (times_where (resets && flips_outcome notes a.coin m f.letters) (single n q l).letters (letters_measured notes a.coin m f.letters))
+        → IsConjugated n (times_where (resets && flips_outcome pivots a.coin m f.letters) (single n q l).letters (letters_measured pivots a.coin m f.letters))
         (member (applied_where (resets && outcome_at coins m a.trace a.coin) l q (projected m (outcome_at coins m a.trace a.coin) ∷ a.trace)))
-        (member (applied_where (resets && outcome_at (changed coins notes.changes) m b.trace b.coin) l q (projected m (outcome_at (changed coins notes.changes) m b.trace b.coin) ∷ b.trace)))
+        (member (applied_where (resets && outcome_at (changed coins pivots.changes) m b.trace b.coin) l q (projected m (outcome_at (changed coins pivots.changes) m b.trace b.coin) ∷ b.trace)))
     trace-reset l q lt resets =
-        subst (λ o. IsTurned n (times_where (resets && flips_outcome notes a.coin m f.letters) (single n q l).letters (letters_measured notes a.coin m f.letters))
+        subst (λ o. IsConjugated n (times_where (resets && flips_outcome pivots a.coin m f.letters) (single n q l).letters (letters_measured pivots a.coin m f.letters))
         (member (applied_where (resets && outcome_at coins m a.trace a.coin) l q (projected m (outcome_at coins m a.trace a.coin) ∷ a.trace)))
         (member (applied_where (resets && o) l q (projected m o ∷ b.trace))))
         (sym outcome-given)
-        (subst (λ r. IsTurned n (times_where (resets && flips_outcome notes a.coin m f.letters) (single n q l).letters (letters_measured notes a.coin m f.letters))
+        (subst (λ r. IsConjugated n (times_where (resets && flips_outcome pivots a.coin m f.letters) (single n q l).letters (letters_measured pivots a.coin m f.letters))
         (member (applied_where (resets && outcome_at coins m a.trace a.coin) l q (projected m (outcome_at coins m a.trace a.coin) ∷ a.trace)))
-        (member (applied_where r l q (projected m (flips_outcome notes a.coin m f.letters ⊕ outcome_at coins m a.trace a.coin) ∷ b.trace))))
-        (sym (and-parity resets (flips_outcome notes a.coin m f.letters) (outcome_at coins m a.trace a.coin)))
-        (turned-where n l q lt (resets && outcome_at coins m a.trace a.coin) (resets && flips_outcome notes a.coin m f.letters)
-        (letters_measured notes a.coin m f.letters) letters-size _ _ trace-measured))
+        (member (applied_where r l q (projected m (flips_outcome pivots a.coin m f.letters ⊕ outcome_at coins m a.trace a.coin) ∷ b.trace))))
+        (sym (and-parity resets (flips_outcome pivots a.coin m f.letters) (outcome_at coins m a.trace a.coin)))
+        (conjugated-where n l q lt (resets && outcome_at coins m a.trace a.coin) (resets && flips_outcome pivots a.coin m f.letters)
+        (letters_measured pivots a.coin m f.letters) letters-size _ _ trace-measured))
 
   records-looked_up : (k : ℕ) → looked_up b.records k ≡ looked_up f.flips k ⊕ looked_up a.records k
   records-looked_up k = ap (λ r. looked_up r k) framed.records ∙ looked_up-flipped a.records f.flips framed.count k
@@ -117,18 +92,18 @@ module _ (n : ℕ) (coins : ℕ → Bool) (notes : Notes) (f : Frame) (a b : Poi
   records-parity : (ks : List ℕ) → parity b.records ks ≡ parity f.flips ks ⊕ parity a.records ks
   records-parity ks = ap (λ r. parity r ks) framed.records ∙ parity-flipped a.records f.flips framed.count ks
 
-  trace-framed : (x : Step) → StepFits n x → IsEnoughAt n notes x f.letters a
-      → IsTurned n (letters_after n notes x a.coin f) (member (trace_after n coins x a)) (member (trace_after n (changed coins notes.changes) x b))
-  trace-framed (one g q) fits enough = turned-applied n g q f.letters framed.size (member a.trace) (member b.trace) framed.group
-  trace-framed (two g p q) fits enough = turned-applied_pair n g p q fits f.letters framed.size (member a.trace) (member b.trace) framed.group
+  trace-framed : (x : Step) → StepFits n x → IsEnoughAt n pivots x f.letters a
+      → IsConjugated n (letters_after n pivots x a.coin f) (member (trace_after n coins x a)) (member (trace_after n (changed coins pivots.changes) x b))
+  trace-framed (one g q) fits enough = conjugated-applied n g q f.letters framed.size (member a.trace) (member b.trace) framed.group
+  trace-framed (two g p q) fits enough = conjugated-applied_pair n g p q fits f.letters framed.size (member a.trace) (member b.trace) framed.group
   trace-framed (controlled l k q) fits enough =
-      subst (λ r. IsTurned n (times_where (looked_up f.flips k) (single n q l).letters f.letters) (member (applied_where (looked_up a.records k) l q a.trace))
+      subst (λ r. IsConjugated n (times_where (looked_up f.flips k) (single n q l).letters f.letters) (member (applied_where (looked_up a.records k) l q a.trace))
       (member (applied_where r l q b.trace)))
       (sym (records-looked_up k))
-      (turned-where n l q fits (looked_up a.records k) (looked_up f.flips k) f.letters framed.size a.trace b.trace framed.group)
+      (conjugated-where n l q fits (looked_up a.records k) (looked_up f.flips k) f.letters framed.size a.trace b.trace framed.group)
   trace-framed (collapse l q recorded inverted resets) fits enough = trace-reset (single n q l) (length-one_letter n q l) enough (flip_of l) q fits resets
   trace-framed (product factors inverted) fits enough =
-      subst (λ o. IsTurned n (letters_measured notes a.coin (string_of n factors) f.letters)
+      subst (λ o. IsConjugated n (letters_measured pivots a.coin (string_of n factors) f.letters)
       (member (projected (string_of n factors) (outcome_at coins (string_of n factors) a.trace a.coin) ∷ a.trace))
       (member (projected (string_of n factors) o ∷ b.trace)))
       (sym (outcome-given (string_of n factors) (length-string_of n factors) enough))
@@ -136,7 +111,7 @@ module _ (n : ℕ) (coins : ℕ → Bool) (notes : Notes) (f : Frame) (a b : Poi
   trace-framed (detector ks) fits enough = framed.group
   trace-framed (observable j ks) fits enough = framed.group
 
-  letters-framed : (x : Step) → IsEnoughAt n notes x f.letters a → length (letters_after n notes x a.coin f) ≡ n
+  letters-framed : (x : Step) → IsEnoughAt n pivots x f.letters a → length (letters_after n pivots x a.coin f) ≡ n
   letters-framed (one g q) enough = image-length g q (plus f.letters) ∙ framed.size
   letters-framed (two g p q) enough = pair-length g p q (plus f.letters) ∙ framed.size
   letters-framed (controlled l k q) enough = length-times n (looked_up f.flips k) (single n q l).letters f.letters (length-one_letter n q l) framed.size
@@ -147,64 +122,64 @@ module _ (n : ℕ) (coins : ℕ → Bool) (notes : Notes) (f : Frame) (a b : Poi
   letters-framed (detector ks) enough = framed.size
   letters-framed (observable j ks) enough = framed.size
 
-  pub given-framed : (x : Step) → IsEnoughAt n notes x f.letters a → given n (changed coins notes.changes) x b ≡ flipped_output (given n coins x a) (flips_given n notes x a.coin f)
+  pub given-framed : (x : Step) → IsEnoughAt n pivots x f.letters a → given n (changed coins pivots.changes) x b ≡ flipped_output (given n coins x a) (flips_given n pivots x a.coin f)
   given-framed (one g q) enough = refl
   given-framed (two g p q) enough = refl
   given-framed (controlled l k q) enough = refl
   given-framed (collapse l q recorded inverted resets) enough = λ i. record nothing {
     records =
         (ap (λ o. when recorded (inverted ⊕ o)) (outcome-given (single n q l) (length-one_letter n q l) enough)
-        ∙ ap (when recorded) (past-inverted inverted (flips_outcome notes a.coin (single n q l) f.letters) (outcome_at coins (single n q l) a.trace a.coin))
-        ∙ sym (flipped-when recorded (flips_outcome notes a.coin (single n q l) f.letters) (inverted ⊕ outcome_at coins (single n q l) a.trace a.coin))) i;
+        ∙ ap (when recorded) (past-inverted inverted (flips_outcome pivots a.coin (single n q l) f.letters) (outcome_at coins (single n q l) a.trace a.coin))
+        ∙ sym (flipped-when recorded (flips_outcome pivots a.coin (single n q l) f.letters) (inverted ⊕ outcome_at coins (single n q l) a.trace a.coin))) i;
     free = free-given (single n q l) (length-one_letter n q l) enough i ∷ [];
   }
   given-framed (product factors inverted) enough = λ i. record nothing {
     records =
         (ap (λ o. inverted ⊕ o) (outcome-given (string_of n factors) (length-string_of n factors) enough)
-        ∙ past-inverted inverted (flips_outcome notes a.coin (string_of n factors) f.letters) (outcome_at coins (string_of n factors) a.trace a.coin)) i ∷ [];
+        ∙ past-inverted inverted (flips_outcome pivots a.coin (string_of n factors) f.letters) (outcome_at coins (string_of n factors) a.trace a.coin)) i ∷ [];
     free = free-given (string_of n factors) (length-string_of n factors) enough i ∷ [];
   }
   given-framed (detector ks) enough = λ i. record nothing { detectors = records-parity ks i ∷ [] }
   given-framed (observable j ks) enough = λ i. record nothing { additions = record { observable = j; bit = records-parity ks i } ∷ [] }
 
-  pub next-framed : (x : Step) → StepFits n x → IsEnoughAt n notes x f.letters a
-      → PointsDifferBy n (frame_after n notes x a.coin f) (next_point n coins x a) (next_point n (changed coins notes.changes) x b)
+  pub next-framed : (x : Step) → StepFits n x → IsEnoughAt n pivots x f.letters a
+      → PointsDifferBy n (frame_after n pivots x a.coin f) (next_point n coins x a) (next_point n (changed coins pivots.changes) x b)
   next-framed x fits enough = record {
     size = letters-framed x enough;
     group = trace-framed x fits enough;
     coin = ap (λ c. c + coins_of x) framed.coin;
     count =
-        length-append f.flips (flips_given n notes x a.coin f).records
-        ∙ (λ i. framed.count i + (given-matches n coins notes x a a.coin f).records i)
+        length-append f.flips (flips_given n pivots x a.coin f).records
+        ∙ (λ i. framed.count i + (given-matches n coins pivots x a a.coin f).records i)
         ∙ sym (length-append a.records (given n coins x a).records);
     records =
         (λ i. framed.records i ++ (given-framed x enough i).records)
-        ∙ sym (flipped-append a.records (given n coins x a).records f.flips (flips_given n notes x a.coin f).records framed.count);
+        ∙ sym (flipped-append a.records (given n coins x a).records f.flips (flips_given n pivots x a.coin f).records framed.count);
   }
 
 pub step-framed : StepsKeepFrames
-step-framed n coins notes x f a b fits group enough framed =
-    (given-framed n coins notes f a b framed group x enough, next-framed n coins notes f a b framed group x fits enough)
+step-framed n coins pivots x f a b fits group enough framed =
+    (given-framed n coins pivots f a b framed group x enough, next-framed n coins pivots f a b framed group x fits enough)
 
 -- steps
 
-pub outputs-matches : (n : ℕ) (coins : ℕ → Bool) (notes : Notes) (xs : List Step) (a : Point) (c : ℕ) (f : Frame)
-    → Matches (outputs n coins xs a) (flips_over n notes xs c f)
-outputs-matches n coins notes [] a c f = record { records = refl; free = refl; detectors = refl; observables = refl }
-outputs-matches n coins notes (x ∷ xs) a c f =
-    joined-matches (given n coins x a) (outputs n coins xs (next_point n coins x a)) (flips_given n notes x c f)
-    (flips_over n notes xs (c + coins_of x) (frame_after n notes x c f))
-    (given-matches n coins notes x a c f) (outputs-matches n coins notes xs (next_point n coins x a) (c + coins_of x) (frame_after n notes x c f))
+pub outputs-matches : (n : ℕ) (coins : ℕ → Bool) (pivots : RunPivots) (xs : List Step) (a : Point) (c : ℕ) (f : Frame)
+    → Matches (outputs n coins xs a) (flips_over n pivots xs c f)
+outputs-matches n coins pivots [] a c f = record { records = refl; free = refl; detectors = refl; observables = refl }
+outputs-matches n coins pivots (x ∷ xs) a c f =
+    joined-matches (given n coins x a) (outputs n coins xs (next_point n coins x a)) (flips_given n pivots x c f)
+    (flips_over n pivots xs (c + coins_of x) (frame_after n pivots x c f))
+    (given-matches n coins pivots x a c f) (outputs-matches n coins pivots xs (next_point n coins x a) (c + coins_of x) (frame_after n pivots x c f))
 
 pub over-framed : RunsKeepFrames
-over-framed n coins notes [] f a b fits group enough framed = (refl, framed)
-over-framed n coins notes (x ∷ xs) f a b fits group enough framed =
+over-framed n coins pivots [] f a b fits group enough framed = (refl, framed)
+over-framed n coins pivots (x ∷ xs) f a b fits group enough framed =
     let here : StepFits n x = All-head (StepFits n) x xs fits in
-    let later = over-framed n coins notes xs (frame_after n notes x a.coin f) (next_point n coins x a) (next_point n (changed coins notes.changes) x b)
+    let later = over-framed n coins pivots xs (frame_after n pivots x a.coin f) (next_point n coins x a) (next_point n (changed coins pivots.changes) x b)
     (All-tail (StepFits n) x xs fits) (group-next n coins x a here group) enough.1
-    (next-framed n coins notes f a b framed group x here enough.0) in (
-      (λ i. joined (given-framed n coins notes f a b framed group x enough.0 i) (later.0 i))
-          ∙ sym (flipped-joined (given n coins x a) (outputs n coins xs (next_point n coins x a)) (flips_given n notes x a.coin f)
-          (flips_over n notes xs (a.coin + coins_of x) (frame_after n notes x a.coin f)) (given-matches n coins notes x a a.coin f)),
+    (next-framed n coins pivots f a b framed group x here enough.0) in (
+      (λ i. joined (given-framed n coins pivots f a b framed group x enough.0 i) (later.0 i))
+          ∙ sym (flipped-joined (given n coins x a) (outputs n coins xs (next_point n coins x a)) (flips_given n pivots x a.coin f)
+          (flips_over n pivots xs (a.coin + coins_of x) (frame_after n pivots x a.coin f)) (given-matches n coins pivots x a a.coin f)),
       later.1,
     )

@@ -1,12 +1,5 @@
 -- Still: records of which the newest are not flipped, and records after others.
-use Rattle.std.proofs.Common.{◌≡◌, ℕ, ◌+◌, ◌-◌, ◌<◌, ◌≤◌, refl, sym, ◌∙◌, Bool, false, List, [], ◌∷◌, ◌++◌, length, replicate, arith, ◌⊎◌, inl, inr}
-use Rattle.std.proofs.lemmas.Bool.{cases_lt}
-use Rattle.std.proofs.lemmas.List.{length-replicate}
-use Rattle.stab_letters.specs.Letters.{◌⊕◌}
-use Rattle.stab_steps.specs.Records.{looked_up, parity}
-use Rattle.stab_laws.proofs.LookbackLemmas.{looked_up-near, looked_up-far, looked_up-more, looked_up-zeros}
-use Rattle.stab_frames.specs.Walks.{WalkState, frame_at, IsGone}
-use Rattle.stab_frames.specs.inner.Weights.{string_weight}
+use Rattle.stab_frames.proofs.Names.{◌≡◌, ℕ, ◌+◌, ◌-◌, ◌<◌, ◌≤◌, refl, sym, ◌∙◌, Bool, false, List, [], ◌∷◌, ◌++◌, length, replicate, arith, ◌⊎◌, inl, inr, cases_lt, length-replicate, ◌⊕◌, looked_up, parity, looked_up-near, looked_up-far, looked_up-more, looked_up-zeros, PropagationState, frame_at, IsGone, string_weight}
 use Rattle.stab_frames.proofs.WeightLemmas.{weight-none}
 
 -- records after others that are 0
@@ -46,7 +39,7 @@ pub still-base : (base m : ℕ) (bits : List Bool) → IsStill m bits → IsStil
 still-base base m bits is k le = looked_up-base base bits k ∙ is k le
 
 -- a frame of weight 0 that is still this far back is gone
-pub gone-frame : (base m still : ℕ) (w : WalkState) → string_weight w.letters ≡ 0 → m ≤ still → IsStill still w.flips.records
+pub gone-frame : (base m still : ℕ) (w : PropagationState) → string_weight w.letters ≡ 0 → m ≤ still → IsStill still w.flips.records
     → IsGone (length w.letters) m (frame_at base w)
 gone-frame base m still w none le is = record {
   letters = weight-none w.letters none;

@@ -1,26 +1,6 @@
 -- Frames added: what two frames flip together is what each flips, added.
-use Rattle.std.proofs.Common.{◌≡◌, ℕ, ◌+◌, refl, sym, ◌∙◌, ap, Bool, true, false, ◌&&◌, List, [], ◌∷◌, ◌++◌, length}
-use Rattle.std.specs.Prelude.{Option, Some, None}
-use Rattle.std.proofs.lemmas.List.{length-append}
-use Rattle.std.proofs.lemmas.List.Elements.{All-head, All-tail}
-use Rattle.stab_letters.specs.declared.letter.Letter.{Letter}
-use Rattle.stab_letters.specs.Letters.{◌⊕◌}
-use Rattle.stab_pauli.specs.Paulis.{Signed, single, strings_anticommute, string_product}
-use Rattle.stab_letters.proofs.ParityLemmas.{parity-comm, parity-mid}
-use Rattle.stab_pauli.proofs.StringLemmas.{string_product-assoc, string_product-comm, string_product-self, string_product-blank_right, length-string_product, strings_anticommute-product}
-use Rattle.stab_tableau.proofs.OneLetterLemmas.{length-one_letter}
-use Rattle.stab_tableau.proofs.SymmetryLemmas.{IsSymmetry-image, IsSymmetry-pair, image-length, pair-length}
-use Rattle.stab_circuit.specs.Steps.{Step, one, two, controlled, collapse, product, detector, observable}
-use Rattle.stab_steps.specs.Records.{looked_up}
-use Rattle.stab_steps.specs.Runs.{when, string_of, flip_of}
-use Rattle.stab_steps.specs.Points.{RunOutput, nothing, joined, coins_of, origin, given}
-use Rattle.stab_steps.specs.ProgramStates.{StepFits}
-use Rattle.stab_frames.specs.Flips.{flipped, flipped_output, Matches}
-use Rattle.stab_frames.specs.Frames.{plus, Frame, frame_product, times_where}
-use Rattle.stab_frames.specs.Notes.{Notes, notes_of}
-use Rattle.stab_frames.specs.FrameSteps.{flipped_by, letters_by, flips_outcome, letters_measured, letters_after, flips_given, frame_after, frame_over, flips_over}
-use Rattle.stab_frames.specs.StepLaws.{AreStrings, FramesAdd}
-use Rattle.stab_frames.proofs.TurnedLemmas.{length-times}
+use Rattle.stab_frames.proofs.Names.{◌≡◌, ℕ, ◌+◌, refl, sym, ◌∙◌, ap, Bool, true, false, ◌&&◌, List, [], ◌∷◌, ◌++◌, length, Option, Some, None, length-append, All-head, All-tail, Letter, ◌⊕◌, Signed, single, strings_anticommute, string_product, parity-comm, parity-mid, string_product-assoc, string_product-comm, string_product-self, string_product-blank_right, length-string_product, strings_anticommute-product, length-one_letter, IsSymmetry-image, IsSymmetry-pair, image-length, pair-length, Step, one, two, controlled, collapse, product, detector, observable, looked_up, when, string_of, flip_of, RunOutput, nothing, joined, coins_of, origin, given, StepFits, flipped, flipped_output, Matches, plus, Frame, frame_product, times_where, RunPivots, pivots_of, flipped_by, letters_by, flips_outcome, letters_measured, letters_after, flips_given, frame_after, frame_over, flips_over, AreStrings, FramesAdd}
+use Rattle.stab_frames.proofs.FramedLemmas.{length-times}
 use Rattle.stab_frames.proofs.FlipLemmas.{matches-between, looked_up-flipped, parity-flipped, flipped-append, flipped-joined, and-parity}
 use Rattle.stab_frames.proofs.StepLemmas.{given-matches}
 
@@ -49,21 +29,21 @@ module _ (n : ℕ) (s f g : List Letter) (ls : length s ≡ n) (lf : length f �
 
 -- measurements
 
-outcome-add : (note : Option (List Letter)) (x y : Bool) (m : Signed) (f g : List Letter)
-    → flipped_by note (x ⊕ y) m (string_product f g) ≡ flipped_by note x m f ⊕ flipped_by note y m g
+outcome-add : (pivot : Option (List Letter)) (x y : Bool) (m : Signed) (f g : List Letter)
+    → flipped_by pivot (x ⊕ y) m (string_product f g) ≡ flipped_by pivot x m f ⊕ flipped_by pivot y m g
 outcome-add None x y m f g = strings_anticommute-product f g m.letters
 outcome-add (Some s) x y m f g = refl
 
-measured-add : (n : ℕ) (note : Option (List Letter)) → ((s : List Letter) → note ≡ Some s → length s ≡ n) → (x y : Bool) (m : Signed) (f g : List Letter)
-    → length f ≡ n → length g ≡ n → letters_by note (x ⊕ y) m (string_product f g) ≡ string_product (letters_by note x m f) (letters_by note y m g)
+measured-add : (n : ℕ) (pivot : Option (List Letter)) → ((s : List Letter) → pivot ≡ Some s → length s ≡ n) → (x y : Bool) (m : Signed) (f g : List Letter)
+    → length f ≡ n → length g ≡ n → letters_by pivot (x ⊕ y) m (string_product f g) ≡ string_product (letters_by pivot x m f) (letters_by pivot y m g)
 measured-add n None strings x y m f g lf lg = refl
 measured-add n (Some s) strings x y m f g lf lg =
     ap (λ b. times_where b s (string_product f g))
     (ap (λ b. (x ⊕ y) ⊕ b) (strings_anticommute-product f g m.letters) ∙ parity-mid x y (strings_anticommute f m.letters) (strings_anticommute g m.letters))
     ∙ times-add n s f g (strings s refl) lf lg (x ⊕ strings_anticommute f m.letters) (y ⊕ strings_anticommute g m.letters)
 
-measured-length : (n : ℕ) (note : Option (List Letter)) → ((s : List Letter) → note ≡ Some s → length s ≡ n) → (x : Bool) (m : Signed) (f : List Letter)
-    → length f ≡ n → length (letters_by note x m f) ≡ n
+measured-length : (n : ℕ) (pivot : Option (List Letter)) → ((s : List Letter) → pivot ≡ Some s → length s ≡ n) → (x : Bool) (m : Signed) (f : List Letter)
+    → length f ≡ n → length (letters_by pivot x m f) ≡ n
 measured-length n None strings x m f lf = lf
 measured-length n (Some s) strings x m f lf = length-times n (x ⊕ strings_anticommute f m.letters) s f (strings s refl) lf
 
@@ -73,28 +53,28 @@ when-add false x y = refl
 
 -- one step
 
-letters-length : (n : ℕ) (notes : Notes) → AreStrings n notes.strings → (x : Step) (c : ℕ) (h : Frame) → length h.letters ≡ n → length (letters_after n notes x c h) ≡ n
-letters-length n notes strings (one d q) c h l = image-length d q (plus h.letters) ∙ l
-letters-length n notes strings (two d p q) c h l = pair-length d p q (plus h.letters) ∙ l
-letters-length n notes strings (controlled m k q) c h l = length-times n (looked_up h.flips k) (single n q m).letters h.letters (length-one_letter n q m) l
-letters-length n notes strings (collapse m q recorded inverted resets) c h l =
-    length-times n (resets && flips_outcome notes c (single n q m) h.letters) (single n q (flip_of m)).letters (letters_measured notes c (single n q m) h.letters)
-    (length-one_letter n q (flip_of m)) (measured-length n (notes.strings c) (strings c) (notes.changes c) (single n q m) h.letters l)
-letters-length n notes strings (product factors inverted) c h l = measured-length n (notes.strings c) (strings c) (notes.changes c) (string_of n factors) h.letters l
-letters-length n notes strings (detector ks) c h l = l
-letters-length n notes strings (observable j ks) c h l = l
+letters-length : (n : ℕ) (pivots : RunPivots) → AreStrings n pivots.strings → (x : Step) (c : ℕ) (h : Frame) → length h.letters ≡ n → length (letters_after n pivots x c h) ≡ n
+letters-length n pivots strings (one d q) c h l = image-length d q (plus h.letters) ∙ l
+letters-length n pivots strings (two d p q) c h l = pair-length d p q (plus h.letters) ∙ l
+letters-length n pivots strings (controlled m k q) c h l = length-times n (looked_up h.flips k) (single n q m).letters h.letters (length-one_letter n q m) l
+letters-length n pivots strings (collapse m q recorded inverted resets) c h l =
+    length-times n (resets && flips_outcome pivots c (single n q m) h.letters) (single n q (flip_of m)).letters (letters_measured pivots c (single n q m) h.letters)
+    (length-one_letter n q (flip_of m)) (measured-length n (pivots.strings c) (strings c) (pivots.changes c) (single n q m) h.letters l)
+letters-length n pivots strings (product factors inverted) c h l = measured-length n (pivots.strings c) (strings c) (pivots.changes c) (string_of n factors) h.letters l
+letters-length n pivots strings (detector ks) c h l = l
+letters-length n pivots strings (observable j ks) c h l = l
 
 module _ (n : ℕ) (strings : ℕ → Option (List Letter)) (x y : ℕ → Bool) (sized : AreStrings n strings) (c : ℕ) (f g : Frame)
     (lf : length f.letters ≡ n) (lg : length g.letters ≡ n) (same : length g.flips ≡ length f.flips) where
-  -- notes for the one frame, for the other, and for both
-  abbrev left : Notes
-  left = notes_of strings x
+  -- pivots for the one frame, for the other, and for both
+  abbrev left : RunPivots
+  left = pivots_of strings x
 
-  abbrev right : Notes
-  right = notes_of strings y
+  abbrev right : RunPivots
+  right = pivots_of strings y
 
-  abbrev sum : Notes
-  sum = notes_of strings (λ t. x t ⊕ y t)
+  abbrev sum : RunPivots
+  sum = pivots_of strings (λ t. x t ⊕ y t)
 
   looked-add : (k : ℕ) → looked_up (flipped f.flips g.flips) k ≡ looked_up f.flips k ⊕ looked_up g.flips k
   looked-add k = looked_up-flipped f.flips g.flips same k ∙ parity-comm (looked_up g.flips k) (looked_up f.flips k)
@@ -166,9 +146,9 @@ module _ (n : ℕ) (strings : ℕ → Option (List Letter)) (x y : ℕ → Bool)
 pub frames-add : FramesAdd
 frames-add n strings x y [] c f g fits sized lf lg same = (refl, refl)
 frames-add n strings x y (z ∷ zs) c f g fits sized lf lg same =
-    let left : Notes = notes_of strings x in
-    let right : Notes = notes_of strings y in
-    let sum : Notes = notes_of strings (λ t. x t ⊕ y t) in
+    let left : RunPivots = pivots_of strings x in
+    let right : RunPivots = pivots_of strings y in
+    let sum : RunPivots = pivots_of strings (λ t. x t ⊕ y t) in
     let here : StepFits n z = All-head (StepFits n) z zs fits in
     let later = frames-add n strings x y zs (c + coins_of z) (frame_after n left z c f) (frame_after n right z c g) (All-tail (StepFits n) z zs fits) sized
     (letters-length n left sized z c f lf) (letters-length n right sized z c g lg)

@@ -1,24 +1,7 @@
 -- Touches: what a frame does not touch leaves it as it was, and steps part by part.
-use Rattle.std.proofs.Common.{◌≡◌, ℕ, ◌+◌, refl, sym, ◌∙◌, ap, subst, Bool, false, List, [], ◌∷◌, ◌≤◌, length, take, drop, map, get_or, set, All}
-use Rattle.std.specs.List.{list_any}
-use Rattle.std.proofs.lemmas.List.{take-take, take-map, drop-map, map-append, set-get_or}
-use Rattle.std.proofs.lemmas.List.Elements.{All-take, All-drop}
-use Rattle.std.proofs.Math.Seq.{take-add}
-use Rattle.stab_letters.specs.declared.letter.Letter.{Letter}
-use Rattle.stab_letters.specs.declared.letter.Letter.TheVariants.{I, X, Y, Z}
-use Rattle.stab_letters.specs.declared.gate.PairGate.{PairGate}
-use Rattle.stab_letters.specs.declared.gate.PairGate.TheVariants as gate
-use Rattle.stab_tableau.specs.Gates.{letter_at, pair_letters, image_pair}
-use Rattle.stab_lines.specs.declared.axis.Axis.{Axis}
-use Rattle.stab_lines.specs.declared.control.ControlledPair.{ControlledPair}
+use Rattle.stab_frames.proofs.Names.{◌≡◌, ℕ, ◌+◌, refl, sym, ◌∙◌, ap, subst, Bool, false, List, [], ◌∷◌, ◌≤◌, length, take, drop, map, get_or, set, All, list_any, take-take, take-map, drop-map, map-append, set-get_or, All-take, All-drop, take-add, Letter, I, X, Y, Z, PairGate, letter_at, pair_letters, image_pair, Axis, ControlledPair, Step, two, controlled_gate, controlled_step, StepFits, or-left, or-right, plus, PropagationState, GoesOver, GoesFreely, acts, PairFits, touches_pair}
+use Rattle.stab_gates.specs.declared.gate.PairGate.TheVariants as gate
 use Rattle.stab_lines.specs.declared.control.ControlledPair.TheVariants as pair
-use Rattle.stab_circuit.specs.Steps.{Step, two, controlled_gate, controlled_step}
-use Rattle.stab_steps.specs.ProgramStates.{StepFits}
-use Rattle.stab_laws.proofs.LookbackLemmas.{or-left, or-right}
-use Rattle.stab_frames.specs.Frames.{plus}
-use Rattle.stab_frames.specs.Walks.{WalkState}
-use Rattle.stab_frames.specs.inner.Passes.{GoesOver, GoesFreely}
-use Rattle.stab_frames.specs.inner.Touches.{acts, PairFits, touches_pair}
 use Rattle.stab_frames.proofs.ImageLemmas.{pair-image}
 use Rattle.stab_frames.proofs.GoesOverLemmas.{goes-append, freely-none, freely-letters, fits-mapped}
 
@@ -60,16 +43,16 @@ image-blank g letters a b ea eb =
     sym (ap (λ s. set s b I) (set-same letters a ea) ∙ set-same letters b eb)
     ∙ pair-image g letters a b I I I I ea eb (first-blank g) (second-blank g)
 
-pair-untouched : (n : ℕ) (axis : Axis) (p : ControlledPair) (w : WalkState) → touches_pair w.letters p ≡ false → length w.letters ≡ n
+pair-untouched : (n : ℕ) (axis : Axis) (p : ControlledPair) (w : PropagationState) → touches_pair w.letters p ≡ false → length w.letters ≡ n
     → GoesFreely n (controlled_step axis p ∷ []) w w
 pair-untouched n axis (pair.Qubits p) w e size =
     let first = no-letter (get_or w.letters p.0 I) (or-left (acts (get_or w.letters p.0 I)) (acts (get_or w.letters p.1 I)) e) in
     let second = no-letter (get_or w.letters p.1 I) (or-right (acts (get_or w.letters p.0 I)) (acts (get_or w.letters p.1 I)) e) in
     freely-letters n (two (controlled_gate axis) p.0 p.1) w w w.letters refl size
-    (λ notes. image-blank (controlled_gate axis) w.letters p.0 p.1 first second) (λ notes. refl) refl
+    (λ pivots. image-blank (controlled_gate axis) w.letters p.0 p.1 first second) (λ pivots. refl) refl
 pair-untouched n axis (pair.Record k q) w e size = cc
 
-pub pairs-untouched : (n : ℕ) (axis : Axis) (pairs : List ControlledPair) (w : WalkState) → list_any (touches_pair w.letters) pairs ≡ false → length w.letters ≡ n
+pub pairs-untouched : (n : ℕ) (axis : Axis) (pairs : List ControlledPair) (w : PropagationState) → list_any (touches_pair w.letters) pairs ≡ false → length w.letters ≡ n
     → GoesFreely n (map (controlled_step axis) pairs) w w
 pairs-untouched n axis [] w e size = freely-none n w size
 pairs-untouched n axis (p ∷ pairs) w e size = λ strings free draw placed.
@@ -80,14 +63,14 @@ pairs-untouched n axis (p ∷ pairs) w e size = λ strings free draw placed.
 -- steps of targets, and those of the next ones
 
 pub goes-part : {X : Type 0} (n : ℕ) (strings : List (List Letter)) (free : List Bool) (draw : Bool → ℕ → Bool) (f : X → Step) (xs part : List X) (i k : ℕ)
-    (old now new : WalkState) → GoesOver n strings free draw (map f (take i xs)) old now → part ≡ take k (drop i xs) → GoesOver n strings free draw (map f part) now new
+    (old now new : PropagationState) → GoesOver n strings free draw (map f (take i xs)) old now → part ≡ take k (drop i xs) → GoesOver n strings free draw (map f part) now new
     → GoesOver n strings free draw (map f (take (i + k) xs)) old new
 goes-part n strings free draw f xs part i k old now new front is next =
     subst (λ ys. GoesOver n strings free draw ys old new) (sym (ap (map f) (take-add i k xs) ∙ map-append f (take i xs) (take k (drop i xs))))
     (goes-append n strings free draw (map f (take i xs)) (map f (take k (drop i xs))) old now new front
     (subst (λ ys. GoesOver n strings free draw (map f ys) now new) is next))
 
-pub freely-part : {X : Type 0} (n m : ℕ) (f : X → Step) (xs part : List X) (i k : ℕ) (old now new : WalkState) → GoesFreely n (map f (take i xs)) old now
+pub freely-part : {X : Type 0} (n m : ℕ) (f : X → Step) (xs part : List X) (i k : ℕ) (old now new : PropagationState) → GoesFreely n (map f (take i xs)) old now
     → m ≡ n → part ≡ take k (drop i xs) → GoesFreely m (map f part) now new → GoesFreely n (map f (take (i + k) xs)) old new
 freely-part n m f xs part i k old now new front same is next = λ strings free draw placed.
     let here = front strings free draw placed in
@@ -97,7 +80,7 @@ freely-part n m f xs part i k old now new front same is next = λ strings free d
 -- of the next k of them only j, or all
 
 pub goes-less : {X : Type 0} (n : ℕ) (strings : List (List Letter)) (free : List Bool) (draw : Bool → ℕ → Bool) (f : X → Step) (xs part : List X) (i j k : ℕ)
-    (old now new : WalkState) → GoesOver n strings free draw (map f (take i xs)) old now → part ≡ take k (drop i xs) → j ≤ k
+    (old now new : PropagationState) → GoesOver n strings free draw (map f (take i xs)) old now → part ≡ take k (drop i xs) → j ≤ k
     → GoesOver n strings free draw (take j (map f part)) now new → GoesOver n strings free draw (map f (take (i + j) xs)) old new
 goes-less n strings free draw f xs part i j k old now new front is le next =
     goes-part n strings free draw f xs (take j part) i j old now new front (ap (take j) is ∙ take-take j k (drop i xs) le)

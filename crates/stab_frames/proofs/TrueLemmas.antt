@@ -1,15 +1,5 @@
--- True strings: in parts, by the notes of their coins, and from one run to another.
-use Rattle.std.proofs.Common.{◌≡◌, ℕ, ◌+◌, ◌<◌, ◌≤◌, sym, ◌∙◌, ap, subst, Bool, List, [], ◌∷◌, ◌++◌, arith}
-use Rattle.std.specs.Prelude.{Option, Some, None, IfSome}
-use Rattle.stab_letters.specs.declared.letter.Letter.{Letter}
-use Rattle.stab_pauli.specs.Paulis.{Signed, single}
-use Rattle.stab_tableau.specs.Traces.{member}
-use Rattle.stab_tableau.specs.Groups.{SameGroup}
-use Rattle.stab_tableau.specs.Exchanges.{Exchanges}
-use Rattle.stab_circuit.specs.Steps.{Step, one, two, controlled, collapse, product, detector, observable}
-use Rattle.stab_steps.specs.Runs.{string_of, measured_by}
-use Rattle.stab_steps.specs.Points.{Point, coins_of, all_coins_of, next_point, point_after}
-use Rattle.stab_frames.specs.KeptStrings.{AreTrue}
+-- True strings: in parts, by the pivots of their coins, and from one run to another.
+use Rattle.stab_frames.proofs.Names.{◌≡◌, ℕ, ◌+◌, ◌<◌, ◌≤◌, sym, ◌∙◌, ap, subst, Bool, List, [], ◌∷◌, ◌++◌, arith, Option, Some, None, IfSome, Letter, Signed, single, member, SameGroup, IsPivot, Step, one, two, controlled, collapse, product, detector, observable, string_of, measured_by, Point, coins_of, all_coins_of, next_point, point_after, AreTrue}
 
 -- in parts
 
@@ -28,19 +18,19 @@ pub true-rest : (n : ℕ) (coins : ℕ → Bool) (strings : ℕ → Option (List
 true-rest n coins strings [] ys a is = is
 true-rest n coins strings (x ∷ xs) ys a is = true-rest n coins strings xs ys (next_point n coins x a) is.1
 
--- by the notes of the coins of what is measured
+-- by the pivots of the coins of what is measured
 
-true-step : (n : ℕ) (u : Signed → Bool) (x : Step) (note other : Option (List Letter)) → (0 < coins_of x → note ≡ other)
-    → IfSome (measured_by n x) (λ m. IfSome note (λ s. Exchanges n u m s)) → IfSome (measured_by n x) (λ m. IfSome other (λ s. Exchanges n u m s))
-true-step n u (one g q) note other same is = tt
-true-step n u (two g p q) note other same is = tt
-true-step n u (controlled l k q) note other same is = tt
-true-step n u (collapse l q recorded inverted resets) note other same is =
-    subst (λ o. IfSome o (λ s. Exchanges n u (single n q l) s)) (same (omega arith)) is
-true-step n u (product factors inverted) note other same is =
-    subst (λ o. IfSome o (λ s. Exchanges n u (string_of n factors) s)) (same (omega arith)) is
-true-step n u (detector ks) note other same is = tt
-true-step n u (observable j ks) note other same is = tt
+true-step : (n : ℕ) (u : Signed → Bool) (x : Step) (pivot other : Option (List Letter)) → (0 < coins_of x → pivot ≡ other)
+    → IfSome (measured_by n x) (λ m. IfSome pivot (λ s. IsPivot n u m s)) → IfSome (measured_by n x) (λ m. IfSome other (λ s. IsPivot n u m s))
+true-step n u (one g q) pivot other same is = tt
+true-step n u (two g p q) pivot other same is = tt
+true-step n u (controlled l k q) pivot other same is = tt
+true-step n u (collapse l q recorded inverted resets) pivot other same is =
+    subst (λ o. IfSome o (λ s. IsPivot n u (single n q l) s)) (same (omega arith)) is
+true-step n u (product factors inverted) pivot other same is =
+    subst (λ o. IfSome o (λ s. IsPivot n u (string_of n factors) s)) (same (omega arith)) is
+true-step n u (detector ks) pivot other same is = tt
+true-step n u (observable j ks) pivot other same is = tt
 
 pub true-same : (n : ℕ) (coins : ℕ → Bool) (strings others : ℕ → Option (List Letter)) (xs : List Step) (a : Point)
     → ((t : ℕ) → t < all_coins_of xs → strings (a.coin + t) ≡ others (a.coin + t)) → AreTrue n coins strings xs a → AreTrue n coins others xs a
@@ -61,7 +51,7 @@ true-same n coins strings others (x ∷ xs) a same is = (
         let e : (a.coin + coins_of x) + t ≡ a.coin + (coins_of x + t) = omega arith in
         ap strings e ∙ same (coins_of x + t) (omega arith) ∙ ap others (sym e)
 
--- if there are no notes, nothing is asked of them
+-- if there are no pivots, nothing is asked of them
 pub true-none : (n : ℕ) (coins : ℕ → Bool) (strings : ℕ → Option (List Letter)) (xs : List Step) (a : Point) → ((t : ℕ) → a.coin ≤ t → strings t ≡ None)
     → AreTrue n coins strings xs a
 true-none n coins strings [] a none = tt
@@ -70,14 +60,14 @@ true-none n coins strings (x ∷ xs) a none = (
   true-none n coins strings xs (next_point n coins x a) (λ t le. none t (omega (arith, le))),
 )
   where
-    some-none : (m : Option Signed) → IfSome m (λ m. IfSome (strings a.coin) (λ s. Exchanges n (member a.trace) m s))
+    some-none : (m : Option Signed) → IfSome m (λ m. IfSome (strings a.coin) (λ s. IsPivot n (member a.trace) m s))
     some-none None = tt
-    some-none (Some m) = subst (λ o. IfSome o (λ s. Exchanges n (member a.trace) m s)) (sym (none a.coin (omega arith))) tt
+    some-none (Some m) = subst (λ o. IfSome o (λ s. IsPivot n (member a.trace) m s)) (sym (none a.coin (omega arith))) tt
 
 -- from one run to another whose groups are the same
 
-pub exchanges-same : (n : ℕ) (u v : Signed → Bool) (m : Signed) (s : List Letter) → SameGroup n u v → Exchanges n u m s → Exchanges n v m s
-exchanges-same n u v m s same is = record {
+pub pivot-same_group : (n : ℕ) (u v : Signed → Bool) (m : Signed) (s : List Letter) → SameGroup n u v → IsPivot n u m s → IsPivot n v m s
+pivot-same_group n u v m s same is = record {
   size = is.size;
   negative = is.negative;
   stabilises = sym (same (record { negative = is.negative; letters = s }) is.size) ∙ is.stabilises;

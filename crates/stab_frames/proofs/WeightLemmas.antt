@@ -1,8 +1,5 @@
 -- Weights: what a letter put at a place makes of one, and strings of weight 0.
-use Rattle.std.proofs.Common.{◌≡◌, ℕ, zero, suc, ◌+◌, ◌<◌, ◌≤◌, refl, ap, List, [], ◌∷◌, length, replicate, get_or, set, arith}
-use Rattle.stab_letters.specs.declared.letter.Letter.{Letter}
-use Rattle.stab_letters.specs.declared.letter.Letter.TheVariants.{I, X, Y, Z}
-use Rattle.stab_frames.specs.inner.Weights.{letter_weight, string_weight}
+use Rattle.stab_frames.proofs.Names.{◌≡◌, ℕ, zero, suc, ◌+◌, ◌<◌, ◌≤◌, refl, ap, List, [], ◌∷◌, length, replicate, get_or, set, arith, Letter, I, X, Y, Z, letter_weight, string_weight}
 
 pub weight-set : (letters : List Letter) (q : ℕ) (l : Letter) → q < length letters
     → string_weight (set letters q l) + letter_weight (get_or letters q I) ≡ string_weight letters + letter_weight l

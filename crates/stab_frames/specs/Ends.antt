@@ -2,8 +2,8 @@
 -- Source: this project's own.
 use Rattle.std.specs.Prelude.{◌≡◌, ◌⊎◌, ℕ, Bool, List}
 use Rattle.stab_circuit.specs.Steps.{Step}
-use Rattle.stab_steps.specs.Records.{ones}
-use Rattle.stab_steps.specs.Points.{Point, outputs}
+use Rattle.stab_run.specs.Records.{ones}
+use Rattle.stab_run.specs.Points.{Point, outputs}
 
 -- of steps after a point the next coin may have this number too: it has it, or no coin decides there
 abbrev pub MayHaveCoin : ℕ → (ℕ → Bool) → List Step → Point → ℕ → Type 0

@@ -1,9 +1,9 @@
 -- Flips: bits, and what a run gives, inverted if other bits are 1.
 -- Source: this project's own.
 use Rattle.std.specs.Prelude.{◌≡◌, Bool, false, List, [], ◌∷◌, length, map, replicate}
-use Rattle.stab_letters.specs.Letters.{◌⊕◌}
-use Rattle.stab_steps.specs.declared.records.Addition.{Addition}
-use Rattle.stab_steps.specs.Points.{RunOutput}
+use Rattle.stab_gates.specs.Letters.{◌⊕◌}
+use Rattle.stab_run.specs.declared.records.Addition.{Addition}
+use Rattle.stab_run.specs.Points.{RunOutput}
 
 -- bits, inverted if the flips are 1
 abbrev pub flipped : List Bool → List Bool → List Bool

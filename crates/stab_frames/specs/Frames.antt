@@ -2,12 +2,12 @@
 -- Source: the Pauli frames of C. Gidney, Stim: a fast stabilizer circuit simulator (2021). It differs in that both runs take
 -- numbered coins, so that a frame is exact.
 use Rattle.std.specs.Prelude.{◌≡◌, ℕ, Bool, true, false, List, length, replicate}
-use Rattle.stab_letters.specs.declared.letter.Letter.{Letter}
-use Rattle.stab_letters.specs.declared.letter.Letter.TheVariants.{I}
+use Rattle.stab_gates.specs.declared.letter.Letter.{Letter}
+use Rattle.stab_gates.specs.declared.letter.Letter.TheVariants.{I}
 use Rattle.stab_pauli.specs.Paulis.{Signed, string_product}
 use Rattle.stab_tableau.specs.Traces.{member}
-use Rattle.stab_tableau.specs.Turns.{IsTurned}
-use Rattle.stab_steps.specs.Points.{Point}
+use Rattle.stab_tableau.specs.Conjugations.{IsConjugated}
+use Rattle.stab_run.specs.Points.{Point}
 use Rattle.stab_frames.specs.Flips.{flipped}
 
 -- letters with the sign +
@@ -22,7 +22,7 @@ pub record Frame : Type 0 where
 -- the point b differs from a by the frame: in the signs of the stabilisers that anticommute with it, and in the flipped records
 pub record PointsDifferBy (n : ℕ) (f : Frame) (a b : Point) : Type 0 where
   pub size : length f.letters ≡ n
-  pub group : IsTurned n f.letters (member a.trace) (member b.trace)
+  pub group : IsConjugated n f.letters (member a.trace) (member b.trace)
   pub coin : b.coin ≡ a.coin
   pub count : length f.flips ≡ length a.records
   pub records : b.records ≡ flipped a.records f.flips

@@ -1,14 +1,14 @@
 -- Fronts: the first steps of two circuits, after which both go on with the same steps.
 -- Source: this project's own.
 use Rattle.std.specs.Prelude.{◌≡◌, ℕ, Bool, false, List, ◌++◌, length, map, replicate, Option}
-use Rattle.stab_letters.specs.declared.letter.Letter.{Letter}
+use Rattle.stab_gates.specs.declared.letter.Letter.{Letter}
 use Rattle.stab_pauli.specs.Paulis.{string_product}
 use Rattle.stab_circuit.specs.Steps.{Step, one}
-use Rattle.stab_steps.specs.Runs.{start, gate_of, run}
-use Rattle.stab_steps.specs.Points.{RunOutput, origin, joined, point_after, outputs, with_additions}
+use Rattle.stab_run.specs.Runs.{start, gate_of, run}
+use Rattle.stab_run.specs.Points.{RunOutput, origin, joined, point_after, outputs, with_additions}
 use Rattle.stab_frames.specs.Flips.{flipped, flipped_output, unflipped, Matches}
 use Rattle.stab_frames.specs.Frames.{Frame, PointsDifferBy, frame_of}
-use Rattle.stab_frames.specs.Notes.{same_coins}
+use Rattle.stab_frames.specs.RunPivots.{same_coins}
 use Rattle.stab_frames.specs.FrameSteps.{flips_over}
 use Rattle.stab_frames.specs.Starts.{letters_on}
 

@@ -2,11 +2,11 @@
 -- Source: this project's own.
 use Rattle.std.specs.Prelude.{ℕ, ◌+◌, ◌/◌}
 
--- the most bytes of kept strings
+-- the most bytes of pivots
 abbrev pub most_bytes : ℕ
 most_bytes = 16777216
 
--- the bytes that a kept string of n letters is counted as: two bits a letter, and what each allocation takes besides
+-- the bytes that a pivot of n letters is counted as: two bits a letter, and what each allocation takes besides
 abbrev pub bytes_of : ℕ → ℕ
 bytes_of n = n / 4 + 128
 

@@ -2,25 +2,25 @@
 -- Source: this project's own, after the Pauli frames of C. Gidney, Stim: a fast stabilizer circuit simulator (2021), whose coins
 -- have no numbers.
 use Rattle.std.specs.Prelude.{◌≡◌, ℕ, ◌+◌, Bool, List, Option, length, take, drop}
-use Rattle.stab_letters.specs.declared.letter.Letter.{Letter}
-use Rattle.stab_letters.specs.Letters.{◌⊕◌}
+use Rattle.stab_gates.specs.declared.letter.Letter.{Letter}
+use Rattle.stab_gates.specs.Letters.{◌⊕◌}
 use Rattle.stab_circuit.specs.Steps.{Step}
-use Rattle.stab_steps.specs.Points.{Point, outputs, all_coins_of}
-use Rattle.stab_frames.specs.Notes.{Notes, notes_of}
-use Rattle.stab_frames.specs.StepNotes.{AreEnough}
-use Rattle.stab_frames.specs.KeptStrings.{AreTrue}
-use Rattle.stab_frames.specs.Walks.{WalkState, frame_at, WalksWith}
+use Rattle.stab_run.specs.Points.{Point, outputs, all_coins_of}
+use Rattle.stab_frames.specs.RunPivots.{RunPivots, pivots_of}
+use Rattle.stab_frames.specs.PivotsOfSteps.{AreEnough}
+use Rattle.stab_frames.specs.Pivots.{AreTrue}
+use Rattle.stab_frames.specs.Propagations.{PropagationState, frame_at, PropagatesWith}
 
 -- the coins of a sequence from a number on
 abbrev pub coins_from : ℕ → (ℕ → Bool) → ℕ → Bool
 coins_from d coins t = coins (d + t)
 
--- notes of the one run for the other
-abbrev pub notes_between : (ℕ → Option (List Letter)) → (ℕ → Bool) → (ℕ → Bool) → Notes
-notes_between strings coins others = notes_of strings (λ t. others t ⊕ coins t)
+-- pivots of the one run for the other
+abbrev pub pivots_between : (ℕ → Option (List Letter)) → (ℕ → Bool) → (ℕ → Bool) → RunPivots
+pivots_between strings coins others = pivots_of strings (λ t. others t ⊕ coins t)
 
--- from a point, with these coins, a run passes steps: its flags there are these from its coin on, strings that exchange its free
--- outcomes are noted, and it gives these records, one for each measurement
+-- from a point, with these coins, a run passes steps: its flags there are these from its coin on, pivots of its free
+-- outcomes are recorded, and it gives these records, one for each measurement
 pub record HasGoneOver (n : ℕ) (coins : ℕ → Bool) (strings : ℕ → Option (List Letter)) (free bits : List Bool) (xs : List Step) (k : ℕ) (a : Point) : Type 0 where
   pub coin : a.coin ≡ k
   pub are_true : AreTrue n coins strings xs a
@@ -28,9 +28,9 @@ pub record HasGoneOver (n : ℕ) (coins : ℕ → Bool) (strings : ℕ → Optio
   pub records : (outputs n coins xs a).records ≡ bits
   pub recorded : length bits ≡ all_coins_of xs
 
--- a frame passed steps from one run to another with these coins, by notes that are enough, whatever coins the one run had
-abbrev pub WalksToOthers : ℕ → (ℕ → Option (List Letter)) → (free records : List Bool) → (others : ℕ → Bool) → List Step → WalkState → WalkState → Type 0
-WalksToOthers n strings free records others xs old new =
+-- a frame was propagated over steps from one run to another with these coins, by pivots that are enough, whatever coins the one run had
+abbrev pub PropagatesToOthers : ℕ → (ℕ → Option (List Letter)) → (free records : List Bool) → (others : ℕ → Bool) → List Step → PropagationState → PropagationState → Type 0
+PropagatesToOthers n strings free records others xs old new =
     (coins : ℕ → Bool) (a : Point) → HasGoneOver n coins strings free records xs old.coin a →
-    WalksWith n (notes_between strings coins others) xs old new
-    × ((base : ℕ) → AreEnough n coins (notes_between strings coins others) xs (frame_at base old) a)
+    PropagatesWith n (pivots_between strings coins others) xs old new
+    × ((base : ℕ) → AreEnough n coins (pivots_between strings coins others) xs (frame_at base old) a)

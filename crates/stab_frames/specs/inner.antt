@@ -1,7 +1,7 @@
 -- Definitions that only private contracts cite.
 pub mod Weights
 pub mod Draws
-pub mod Passes
+pub mod Propagates
 pub mod Touches
 pub mod Products
-pub mod Noted
+pub mod RecordedPivots

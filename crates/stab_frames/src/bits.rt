@@ -1,8 +1,8 @@
 ghost use Rattle.std.specs.Prelude.{◌≡◌, ◌++◌, false, take, drop, slice_index_or, OnOk};
-ghost use Rattle.stab_steps.specs.Records.{ones};
+ghost use Rattle.stab_run.specs.Records.{ones};
 ghost use Rattle.stab_frames.specs.Flips.{flipped, flipped_additions};
 
-use stab_steps::Addition;
+use stab_run::Addition;
 use std::alloc::AllocError;
 
 /// A bit of a list, and 0 past its end.

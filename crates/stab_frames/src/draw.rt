@@ -1,9 +1,9 @@
-//! Which coins differ where a frame passes free outcomes.
+//! Which coins differ where a frame meets free outcomes.
 
 ghost use Rattle.std.specs.Prelude.{◌≡◌, ℕ, ◌+◌, ◌^◌, ◌<◌, ◌≤◌, Bool, true, false};
 ghost use Rattle.stab_frames.specs.inner.Draws.{never};
 
-use stab_steps::Coins;
+use stab_run::Coins;
 
 /// Which coins of another run differ from those of the run that a frame comes from. If an outcome is free, it is flipped
 /// exactly if its coin differs.

@@ -1,9 +1,9 @@
 //! What gates make of letters, whatever their signs.
 
 ghost use Rattle.std.specs.Prelude.{◌≡◌};
-ghost use Rattle.stab_letters.specs.declared.letter.Letter.TheVariants.{X, Z};
+ghost use Rattle.stab_gates.specs.declared.letter.Letter.TheVariants.{X, Z};
 ghost use Rattle.stab_tableau.specs.Gates.{letter_image, letter_at, pair_letters};
-ghost use Rattle.stab_frames.specs.inner.Passes.{letter_where};
+ghost use Rattle.stab_frames.specs.inner.Propagates.{letter_where};
 ghost use Rattle.stab_frames.specs.inner.Weights.{letter_weight};
 
 use stab_pauli::Letter;

@@ -1,33 +1,33 @@
 //! Pauli frames: how a run differs from another whose circuit differs by Pauli gates, or whose coins differ.
 //!
-//! A frame is a Pauli string, which turns the sign of each stabiliser that it anticommutes with, and a bit
+//! A frame is a Pauli string, which flips the sign of each stabiliser that it anticommutes with, and a bit
 //! for each record, 1 if it is flipped. It follows the steps of a circuit at the cost of some bits,
-//! while a run costs a tableau. A note of each free measurement, a stabiliser that exchanges its outcomes,
+//! while a run costs a tableau. A pivot of each random measurement, a stabiliser that anticommutes with it,
 //! says which string is multiplied on if two runs project on different outcomes.
 //!
 //! The laws are in this order; each function of these modules does nothing, and its contract is a law:
 //!
 //! - `step_laws`: steps keep two points apart by a frame; frames multiply, what they flip adds, and when
 //!   a frame is none.
-//! - `note_laws`: which notes are enough for a frame, that each run has right ones, and where they come from.
+//! - `pivot_laws`: which pivots are enough for a frame, that each run has right ones, and where they come from.
 //! - `run_laws`: whole runs, after an edit by Pauli gates or with other coins, are old ones, flipped; and
-//!   a tableau of the one is one of the other, once signs of its rows are turned.
+//!   a tableau of the one is one of the other, once signs of its rows are flipped.
 //!
 //! And the calls that keep frames, in the order in which data flows:
 //!
-//! - `strings`: strings that exchange the free outcomes of a run, within a bound of memory.
-//! - `noting`: a run that keeps them on its way, and how far back its steps look.
+//! - `pivots`: pivots of a run's random outcomes, within a bound of memory.
+//! - `pivot_recorder`: a run that keeps them on its way, and how far back its steps look.
 //! - `letters`: what gates make of the letters of a frame.
 //! - `bits`: lists of bits, counted, and put after others as a frame flips them.
-//! - `turned_states`: kept states that the letters of a frame turn.
-//! - `walk`: a frame on its way, with what it has flipped.
+//! - `framed_states`: kept states, conjugated by the letters of a frame.
+//! - `propagation`: a frame on its way, with what it has flipped.
 //! - `draw`: which coins differ on its way.
-//! - `pass`, `pass_steps`: one step on its way, and those of one instruction.
-//! - `steps`: steps, until all are past, the frame is gone, or a string is missing.
+//! - `propagate_step`, `propagate_instruction`: one step on its way, and those of one instruction.
+//! - `propagate`: steps, until all are past, the frame is gone, or a string is missing.
 //! - `other_coins`: steps, from a run to one that has other coins there.
 //!
-//! In `specs/`, `Frames`, `Notes` and `FrameSteps` say what a frame is and what a step makes of it, `Flips`
-//! and `StepNotes` what it flips and which notes it needs; `KeptStrings`, `Lookbacks`, `Walks`, `OtherCoins` and
+//! In `specs/`, `Frames`, `RunPivots` and `FrameSteps` say what a frame is and what a step makes of it, `Flips`
+//! and `PivotsOfSteps` what it flips and which pivots it needs; `Pivots`, `Lookbacks`, `Propagations`, `OtherCoins` and
 //! `Stops` say what the calls keep and where they end; the laws are in files named after these modules.
 //!
 //! Sources: C. Gidney, Stim: a fast stabilizer circuit simulator (2021), for Pauli frames; S. Aaronson and
@@ -35,31 +35,31 @@
 //! coins are numbered: both runs are given, and a frame gives each bit of the one from the other's, while
 //! Stim's frames are right up to outcomes that are drawn again.
 //!
-//! Proved: the laws, over the group rules that runs themselves are stated by (`stab_steps`, `specs/Runs.antt`).
-//! A run that notes strings is the run, and its strings are true of it; a frame that passed steps has the
-//! letters and flips that the laws say, and its notes are enough for them. `specs/inner/` has what only
+//! Proved: the laws, over the group rules that runs themselves are stated by (`stab_run`, `specs/Runs.antt`).
+//! A run that records pivots is the run, and its strings are true of it; a frame propagated over steps has the
+//! letters and flips that the laws say, and its pivots are enough for them. `specs/inner/` has what only
 //! private contracts cite.
 #![tactic(auto)]
 
 mod bits;
 mod draw;
+mod framed_states;
 mod letters;
-pub mod note_laws;
-mod noting;
 mod other_coins;
-mod pass;
-mod pass_steps;
+pub mod pivot_laws;
+mod pivot_recorder;
+mod pivots;
+mod propagate;
+mod propagate_instruction;
+mod propagate_step;
+mod propagation;
 pub mod run_laws;
 pub mod step_laws;
-mod steps;
-mod strings;
-mod turned_states;
-mod walk;
 
 pub use bits::{append_flipped, append_flipped_additions, between, count_ones};
-pub use noting::{RunNotes, run_noting};
-pub use other_coins::walk_with_coins;
-pub use steps::{Stop, Walked, walk_steps};
-pub use strings::KeptStrings;
-pub use turned_states::turn_state;
-pub use walk::FrameWalk;
+pub use framed_states::apply_frame_to;
+pub use other_coins::propagate_with_coins;
+pub use pivot_recorder::{PivotRecorder, run_recording_pivots};
+pub use pivots::Pivots;
+pub use propagate::{Propagated, Stop, propagate_steps};
+pub use propagation::Propagation;

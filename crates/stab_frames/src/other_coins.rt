@@ -1,22 +1,22 @@
 //! Steps on the way of a frame, from a run to one that has other coins there.
 
 ghost use Rattle.std.specs.Prelude.{◌≡◌, ◌+◌, ◌^◌, ◌<◌, ◌≤◌, All, length, take, drop, OnOk};
-ghost use Rattle.stab_steps.specs.Records.{ones};
-ghost use Rattle.stab_steps.specs.Points.{all_coins_of};
-ghost use Rattle.stab_steps.specs.ProgramStates.{StepFits};
-ghost use Rattle.stab_frames.specs.KeptStrings.{note_at};
-ghost use Rattle.stab_frames.specs.Walks.{IsPlaced};
-ghost use Rattle.stab_frames.specs.OtherCoins.{coins_from, WalksToOthers};
+ghost use Rattle.stab_run.specs.Records.{ones};
+ghost use Rattle.stab_run.specs.Points.{all_coins_of};
+ghost use Rattle.stab_run.specs.ProgramStates.{StepFits};
+ghost use Rattle.stab_frames.specs.Pivots.{pivot_at};
+ghost use Rattle.stab_frames.specs.Propagations.{IsPlaced};
+ghost use Rattle.stab_frames.specs.OtherCoins.{coins_from, PropagatesToOthers};
 ghost use Rattle.stab_frames.specs.inner.Draws.{record_of, differing};
 
 use crate::bits::bit_at;
 use crate::draw::Draw;
-use crate::pass::Known;
-use crate::steps::walk_over;
-use crate::strings::KeptStrings;
-use crate::walk::FrameWalk;
+use crate::pivots::Pivots;
+use crate::propagate::propagate;
+use crate::propagate_step::Known;
+use crate::propagation::Propagation;
 use stab_circuit::Cursor;
-use stab_steps::Coins;
+use stab_run::Coins;
 use std::alloc::AllocError;
 
 /// Those coins differ that are not as the one run's records say.
@@ -44,12 +44,12 @@ impl Draw for OtherCoins<'_> {
     }
 }
 
-/// Leads a frame over the steps that a cursor has left, up to this many, from a run that passed them to one with other coins,
+/// Propagates a frame over the steps that a cursor has left, up to this many, from a run that passed them to one with other coins,
 /// whose next coin has a number this much greater. The one run had these flags, gave these records there, one for each measurement,
-/// and strings of all its free outcomes so far are kept. It asks for the coin of each free outcome at most once, and for no other.
-pub fn walk_with_coins<C: Coins>(
-    walk: &mut FrameWalk,
-    strings: &KeptStrings,
+/// and strings of all its free outcomes so far are kept. It asks for the coin of each random outcome at most once, and for no other.
+pub fn propagate_with_coins<C: Coins>(
+    propagation: &mut Propagation,
+    strings: &Pivots,
     free: &[bool],
     records: &[bool],
     coins: &mut C,
@@ -57,23 +57,23 @@ pub fn walk_with_coins<C: Coins>(
     cursor: &mut Cursor,
     most: usize,
 ) -> Result<(), AllocError>
-    requires same_length { strings.now.qubits ≡ length walk.old.letters }
-    requires fits { All (StepFits (length walk.old.letters)) cursor.old.left }
-    requires placed { IsPlaced free.now walk.old }
-    requires few { ahead + (walk.old.coin + length cursor.old.left) < 2 ^ 63 }
-    requires kept { ones (take (walk.old.coin + all_coins_of (take most cursor.old.left)) free.now) ≤ length strings.now.strings }
+    requires same_length { strings.now.qubits ≡ length propagation.old.letters }
+    requires fits { All (StepFits (length propagation.old.letters)) cursor.old.left }
+    requires placed { IsPlaced free.now propagation.old }
+    requires few { ahead + (propagation.old.coin + length cursor.old.left) < 2 ^ 63 }
+    requires kept { ones (take (propagation.old.coin + all_coins_of (take most cursor.old.left)) free.now) ≤ length strings.now.strings }
     ensures all { cursor.new.all ≡ cursor.old.all }
     ensures left { OnOk result (cursor.new.left ≡ drop most cursor.old.left) }
-    ensures length { length walk.new.letters ≡ length walk.old.letters }
-    ensures placed { OnOk result (IsPlaced free.now walk.new) }
+    ensures length { length propagation.new.letters ≡ length propagation.old.letters }
+    ensures placed { OnOk result (IsPlaced free.now propagation.new) }
     ensures same_coins { C.sequence coins.new ≡ C.sequence coins.old }
     ensures asks { C.asks coins.new ≤ C.asks coins.old + all_coins_of (take most cursor.old.left) }
-    ensures asks_free { OnOk result (C.asks coins.new ≤ C.asks coins.old + ones (take (all_coins_of (take most cursor.old.left)) (drop walk.old.coin free.now))) }
-    ensures walked { OnOk result (WalksToOthers (length walk.old.letters) (note_at strings.now.strings free.now) free.now records.now (coins_from ahead (C.sequence coins.old)) (take most cursor.old.left) walk.old walk.new) }
+    ensures asks_free { OnOk result (C.asks coins.new ≤ C.asks coins.old + ones (take (all_coins_of (take most cursor.old.left)) (drop propagation.old.coin free.now))) }
+    ensures propagated { OnOk result (PropagatesToOthers (length propagation.old.letters) (pivot_at strings.now.strings free.now) free.now records.now (coins_from ahead (C.sequence coins.old)) (take most cursor.old.left) propagation.old propagation.new) }
 {
     let draw = OtherCoins {
         records,
-        start: walk.coin(),
+        start: propagation.coin(),
         ahead,
     };
     let known = Known {
@@ -81,6 +81,6 @@ pub fn walk_with_coins<C: Coins>(
         free,
         draw: &draw,
     };
-    walk_over(walk, known, coins, cursor, most, 0, false)?;
+    propagate(propagation, known, coins, cursor, most, 0, false)?;
     Ok(())
 }

@@ -1,6 +1,6 @@
 //! Laws of whole runs: what an edit by Pauli gates, or other coins, make of a run.
 
-ghost use Rattle.stab_frames.specs.RunLaws.{CoinsFlip, CopiesTurn, FrontsFlip, FrontsGoOn, FrontsTakePaulis, PauliEditsFlip};
+ghost use Rattle.stab_frames.specs.RunLaws.{CoinsFlip, CheckpointsTakeFrames, FrontsFlip, FrontsGoOn, FrontsTakePaulis, PauliEditsFlip};
 
 /// After fronts that differ by a frame the same steps make the one run the other, flipped: its
 /// records, flags, detectors and observables.
@@ -8,7 +8,7 @@ pub fn fronts_flip()
     ensures law { FrontsFlip }
 {}
 
-/// With these steps they are fronts again, which differ by the frame that passed the steps.
+/// With these steps they are fronts again, which differ by the frame propagated over the steps.
 pub fn fronts_go_on()
     ensures law { FrontsGoOn }
 {}
@@ -19,10 +19,10 @@ pub fn fronts_take_paulis()
     ensures law { FrontsTakePaulis }
 {}
 
-/// A copy of the state in one of two such runs is one of the other, turned by the frame there: the signs
-/// of its rows are turned by the letters.
-pub fn copies_turn()
-    ensures law { CopiesTurn }
+/// A copy of the state in one of two such runs is one of the other, conjugated by the frame there: the signs
+/// of its rows are flipped by the letters.
+pub fn checkpoints_take_frames()
+    ensures law { CheckpointsTakeFrames }
 {}
 
 /// So an edit that puts Pauli gates in the place of others, puts some in or takes some out, gives

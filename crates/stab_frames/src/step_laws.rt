@@ -1,7 +1,7 @@
 //! Laws of steps: what becomes of a frame on the way.
 
 ghost use Rattle.stab_frames.specs.StepLaws.{FramesAdd, FramesCompose, FramesEnd, PointsHaveGroups, RunsKeepFrames, StepsKeepFrames};
-ghost use Rattle.stab_frames.specs.AgainLaws.{StepsComeTurned};
+ghost use Rattle.stab_frames.specs.AgainLaws.{StepsComeFramed};
 
 /// From two points that differ by a frame a step leads to two that differ by the frame after it, and
 /// what it gives at the one is what it gives at the other, flipped.
@@ -30,7 +30,7 @@ pub fn frames_add()
     ensures law { FramesAdd }
 {}
 
-/// A frame that turns nothing, and has flipped none of the newest m records, leaves two points that
+/// A frame that flips no sign, and has flipped none of the newest m records, leaves two points that
 /// agree as far back as these.
 pub fn frames_end()
     ensures law { FramesEnd }
@@ -38,6 +38,6 @@ pub fn frames_end()
 
 /// If a run comes to a point that is as an earlier one except for a frame, as far back as its steps look, steps give there what
 /// they gave, flipped, whatever the coins, and lead to such a point again.
-pub fn steps_come_turned()
-    ensures law { StepsComeTurned }
+pub fn steps_come_framed()
+    ensures law { StepsComeFramed }
 {}

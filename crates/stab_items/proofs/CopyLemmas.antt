@@ -1,22 +1,10 @@
 -- Copies of some items of a list, after all of its items.
-use Rattle.std.proofs.Common.{◌≡◌, ◌≤◌, ◌<◌, refl, ap, sym, ◌∙◌, ℕ, ◌+◌, zero, suc, List, [], ◌∷◌, ◌++◌, length, take, drop, get_or, arith, append_assoc, append-nil}
-use Rattle.std.proofs.lemmas.List.{take_more, drop-append-le, length-append, length-take-le}
-use Rattle.stab_items.specs.Items.{OneItem}
+use Rattle.stab_items.proofs.Names.{◌≡◌, ◌≤◌, ◌<◌, refl, ap, sym, ◌∙◌, ℕ, ◌+◌, zero, suc, List, [], ◌∷◌, ◌++◌, length, take, drop, get_or, arith, append_assoc, take_more, drop-append-le, length-take-le, OneItem}
 
 get_front : (xs ys : List OneItem) (n : ℕ) (d : OneItem) → n < length xs → get_or (xs ++ ys) n d ≡ get_or xs n d
 get_front [] ys n d h = absurd (omega (arith, h))
 get_front (x ∷ xs) ys zero d h = refl
 get_front (x ∷ xs) ys (suc n) d h = get_front xs ys n d (omega (arith, h))
-
--- no item yet
-none_taken : (xs : List OneItem) (n : ℕ) → drop n (take n xs) ≡ []
-none_taken [] zero = refl
-none_taken [] (suc n) = refl
-none_taken (x ∷ xs) zero = refl
-none_taken (x ∷ xs) (suc n) = none_taken xs n
-
-pub copied_none : (xs : List OneItem) (first : ℕ) → xs ≡ xs ++ drop first (take first xs)
-copied_none xs first = sym (ap (λ l. xs ++ l) (none_taken xs first) ∙ append-nil xs)
 
 -- one item more
 pub copied_more : (xs all : List OneItem) (first place : ℕ) (x : OneItem) → first ≤ place → place < length xs → all ≡ xs ++ drop first (take place xs) → x ≡ get_or all place x
@@ -29,6 +17,3 @@ copied_more xs all first place x low high same is =
     ∙ drop-append-le first (take place xs) (get_or xs place x ∷ []) (omega (arith, low, long))
     ∙ ap (λ y. drop first (take place xs) ++ y ∷ []) (sym here) in
     ap (λ l. l ++ x ∷ []) same ∙ append_assoc xs (drop first (take place xs)) (x ∷ []) ∙ ap (λ l. xs ++ l) (sym more)
-
-pub still_within : (xs all : List OneItem) (first place behind : ℕ) → all ≡ xs ++ drop first (take place xs) → place < behind → behind ≤ length xs → place < length all
-still_within xs all first place behind same h k = omega (arith, ap length same, length-append xs (drop first (take place xs)), h, k)

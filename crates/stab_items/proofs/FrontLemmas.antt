@@ -1,20 +1,6 @@
 -- The first line of a text.
-use Rattle.std.proofs.Common.{Bor, Ok, ◌<◌, MatchOption, subst, ◌≡◌, sym, ap, ◌∙◌, ℕ, ◌+◌, ◌-◌, List, [], ◌∷◌, ◌++◌, Bool, true, false, length, take, drop, Option, Some, None, arith, append-nil, length-append, refl}
-use Rattle.std.specs.Option.{option_copied}
-use Rattle.std.specs.List.{slice_get, slice_split, onto_first, AllByRecursion, join_with_byte}
-use Rattle.std.proofs.lemmas.List.Elements.{All-from_recursion}
-use Rattle.std.proofs.Math.Seq.{take-append_seam}
-use Rattle.std.proofs.lemmas.List.{length-append}
-use Rattle.std.specs.Cmp.Lexicographic.{pointwise}
-use Rattle.std.proofs.lemmas.Bool.Decides.{Decides-eqb}
-use Rattle.std.proofs.lemmas.Slice.Eq.{starts_is}
-use Rattle.std.proofs.lemmas.List.Splits.{slice_split_none, slice_split_at, slice_split-cons_yes, slice_split-cons_no, length-slice_split, join_with_byte-slice_split}
-use Rattle.stab_lines.specs.declared.operation.Kind.{Kind}
-use Rattle.stab_lines.specs.Lines.{is_byte}
-use Rattle.stab_lines.specs.Words.{pieces_after}
-use Rattle.stab_lines.specs.FirstLines.{BeginsWithInstruction, TellsInstruction}
-use Rattle.stab_items.specs.inner.KnownLines.{IsOneLine, IsCut}
-use lib.Dec.{eqb}
+use Rattle.stab_items.proofs.Names.{Bor, Ok, ◌<◌, MatchOption, subst, ◌≡◌, sym, ap, ◌∙◌, ℕ, ◌+◌, ◌-◌, List, [], ◌∷◌, ◌++◌, Bool, true, false, length, take, drop, Option, Some, None, arith, append-nil, refl, option_copied, slice_get, slice_split, onto_first, AllByRecursion, join_with_byte, All-from_recursion, take-append_seam, length-append, pointwise, Decides-eqb, starts_is, slice_split_none, slice_split_at, slice_split-cons_yes, slice_split-cons_no, length-slice_split, join_with_byte-slice_split, Kind, is_byte, pieces_after, BeginsWithInstruction, TellsInstruction, IsOneLine, IsCut, eqb}
+use Rattle.std.proofs.Common.{length-append}
 
 none_first : (rest : List ℕ) → slice_get rest 0 ≡ None → rest ≡ []
 none_first [] e = refl

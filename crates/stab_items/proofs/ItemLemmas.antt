@@ -1,6 +1,5 @@
 -- Lists of items.
-use Rattle.std.proofs.Common.{◌≡◌, ◌≤◌, ◌<◌, refl, ap, ◌∙◌, ℕ, zero, suc, List, [], ◌∷◌, ◌++◌, length, get_or, max, arith}
-use Rattle.stab_items.specs.Items.{Items, OneItem, operation, repeat, done, next, block, before, listed, join, depth, depth_of}
+use Rattle.stab_items.proofs.Names.{◌≡◌, ◌≤◌, ◌<◌, refl, ap, ◌∙◌, ℕ, zero, suc, List, [], ◌∷◌, ◌++◌, length, get_or, max, arith, Items, OneItem, operation, repeat, done, next, block, before, listed, join, depth, depth_of}
 
 pub join_done : (xs : Items) → join xs done ≡ xs
 join_done done = refl

@@ -1,3 +1,4 @@
+mod Names
 pub mod ItemLemmas
 pub mod FrontLemmas
 pub mod ReaderLemmas

@@ -1,10 +1,5 @@
 -- TICK stands for nothing.
-use Rattle.std.proofs.Common.{◌≡◌, refl, ap, max, [], ◌++◌}
-use Rattle.stab_lines.specs.declared.operation.Kind.TheVariants.{Tick}
-use Rattle.stab_lines.specs.declared.operation.Operation.{Operation}
-use Rattle.stab_items.specs.Items.{operation}
-use Rattle.stab_items.specs.Steps.{steps_of, past, named_qubits, named_observables}
-use Rattle.stab_items.specs.Nothings.{IsNothing}
+use Rattle.stab_items.proofs.Names.{◌≡◌, refl, ap, max, [], ◌++◌, Tick, Operation, operation, steps_of, past, named_qubits, named_observables, IsNothing}
 
 pub tick_nothing : (op : Operation) → op.kind ≡ Tick → IsNothing (operation op)
 tick_nothing op e = record {

@@ -1,11 +1,6 @@
 -- The lines of a text that is cut at the end of one of them.
-use Rattle.std.proofs.Common.{◌≡◌, ◌<◌, ◌≤◌, refl, ap, sym, ◌∙◌, ℕ, ◌+◌, List, [], ◌∷◌, ◌++◌, Bool, true, false, length, Option, Some, None, MatchOption, arith, append-nil, append_assoc, length-append}
-use Rattle.std.specs.List.{slice_split, onto_first}
-use Rattle.std.proofs.lemmas.List.Splits.{slice_split_none, slice_split-cons_yes, slice_split-cons_no, length-slice_split}
-use Rattle.stab_lines.specs.Lines.{is_byte}
-use Rattle.stab_lines.specs.Words.{pieces_after}
-use Rattle.stab_items.specs.inner.KnownLines.{IsOneLine, IsCut}
-use Rattle.stab_items.specs.inner.Stretches.{Ran}
+use Rattle.stab_items.proofs.Names.{◌≡◌, ◌<◌, ◌≤◌, refl, ap, sym, ◌∙◌, ℕ, ◌+◌, List, [], ◌∷◌, ◌++◌, Bool, true, false, length, Option, Some, None, MatchOption, arith, append-nil, append_assoc, slice_split, onto_first, slice_split_none, slice_split-cons_yes, slice_split-cons_no, length-slice_split, is_byte, pieces_after, IsOneLine, IsCut, Ran}
+use Rattle.std.proofs.Common.{length-append}
 
 onto_append : (x : ℕ) (ps qs : List (List ℕ)) → 0 < length ps → onto_first x (ps ++ qs) ≡ onto_first x ps ++ qs
 onto_append x [] qs some = absurd (omega (arith, some))

@@ -1,14 +1,6 @@
 -- Printed texts, part by part.
-use Rattle.std.proofs.Common.{◌≡◌, ◌<◌, ℕ, ◌+◌, suc, List, [], ◌∷◌, ◌++◌, length, take, drop, get_or, refl, ap, sym, ◌∙◌, append_assoc, append-nil, arith, codes, drop-cons, replicate, ◌*◌}
-use Rattle.std.proofs.lemmas.List.{take-append-drop, take_more, replicate-append-replicate}
-use Rattle.stab_lines.specs.declared.operation.Operation.{Operation}
-use Rattle.stab_items.specs.Items.{Items, OneItem, operation, repeat, done, next, block, join, before, listed}
+use Rattle.stab_items.proofs.Names.{◌≡◌, ◌<◌, ℕ, ◌+◌, suc, List, [], ◌∷◌, ◌++◌, length, take, drop, get_or, refl, ap, sym, ◌∙◌, append_assoc, append-nil, arith, codes, drop-cons, replicate, ◌*◌, take-append-drop, take_more, replicate-append-replicate, Items, OneItem, repeat, done, next, block, join, before, listed, operation_text, open_text, PrintedLine, printed_lines, line_text, text_of, printed_in}
 use Rattle.stab_items.proofs.ItemLemmas.{before-join, listed-append, listed_pushed}
-use Rattle.stab_lines.specs.Prints.{operation_text, open_text}
-use Rattle.stab_items.specs.Prints.{PrintedLine, printed_lines, line_text, text_of, printed_in}
-
-pub margin_none : replicate {A = ℕ} (4 * 0) 32 ≡ []
-margin_none = refl
 
 pub margin_inside : (n : ℕ) → replicate (4 * n) 32 ++ codes "    " ≡ replicate (4 * suc n) 32
 margin_inside n =
@@ -30,10 +22,7 @@ written-join d (block c t body rest) ys =
 pub printed_in-join : (d : ℕ) (xs ys : Items) → printed_in d (join xs ys) ≡ printed_in d xs ++ printed_in d ys
 printed_in-join d xs ys = ap text_of (written-join d xs ys) ∙ text_of-append (printed_lines d xs) (printed_lines d ys)
 
--- one instruction, and one block, on their lines
-pub printed_operation : (d : ℕ) (op : Operation) → printed_in d (next op done) ≡ line_text (record { depth = d; content = operation_text op })
-printed_operation d op = append-nil (line_text (record { depth = d; content = operation_text op }))
-
+-- one block, on its lines
 pub printed_block : (d count : ℕ) (tag : List ℕ) (body : Items)
     → printed_in d (block count tag body done) ≡ line_text (record { depth = d; content = open_text count tag }) ++ (printed_in (suc d) body ++ line_text (record { depth = d; content = codes "}" }))
 printed_block d count tag body =
@@ -67,10 +56,6 @@ printed_more d xs i x h e =
     ∙ ap (λ y. printed_in d (join (listed (take i xs)) (before y done))) e
     ∙ ap (printed_in d) (sym (listed_pushed (take i xs) (get_or xs i x)))
     ∙ ap (λ l. printed_in d (listed l)) (sym (take_more xs i x h))
-
--- the lines of one item
-pub operation_lines : (d : ℕ) (x : OneItem) (o : Operation) → x ≡ operation o → line_text (record { depth = d; content = operation_text o }) ≡ printed_in d (before x done)
-operation_lines d x o e = sym (ap (λ y. printed_in d (before y done)) e ∙ printed_operation d o)
 
 pub block_lines : (d : ℕ) (x : OneItem) (count : ℕ) (tag : List ℕ) (body : Items) → x ≡ repeat count tag body
     → line_text (record { depth = d; content = open_text count tag }) ++ (printed_in (suc d) body ++ line_text (record { depth = d; content = codes "}" })) ≡ printed_in d (before x done)

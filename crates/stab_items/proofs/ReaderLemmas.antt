@@ -1,24 +1,7 @@
 -- The reader's way over the lines.
-use Rattle.std.proofs.Common.{◌≡◌, ◌≤◌, ◌<◌, refl, ap, sym, ◌∙◌, subst, ℕ, ◌+◌, suc, List, [], ◌∷◌, Bool, true, false, nat_lt, ◌==◌, length, map, not, ◌⊎◌, inl, inr, Result, Ok, Err, Option, Some, if◌then◌else◌, arith}
-use Rattle.std.specs.List.{slice_split}
-use Rattle.std.specs.Result.{IfOk}
-use Rattle.std.specs.Global.{Vec}
-use Rattle.std.proofs.lemmas.Bool.Decides.{nat_tests}
-use Rattle.stab_io.specs.declared.refusal.Refusal.{Refusal}
-use Rattle.stab_io.specs.declared.refusal.Refusal.TheVariants.{TooDeep, BadLine, OutOfMemory}
-use Rattle.stab_io.specs.Refusals.{whole}
-use Rattle.stab_io.specs.declared.refusal.Fault.{Fault}
-use Rattle.stab_lines.specs.declared.meanings.Line.TheVariants.{Blank, Close, Open}
+use Rattle.stab_items.proofs.Names.{◌≡◌, ◌≤◌, ◌<◌, refl, ap, sym, ◌∙◌, subst, ℕ, ◌+◌, suc, List, [], ◌∷◌, Bool, true, false, nat_lt, ◌==◌, length, map, not, ◌⊎◌, inl, inr, Result, Ok, Err, Option, Some, if◌then◌else◌, arith, slice_split, IfOk, Vec, nat_tests, Refusal, TooDeep, BadLine, OutOfMemory, Fault, Blank, Close, Open, is_byte, content_of, Items, OneItem, operation, repeat, before, done, next, block, join, listed, depth, meaning_of, is_close, Meaning, at_line, meaning_after, one_item, depth_after, ends_item, OpenBlock, Progress, closed, stepped, finished, read_on, is_some_items, is_whole, meaning_at, pending, ReadsItems, IsShallowProgress, reading_on, pieces_after, chosen}
 use Rattle.stab_lines.specs.declared.meanings.Line.TheVariants as line
-use Rattle.stab_lines.specs.Lines.{is_byte, content_of}
-use Rattle.stab_items.specs.Items.{Items, OneItem, operation, repeat, before, done, next, block, join, listed, depth}
-use Rattle.stab_lines.specs.Meanings.{meaning_of, is_close}
-use Rattle.stab_items.specs.Circuits.{Meaning, at_line, meaning_after, one_item, depth_after, ends_item}
-use Rattle.stab_items.specs.inner.Readers.{OpenBlock, Progress, closed, stepped, finished, read_on, is_some_items, is_whole, meaning_at, pending, line_fault, ReadsItems, IsShallowProgress}
-use Rattle.stab_items.specs.inner.Stretches.{reading_on}
-use Rattle.stab_lines.specs.Words.{pieces_after}
 use Rattle.stab_items.proofs.ItemLemmas.{depth-join}
-use Rattle.stab_lines.proofs.BoolLemmas.{chosen}
 
 -- after a line of one item's text, what follows is seen as it is by the state
 abbrev Follows : Progress → Meaning → Progress → Type 0
@@ -147,10 +130,6 @@ stepped_shallow n m s t h e = lines m s.open_blocks s.now h e
         let same : record { open_blocks = fs; now = join now (next op done) } ≡ t = cc in
         subst IsShallowProgress same (record { now = omega (arith, h.now, depth-join now (next op done)); before = h.before })
 
--- so a block that is closed has at most 15 nested in it
-pub closes_shallow : (gs : List OpenBlock) (f : OpenBlock) (fs : List OpenBlock) (now : Items) → gs ≡ f ∷ fs → IsShallowProgress (record { open_blocks = gs; now = now }) → depth now ≤ 15
-closes_shallow gs f fs now e h = omega (arith, h.now, ap length e)
-
 pub finished_shallow : (s : Progress) (given : Result (Vec OneItem) Fault) → IsShallowProgress s → ReadsItems given (finished s) → IfOk given (λ v. depth (listed v.items) ≤ 16)
 finished_shallow s (Err f) h e = tt
 finished_shallow s (Ok v) h e = ended s.open_blocks s.now h e
@@ -158,12 +137,6 @@ finished_shallow s (Ok v) h e = ended s.open_blocks s.now h e
     ended : (fs : List OpenBlock) (now : Items) → IsShallowProgress (record { open_blocks = fs; now = now }) → finished (record { open_blocks = fs; now = now }) ≡ Ok (listed v.items) → depth (listed v.items) ≤ 16
     ended [] now h e = let same : now ≡ listed v.items = cc in omega (arith, h.now, ap depth same)
     ended (f ∷ fs) now h e = cc
-
--- the fault of a line's refusal
-pub told : (n : ℕ) (r : Refusal) (given : Result Items Fault) → (r ≡ OutOfMemory) ⊎ (given ≡ Err (at_line n r)) → (line_fault n r ≡ whole OutOfMemory) ⊎ (given ≡ Err (line_fault n r))
-told n OutOfMemory given h = inl refl
-told n r given (inl e) = cc
-told n r given (inr e) = inr e
 
 pub some_before : (x : OneItem) (xs : Items) → is_some_items (before x xs) ≡ true
 some_before (operation op) xs = refl

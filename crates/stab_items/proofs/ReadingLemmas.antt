@@ -1,13 +1,7 @@
 -- What a reader keeps, of which the first items of the outermost list are kept by themselves.
-use Rattle.std.proofs.Common.{◌≡◌, ◌≤◌, ◌<◌, refl, ap, sym, ◌∙◌, subst, suc, List, [], ◌∷◌, ◌++◌, true, ◌==◌, ◌&&◌, not, length, map, reverse, nat_lt, Ok, arith, append_assoc, append-nil}
-use Rattle.std.proofs.lemmas.List.{map-append, reverse-append, length-reverse, length-map}
-use Rattle.std.proofs.lemmas.Bool.Decides.{nat_tests}
-use Rattle.stab_items.specs.declared.reader.OpenBlock.{OpenBlock as StoredBlock}
-use Rattle.stab_items.specs.Items.{OneItem, repeat, before, done, listed, join, depth}
-use Rattle.stab_items.specs.inner.Readers.{OpenBlock, open_block_of, open_blocks_of, outermost, kept_progress, is_whole, closing, opening, IsShallowProgress}
-use Rattle.stab_lines.proofs.BoolLemmas.{chosen}
+use Rattle.stab_items.proofs.Names.{◌≡◌, refl, ap, sym, ◌∙◌, suc, List, [], ◌∷◌, ◌++◌, ◌==◌, ◌&&◌, not, length, map, reverse, Ok, arith, append_assoc, append-nil, map-append, reverse-append, length-reverse, length-map, StoredBlock, OneItem, repeat, before, done, listed, join, OpenBlock, open_block_of, open_blocks_of, outermost, kept_progress, is_whole, closing}
 use Rattle.stab_items.proofs.ItemLemmas.{listed_pushed}
-use Rattle.stab_items.proofs.ReaderLemmas.{some_before, not_empty, not_none, closes_shallow}
+use Rattle.stab_items.proofs.ReaderLemmas.{some_before, not_empty, not_none}
 
 -- as many blocks as are kept
 length-open_blocks : (xs : List OneItem) (fs : List StoredBlock) → length (open_blocks_of xs fs) ≡ length fs
@@ -38,19 +32,6 @@ settled xs all [] gs ys zs none same empty e =
     (λ i. kept_progress (e i) (same i) (empty i)) ∙ ap (λ l. record { open_blocks = []; now = listed l }) (append-nil (xs ++ ys))
 settled xs all (f ∷ fs) gs ys zs none same empty e = absurd (omega (arith, none))
 
--- a block is opened
-pub opened_kept : (xs : List OneItem) (fs gs : List StoredBlock) (ys zs : List OneItem) (f : StoredBlock) → length fs < 16 → gs ≡ fs ++ f ∷ [] → zs ≡ [] → f.before.items ≡ ys
-    → opening f.line f.count f.tag (kept_progress xs fs ys) ≡ Ok (kept_progress xs gs zs)
-opened_kept xs fs gs ys zs f few e empty same =
-    let opened : OpenBlock = record { line = f.line; count = f.count; tag = f.tag; before = listed (outermost xs fs ++ ys) } in
-    let room : nat_lt (length (reverse (open_blocks_of xs fs))) 16 ≡ true = ap (λ n. nat_lt n 16) (length-opened xs fs) ∙ grind (arith, few, nat_tests) in
-    let list : opened ∷ reverse (open_blocks_of xs fs) ≡ reverse (open_blocks_of xs gs) =
-    ap (λ l. record { line = f.line; count = f.count; tag = f.tag; before = listed (outermost xs fs ++ l) } ∷ reverse (open_blocks_of xs fs)) (sym same)
-    ∙ sym (ap (λ l. reverse (open_blocks_of xs l)) e ∙ blocks_pushed xs fs f) in
-    let none : [] ≡ outermost xs gs ++ zs = sym ((λ i. outermost xs (e i) ++ empty i) ∙ append-nil (outermost xs (fs ++ f ∷ [])) ∙ outermost_pushed xs fs f) in
-    chosen (nat_lt (length (reverse (open_blocks_of xs fs))) 16) _ _ room
-    ∙ (λ i. Ok (record { open_blocks = list i; now = listed (none i) }))
-
 -- a block is closed
 pub closed_kept : (xs : List OneItem) (fs gs : List StoredBlock) (ys zs : List OneItem) (f : StoredBlock) → fs ≡ gs ++ f ∷ [] → zs ≡ f.before.items ++ repeat f.count f.tag (listed ys) ∷ []
     → closing (kept_progress xs fs ys) ≡ Ok (kept_progress xs gs zs)
@@ -61,12 +42,6 @@ closed_kept xs fs gs ys zs f e put =
     (λ i. closing (kept_progress xs (e i) ys))
     ∙ (λ i. closing (record { open_blocks = blocks_pushed xs gs f i; now = listed (outermost_pushed xs gs f i ++ ys) }))
     ∙ (λ i. Ok (record { open_blocks = reverse (open_blocks_of xs gs); now = now i }))
-
-pub closes_kept : (xs : List OneItem) (fs gs : List StoredBlock) (ys : List OneItem) (f : StoredBlock) → fs ≡ gs ++ f ∷ [] → IsShallowProgress (kept_progress xs fs ys) → depth (listed ys) ≤ 15
-closes_kept xs fs gs ys f e h =
-    let none : outermost xs fs ≡ [] = ap (outermost xs) e ∙ outermost_pushed xs gs f in
-    let deep = closes_shallow (reverse (open_blocks_of xs fs)) (open_block_of (outermost xs gs) f) (reverse (open_blocks_of xs gs)) (listed (outermost xs fs ++ ys)) (ap (λ l. reverse (open_blocks_of xs l)) e ∙ blocks_pushed xs gs f) h in
-    subst (λ l. depth (listed (l ++ ys)) ≤ 15) none deep
 
 -- whether a whole item was read
 whole_lists : (gs : List OpenBlock) (fs : List StoredBlock) (xs : List OneItem) → length gs ≡ length fs → is_whole (record { open_blocks = gs; now = listed xs }) ≡ ((length fs == 0) && not (length xs == 0))

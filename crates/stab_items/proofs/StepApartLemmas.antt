@@ -1,22 +1,8 @@
 -- Steps of instructions and items whose qubits are different ones.
-use Rattle.std.proofs.Common.{◌≡◌, ◌<◌, ℕ, ◌+◌, zero, suc, List, [], ◌∷◌, ◌++◌, length, take, get_or, All, subst, sym, ap, ◌∙◌, true, false, append-nil}
-use Rattle.std.proofs.Math.Seq.{take-length}
-use Rattle.std.proofs.lemmas.List.{take_more}
-use Rattle.std.proofs.lemmas.List.Elements.{All-nil, All-cons, All-append, All-map}
-use Rattle.stab_letters.specs.declared.gate.Gate.{Gate}
-use Rattle.stab_letters.specs.declared.gate.PairGate.TheVariants as gate
-use Rattle.stab_lines.specs.declared.axis.Axis.{Axis}
-use Rattle.stab_lines.specs.declared.product.Factor.{Factor}
-use Rattle.stab_lines.specs.declared.control.ControlledPair.{ControlledPair}
+use Rattle.stab_items.proofs.Names.{◌≡◌, ◌<◌, ℕ, ◌+◌, zero, suc, List, [], ◌∷◌, ◌++◌, length, take, get_or, All, subst, sym, ap, ◌∙◌, true, false, append-nil, take-length, take_more, All-nil, All-cons, All-append, All-map, Gate, Axis, Factor, ControlledPair, MeasureTarget, Measurement, Operation, letter_of, Items, OneItem, operation, repeat, done, before, listed, Step, one, two, collapse, detector, observable, measured, measured_product, controlled_step, steps_of, rounds, unroll, IsApart, IsPairApart, IsSwapApart, IsProductApart}
+use Rattle.stab_gates.specs.declared.gate.PairGate.TheVariants as gate
 use Rattle.stab_lines.specs.declared.control.ControlledPair.TheVariants as pair
-use Rattle.stab_lines.specs.declared.range.MeasureTarget.{MeasureTarget}
-use Rattle.stab_lines.specs.declared.operation.Measurement.{Measurement}
 use Rattle.stab_lines.specs.declared.operation.Kind.TheVariants as kind
-use Rattle.stab_lines.specs.declared.operation.Operation.{Operation}
-use Rattle.stab_lines.specs.Axes.{letter_of}
-use Rattle.stab_items.specs.Items.{Items, OneItem, operation, repeat, done, before, listed}
-use Rattle.stab_items.specs.Steps.{Step, one, two, collapse, detector, observable, measured, measured_product, controlled_step, steps_of, rounds, unroll, IsApart}
-use Rattle.stab_items.specs.inner.Summaries.{IsPairApart, IsSwapApart, IsProductApart}
 use Rattle.stab_items.proofs.ItemLemmas.{listed_pushed}
 use Rattle.stab_items.proofs.StepLemmas.{unroll-join}
 

@@ -1,18 +1,6 @@
 -- Numbers over the unrolled steps.
-use Rattle.std.proofs.Common.{◌≡◌, ◌≤◌, ◌<◌, refl, ap, sym, ◌∙◌, Some, append-nil, ℕ, ◌+◌, ◌*◌, ◌-◌, zero, suc, max, min, Bool, true, false, if◌then◌else◌, List, [], ◌∷◌, ◌++◌, ◌||◌, nat_lt, length, All, arith, append_assoc}
-use Rattle.std.proofs.lemmas.List.{length-append}
-use Rattle.std.proofs.lemmas.List.Elements.{All-head, All-tail}
-use Rattle.std.specs.List.{list_any}
-use Rattle.stab_lines.specs.declared.operation.Kind.{Kind}
+use Rattle.stab_items.proofs.Names.{◌≡◌, ◌≤◌, ◌<◌, refl, ap, sym, ◌∙◌, Some, append-nil, ℕ, ◌+◌, ◌*◌, ◌-◌, zero, suc, max, min, Bool, true, false, if◌then◌else◌, List, [], ◌∷◌, ◌++◌, ◌||◌, nat_lt, length, arith, append_assoc, length-append, list_any, Kind, Items, OneItem, done, next, block, join, operation, repeat, before, Step, detector, steps_of, detector_in, detector_of, rounds, unroll, makes, records_of, is_detector, detectors_of, lookbacks, looks_too_far, greatest, window}
 use Rattle.stab_lines.specs.declared.operation.Kind.TheVariants as kind
-use Rattle.stab_lines.specs.Lookbacks.{IsLookback}
-use Rattle.stab_items.specs.Items.{Items, OneItem, done, next, block, join, operation, repeat, before}
-use Rattle.stab_items.specs.Steps.{Step, detector, steps_of, detector_in, detector_of, rounds, unroll, makes, records_of, is_detector, detectors_of, lookbacks, looks_too_far}
-use Rattle.stab_items.specs.inner.Summaries.{greatest, reach}
-
-pub greatest_small : (ks : List ℕ) → All IsLookback ks → greatest ks ≤ 16777215
-greatest_small [] a = omega arith
-greatest_small (k ∷ ks) a = omega (arith, (All-head IsLookback k ks a).1, greatest_small ks (All-tail IsLookback k ks a))
 
 times_more : (n w : ℕ) → suc n * w ≡ w + n * w
 times_more n w = omega arith
@@ -44,18 +32,18 @@ detectors_of-rounds (suc n) ss = detectors_of-append ss (rounds n ss) ∙ ap (λ
 later_max : (l a b m s : ℕ) → max l (max a (b - m) - s) ≡ max (max l (a - s)) (b - (s + m))
 later_max l a b m s = omega arith
 
-pub reach-append : (ss ts : List Step) → reach (ss ++ ts) ≡ max (reach ss) (reach ts - records_of ss)
-reach-append [] ts = omega arith
-reach-append (s ∷ ss) ts = ap (λ w. max (greatest (lookbacks s)) (w - makes s)) (reach-append ss ts) ∙ later_max (greatest (lookbacks s)) (reach ss) (reach ts) (records_of ss) (makes s)
+pub window-append : (ss ts : List Step) → window (ss ++ ts) ≡ max (window ss) (window ts - records_of ss)
+window-append [] ts = omega arith
+window-append (s ∷ ss) ts = ap (λ w. max (greatest (lookbacks s)) (w - makes s)) (window-append ss ts) ∙ later_max (greatest (lookbacks s)) (window ss) (window ts) (records_of ss) (makes s)
 
 -- a later round reaches no further than the first
-reach_later : (n : ℕ) (ss : List Step) → reach (rounds n ss) ≤ reach ss
-reach_later zero ss = omega arith
-reach_later (suc n) ss = omega (arith, reach-append ss (rounds n ss), reach_later n ss)
+window_later : (n : ℕ) (ss : List Step) → window (rounds n ss) ≤ window ss
+window_later zero ss = omega arith
+window_later (suc n) ss = omega (arith, window-append ss (rounds n ss), window_later n ss)
 
-pub reach-rounds : (n : ℕ) (ss : List Step) → 0 < n → reach (rounds n ss) ≡ reach ss
-reach-rounds zero ss h = absurd (omega arith)
-reach-rounds (suc n) ss h = omega (arith, reach-append ss (rounds n ss), reach_later n ss)
+pub window-rounds : (n : ℕ) (ss : List Step) → 0 < n → window (rounds n ss) ≡ window ss
+window-rounds zero ss h = absurd (omega arith)
+window-rounds (suc n) ss h = omega (arith, window-append ss (rounds n ss), window_later n ss)
 
 -- the steps of items one after another
 pub unroll-join : (xs ys : Items) → unroll (join xs ys) ≡ unroll xs ++ unroll ys
@@ -74,12 +62,12 @@ any_greatest m [] = grind arith
 any_greatest m (k ∷ ks) = ap (λ b. nat_lt m k || b) (any_greatest m ks) ∙ lt_max m k (greatest ks)
 
 -- some step looks too far if the reach does
-pub looks_too_far_reach : (m : ℕ) (ss : List Step) → looks_too_far m ss ≡ nat_lt m (reach ss)
-looks_too_far_reach m [] = grind arith
-looks_too_far_reach m (s ∷ ss) =
+pub looks_too_far_window : (m : ℕ) (ss : List Step) → looks_too_far m ss ≡ nat_lt m (window ss)
+looks_too_far_window m [] = grind arith
+looks_too_far_window m (s ∷ ss) =
     ap (λ b. b || looks_too_far (m + makes s) ss) (any_greatest m (lookbacks s))
-    ∙ ap (λ b. nat_lt m (greatest (lookbacks s)) || b) (looks_too_far_reach (m + makes s) ss)
-    ∙ short_step m (greatest (lookbacks s)) (reach ss) (makes s)
+    ∙ ap (λ b. nat_lt m (greatest (lookbacks s)) || b) (looks_too_far_window (m + makes s) ss)
+    ∙ short_step m (greatest (lookbacks s)) (window ss) (makes s)
 
 -- numbers that stop growing
 pub capped_sum : (a b cap : ℕ) → min (min a cap + min b cap) cap ≡ min (a + b) cap

@@ -1,22 +1,7 @@
 -- Lines that put items after others if no block is open, and the runs and stretches of them.
-use Rattle.std.proofs.Common.{◌≡◌, ◌<◌, refl, ap, sym, ◌∙◌, subst, ℕ, ◌+◌, ◌-◌, List, [], ◌∷◌, ◌++◌, All, Bool, true, false, nat_lt, length, take, drop, map, Option, Some, None, MatchOption, Ok, Err, if◌then◌else◌, ◌⊎◌, inl, inr, arith, append_assoc, length-append}
-use Rattle.std.specs.List.{slice_split}
-use Rattle.std.proofs.lemmas.List.{map-append, take-append-le, take_all}
-use Rattle.std.proofs.lemmas.List.Elements.{All-weaker, All-push}
-use Rattle.stab_io.specs.declared.refusal.Refusal.TheVariants.{TooDeep}
-use Rattle.stab_lines.specs.declared.meanings.Line.TheVariants.{Blank, Close, Open}
+use Rattle.stab_items.proofs.Names.{◌≡◌, refl, ap, sym, ◌∙◌, subst, ℕ, ◌+◌, ◌-◌, List, [], ◌∷◌, ◌++◌, All, Bool, true, false, nat_lt, length, take, drop, map, Option, Some, None, MatchOption, Ok, Err, if◌then◌else◌, ◌⊎◌, inl, inr, arith, append_assoc, slice_split, map-append, take-append-le, take_all, All-weaker, All-push, TooDeep, Blank, Close, Open, is_byte, content_of, pieces_after, meaning_of, StoredBlock, Stretch, Run, Items, OneItem, done, next, block, join, listed, depth, Meaning, line_meanings, IsCut, Progress, kept_progress, stepped, read_on, meaning_at, IsShallowProgress, outside, Reads, items_of, IsStretch, KeepsStretches, IsRunOf, IsRun, IsEnded, RunsOn, reading_on}
+use Rattle.std.proofs.Common.{length-append}
 use Rattle.stab_lines.specs.declared.meanings.Line.TheVariants as line
-use Rattle.stab_lines.specs.Lines.{is_byte, content_of}
-use Rattle.stab_lines.specs.Words.{pieces_after}
-use Rattle.stab_lines.specs.Meanings.{meaning_of}
-use Rattle.stab_items.specs.declared.reader.OpenBlock.{OpenBlock as StoredBlock}
-use Rattle.stab_items.specs.declared.stretches.Stretch.{Stretch}
-use Rattle.stab_items.specs.declared.stretches.Run.{Run}
-use Rattle.stab_items.specs.Items.{Items, OneItem, done, next, block, join, listed, depth}
-use Rattle.stab_items.specs.Circuits.{Meaning, line_meanings}
-use Rattle.stab_items.specs.inner.KnownLines.{IsCut}
-use Rattle.stab_items.specs.inner.Readers.{Progress, kept_progress, stepped, read_on, meaning_at, IsShallowProgress}
-use Rattle.stab_items.specs.inner.Stretches.{outside, Reads, items_of, IsStretch, KeepsStretches, Ran, IsRunOf, IsRun, IsEnded, RunsOn, reading_on}
 use Rattle.stab_items.proofs.ItemLemmas.{join_done, join_assoc, listed-append, depth-join, no_length}
 use Rattle.stab_items.proofs.FrontLemmas.{split_cut, one_line_first}
 use Rattle.stab_items.proofs.PieceLemmas.{cut_pieces, ran_more}
@@ -164,21 +149,6 @@ run_ends xs all fs ys first n rest (Some run) none at same r = run_ends_of xs al
 -- it is a stretch then
 items_behind : (xs : List OneItem) (s : Stretch) (first : ℕ) → s.first ≡ first → s.behind ≡ length xs → items_of s xs ≡ drop first xs
 items_behind xs s first at end = (λ i. drop (at i) (take (end i) xs)) ∙ ap (drop first) (take_all (length xs) xs (omega arith))
-
-pub ended_stretch : (xs : List OneItem) (first n : ℕ) (rest : List ℕ) (run : Run) (s : Stretch) → IsEnded xs first n rest run → ((front : List ℕ) → IsCut run.front.now front (Some rest) → s.bytes.now ≡ front)
-    → s.lines ≡ n - run.from → 0 < s.lines → s.first ≡ first → s.behind ≡ length xs → IsStretch xs s
-ended_stretch xs first n rest run s r bytes lines some at end = of_lines r.lines r.ran r.count r.reads
-  where
-    of_lines : (ls : List (List ℕ)) → Ran run.front.now ls rest → run.from + length ls ≡ n → Reads ls (listed (drop first xs)) → IsStretch xs s
-    of_lines [] ran count reads = absurd (omega (arith, lines, some, count))
-    of_lines (l ∷ ls) ran count reads =
-        let pieces : slice_split (is_byte 10) s.bytes.now ≡ l ∷ ls = ap (slice_split (is_byte 10)) (bytes ran.0 ran.1) ∙ ran.2 in
-        record {
-          order = omega (arith, r.within, at, end);
-          within = omega (arith, end);
-          count = omega (arith, ap length pieces, lines, count);
-          reads = subst (λ k. Reads (slice_split (is_byte 10) s.bytes.now) (listed k)) (sym (items_behind xs s first at end)) (subst (λ k. Reads k (listed (drop first xs))) (sym pieces) reads);
-        }
 
 -- more items
 pub more_keeps : (xs all ys : List OneItem) → all ≡ xs ++ ys → KeepsStretches xs all

@@ -1,29 +1,10 @@
 -- The summaries of items.
-use Rattle.std.proofs.Common.{◌≡◌, ◌≤◌, ◌<◌, refl, ap, sym, ◌∙◌, subst, ℕ, ◌+◌, suc, max, min, Bool, true, false, List, [], ◌∷◌, ◌++◌, length, map, take, drop, get_or, All, arith, drop-cons, append-nil, nat_lt, Some, None, if◌then◌else◌}
-use Rattle.std.proofs.lemmas.List.{length-append, length-map, take_more}
-use Rattle.std.proofs.lemmas.List.Elements.{All-head, All-tail, All-nil}
-use Rattle.std.proofs.lemmas.Bool.Decides.{nat_tests}
-use Rattle.stab_io.specs.declared.refusal.Refusal.TheVariants.{LookbackTooFar, TooManySteps}
-use Rattle.stab_letters.specs.declared.gate.Gate.{Gate}
-use Rattle.stab_letters.specs.declared.gate.PairGate.TheVariants as gate
-use Rattle.stab_lines.specs.declared.axis.Axis.{Axis}
-use Rattle.stab_lines.specs.declared.product.Factor.{Factor}
-use Rattle.stab_lines.specs.declared.control.ControlledPair.{ControlledPair}
+use Rattle.stab_items.proofs.Names.{◌≡◌, ◌≤◌, ◌<◌, refl, ap, sym, ◌∙◌, subst, ℕ, ◌+◌, suc, max, min, Bool, true, false, List, [], ◌∷◌, ◌++◌, length, map, take, drop, get_or, All, arith, drop-cons, append-nil, nat_lt, Some, None, if◌then◌else◌, length-append, length-map, take_more, All-head, All-tail, All-nil, nat_tests, LookbackTooFar, TooManySteps, Gate, Axis, Factor, ControlledPair, letter_of, MeasureTarget, Measurement, Kind, Operation, Summary, IsLookback, Items, OneItem, done, next, block, join, before, operation, repeat, listed, depth, pair_qubits, Step, IsApart, one, two, collapse, measured, measured_product, controlled_step, steps_of, rounds, unroll, makes, records_of, is_detector, detectors_of, lookbacks, target_qubits, factor_qubits, product_qubits, controlled_qubits, past, past_named, qubits_of, observables_of, named_qubits, named_observables, looks_too_far, check_of, greatest, looks_back, furthest, window, steps_summary, kind_summary_of, summary_of, followed_by, repeated, judged, IsSummary, IsSumOf}
+use Rattle.stab_gates.specs.declared.gate.PairGate.TheVariants as gate
 use Rattle.stab_lines.specs.declared.control.ControlledPair.TheVariants as pair
-use Rattle.stab_lines.specs.Axes.{letter_of}
-use Rattle.stab_lines.specs.declared.range.MeasureTarget.{MeasureTarget}
-use Rattle.stab_lines.specs.declared.operation.Measurement.{Measurement}
-use Rattle.stab_lines.specs.declared.operation.Kind.{Kind}
 use Rattle.stab_lines.specs.declared.operation.Kind.TheVariants as kind
-use Rattle.stab_lines.specs.declared.operation.Operation.{Operation}
-use Rattle.stab_items.specs.declared.summary.Summary.{Summary}
-use Rattle.stab_lines.specs.Lookbacks.{IsLookback}
-use Rattle.stab_items.specs.Items.{Items, OneItem, done, next, block, join, before, operation, repeat, listed, depth}
-use Rattle.stab_lines.specs.Targets.{pair_qubits}
-use Rattle.stab_items.specs.Steps.{Step, IsApart, one, two, collapse, measured, measured_product, controlled_step, steps_of, rounds, unroll, makes, records_of, is_detector, detectors_of, lookbacks, target_qubits, factor_qubits, product_qubits, controlled_qubits, past, past_named, qubits_of, observables_of, named_qubits, named_observables, looks_too_far, check_of}
-use Rattle.stab_items.specs.inner.Summaries.{greatest, looks_back, furthest, reach, steps_summary, kind_summary_of, summary_of, followed_by, repeated, judged, IsSummary, IsSumOf}
 use Rattle.stab_items.proofs.ItemLemmas.{listed-append, depth-join}
-use Rattle.stab_items.proofs.StepLemmas.{length-rounds, records_of-append, records_of-rounds, detectors_of-append, detectors_of-rounds, reach-append, reach-rounds, unroll-join, capped_sum, capped_left, capped_times, looks_too_far_reach}
+use Rattle.stab_items.proofs.StepLemmas.{length-rounds, records_of-append, records_of-rounds, detectors_of-append, detectors_of-rounds, window-append, window-rounds, unroll-join, capped_sum, capped_left, capped_times, looks_too_far_window}
 
 pub greatest_small : (ks : List ℕ) → All IsLookback ks → greatest ks ≤ 16777215
 greatest_small [] a = omega arith
@@ -74,7 +55,7 @@ pub furthest_dropped : (ps : List ControlledPair) (i : ℕ) (d : ControlledPair)
 furthest_dropped ps i d h = from_place furthest looks_back ps i d h (λ p more. refl)
 
 abbrev summary : ℕ → ℕ → ℕ → ℕ → ℕ → ℕ → ℕ → Summary
-summary a b t c q o d = record { steps = a; records = b; detectors = t; reach = c; qubits = q; observables = o; depth = d }
+summary a b t c q o d = record { steps = a; records = b; detectors = t; window = c; qubits = q; observables = o; depth = d }
 
 same_summary : (a b t c d e s f q o r p x y : ℕ) → a ≡ d → b ≡ e → t ≡ s → c ≡ f → q ≡ r → o ≡ p → x ≡ y → summary a b t c q o x ≡ summary d e s f r p y
 same_summary a b t c d e s f q o r p x y h k g l m n w = λ i. summary (h i) (k i) (g i) (l i) (m i) (n i) (w i)
@@ -87,7 +68,7 @@ none_more s ss e none = ap (λ b. if b then 1 + detectors_of ss else detectors_o
 abbrev IsPlain : Step → Type 0
 IsPlain s = (makes s ≡ 0) × (is_detector s ≡ false) × (lookbacks s ≡ [])
 
-plain_steps : {A : Type 0} (f : A → Step) (xs : List A) → ((x : A) → IsPlain (f x)) → (records_of (map f xs) ≡ 0) × (detectors_of (map f xs) ≡ 0) × (reach (map f xs) ≡ 0)
+plain_steps : {A : Type 0} (f : A → Step) (xs : List A) → ((x : A) → IsPlain (f x)) → (records_of (map f xs) ≡ 0) × (detectors_of (map f xs) ≡ 0) × (window (map f xs) ≡ 0)
 plain_steps f [] p = (refl, refl, refl)
 plain_steps f (x ∷ xs) p =
     let rest = plain_steps f xs p in
@@ -98,13 +79,13 @@ plain_summary f xs q p =
     let r = plain_steps f xs p in
     same_summary _ _ _ _ _ _ _ _ q 0 q 0 0 0 (ap (λ n. min n 1048577) (length-map xs f)) (omega (arith, r.0)) (omega (arith, r.1)) r.2 refl refl refl
 
-pub gate_summary : (g : Gate) (qubits : List ℕ) → kind_summary_of (kind.Gate g qubits) ≡ record { steps = min (length qubits) 1048577; records = 0; detectors = 0; reach = 0; qubits = past qubits; observables = 0; depth = 0 }
+pub gate_summary : (g : Gate) (qubits : List ℕ) → kind_summary_of (kind.Gate g qubits) ≡ record { steps = min (length qubits) 1048577; records = 0; detectors = 0; window = 0; qubits = past qubits; observables = 0; depth = 0 }
 gate_summary g qubits = plain_summary (one g) qubits (past qubits) (λ q. (refl, refl, refl))
 
-pub swap_summary : (pairs : List (ℕ × ℕ)) → kind_summary_of (kind.Swap pairs) ≡ record { steps = min (length pairs) 1048577; records = 0; detectors = 0; reach = 0; qubits = past (pair_qubits pairs); observables = 0; depth = 0 }
+pub swap_summary : (pairs : List (ℕ × ℕ)) → kind_summary_of (kind.Swap pairs) ≡ record { steps = min (length pairs) 1048577; records = 0; detectors = 0; window = 0; qubits = past (pair_qubits pairs); observables = 0; depth = 0 }
 swap_summary pairs = plain_summary (λ pair. two gate.Swap pair.0 pair.1) pairs (past (pair_qubits pairs)) (λ p. (refl, refl, refl))
 
-pub reset_summary : (a : Axis) (qubits : List ℕ) → kind_summary_of (kind.Reset a qubits) ≡ record { steps = min (length qubits) 1048577; records = 0; detectors = 0; reach = 0; qubits = past qubits; observables = 0; depth = 0 }
+pub reset_summary : (a : Axis) (qubits : List ℕ) → kind_summary_of (kind.Reset a qubits) ≡ record { steps = min (length qubits) 1048577; records = 0; detectors = 0; window = 0; qubits = past qubits; observables = 0; depth = 0 }
 reset_summary a qubits = plain_summary (λ q. collapse (letter_of a) q false false true) qubits (past qubits) (λ q. (refl, refl, refl))
 
 -- the pairs of a controlled gate
@@ -112,7 +93,7 @@ controlled_makes : (a : Axis) (p : ControlledPair) → (makes (controlled_step a
 controlled_makes a (pair.Qubits p) = (refl, refl, refl)
 controlled_makes a (pair.Record q k) = (refl, refl, omega arith)
 
-controlled_steps : (a : Axis) (ps : List ControlledPair) → (records_of (map (controlled_step a) ps) ≡ 0) × (detectors_of (map (controlled_step a) ps) ≡ 0) × (reach (map (controlled_step a) ps) ≡ furthest ps)
+controlled_steps : (a : Axis) (ps : List ControlledPair) → (records_of (map (controlled_step a) ps) ≡ 0) × (detectors_of (map (controlled_step a) ps) ≡ 0) × (window (map (controlled_step a) ps) ≡ furthest ps)
 controlled_steps a [] = (refl, refl, refl)
 controlled_steps a (p ∷ ps) =
     let rest = controlled_steps a ps in
@@ -120,7 +101,7 @@ controlled_steps a (p ∷ ps) =
     (omega (arith, here.0, rest.0), none_more (controlled_step a p) (map (controlled_step a) ps) here.1 rest.1, omega (arith, here.0, here.2, rest.2))
 
 pub controlled_summary : (a : Axis) (ps : List ControlledPair)
-    → kind_summary_of (kind.Controlled a ps) ≡ record { steps = min (length ps) 1048577; records = 0; detectors = 0; reach = furthest ps; qubits = past (controlled_qubits ps); observables = 0; depth = 0 }
+    → kind_summary_of (kind.Controlled a ps) ≡ record { steps = min (length ps) 1048577; records = 0; detectors = 0; window = furthest ps; qubits = past (controlled_qubits ps); observables = 0; depth = 0 }
 controlled_summary a ps =
     let r = controlled_steps a ps in
     let past' = past (controlled_qubits ps) in
@@ -136,7 +117,7 @@ controlled_found {k} {a} {ps} {seen} e f =
 abbrev IsMeasured : Step → Type 0
 IsMeasured s = (makes s ≡ 1) × (is_detector s ≡ false) × (lookbacks s ≡ [])
 
-measured_steps : {A : Type 0} (f : A → Step) (xs : List A) → ((x : A) → IsMeasured (f x)) → (records_of (map f xs) ≡ length xs) × (detectors_of (map f xs) ≡ 0) × (reach (map f xs) ≡ 0)
+measured_steps : {A : Type 0} (f : A → Step) (xs : List A) → ((x : A) → IsMeasured (f x)) → (records_of (map f xs) ≡ length xs) × (detectors_of (map f xs) ≡ 0) × (window (map f xs) ≡ 0)
 measured_steps f [] p = (refl, refl, refl)
 measured_steps f (x ∷ xs) p =
     let rest = measured_steps f xs p in
@@ -148,17 +129,17 @@ measured_summary f xs q p =
     same_summary _ _ _ _ _ _ _ _ q 0 q 0 0 0 (ap (λ n. min n 1048577) (length-map xs f)) (ap (λ n. min n 16777215) r.0) (omega (arith, r.1)) r.2 refl refl refl
 
 pub measure_summary : (m : Measurement) (ts : List MeasureTarget)
-    → kind_summary_of (kind.Measure m ts) ≡ record { steps = min (length ts) 1048577; records = min (length ts) 16777215; detectors = 0; reach = 0; qubits = past (target_qubits ts); observables = 0; depth = 0 }
+    → kind_summary_of (kind.Measure m ts) ≡ record { steps = min (length ts) 1048577; records = min (length ts) 16777215; detectors = 0; window = 0; qubits = past (target_qubits ts); observables = 0; depth = 0 }
 measure_summary m ts = measured_summary (measured m) ts (past (target_qubits ts)) (λ t. (refl, refl, refl))
 
 pub product_summary : (ps : List (List Factor))
-    → kind_summary_of (kind.MeasureProducts ps) ≡ record { steps = min (length ps) 1048577; records = min (length ps) 16777215; detectors = 0; reach = 0; qubits = past (product_qubits ps); observables = 0; depth = 0 }
+    → kind_summary_of (kind.MeasureProducts ps) ≡ record { steps = min (length ps) 1048577; records = min (length ps) 16777215; detectors = 0; window = 0; qubits = past (product_qubits ps); observables = 0; depth = 0 }
 product_summary ps = measured_summary measured_product ps (past (product_qubits ps)) (λ fs. (refl, refl, refl))
 
-pub detector_summary : (located : List (List ℕ) × List ℕ) → kind_summary_of (kind.Detector located) ≡ record { steps = 1; records = 0; detectors = 1; reach = greatest located.1; qubits = 0; observables = 0; depth = 0 }
+pub detector_summary : (located : List (List ℕ) × List ℕ) → kind_summary_of (kind.Detector located) ≡ record { steps = 1; records = 0; detectors = 1; window = greatest located.1; qubits = 0; observables = 0; depth = 0 }
 detector_summary located = same_summary _ _ _ _ _ _ _ _ _ _ _ _ _ _ refl refl refl (omega arith) refl refl refl
 
-pub observable_summary : (j : ℕ) (ks : List ℕ) → kind_summary_of (kind.ObservableInclude j ks) ≡ record { steps = 1; records = 0; detectors = 0; reach = greatest ks; qubits = 0; observables = j + 1; depth = 0 }
+pub observable_summary : (j : ℕ) (ks : List ℕ) → kind_summary_of (kind.ObservableInclude j ks) ≡ record { steps = 1; records = 0; detectors = 0; window = greatest ks; qubits = 0; observables = j + 1; depth = 0 }
 observable_summary j ks = same_summary _ _ _ _ _ _ _ _ _ _ _ _ _ _ refl refl refl (omega arith) refl (omega arith) refl
 
 -- one list of items after another
@@ -170,13 +151,13 @@ past_named-join named (block c t body rest) ys = omega (arith, past_named-join n
 capped_max : (a b cap : ℕ) → min (max a b) cap ≡ max (min a cap) (min b cap)
 capped_max a b cap = omega arith
 
-pub summary-join : (xs ys : Items) → reach (unroll ys) ≤ 16777215 → summary_of (join xs ys) ≡ followed_by (summary_of xs) (summary_of ys)
+pub summary-join : (xs ys : Items) → window (unroll ys) ≤ 16777215 → summary_of (join xs ys) ≡ followed_by (summary_of xs) (summary_of ys)
 summary-join xs ys h =
     same_summary _ _ _ _ _ _ _ _ _ _ _ _ _ _
     (ap (λ l. min (length l) 1048577) (unroll-join xs ys) ∙ ap (λ n. min n 1048577) (length-append (unroll xs) (unroll ys)) ∙ sym (capped_sum (length (unroll xs)) (length (unroll ys)) 1048577))
     (ap (λ l. min (records_of l) 16777215) (unroll-join xs ys) ∙ ap (λ n. min n 16777215) (records_of-append (unroll xs) (unroll ys)) ∙ sym (capped_sum (records_of (unroll xs)) (records_of (unroll ys)) 16777215))
     (ap (λ l. min (detectors_of l) 16777215) (unroll-join xs ys) ∙ ap (λ n. min n 16777215) (detectors_of-append (unroll xs) (unroll ys)) ∙ sym (capped_sum (detectors_of (unroll xs)) (detectors_of (unroll ys)) 16777215))
-    (ap reach (unroll-join xs ys) ∙ reach-append (unroll xs) (unroll ys) ∙ ap (max (reach (unroll xs))) (sym (capped_left (reach (unroll ys)) (records_of (unroll xs)) 16777215 h)))
+    (ap window (unroll-join xs ys) ∙ window-append (unroll xs) (unroll ys) ∙ ap (max (window (unroll xs))) (sym (capped_left (window (unroll ys)) (records_of (unroll xs)) 16777215 h)))
     (past_named-join named_qubits xs ys)
     (past_named-join named_observables xs ys)
     (ap (λ n. min n 17) (depth-join xs ys) ∙ capped_max (depth xs) (depth ys) 17)
@@ -198,11 +179,11 @@ operation_sum o s e small apart = record {
 pub instruction_sum : (x : OneItem) (o : Operation) (s : Summary) → operation o ≡ x → IsSumOf (next o done) s → IsSumOf (before x done) s
 instruction_sum x o s is sum = subst (λ y. IsSumOf (before y done) s) is sum
 
-pub tick_sum : (x : OneItem) → operation (record { kind = kind.Tick; tag = [] }) ≡ x → IsSumOf (before x done) (record { steps = 0; records = 0; detectors = 0; reach = 0; qubits = 0; observables = 0; depth = 0 })
+pub tick_sum : (x : OneItem) → operation (record { kind = kind.Tick; tag = [] }) ≡ x → IsSumOf (before x done) (record { steps = 0; records = 0; detectors = 0; window = 0; qubits = 0; observables = 0; depth = 0 })
 tick_sum x is =
-    let s : Summary = record { steps = 0; records = 0; detectors = 0; reach = 0; qubits = 0; observables = 0; depth = 0 } in
+    let s : Summary = record { steps = 0; records = 0; detectors = 0; window = 0; qubits = 0; observables = 0; depth = 0 } in
     let o : Operation = record { kind = kind.Tick; tag = [] } in
-    instruction_sum x o s is (operation_sum o s refl (record { steps = omega arith; records = omega arith; detectors = omega arith; reach = omega arith; qubits = omega arith; depth = omega arith }) (All-nil IsApart))
+    instruction_sum x o s is (operation_sum o s refl (record { steps = omega arith; records = omega arith; detectors = omega arith; window = omega arith; qubits = omega arith; depth = omega arith }) (All-nil IsApart))
 
 pub block_summary : (count : ℕ) (tag : List ℕ) (xs : Items) → 0 < count → summary_of (block count tag xs done) ≡ repeated count (summary_of xs)
 block_summary count tag xs h =
@@ -211,7 +192,7 @@ block_summary count tag xs h =
     (ap (λ k. min k 1048577) (length-rounds count (unroll xs)) ∙ sym (capped_times count (length (unroll xs)) 1048577))
     (ap (λ k. min k 16777215) (records_of-rounds count (unroll xs)) ∙ sym (capped_times count (records_of (unroll xs)) 16777215))
     (ap (λ k. min k 16777215) (detectors_of-rounds count (unroll xs)) ∙ sym (capped_times count (detectors_of (unroll xs)) 16777215))
-    (reach-rounds count (unroll xs) h)
+    (window-rounds count (unroll xs) h)
     (omega arith)
     (omega arith)
     (omega arith)
@@ -226,11 +207,11 @@ kept_summary x n count tag body held kept all e h m k r is =
     ∙ ap (λ l. summary_of (block l tag body done)) m
     ∙ ap (λ y. summary_of (before y done)) is
 
-pub summary_pushed : (xs : List OneItem) (x : OneItem) → reach (unroll (before x done)) ≤ 16777215
+pub summary_pushed : (xs : List OneItem) (x : OneItem) → window (unroll (before x done)) ≤ 16777215
     → summary_of (listed (xs ++ x ∷ [])) ≡ followed_by (summary_of (listed xs)) (summary_of (before x done))
 summary_pushed xs x small = ap summary_of (listed-append xs (x ∷ [])) ∙ summary-join (listed xs) (before x done) small
 
-pub summary_taken : (xs : List OneItem) (n : ℕ) (d : OneItem) → n < length xs → reach (unroll (before (get_or xs n d) done)) ≤ 16777215
+pub summary_taken : (xs : List OneItem) (n : ℕ) (d : OneItem) → n < length xs → window (unroll (before (get_or xs n d) done)) ≤ 16777215
     → summary_of (listed (take (n + 1) xs)) ≡ followed_by (summary_of (listed (take n xs))) (summary_of (before (get_or xs n d) done))
 summary_taken xs n d h small =
     ap (λ l. summary_of (listed l)) (take_more xs n d h) ∙ summary_pushed (take n xs) (get_or xs n d) small
@@ -242,8 +223,8 @@ still_more n = grind arith
 pub check_judged : (items : Items) → check_of items ≡ judged (summary_of items)
 unfolding check_of
 check_judged items =
-    ap (λ b. if b then Some LookbackTooFar else if nat_lt 1048576 (length (unroll items)) then Some TooManySteps else None) (looks_too_far_reach 0 (unroll items))
-    ∙ ap (λ b. if nat_lt 0 (reach (unroll items)) then Some LookbackTooFar else if b then Some TooManySteps else None) (still_more (length (unroll items)))
+    ap (λ b. if b then Some LookbackTooFar else if nat_lt 1048576 (length (unroll items)) then Some TooManySteps else None) (looks_too_far_window 0 (unroll items))
+    ∙ ap (λ b. if nat_lt 0 (window (unroll items)) then Some LookbackTooFar else if b then Some TooManySteps else None) (still_more (length (unroll items)))
 
 -- so a circuit that nothing refuses has at most 1,048,576 steps
 pub few_steps : (items : Items) → check_of items ≡ None → length (unroll items) ≤ 1048576

@@ -3,15 +3,15 @@
 -- limits are this project's own.
 use Rattle.std.specs.Prelude.{◌≡◌, ◌≢◌, ℕ, ◌+◌, zero, suc, max, Bool, true, false, ◌||◌, nat_lt, List, [], ◌∷◌, ◌++◌, length, map, if◌then◌else◌, Option, Some, None, Result, Ok, Err}
 use Rattle.std.specs.List.{list_any}
-use Rattle.stab_letters.specs.declared.letter.Letter.{Letter}
-use Rattle.stab_letters.specs.Letters.{◌⊕◌}
+use Rattle.stab_gates.specs.declared.letter.Letter.{Letter}
+use Rattle.stab_gates.specs.Letters.{◌⊕◌}
 use Rattle.stab_io.specs.declared.refusal.Refusal.{Refusal}
 use Rattle.stab_io.specs.declared.refusal.Refusal.TheVariants.{QubitOutOfRange, LookbackTooFar, TooManySteps}
 use Rattle.stab_io.specs.declared.refusal.Fault.{Fault}
 use Rattle.stab_io.specs.Refusals.{whole}
-use Rattle.stab_letters.specs.declared.gate.Gate.{Gate}
-use Rattle.stab_letters.specs.declared.gate.PairGate.{PairGate}
-use Rattle.stab_letters.specs.declared.gate.PairGate.TheVariants as gate
+use Rattle.stab_gates.specs.declared.gate.Gate.{Gate}
+use Rattle.stab_gates.specs.declared.gate.PairGate.{PairGate}
+use Rattle.stab_gates.specs.declared.gate.PairGate.TheVariants as gate
 use Rattle.stab_lines.specs.declared.axis.Axis.{Axis}
 use Rattle.stab_lines.specs.declared.axis.Axis.TheVariants as axis
 use Rattle.stab_lines.specs.declared.control.ControlledPair.{ControlledPair}

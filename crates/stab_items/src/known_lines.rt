@@ -1,7 +1,7 @@
 use crate::front::behind_front;
+use crate::hashes::{Hash, LINE_SLOTS, NO_HASH, line_hash};
 use crate::instruction::Instruction;
 use crate::item::Item;
-use crate::marks::{LINE_SLOTS, Mark, NO_MARK, line_mark};
 use std::alloc::{AllocError, Global};
 use std::marker::Model;
 use std::rc::Rc;
@@ -53,10 +53,10 @@ pub(crate) struct FoundLine<'a> {
     pub(crate) after: Option<&'a [u8]>,
 }
 
-/// The newest line of a slot: its mark and its number.
+/// The newest line of a slot: its check and its number.
 #[derive(Clone, Copy)]
 struct Newest {
-    mark: u16,
+    check: u16,
     number: u16,
 }
 
@@ -73,7 +73,7 @@ pub(crate) struct KnownLines<'a> {
     // The newest line by each slot. What it says is tried, and nothing rests on it.
     table: Vec<Newest>,
     // What the line that was looked for last had.
-    front: Mark,
+    front: Hash,
     // How many lines were not known, less what those that were known make up for.
     misses: u32,
     gave_up: bool,
@@ -92,7 +92,7 @@ impl<'a> KnownLines<'a> {
             lines: Vec::new(alloc),
             next: 0,
             table: Vec::new(alloc),
-            front: NO_MARK,
+            front: NO_HASH,
             misses: 0,
             gave_up,
         }
@@ -138,9 +138,9 @@ impl<'a> KnownLines<'a> {
         if self.table.is_empty() {
             return self.lines.len();
         }
-        self.front = line_mark(text);
+        self.front = line_hash(text);
         match self.table.get(self.front.slot) {
-            Some(newest) if newest.mark == self.front.mark => usize::from(newest.number),
+            Some(newest) if newest.check == self.front.check => usize::from(newest.number),
             _ => self.lines.len(),
         }
     }
@@ -179,13 +179,16 @@ impl<'a> KnownLines<'a> {
         requires few { number < MOST }
     {
         if number == FEW {
-            let none = Newest { mark: 0, number: 0 };
+            let none = Newest {
+                check: 0,
+                number: 0,
+            };
             self.table = vec![in self.alloc; none; LINE_SLOTS]?;
         }
-        let Mark { slot, mark } = self.front;
+        let Hash { slot, check } = self.front;
         if slot < self.table.len() {
             self.table[slot] = Newest {
-                mark,
+                check,
                 number: number as u16,
             };
         }

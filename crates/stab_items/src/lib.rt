@@ -10,7 +10,7 @@
 //! - `front`: the first line of a text: where it ends, and what a look at its bytes says.
 //! - `known_lines`: lines that were read, so that one that comes again is not read again.
 //! - `stretches`: the same for many lines at once, one after the other.
-//! - `marks`: by which first bytes a line or a stretch is looked for.
+//! - `hashes`: hashes of the first bytes of a line or a stretch, by which it is looked for.
 //! - `whole_text`: the items of a text, by its stretches and lines.
 //! - `summary`: the numbers that are kept.
 //! - `copy`: copies of items.
@@ -32,10 +32,10 @@
 
 mod copy;
 mod front;
+mod hashes;
 mod instruction;
 mod item;
 mod known_lines;
-mod marks;
 mod print;
 mod reader;
 mod stretches;

@@ -1,8 +1,8 @@
 ghost use Rattle.std.specs.Prelude.{◌≡◌};
 
 use crate::front::{before_lines, behind_front};
+use crate::hashes::{STRETCH_SLOTS, stretch_hash};
 use crate::item::Item;
-use crate::marks::{STRETCH_SLOTS, stretch_mark};
 use std::alloc::{AllocError, Global};
 
 /// After this many lines at which no stretch was found except by its place, none is looked for by its first
@@ -37,10 +37,10 @@ pub(crate) struct Taken<'a> {
     pub(crate) after: Option<&'a [u8]>,
 }
 
-/// The newest stretch of a slot: its mark and its number.
+/// The newest stretch of a slot: its check and its number.
 #[derive(Clone, Copy)]
 struct Newest {
-    mark: u16,
+    check: u16,
     number: usize,
 }
 
@@ -149,9 +149,9 @@ impl<'a> Stretches<'a> {
             return self.all.len();
         }
         self.misses += 1;
-        let front = stretch_mark(text);
+        let front = stretch_hash(text);
         match self.table.get(front.slot) {
-            Some(newest) if newest.mark == front.mark => newest.number,
+            Some(newest) if newest.check == front.check => newest.number,
             _ => self.all.len(),
         }
     }
@@ -162,13 +162,16 @@ impl<'a> Stretches<'a> {
         ensures run { self.new.run ≡ self.old.run }
     {
         if self.table.is_empty() {
-            let none = Newest { mark: 0, number: 0 };
+            let none = Newest {
+                check: 0,
+                number: 0,
+            };
             self.table = vec![in self.alloc; none; STRETCH_SLOTS]?;
         }
-        let front = stretch_mark(stretch.bytes);
+        let front = stretch_hash(stretch.bytes);
         if stretch.lines >= FEW && front.slot < self.table.len() {
             self.table[front.slot] = Newest {
-                mark: front.mark,
+                check: front.check,
                 number: self.all.len(),
             };
         }

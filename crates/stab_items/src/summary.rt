@@ -1,5 +1,5 @@
 ghost use Rattle.std.specs.Prelude.{◌≡◌, ◌≤◌, ◌*◌, min, length, ◌∷◌, [], All};
-ghost use Rattle.stab_letters.specs.Limits.{most_qubits};
+ghost use Rattle.stab_gates.specs.Limits.{most_qubits};
 ghost use Rattle.stab_lines.specs.Limits.{most_lookback};
 ghost use Rattle.stab_lines.specs.Lookbacks.{IsLookback};
 ghost use Rattle.stab_lines.specs.Targets.{pair_qubits};
@@ -17,7 +17,7 @@ pub struct Summary {
     pub steps: u32,
     pub records: u32,
     pub detectors: u32,
-    pub reach: u32,
+    pub window: u32,
     pub qubits: u32,
     pub observables: u32,
     pub depth: u32,
@@ -43,7 +43,7 @@ impl Summary {
         steps: 0,
         records: 0,
         detectors: 0,
-        reach: 0,
+        window: 0,
         qubits: 0,
         observables: 0,
         depth: 0,
@@ -53,7 +53,7 @@ impl Summary {
     pub fn refusal(self) -> Option<Refusal>
         ensures value { result ≡ judged self }
     {
-        if self.reach > 0 {
+        if self.window > 0 {
             Some(Refusal::LookbackTooFar)
         } else if self.steps > MOST_STEPS {
             Some(Refusal::TooManySteps)
@@ -74,7 +74,7 @@ impl Summary {
             steps: (self.steps + next.steps).min(STEPS_CAP),
             records: (self.records + next.records).min(MOST_RECORDS),
             detectors: (self.detectors + next.detectors).min(MOST_RECORDS),
-            reach: self.reach.max(next.reach.saturating_sub(self.records)),
+            window: self.window.max(next.window.saturating_sub(self.records)),
             qubits: self.qubits.max(next.qubits),
             observables: self.observables.max(next.observables),
             depth: self.depth.max(next.depth),
@@ -203,7 +203,7 @@ fn past_pair(pair: &ControlledPair) -> u32
 }
 
 /// How far back a pair of a controlled gate looks, or 0.
-fn reach_of_pair(pair: &ControlledPair) -> u32
+fn window_of_pair(pair: &ControlledPair) -> u32
     ensures value { result ≡ looks_back pair.now }
     ensures small { result ≤ most_lookback }
 {
@@ -215,10 +215,10 @@ fn reach_of_pair(pair: &ControlledPair) -> u32
 
 /// How many qubits the pairs of a controlled gate name, up to the greatest, and how far back they look.
 #[tactic(auto, using(crate::proofs::SummaryLemmas::past_controlled_dropped, crate::proofs::SummaryLemmas::furthest_dropped, crate::proofs::StepApartLemmas::All_taken, crate::proofs::StepApartLemmas::All_whole))]
-fn past_and_reach(pairs: &[ControlledPair]) -> (u32, u32)
+fn past_and_window(pairs: &[ControlledPair]) -> (u32, u32)
     ensures past { result.0 ≡ past_of (controlled_qubits pairs.now) }
     ensures few { result.0 ≤ most_qubits }
-    ensures reach { result.1 ≡ furthest_of pairs.now }
+    ensures window { result.1 ≡ furthest_of pairs.now }
     ensures near { result.1 ≤ most_lookback }
     ensures apart { All IsPairApart pairs.now }
 {
@@ -226,7 +226,7 @@ fn past_and_reach(pairs: &[ControlledPair]) -> (u32, u32)
     let mut furthest = 0;
     for pair in pairs {
         past = past.max(past_pair(pair));
-        furthest = furthest.max(reach_of_pair(pair));
+        furthest = furthest.max(window_of_pair(pair));
     }
     (past, furthest)
 }
@@ -234,7 +234,7 @@ fn past_and_reach(pairs: &[ControlledPair]) -> (u32, u32)
 /// The summary of this many steps on this many qubits that make no records.
 fn plain(steps: usize, qubits: u32) -> Summary
     requires few { qubits ≤ most_qubits }
-    ensures value { result ≡ record { steps = min steps steps_cap; records = 0; detectors = 0; reach = 0; qubits = qubits; observables = 0; depth = 0 } }
+    ensures value { result ≡ record { steps = min steps steps_cap; records = 0; detectors = 0; window = 0; qubits = qubits; observables = 0; depth = 0 } }
     ensures small { IsSummary result }
 {
     Summary {
@@ -249,13 +249,13 @@ fn plain(steps: usize, qubits: u32) -> Summary
 fn look(records: &[u32], detectors: u32, observables: u32) -> Summary
     requires each { All IsLookback records.now }
     requires few { detectors ≤ most_lookback }
-    ensures value { result ≡ record { steps = 1; records = 0; detectors = detectors; reach = greatest_of records.now; qubits = 0; observables = observables; depth = 0 } }
+    ensures value { result ≡ record { steps = 1; records = 0; detectors = detectors; window = greatest_of records.now; qubits = 0; observables = observables; depth = 0 } }
     ensures small { IsSummary result }
 {
     Summary {
         steps: 1,
         detectors,
-        reach: greatest(records),
+        window: greatest(records),
         observables,
         ..Summary::NONE
     }
@@ -263,13 +263,13 @@ fn look(records: &[u32], detectors: u32, observables: u32) -> Summary
 
 /// The summary of the pairs of a controlled gate.
 fn controlled(pairs: &[ControlledPair]) -> Summary
-    ensures value { result ≡ record { steps = min (length pairs.now) steps_cap; records = 0; detectors = 0; reach = furthest_of pairs.now; qubits = past_of (controlled_qubits pairs.now); observables = 0; depth = 0 } }
+    ensures value { result ≡ record { steps = min (length pairs.now) steps_cap; records = 0; detectors = 0; window = furthest_of pairs.now; qubits = past_of (controlled_qubits pairs.now); observables = 0; depth = 0 } }
     ensures apart { All IsPairApart pairs.now }
     ensures small { IsSummary result }
 {
-    let (past, reach) = past_and_reach(pairs);
+    let (past, window) = past_and_window(pairs);
     Summary {
-        reach,
+        window,
         ..plain(pairs.len(), past)
     }
 }
@@ -277,7 +277,7 @@ fn controlled(pairs: &[ControlledPair]) -> Summary
 /// The summary of this many steps on this many qubits that make a record each.
 fn measurement(steps: usize, qubits: u32) -> Summary
     requires few { qubits ≤ most_qubits }
-    ensures value { result ≡ record { steps = min steps steps_cap; records = min steps most_lookback; detectors = 0; reach = 0; qubits = qubits; observables = 0; depth = 0 } }
+    ensures value { result ≡ record { steps = min steps steps_cap; records = min steps most_lookback; detectors = 0; window = 0; qubits = qubits; observables = 0; depth = 0 } }
     ensures small { IsSummary result }
 {
     Summary {

@@ -1,163 +1,49 @@
-//! What the words of a command line ask for.
-use crate::distance_options::DistanceOptions;
-use crate::fault_layout::FaultLayout;
-use crate::source::Source;
+//! The commands with their options, and the job that the words of a command line ask for.
+use crate::numbers::{QubitCount, Shots, Stride};
 use stab_results::Format;
-use std::marker::Model;
 
-/// Which shots a command takes: at most 1,000,000, one after another, and none beyond the last of a
-/// seed, which is shot 2^64 - 1.
+/// Where coins come from: the outcomes of measurements that no stabiliser decides.
+#[derive(Debug, Drop, PartialEq, Eq)]
+pub enum Source {
+    /// Each shot has its own coins of this seed.
+    Seed(u64),
+    /// Each shot has these coins, and 0 past their end.
+    List(Vec<bool>),
+}
+
+/// Of which letters errors are made.
 #[derive(Clone, Copy, Debug, PartialEq, Eq)]
-pub struct Shots {
-    first: u64,
-    number: usize,
+pub enum ErrorLetters {
+    /// X, Y and Z, and all products of two of them.
+    All,
+    /// X and Z alone, and products of one of them with itself.
+    XAndZ,
 }
 
-impl Model for Shots {
-    ghost use Rattle.std.specs.Prelude.{◌+◌, ◌≤◌};
-    ghost use Rattle.stab_jobs.specs.Limits.{ShotRange, most_shots, shots_of_seed};
-
-    ghost Value = { ShotRange };
-
-    ghost view = { λ s. record { first = s.first; number = s.number } };
-
-    ghost invariant = { λ s. (s.number ≤ most_shots) × (s.first + s.number ≤ shots_of_seed) };
-
-    ghost inverse = { λ r. record { first = r.first; number = r.number } };
-}
-
-impl Shots {
-    ghost use Rattle.std.specs.Prelude.{◌≡◌, ◌+◌, ◌<◌, ◌≤◌, IfSome, IfNone};
-    ghost use Rattle.stab_jobs.specs.Limits.{most_shots, shots_of_seed};
-
-    /// The most shots that a command takes.
-    pub const MOST: usize = 1_000_000;
-
-    /// This many shots from shot 0 on, at most 1,000,000.
-    pub fn new(number: usize) -> Shots
-        requires in_range { number ≤ most_shots }
-        ensures value { result ≡ record { first = 0; number = number } }
-    {
-        Shots { first: 0, number }
-    }
-
-    /// This many shots from this one on, at most 1,000,000, or none if they go beyond shot 2^64 - 1.
-    pub fn from_first(first: u64, number: usize) -> Option<Shots>
-        requires in_range { number ≤ most_shots }
-        ensures some { IfSome result (λ shots. shots ≡ record { first = first; number = number }) }
-        ensures none { IfNone result (shots_of_seed < first + number) }
-    {
-        if first <= u64::MAX - number.saturating_sub(1) as u64 {
-            Some(Shots { first, number })
-        } else {
-            None
-        }
-    }
-
-    /// The number of the first shot.
-    pub fn first(self) -> u64
-        ensures value { result ≡ self.first }
-        ensures in_range { result + self.number ≤ shots_of_seed }
-    {
-        self.first
-    }
-
-    /// How many shots.
-    pub fn number(self) -> usize
-        ensures value { result ≡ self.number }
-        ensures in_range { result ≤ most_shots }
-    {
-        self.number
-    }
-}
-
-/// On how many qubits a circuit is edited, at most 1,024.
+/// Of which errors the distance of a circuit is asked for, and how far.
 #[derive(Clone, Copy, Debug, PartialEq, Eq)]
-pub struct QubitCount {
-    number: usize,
+pub struct DistanceOptions {
+    /// Errors everywhere, and not at the places that the circuit marks.
+    pub everywhere: bool,
+    /// Of which letters they are made.
+    pub letters: ErrorLetters,
+    /// Only those errors that flip at most two detectors.
+    pub graphlike: bool,
+    /// Up to how many errors.
+    pub most: Option<usize>,
+    /// Detectors and observables that are not the same for all random bits are left out, and not refused.
+    pub deterministic_only: bool,
+    /// Each number of errors that was excluded is reported meanwhile.
+    pub progress: bool,
 }
 
-impl Model for QubitCount {
-    ghost use Rattle.std.specs.Prelude.{ℕ, ◌≤◌};
-    ghost use Rattle.stab_letters.specs.Limits.{most_qubits};
-
-    ghost Value = { ℕ };
-
-    ghost view = { λ q. q.number };
-
-    ghost invariant = { λ q. q.number ≤ most_qubits };
-
-    ghost inverse = { λ n. record { number = n } };
-}
-
-impl QubitCount {
-    ghost use Rattle.std.specs.Prelude.{◌≡◌, ◌≤◌};
-    ghost use Rattle.stab_letters.specs.Limits.{most_qubits};
-
-    /// The most qubits of a circuit.
-    pub const MOST: usize = 1024;
-
-    /// This many qubits, at most 1,024.
-    pub fn new(number: usize) -> QubitCount
-        requires in_range { number ≤ most_qubits }
-        ensures value { result ≡ number }
-    {
-        QubitCount { number }
-    }
-
-    /// How many qubits.
-    pub fn number(self) -> usize
-        ensures value { result ≡ self }
-        ensures in_range { result ≤ most_qubits }
-    {
-        self.number
-    }
-}
-
-/// After how many steps a session keeps a checkpoint, from 1 to 65,536. It changes how long edits take
-/// and how much memory they need, and nothing that is written.
+/// How a table of faults or coins is written.
 #[derive(Clone, Copy, Debug, PartialEq, Eq)]
-pub struct Stride {
-    steps: usize,
-}
-
-impl Model for Stride {
-    ghost use Rattle.std.specs.Prelude.{ℕ, ◌≤◌};
-    ghost use Rattle.stab_run.specs.Limits.{most_stride};
-
-    ghost Value = { ℕ };
-
-    ghost view = { λ s. s.steps };
-
-    ghost invariant = { λ s. (1 ≤ s.steps) × (s.steps ≤ most_stride) };
-
-    ghost inverse = { λ n. record { steps = n } };
-}
-
-impl Stride {
-    ghost use Rattle.std.specs.Prelude.{◌≡◌, ◌≤◌};
-    ghost use Rattle.stab_run.specs.Limits.{most_stride};
-
-    /// The greatest stride.
-    pub const MOST: usize = 65_536;
-
-    /// This many steps, from 1 to 65,536.
-    pub fn new(steps: usize) -> Stride
-        requires above { 1 ≤ steps }
-        requires within { steps ≤ most_stride }
-        ensures value { result ≡ steps }
-    {
-        Stride { steps }
-    }
-
-    /// How many steps.
-    pub fn steps(self) -> usize
-        ensures value { result ≡ self }
-        ensures above { 1 ≤ result }
-        ensures within { result ≤ most_stride }
-    {
-        self.steps
-    }
+pub enum FaultLayout {
+    /// A line for each fault or coin: where it is, its name, and what it flips.
+    Lines,
+    /// A shot for each fault or coin, whose bits are 1 if it flips them.
+    Shots(Format),
 }
 
 /// A command, with the options that are its own.
@@ -184,11 +70,11 @@ pub enum Command {
     },
     /// Writes which detectors and observables each fault flips, at the places that the circuit marks
     /// or `everywhere`. A circuit in which one is not the same for all random bits is refused, unless
-    /// `sure_only` leaves such bits out.
+    /// `deterministic_only` leaves such bits out.
     Faults {
         layout: FaultLayout,
         everywhere: bool,
-        sure_only: bool,
+        deterministic_only: bool,
     },
     /// Writes, for each detector and observable that is not the same for all random bits, which coins decide it.
     Explain,

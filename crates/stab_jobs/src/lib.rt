@@ -1,16 +1,10 @@
 //! Jobs: what a user can ask for, apart from how it is done.
 //!
-//! In the order in which data flows; each module uses only those before it:
+//! - `numbers`: how many shots, qubits and steps between checkpoints.
+//! - `job`: where coins come from, the commands with their options, and the job that the words of a command line ask for.
 //!
-//! - `source`: where the coins of a command come from.
-//! - `error_letters`: of which letters the errors of a circuit are made.
-//! - `distance_options`: of which errors the distance of a circuit is asked for.
-//! - `fault_layout`: how a command writes a table of faults.
-//! - `job`: which shots, qubits and checkpoints, the commands, and the job that the words of a command line
-//!   ask for.
-//!
-//! What a command does is proved where it is run, in `stab_tables` and `stab_commands`, and which words ask for a
-//! job in `stab_words`.
+//! What a command does is proved where it is run, in `stab_analysis` and `stab_commands`, and which words ask for a
+//! job in `stab_args`.
 //!
 //! Source: this project's own.
 //!
@@ -18,14 +12,8 @@
 //! (`specs/Limits.antt`), so that no command asks for them anew; and which job reads a script.
 #![tactic(auto)]
 
-mod distance_options;
-mod error_letters;
-mod fault_layout;
 mod job;
-mod source;
+mod numbers;
 
-pub use distance_options::DistanceOptions;
-pub use error_letters::ErrorLetters;
-pub use fault_layout::FaultLayout;
-pub use job::{Command, Job, QubitCount, Shots, Stride};
-pub use source::Source;
+pub use job::{Command, DistanceOptions, ErrorLetters, FaultLayout, Job, Source};
+pub use numbers::{QubitCount, Shots, Stride};

@@ -1,22 +1,5 @@
 -- Printed targets and arguments are read again as what they were printed of.
-use Rattle.std.proofs.Common.{◌≡◌, ◌<◌, ◌≤◌, ◌^◌, refl, ap, sym, ◌∙◌, subst, ℕ, ◌-◌, ◌==◌, ◌&&◌, ◌||◌, nat_le, nat_lt, nat_eq, List, [], ◌∷◌, ◌++◌, Bool, true, false, not, length, take, filter, map, append_assoc, append-nil, arith, codes, if◌then◌else◌, Some, Result, Ok}
-use Rattle.std.specs.List.{slice_split, list_all, starts_with}
-use Rattle.std.specs.Fmt.{decimal}
-use Rattle.std.proofs.lemmas.List.{length-append}
-use Rattle.std.proofs.lemmas.List.Splits.{slice_split-cons_yes}
-use Rattle.std.proofs.lemmas.Fmt.{digits_decimal, digits_value-decimal, decimal_nonempty, length-decimal-le}
-use Rattle.std.proofs.lemmas.Bool.Decides.{nat_tests}
-use Rattle.stab_io.specs.declared.refusal.Refusal.{Refusal}
-use Rattle.stab_letters.specs.Limits.{most_qubits}
-use Rattle.stab_lines.specs.Limits.{most_observables, most_lookback}
-use Rattle.stab_lines.specs.declared.range.MeasureTarget.{MeasureTarget}
-use Rattle.stab_lines.specs.Results.{◌>>=◌, each}
-use Rattle.stab_lines.specs.Lines.{is_byte, is_digit, is_spacing, trimmed, starts_with_byte, ends_with_byte}
-use Rattle.stab_lines.specs.Words.{words, is_some_word, is_blank, arguments_of, is_number, value}
-use Rattle.stab_lines.specs.Lookbacks.{IsLookback}
-use Rattle.stab_lines.specs.Targets.{pair_qubits}
-use Rattle.stab_lines.specs.Targets.{qubit_of, measure_target_of, lookback_of, lookback_digits, is_lookback, count_of, pairs_of, is_coordinate_byte, coordinate_of, observable_of}
-use Rattle.stab_lines.specs.Prints.{each_after, spaced, pair_text, mark_text, target_text, lookback_text}
+use Rattle.stab_lines.proofs.Names.{◌≡◌, ◌<◌, ◌≤◌, ◌^◌, refl, ap, sym, ◌∙◌, subst, ℕ, ◌-◌, ◌==◌, ◌&&◌, ◌||◌, nat_le, nat_lt, nat_eq, List, [], ◌∷◌, ◌++◌, Bool, true, false, not, length, take, filter, map, append_assoc, append-nil, arith, codes, if◌then◌else◌, Some, Result, Ok, slice_split, list_all, starts_with, decimal, length-append, slice_split-cons_yes, digits_decimal, digits_value-decimal, decimal_nonempty, length-decimal-le, nat_tests, Refusal, most_qubits, most_observables, most_lookback, MeasureTarget, ◌>>=◌, each, is_byte, is_digit, is_spacing, trimmed, starts_with_byte, ends_with_byte, words, is_some_word, is_blank, arguments_of, is_number, value, IsLookback, pair_qubits, qubit_of, measure_target_of, lookback_of, lookback_digits, is_lookback, count_of, pairs_of, is_coordinate_byte, coordinate_of, observable_of, each_after, spaced, pair_text, mark_text, target_text, lookback_text}
 use Rattle.stab_lines.proofs.BoolLemmas.{chosen, passed, both, and_left, and_right}
 use Rattle.stab_lines.proofs.WordLemmas.{decimal_model}
 use Rattle.stab_lines.proofs.TargetLemmas.{different}

@@ -1,10 +1,5 @@
 -- Arguments as they are printed, one after another.
-use Rattle.std.proofs.Common.{◌≡◌, ◌<◌, ℕ, List, [], ◌∷◌, ◌++◌, length, Option, Some, false, if◌then◌else◌, map, codes, ap, sym, refl, ◌∙◌, arith}
-use Rattle.std.specs.List.{slice_split}
-use Rattle.std.proofs.lemmas.List.Splits.{length-slice_split}
-use Rattle.stab_lines.specs.Lines.{is_byte, trimmed}
-use Rattle.stab_lines.specs.Words.{arguments_of, is_blank, pieces_after}
-use Rattle.stab_lines.specs.Prints.{after_space, arguments_text, each_after}
+use Rattle.stab_lines.proofs.Names.{◌≡◌, ◌<◌, ℕ, List, [], ◌∷◌, ◌++◌, length, Option, Some, false, if◌then◌else◌, map, codes, ap, sym, refl, ◌∙◌, arith, slice_split, length-slice_split, is_byte, trimmed, arguments_of, is_blank, pieces_after, after_space, arguments_text, each_after}
 
 -- the text of what is between commas, each after a comma and a space
 abbrev pub more_text : List (List ℕ) → List ℕ

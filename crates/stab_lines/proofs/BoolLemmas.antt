@@ -1,5 +1,5 @@
 -- Tests and choices.
-use Rattle.std.proofs.Common.{◌≡◌, Bool, true, false, ◌&&◌, refl, ap, ◌∙◌, if◌then◌else◌}
+use Rattle.stab_lines.proofs.Names.{◌≡◌, Bool, true, false, ◌&&◌, refl, ap, ◌∙◌, if◌then◌else◌}
 
 pub and_left : (a b : Bool) → (a && b) ≡ true → a ≡ true
 and_left true b h = refl

@@ -1,10 +1,5 @@
 -- Bytes among which there is no brace.
-use Rattle.std.proofs.Common.{◌≡◌, ℕ, ◌+◌, suc, Bool, true, false, ◌||◌, List, [], ◌∷◌, ◌++◌, take, drop, codes, refl, sym, ap, ◌∙◌, arith, if◌then◌else◌}
-use Rattle.std.specs.List.{list_all, list_any, prefix_len}
-use Rattle.std.proofs.lemmas.List.Folds.{list_any-append}
-use Rattle.std.proofs.lemmas.Bool.Decides.{nat_tests}
-use Rattle.stab_lines.specs.Lines.{is_spacing, is_digit, is_brace, trimmed_front}
-use Rattle.stab_lines.specs.Words.{is_blank}
+use Rattle.stab_lines.proofs.Names.{◌≡◌, ℕ, ◌+◌, suc, Bool, true, false, ◌||◌, List, [], ◌∷◌, ◌++◌, take, drop, codes, refl, sym, ap, ◌∙◌, arith, if◌then◌else◌, list_all, list_any, prefix_len, list_any-append, nat_tests, is_spacing, is_digit, is_brace, trimmed_front, is_blank}
 use Rattle.stab_lines.proofs.BoolLemmas.{and_left, and_right}
 use Rattle.stab_lines.proofs.FreeLemmas.{Free, free-append, digits_free, any_free}
 use Rattle.stab_lines.proofs.FrontTargetLemmas.{record_word}

@@ -1,24 +1,9 @@
 -- What a printed content is made of: its name, its arguments and its targets.
-use Rattle.std.proofs.Common.{◌≡◌, ◌<◌, ◌^◌, refl, sym, subst, ℕ, List, [], ◌∷◌, ◌++◌, Bool, true, false, append-nil, arith, codes, ◌⊎◌, inl, inr}
-use Rattle.std.specs.List.{list_all}
-use Rattle.std.specs.Fmt.{decimal}
-use Rattle.std.proofs.lemmas.Bool.Decides.{nat_tests}
-use Rattle.stab_letters.specs.declared.gate.Gate.{Gate}
-use Rattle.stab_letters.specs.declared.gate.Gate.TheVariants as one
-use Rattle.stab_lines.specs.declared.axis.Axis.{Axis}
+use Rattle.stab_lines.proofs.Names.{◌≡◌, ◌<◌, ◌^◌, refl, sym, subst, ℕ, List, [], ◌∷◌, ◌++◌, Bool, true, false, append-nil, arith, codes, ◌⊎◌, inl, inr, list_all, decimal, nat_tests, Gate, Axis, Factor, ControlledPair, MeasureTarget, Kind, is_digit, IsLookback, is_coordinate_byte, pair_qubits, gate_name, controlled_name, measurement_name, reset_name, kind_name, controlled_text, product_text, kind_arguments, mark_text, target_text, lookback_text, spaced, targets_text}
+use Rattle.stab_gates.specs.declared.gate.Gate.TheVariants as one
 use Rattle.stab_lines.specs.declared.axis.Axis.TheVariants as axis
-use Rattle.stab_lines.specs.declared.product.Factor.{Factor}
-use Rattle.stab_lines.specs.declared.control.ControlledPair.{ControlledPair}
 use Rattle.stab_lines.specs.declared.control.ControlledPair.TheVariants as pair
-use Rattle.stab_lines.specs.declared.range.MeasureTarget.{MeasureTarget}
-use Rattle.stab_lines.specs.declared.operation.Kind.{Kind}
 use Rattle.stab_lines.specs.declared.operation.Kind.TheVariants as kind
-use Rattle.stab_lines.specs.Lines.{is_digit}
-use Rattle.stab_lines.specs.Lookbacks.{IsLookback}
-use Rattle.stab_lines.specs.Targets.{is_coordinate_byte}
-use Rattle.stab_lines.specs.Targets.{pair_qubits}
-use Rattle.stab_lines.specs.Names.{gate_name, controlled_name, measurement_name, reset_name}
-use Rattle.stab_lines.specs.Prints.{kind_name, controlled_text, product_text, kind_arguments, mark_text, target_text, lookback_text, spaced, targets_text}
 use Rattle.stab_lines.proofs.BoolLemmas.{both, and_left, and_right}
 use Rattle.stab_lines.proofs.FreeLemmas.{Each, Free, free-append, each_weaker, digits_free}
 use Rattle.stab_lines.proofs.SureLemmas.{IsQubit, IsMeasured, IsProduct, IsControlled, IsCoordinate, IsGoodKind}

@@ -1,17 +1,7 @@
 -- Printed pairs of a control and a qubit are read again as what they were printed of.
-use Rattle.std.proofs.Common.{◌≡◌, ◌<◌, refl, ap, ◌∙◌, ℕ, ◌==◌, List, [], ◌∷◌, ◌++◌, map, append_assoc, arith, codes, Ok}
-use Rattle.std.specs.Fmt.{decimal}
-use Rattle.stab_letters.specs.Limits.{most_qubits}
-use Rattle.stab_lines.specs.declared.control.Control.{Control}
+use Rattle.stab_lines.proofs.Names.{◌≡◌, ◌<◌, refl, ap, ◌∙◌, ℕ, ◌==◌, List, [], ◌∷◌, ◌++◌, map, append_assoc, arith, codes, Ok, decimal, most_qubits, Control, ControlTarget, ControlledPair, ◌>>=◌, each, words, qubit_of, is_lookback, control_of, by_turns, paired, controlled_of, spaced, lookback_text, controlled_text}
 use Rattle.stab_lines.specs.declared.control.Control.TheVariants as control
-use Rattle.stab_lines.specs.declared.control.ControlTarget.{ControlTarget}
-use Rattle.stab_lines.specs.declared.control.ControlledPair.{ControlledPair}
 use Rattle.stab_lines.specs.declared.control.ControlledPair.TheVariants as pair
-use Rattle.stab_lines.specs.Results.{◌>>=◌, each}
-use Rattle.stab_lines.specs.Words.{words}
-use Rattle.stab_lines.specs.Targets.{qubit_of, is_lookback}
-use Rattle.stab_lines.specs.Controls.{control_of, by_turns, paired, controlled_of}
-use Rattle.stab_lines.specs.Prints.{spaced, lookback_text, controlled_text}
 use Rattle.stab_lines.proofs.BoolLemmas.{chosen, passed}
 use Rattle.stab_lines.proofs.TargetLemmas.{different}
 use Rattle.stab_lines.proofs.ControlLemmas.{no_record}

@@ -1,18 +1,6 @@
 -- Controls: targets by turns, one pair more.
-use Rattle.std.proofs.Common.{◌≡◌, Bor, Option, Some, None, MatchOption, ℕ, true, false, ◌&&◌, nat_eq, List, [], ◌∷◌, ◌++◌, codes, Result, Ok, Err, refl, ap, sym, ◌∙◌, append_assoc, arith}
-use Rattle.std.specs.List.{list_all, starts_with}
-use Rattle.std.proofs.lemmas.Bool.Decides.{nat_tests}
-use Rattle.stab_io.specs.declared.refusal.Refusal.{Refusal}
-use Rattle.stab_lines.specs.declared.control.Control.{Control}
-use Rattle.stab_lines.specs.declared.control.ControlTarget.{ControlTarget}
+use Rattle.stab_lines.proofs.Names.{◌≡◌, Bor, Option, Some, None, MatchOption, ℕ, true, false, ◌&&◌, nat_eq, List, [], ◌∷◌, ◌++◌, codes, Result, Ok, Err, refl, ap, sym, ◌∙◌, append_assoc, arith, list_all, starts_with, nat_tests, Refusal, Control, ControlTarget, ControlledPair, ◌>>=◌, each, is_digit, ends_with_byte, words, is_number, is_some_word, qubit_of, is_lookback, lookback_digits, control_of, by_turns, pair_of, paired, controlled_of, BeginsWithTarget, begun_with, second_of}
 use Rattle.stab_lines.specs.declared.control.Control.TheVariants as control
-use Rattle.stab_lines.specs.declared.control.ControlledPair.{ControlledPair}
-use Rattle.stab_lines.specs.Results.{◌>>=◌, each}
-use Rattle.stab_lines.specs.Lines.{is_digit, ends_with_byte}
-use Rattle.stab_lines.specs.Words.{words, is_number, is_some_word}
-use Rattle.stab_lines.specs.Targets.{qubit_of, is_lookback, lookback_digits}
-use Rattle.stab_lines.specs.Controls.{control_of, by_turns, pair_of, paired, controlled_of}
-use Rattle.stab_lines.specs.inner.FrontTargets.{BeginsWithTarget, begun_with, second_of}
 use Rattle.stab_lines.proofs.BoolLemmas.{and_left, and_right, passed}
 use Rattle.stab_lines.proofs.FrontTargetLemmas.{qubit_is_number}
 use Rattle.stab_lines.proofs.ResultLemmas.{behind}

@@ -1,10 +1,5 @@
 -- Coordinates are read as they are written.
-use Rattle.std.proofs.Common.{◌≡◌, ℕ, Bool, true, false, ◌&&◌, List, [], ◌∷◌, Ok, Err, refl, ap, ◌∙◌}
-use Rattle.std.specs.List.{list_all}
-use Rattle.stab_io.specs.declared.refusal.Refusal.TheVariants.{BadArguments}
-use Rattle.stab_lines.specs.Results.{◌>>=◌, each}
-use Rattle.stab_lines.specs.Targets.{coordinate_of}
-use Rattle.stab_lines.specs.inner.Parts.{is_coordinate}
+use Rattle.stab_lines.proofs.Names.{◌≡◌, ℕ, Bool, true, false, ◌&&◌, List, [], ◌∷◌, Ok, Err, refl, ap, ◌∙◌, list_all, BadArguments, ◌>>=◌, each, coordinate_of, is_coordinate}
 use Rattle.stab_lines.proofs.BoolLemmas.{chosen, passed, and_left, and_right}
 
 coordinate_read : (c : List ℕ) → is_coordinate c ≡ true → coordinate_of c ≡ Ok c

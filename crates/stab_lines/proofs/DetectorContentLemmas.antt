@@ -1,28 +1,14 @@
 -- The content of a detector: how it is cut, and what it means.
-use Rattle.std.proofs.Common.{◌≡◌, ℕ, ◌+◌, suc, Bool, true, false, not, ◌==◌, nat_eq, List, [], ◌∷◌, ◌++◌, take, drop, codes, Some, Result, Ok, Err, ◌⊎◌, inl, inr, refl, sym, ap, ◌∙◌, arith, if◌then◌else◌}
-use Rattle.std.specs.List.{list_all, list_any, prefix_len, starts_with}
-use Rattle.std.proofs.lemmas.List.{take-append-drop}
-use Rattle.stab_io.specs.declared.refusal.Refusal.{Refusal}
-use Rattle.stab_io.specs.declared.refusal.Refusal.TheVariants.{BadArguments, OutOfMemory}
+use Rattle.stab_lines.proofs.Names.{◌≡◌, ℕ, ◌+◌, suc, Bool, true, false, not, ◌==◌, nat_eq, List, [], ◌∷◌, ◌++◌, take, drop, codes, Some, Result, Ok, Err, ◌⊎◌, inl, inr, refl, sym, ap, ◌∙◌, arith, if◌then◌else◌, list_all, list_any, prefix_len, starts_with, take-append-drop, Refusal, BadArguments, OutOfMemory, Line, ◌>>=◌, each, Shape, is_byte, is_brace, is_apart, starts_with_byte, ends_with_byte, behind_tag, shaped, shape_of, words, arguments_of, lookback_of, kind_of, without_open, named_line, shape_meaning, meaning_of, is_word_end, is_coordinate, is_inner, IsCutDetector, behind_coordinates, TellsDetector, not-true}
 use Rattle.stab_lines.specs.declared.name.Instruction.TheVariants as instruction
 use Rattle.stab_lines.specs.declared.operation.Kind.TheVariants as kind
-use Rattle.stab_lines.specs.declared.meanings.Line.{Line}
 use Rattle.stab_lines.specs.declared.meanings.Line.TheVariants as line
-use Rattle.stab_lines.specs.Results.{◌>>=◌, each}
-use Rattle.stab_lines.specs.Lines.{Shape, is_byte, is_brace, is_apart, starts_with_byte, ends_with_byte, behind_tag, shaped, shape_of}
-use Rattle.stab_lines.specs.Words.{words, arguments_of}
-use Rattle.stab_lines.specs.Targets.{lookback_of}
-use Rattle.stab_lines.specs.Meanings.{kind_of, without_open, named_line, shape_meaning, meaning_of}
-use Rattle.stab_lines.specs.inner.Numbers.{is_word_end}
-use Rattle.stab_lines.specs.inner.Parts.{is_coordinate}
-use Rattle.stab_lines.specs.inner.DetectorContents.{is_inner, IsCutDetector, behind_coordinates, TellsDetector}
 use Rattle.stab_lines.proofs.BoolLemmas.{both, passed, and_left, and_right}
 use Rattle.stab_lines.proofs.FreeLemmas.{Free, each_weaker, free_any, ends_free}
 use Rattle.stab_lines.proofs.FrontTargetLemmas.{starts_same, closing_is}
 use Rattle.stab_lines.proofs.CoordinateLemmas.{each_coordinate, no_coordinate}
 use Rattle.stab_lines.proofs.ShapeLemmas.{each_all, brackets_again, no_brackets, shaped_again, spaced_apart, brace_free}
 use Rattle.stab_lines.proofs.MeaningLemmas.{kind_name_again, letter_means}
-use Rattle.std.proofs.lemmas.Bool.{not-true}
 
 -- the bytes in front that pass, pass
 all_cut : (p : ℕ → Bool) (x : ℕ) (xs : List ℕ) (b : Bool) → p x ≡ b → list_all p (take (prefix_len p xs) xs) ≡ true → list_all p (take (if b then 1 + prefix_len p xs else 0) (x ∷ xs)) ≡ true

@@ -1,13 +1,5 @@
 -- Records of a detector that are read into a few places.
-use Rattle.std.proofs.Common.{◌≡◌, ◌<◌, ℕ, ◌+◌, true, List, [], ◌∷◌, length, take, set, All, Result, Ok, sym, ap, ◌∙◌, subst}
-use Rattle.std.proofs.lemmas.List.{take_more_set}
-use Rattle.std.proofs.lemmas.List.Elements.{All-nil, All-cons, All-append}
-use Rattle.stab_io.specs.declared.refusal.Refusal.{Refusal}
-use Rattle.stab_lines.specs.Results.{each}
-use Rattle.stab_lines.specs.Words.{words, is_blank}
-use Rattle.stab_lines.specs.Lookbacks.{IsLookback}
-use Rattle.stab_lines.specs.Targets.{lookback_of}
-use Rattle.stab_lines.specs.inner.FrontTargets.{BeginsWithTarget}
+use Rattle.stab_lines.proofs.Names.{◌≡◌, ◌<◌, ℕ, ◌+◌, true, List, [], ◌∷◌, length, take, set, All, Result, Ok, sym, ap, ◌∙◌, subst, take_more_set, All-nil, All-cons, All-append, Refusal, each, words, is_blank, IsLookback, lookback_of, BeginsWithTarget}
 use Rattle.stab_lines.proofs.ResultLemmas.{behind, behind_none, behind_next}
 use Rattle.stab_lines.proofs.PieceLemmas.{blank_words}
 use Rattle.stab_lines.proofs.TargetLemmas.{lookback_in_range}

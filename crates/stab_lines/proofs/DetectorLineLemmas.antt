@@ -1,22 +1,7 @@
 -- The line of a detector that is read off the front of a text.
-use Rattle.std.proofs.Common.{◌≡◌, ◌<◌, ℕ, ◌+◌, suc, Bool, true, false, ◌&&◌, ◌||◌, ◌==◌, List, [], ◌∷◌, ◌++◌, length, take, drop, get_or, map, codes, Option, None, Some, MatchOption, Ok, refl, sym, ap, subst, ◌∙◌, arith, drop-cons, append_assoc, append-nil, if◌then◌else◌, ◌⊎◌, inl, inr, nat_eq, length-drop}
-use Rattle.std.specs.List.{list_all, list_any, slice_split, onto_first, prefix_len, starts_with}
-use Rattle.std.proofs.lemmas.Bool.Decides.{nat_tests}
-use Rattle.std.proofs.lemmas.List.{length-append, take-append-drop}
-use Rattle.std.proofs.lemmas.List.Splits.{slice_split-cons_yes, slice_split-cons_no}
+use Rattle.stab_lines.proofs.Names.{◌≡◌, ◌<◌, ℕ, ◌+◌, suc, Bool, true, false, ◌&&◌, ◌||◌, ◌==◌, List, [], ◌∷◌, ◌++◌, length, take, drop, get_or, map, codes, Option, None, Some, MatchOption, Ok, refl, sym, ap, subst, ◌∙◌, arith, drop-cons, append_assoc, append-nil, if◌then◌else◌, ◌⊎◌, inl, inr, nat_eq, length-drop, list_all, list_any, slice_split, onto_first, prefix_len, starts_with, nat_tests, length-append, take-append-drop, slice_split-cons_yes, slice_split-cons_no, ◌>>=◌, each, is_byte, is_digit, is_spacing, is_brace, starts_with_byte, trimmed, trimmed_end, content_of, words, is_some_word, is_blank, arguments_of, value, is_number, pieces_after, IsLookback, is_coordinate_byte, lookback_of, meaning_of, is_word_end, is_coordinate, is_inner, IsCutDetector, BeginsWithDetector, may_follow, are_listed, AreSpacedRecords, EndsLine}
 use Rattle.stab_lines.specs.declared.operation.Kind.TheVariants as kind
 use Rattle.stab_lines.specs.declared.meanings.Line.TheVariants as line
-use Rattle.stab_lines.specs.Results.{◌>>=◌, each}
-use Rattle.stab_lines.specs.Lines.{is_byte, is_digit, is_spacing, is_brace, starts_with_byte, trimmed, trimmed_end, content_of}
-use Rattle.stab_lines.specs.Words.{words, is_some_word, is_blank, arguments_of, value, is_number, pieces_after}
-use Rattle.stab_lines.specs.Lookbacks.{IsLookback}
-use Rattle.stab_lines.specs.Targets.{is_coordinate_byte, lookback_of}
-use Rattle.stab_lines.specs.Meanings.{meaning_of}
-use Rattle.stab_lines.specs.inner.Numbers.{is_word_end}
-use Rattle.stab_lines.specs.inner.Parts.{is_coordinate}
-use Rattle.stab_lines.specs.inner.DetectorContents.{is_inner, IsCutDetector}
-use Rattle.stab_lines.specs.FirstLines.{BeginsWithDetector}
-use Rattle.stab_lines.specs.inner.DetectorLines.{may_follow, are_listed, AreSpacedRecords, EndsLine}
 use Rattle.stab_lines.proofs.BoolLemmas.{and_left, and_right, both}
 use Rattle.stab_lines.proofs.FreeLemmas.{Each, Free, free-append, split_free, split_last, digits_free, any_free}
 use Rattle.stab_lines.proofs.NeatLemmas.{Ends, ends_one, ends-append, solid_word, IsNeat, content_again, trimmed_again}

@@ -1,19 +1,7 @@
 -- The contents that are blank lines: the empty ones.
-use Rattle.std.proofs.Common.{◌≡◌, refl, sym, ◌∙◌, ℕ, ◌==◌, List, [], ◌∷◌, Bool, true, false, length, Option, None, Some, Result, Ok, Err, arith, if◌then◌else◌}
-use Rattle.std.proofs.lemmas.Bool.Decides.{nat_tests}
-use Rattle.stab_io.specs.declared.refusal.Refusal.{Refusal}
-use Rattle.stab_io.specs.declared.refusal.Refusal.TheVariants.{BadBlock}
-use Rattle.stab_lines.specs.declared.operation.Kind.{Kind}
-use Rattle.stab_lines.specs.declared.meanings.Line.{Line}
-use Rattle.stab_lines.specs.declared.meanings.Line.TheVariants.{Blank, Close, Open}
+use Rattle.stab_lines.proofs.Names.{◌≡◌, refl, sym, ◌∙◌, ℕ, ◌==◌, List, [], ◌∷◌, Bool, true, false, length, Option, None, Some, Result, Ok, Err, arith, if◌then◌else◌, nat_tests, Refusal, BadBlock, Kind, Line, Blank, Close, Open, Name, ◌>>=◌, Shape, shape_of, name_of, count_of, meaning_of, is_close, shape_meaning, named_line, block_of, kind_of, targets_alone, opened, only_count}
 use Rattle.stab_lines.specs.declared.meanings.Line.TheVariants as line
-use Rattle.stab_lines.specs.declared.name.Name.{Name}
 use Rattle.stab_lines.specs.declared.name.Name.TheVariants as name
-use Rattle.stab_lines.specs.Results.{◌>>=◌}
-use Rattle.stab_lines.specs.Lines.{Shape, shape_of}
-use Rattle.stab_lines.specs.Names.{name_of}
-use Rattle.stab_lines.specs.Targets.{count_of}
-use Rattle.stab_lines.specs.Meanings.{meaning_of, is_close, shape_meaning, named_line, block_of, kind_of, targets_alone, opened, only_count}
 use Rattle.stab_lines.proofs.BoolLemmas.{chosen, passed}
 
 -- a name and what follows it are never a blank line

@@ -1,18 +1,6 @@
 -- Printed products are read again as what they were printed of.
-use Rattle.std.proofs.Common.{◌≡◌, ◌<◌, refl, ap, ◌∙◌, ℕ, List, [], ◌∷◌, ◌++◌, Bool, true, false, drop, map, append-nil, arith, codes, if◌then◌else◌, Some, is_some, Ok, Err}
-use Rattle.std.specs.List.{slice_split, list_all}
-use Rattle.std.specs.Fmt.{decimal}
-use Rattle.stab_io.specs.declared.refusal.Refusal.TheVariants.{BadTarget}
-use Rattle.stab_letters.specs.Limits.{most_qubits}
-use Rattle.stab_lines.specs.declared.axis.Axis.{Axis}
+use Rattle.stab_lines.proofs.Names.{◌≡◌, ◌<◌, refl, ap, ◌∙◌, ℕ, List, [], ◌∷◌, ◌++◌, Bool, true, false, drop, map, append-nil, arith, codes, if◌then◌else◌, Some, is_some, Ok, Err, slice_split, list_all, decimal, BadTarget, most_qubits, Axis, Factor, ◌>>=◌, each, is_byte, is_digit, is_spacing, starts_with_byte, words, is_some_word, is_number, first_axis, unmarked, is_factor, factor_on, factor_of, names_twice, on_different, product_of, each_after, spaced, mark_text, axis_text, factor_text, product_text}
 use Rattle.stab_lines.specs.declared.axis.Axis.TheVariants as axis
-use Rattle.stab_lines.specs.declared.product.Factor.{Factor}
-use Rattle.stab_lines.specs.Results.{◌>>=◌, each}
-use Rattle.stab_lines.specs.Lines.{is_byte, is_digit, is_spacing, starts_with_byte}
-use Rattle.stab_lines.specs.Words.{words, is_some_word, is_number}
-use Rattle.stab_lines.specs.Axes.{first_axis}
-use Rattle.stab_lines.specs.Products.{unmarked, is_factor, factor_on, factor_of, names_twice, on_different, product_of}
-use Rattle.stab_lines.specs.Prints.{each_after, spaced, mark_text, axis_text, factor_text, product_text}
 use Rattle.stab_lines.proofs.BoolLemmas.{chosen, passed, both}
 use Rattle.stab_lines.proofs.FreeLemmas.{Each, Free, drop_none, each_weaker, free-append, digits_free, split_free, split_last}
 use Rattle.stab_lines.proofs.SureLemmas.{IsFactor, IsProduct}

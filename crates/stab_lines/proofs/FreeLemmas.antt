@@ -1,11 +1,6 @@
 -- Bytes that are free of others, and where such bytes end.
-use Rattle.std.proofs.Common.{◌≡◌, ◌<◌, refl, ap, sym, ◌∙◌, subst, ℕ, ◌+◌, ◌==◌, nat_lt, zero, suc, List, [], ◌∷◌, ◌++◌, Bool, true, false, not, ◌||◌, length, take, drop, take_all, reverse, arith, if◌then◌else◌, replicate}
-use Rattle.std.specs.List.{slice_split, onto_first, prefix_len, position_or_len, before_first, after_first, list_any, list_all}
-use Rattle.std.proofs.lemmas.List.{length-append, reverse-append}
-use Rattle.std.proofs.lemmas.List.Splits.{slice_split-cons_yes, slice_split-cons_no}
-use Rattle.stab_lines.specs.Lines.{is_byte, is_digit, has_byte, starts_with_byte, ends_with_byte}
+use Rattle.stab_lines.proofs.Names.{◌≡◌, ◌<◌, refl, ap, sym, ◌∙◌, subst, ℕ, ◌+◌, ◌==◌, nat_lt, zero, suc, List, [], ◌∷◌, ◌++◌, Bool, true, false, not, ◌||◌, length, take, drop, take_all, reverse, arith, if◌then◌else◌, replicate, slice_split, onto_first, prefix_len, position_or_len, before_first, after_first, list_any, list_all, length-append, reverse-append, slice_split-cons_yes, slice_split-cons_no, is_byte, is_digit, has_byte, starts_with_byte, ends_with_byte, or_parts}
 use Rattle.stab_lines.proofs.BoolLemmas.{and_left, and_right}
-use Rattle.std.proofs.lemmas.Bool.{or_parts}
 
 -- each element has P
 abbrev pub Each : {A : Type 0} → (A → Type 0) → List A → Type 0

@@ -1,18 +1,5 @@
 -- Targets that are read off the front of several words.
-use Rattle.std.proofs.Common.{◌≡◌, ◌<◌, ◌≤◌, ℕ, ◌-◌, Bool, true, false, ◌&&◌, not, ◌==◌, nat_le, nat_lt, nat_eq, List, [], ◌∷◌, length, take, drop, ◌++◌, append_assoc, append-nil, length-drop, refl, sym, ap, ◌∙◌, arith, Ok, Err, if◌then◌else◌, codes}
-use Rattle.std.specs.List.{list_all, starts_with, position_or_len, prefix_len}
-use Rattle.std.specs.Cmp.Lexicographic.{pointwise}
-use Rattle.std.proofs.lemmas.List.{length-append, take-append-drop}
-use Rattle.std.proofs.lemmas.Bool.Decides.{nat_tests}
-use Rattle.stab_io.specs.declared.refusal.Refusal.TheVariants.{BadTarget, QubitOutOfRange}
-use Rattle.stab_letters.specs.Limits.{most_qubits}
-use Rattle.stab_lines.specs.Limits.{most_lookback}
-use Rattle.stab_lines.specs.Lines.{is_spacing, is_digit, starts_with_byte, ends_with_byte, trimmed_front}
-use Rattle.stab_lines.specs.Words.{words, is_number, is_some_word, value}
-use Rattle.stab_lines.specs.Results.{◌>>=◌}
-use Rattle.stab_lines.specs.Targets.{qubit_of, measure_target_of, lookback_of, is_lookback, lookback_digits}
-use Rattle.stab_lines.specs.inner.Numbers.{BeginsWithNumber, is_word_end}
-use Rattle.stab_lines.specs.inner.FrontTargets.{BeginsWithTarget}
+use Rattle.stab_lines.proofs.Names.{◌≡◌, ◌<◌, ◌≤◌, ℕ, ◌-◌, Bool, true, false, ◌&&◌, not, ◌==◌, nat_le, nat_lt, nat_eq, List, [], ◌∷◌, length, take, drop, ◌++◌, append_assoc, append-nil, length-drop, refl, sym, ap, ◌∙◌, arith, Ok, Err, if◌then◌else◌, codes, list_all, starts_with, position_or_len, prefix_len, pointwise, length-append, take-append-drop, nat_tests, BadTarget, QubitOutOfRange, most_qubits, most_lookback, is_spacing, is_digit, starts_with_byte, ends_with_byte, trimmed_front, words, is_number, is_some_word, value, ◌>>=◌, qubit_of, measure_target_of, lookback_of, is_lookback, lookback_digits, BeginsWithNumber, is_word_end, BeginsWithTarget}
 use Rattle.stab_lines.proofs.FreeLemmas.{Free, free-append, digits_free, position_front, free_position, take_front, drop_front, drop_none, ends_with_last}
 use Rattle.stab_lines.proofs.PieceLemmas.{one_word}
 use Rattle.stab_lines.proofs.NumberLemmas.{digit_solid}

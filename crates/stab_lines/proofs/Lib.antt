@@ -1,3 +1,4 @@
+mod Names
 pub mod BoolLemmas
 mod ResultLemmas
 pub mod WriteLemmas

@@ -1,13 +1,6 @@
 -- The laws of lines.
-use Rattle.std.proofs.Common.{◌≡◌, refl, ap, ◌∙◌, subst, ℕ, ◌+◌, ◌-◌, zero, suc, Bool, true, List, [], ◌∷◌, ◌++◌, length, drop, replicate, append-nil, arith, codes, Ok, Err}
-use Rattle.std.specs.List.{before_first, position_or_len, prefix_len, suffix_len}
-use Rattle.stab_io.specs.declared.refusal.Refusal.{Refusal}
-use Rattle.stab_lines.specs.declared.meanings.Line.{Line}
-use Rattle.stab_lines.specs.declared.meanings.Line.TheVariants.{Blank, Close, Open}
+use Rattle.stab_lines.proofs.Names.{◌≡◌, refl, ap, ◌∙◌, subst, ℕ, ◌+◌, ◌-◌, zero, suc, Bool, true, List, [], ◌∷◌, ◌++◌, length, drop, replicate, append-nil, arith, codes, Ok, Err, before_first, position_or_len, prefix_len, suffix_len, Refusal, Line, Blank, Close, Open, is_byte, is_spacing, trimmed, trimmed_front, trimmed_end, content_of, meaning_of, is_of_line, IsLine, line_printed, Says}
 use Rattle.stab_lines.specs.declared.meanings.Line.TheVariants as line
-use Rattle.stab_lines.specs.Lines.{is_byte, is_spacing, trimmed, trimmed_front, trimmed_end, content_of}
-use Rattle.stab_lines.specs.Meanings.{meaning_of, is_of_line}
-use Rattle.stab_lines.specs.Laws.{IsLine, line_printed, Says}
 use Rattle.stab_lines.proofs.FreeLemmas.{Free, free_take, free_drop, free_before, free_spaces, before_free, any_free, free_any}
 use Rattle.stab_lines.proofs.SureLemmas.{IsGoodLine, sure_of, meaning_sure}
 use Rattle.stab_lines.proofs.NeatLemmas.{IsNeat, content_again}

@@ -1,29 +1,11 @@
 -- Printed contents mean what they were printed of.
-use Rattle.std.proofs.Common.{◌≡◌, ◌<◌, ◌^◌, refl, ap, sym, ◌∙◌, ℕ, ◌==◌, ◌&&◌, List, [], ◌∷◌, ◌++◌, Bool, true, false, length, filter, append_assoc, arith, codes, if◌then◌else◌, Ok}
-use Rattle.std.specs.Fmt.{decimal}
-use Rattle.std.proofs.lemmas.List.Splits.{slice_split-cons_yes}
-use Rattle.std.proofs.lemmas.Bool.Decides.{nat_tests}
-use Rattle.stab_letters.specs.declared.gate.Gate.{Gate}
-use Rattle.stab_letters.specs.declared.gate.Gate.TheVariants as one
-use Rattle.stab_lines.specs.Limits.{most_observables}
-use Rattle.stab_lines.specs.declared.axis.Axis.{Axis}
+use Rattle.stab_lines.proofs.Names.{◌≡◌, ◌<◌, ◌^◌, refl, ap, sym, ◌∙◌, ℕ, ◌==◌, ◌&&◌, List, [], ◌∷◌, ◌++◌, Bool, true, false, length, filter, append_assoc, arith, codes, if◌then◌else◌, Ok, decimal, slice_split-cons_yes, nat_tests, Gate, most_observables, Axis, Instruction, Kind, Operation, Open, Close, ◌>>=◌, each, Shape, is_spacing, is_digit, is_letter, is_brace, shape_of, words, is_some_word, is_number, arguments_of, gate_named, controlled_named, measurement_named, other_named, instruction_named, name_of, gate_name, controlled_name, measurement_name, reset_name, pair_qubits, qubit_of, lookback_of, count_of, pairs_of, coordinate_of, number_of, observable_of, kind_of, observable_include_of, without_open, only_count, opened, block_of, named_line, shape_meaning, is_close, meaning_of, kind_name, tag_text, kind_arguments, lookback_text, spaced, targets_text, head_text, operation_text, open_text}
+use Rattle.stab_gates.specs.declared.gate.Gate.TheVariants as one
 use Rattle.stab_lines.specs.declared.axis.Axis.TheVariants as axis
-use Rattle.stab_lines.specs.declared.name.Instruction.{Instruction}
 use Rattle.stab_lines.specs.declared.name.Instruction.TheVariants as instruction
 use Rattle.stab_lines.specs.declared.name.Name.TheVariants as name
-use Rattle.stab_lines.specs.declared.operation.Kind.{Kind}
 use Rattle.stab_lines.specs.declared.operation.Kind.TheVariants as kind
-use Rattle.stab_lines.specs.declared.operation.Operation.{Operation}
-use Rattle.stab_lines.specs.declared.meanings.Line.TheVariants.{Open, Close}
 use Rattle.stab_lines.specs.declared.meanings.Line.TheVariants as line
-use Rattle.stab_lines.specs.Results.{◌>>=◌, each}
-use Rattle.stab_lines.specs.Lines.{Shape, is_spacing, is_digit, is_letter, is_brace, shape_of}
-use Rattle.stab_lines.specs.Words.{words, is_some_word, is_number, arguments_of}
-use Rattle.stab_lines.specs.Names.{gate_named, controlled_named, measurement_named, other_named, instruction_named, name_of, gate_name, controlled_name, measurement_name, reset_name}
-use Rattle.stab_lines.specs.Targets.{pair_qubits}
-use Rattle.stab_lines.specs.Targets.{qubit_of, lookback_of, count_of, pairs_of, coordinate_of, number_of, observable_of}
-use Rattle.stab_lines.specs.Meanings.{kind_of, observable_include_of, without_open, only_count, opened, block_of, named_line, shape_meaning, is_close, meaning_of}
-use Rattle.stab_lines.specs.Prints.{kind_name, tag_text, kind_arguments, lookback_text, spaced, targets_text, head_text, operation_text, open_text}
 use Rattle.stab_lines.proofs.BoolLemmas.{chosen, passed}
 use Rattle.stab_lines.proofs.FreeLemmas.{Each, Free, free-append, digits_free, split_free}
 use Rattle.stab_lines.proofs.SureLemmas.{IsCount, IsCoordinate, IsGoodKind, IsTag}

@@ -1,9 +1,5 @@
 -- Contents that begin and end without spacing.
-use Rattle.std.proofs.Common.{◌≡◌, refl, ap, sym, ◌∙◌, ℕ, ◌+◌, ◌-◌, zero, suc, List, [], ◌∷◌, ◌++◌, Bool, true, false, not, length, take, drop, take_all, reverse, replicate, append_assoc, arith}
-use Rattle.std.specs.List.{prefix_len, suffix_len}
-use Rattle.std.proofs.lemmas.List.{reverse-append}
-use Rattle.stab_lines.specs.Lines.{is_byte, is_spacing, trimmed, trimmed_front, trimmed_end, content_of}
-use Rattle.stab_lines.specs.Words.{is_some_word}
+use Rattle.stab_lines.proofs.Names.{◌≡◌, refl, ap, sym, ◌∙◌, ℕ, ◌+◌, ◌-◌, zero, suc, List, [], ◌∷◌, ◌++◌, Bool, true, false, not, length, take, drop, take_all, reverse, replicate, append_assoc, arith, prefix_len, suffix_len, reverse-append, is_byte, is_spacing, trimmed, trimmed_front, trimmed_end, content_of, is_some_word}
 use Rattle.stab_lines.proofs.FreeLemmas.{Free, free-append, free_spaces, prefix_no, before_free}
 
 -- the last byte is no spacing

@@ -1,13 +1,5 @@
 -- Numbers that are the first of several words.
-use Rattle.std.proofs.Common.{◌≡◌, ◌<◌, ◌≤◌, ℕ, zero, suc, Bool, true, false, List, [], ◌∷◌, length, take, drop, get_or, refl, sym, ap, subst, ◌∙◌, arith, drop-cons, length-take}
-use Rattle.std.specs.List.{position_or_len, list_all}
-use Rattle.std.proofs.lemmas.Bool.Decides.{nat_tests}
-use Rattle.std.proofs.lemmas.List.{get_or-take}
-use Rattle.std.proofs.lemmas.List.Sums.{position_or_len_is}
-use Rattle.std.proofs.lemmas.List.Folds.{list_all_at}
-use Rattle.stab_lines.specs.Lines.{is_spacing, is_digit, trimmed_front}
-use Rattle.stab_lines.specs.Words.{is_some_word, value}
-use Rattle.stab_lines.specs.inner.Numbers.{is_word_end, BeginsWithNumber, IsBehindWord}
+use Rattle.stab_lines.proofs.Names.{◌≡◌, ◌<◌, ◌≤◌, ℕ, zero, suc, Bool, true, false, List, [], ◌∷◌, length, take, drop, get_or, refl, sym, ap, subst, ◌∙◌, arith, drop-cons, length-take, position_or_len, list_all, nat_tests, get_or-take, position_or_len_is, list_all_at, is_spacing, is_digit, trimmed_front, is_some_word, value, is_word_end, BeginsWithNumber, IsBehindWord}
 use Rattle.stab_lines.proofs.BoolLemmas.{both, and_left}
 use Rattle.stab_lines.proofs.FreeLemmas.{prefix_no}
 use Rattle.stab_lines.proofs.PieceLemmas.{one_word, rest_shorter}

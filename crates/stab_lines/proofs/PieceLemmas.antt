@@ -1,13 +1,6 @@
 -- The pieces of a text: words between spacing, and parts between bytes.
-use Rattle.std.proofs.Common.{◌≡◌, ◌≤◌, ◌<◌, ℕ, ◌+◌, suc, Bool, true, false, not, List, [], ◌∷◌, length, take, drop, get_or, filter, refl, sym, ap, ◌∙◌, subst, arith, drop-cons, length-take, length-drop, if◌then◌else◌, ◌⊎◌, inl, inr, take_all, Option, Some, None}
-use Rattle.std.proofs.lemmas.List.{drop_all}
-use Rattle.std.specs.List.{slice_split, prefix_len, position_or_len}
-use Rattle.std.proofs.lemmas.List.Splits.{slice_split-cons_yes, slice_split_first, slice_split_none}
-use Rattle.std.proofs.lemmas.List.Sums.{prefix_len_stops, prefix_len-le-length, fails_before_first}
-use Rattle.stab_lines.specs.Lines.{is_spacing, trimmed_front}
-use Rattle.stab_lines.specs.Words.{words, is_some_word, is_blank}
+use Rattle.stab_lines.proofs.Names.{◌≡◌, ◌≤◌, ◌<◌, ℕ, ◌+◌, suc, Bool, true, false, not, List, [], ◌∷◌, length, take, drop, get_or, filter, refl, sym, ap, ◌∙◌, subst, arith, drop-cons, length-take, length-drop, if◌then◌else◌, ◌⊎◌, inl, inr, take_all, Option, Some, None, drop_all, slice_split, prefix_len, position_or_len, slice_split-cons_yes, slice_split_first, slice_split_none, prefix_len_stops, prefix_len-le-length, fails_before_first, is_spacing, trimmed_front, words, is_some_word, is_blank, not-false}
 use Rattle.stab_lines.proofs.BoolLemmas.{and_left, and_right}
-use Rattle.std.proofs.lemmas.Bool.{not-false}
 
 -- spacing in front makes no word
 pub words_spacing : (x : ℕ) (xs : List ℕ) → is_spacing x ≡ true → words (x ∷ xs) ≡ words xs

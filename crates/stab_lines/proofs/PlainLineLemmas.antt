@@ -1,32 +1,9 @@
 -- The line of an instruction on numbers alone that is read off the front of a text.
-use Rattle.std.proofs.Common.{Bor, Option, Some, None, MatchOption, IfOk, ◌≡◌, ◌<◌, ℕ, Bool, true, false, ◌||◌, List, [], ◌∷◌, ◌++◌, length, take, drop, Result, Ok, Err, refl, sym, ap, subst, ◌∙◌, arith, append_assoc, append-nil}
-use Rattle.std.specs.Option.{option_copied}
-use Rattle.std.specs.List.{list_all, list_any, slice_split, prefix_len}
-use Rattle.std.proofs.lemmas.List.{length-append, take-append-drop}
-use Rattle.stab_io.specs.declared.refusal.Refusal.{Refusal}
-use Rattle.stab_letters.specs.declared.gate.Gate.{Gate}
-use Rattle.stab_lines.specs.declared.axis.Axis.{Axis}
-use Rattle.stab_lines.specs.declared.range.MeasureTarget.{MeasureTarget}
-use Rattle.stab_lines.specs.declared.control.ControlledPair.{ControlledPair}
-use Rattle.stab_lines.specs.declared.operation.Measurement.{Measurement}
-use Rattle.stab_lines.specs.declared.name.Instruction.{Instruction}
+use Rattle.stab_lines.proofs.Names.{Bor, Option, Some, None, MatchOption, IfOk, ◌≡◌, ◌<◌, ℕ, Bool, true, false, ◌||◌, List, [], ◌∷◌, ◌++◌, length, take, drop, Result, Ok, Err, refl, sym, ap, subst, ◌∙◌, arith, append_assoc, append-nil, option_copied, list_all, list_any, slice_split, prefix_len, length-append, take-append-drop, Refusal, Gate, Axis, MeasureTarget, ControlledPair, Measurement, Instruction, Kind, ◌>>=◌, each, is_byte, is_letter, is_name_byte, is_brace, content_of, words, is_number, is_some_word, name_of, qubit_of, measure_target_of, pairs_of, controlled_of, kind_of, without_open, named_line, shape_meaning, meaning_of, head_text, BeginsWithInstruction, TellsInstruction, follows, EndsLine, paired_words, spaced_words, AreSpacedTargets, TellsTargets, plain_shape, BeginsWithKind, TellsKind}
 use Rattle.stab_lines.specs.declared.name.Instruction.TheVariants as instruction
 use Rattle.stab_lines.specs.declared.name.Name.TheVariants as name
-use Rattle.stab_lines.specs.declared.operation.Kind.{Kind}
 use Rattle.stab_lines.specs.declared.operation.Kind.TheVariants as kind
 use Rattle.stab_lines.specs.declared.meanings.Line.TheVariants as line
-use Rattle.stab_lines.specs.Results.{◌>>=◌, each}
-use Rattle.stab_lines.specs.Lines.{is_byte, is_letter, is_name_byte, is_brace, content_of}
-use Rattle.stab_lines.specs.Words.{words, is_number, is_some_word}
-use Rattle.stab_lines.specs.Names.{name_of}
-use Rattle.stab_lines.specs.Targets.{qubit_of, measure_target_of, pairs_of}
-use Rattle.stab_lines.specs.Controls.{controlled_of}
-use Rattle.stab_lines.specs.Meanings.{kind_of, without_open, named_line, shape_meaning, meaning_of}
-use Rattle.stab_lines.specs.Prints.{head_text}
-use Rattle.stab_lines.specs.FirstLines.{BeginsWithInstruction, TellsInstruction}
-use Rattle.stab_lines.specs.inner.FrontTargets.{follows}
-use Rattle.stab_lines.specs.inner.DetectorLines.{EndsLine}
-use Rattle.stab_lines.specs.inner.PlainLines.{paired_words, spaced_words, AreSpacedTargets, TellsTargets, plain_shape, BeginsWithKind, TellsKind}
 use Rattle.stab_lines.proofs.BoolLemmas.{and_left, and_right}
 use Rattle.stab_lines.proofs.FreeLemmas.{Each, Free, free-append, digits_free}
 use Rattle.stab_lines.proofs.AgainLemmas.{AreWords, words_again, same_map, spacing_no}

@@ -1,7 +1,5 @@
 -- Printed texts, part by part.
-use Rattle.std.proofs.Common.{◌≡◌, ◌<◌, ℕ, ◌+◌, suc, List, [], ◌∷◌, ◌++◌, length, take, drop, get_or, refl, ap, sym, ◌∙◌, append_assoc, append-nil, arith, codes, drop-cons}
-use Rattle.std.proofs.lemmas.List.{take-append-drop, take_more}
-use Rattle.stab_lines.specs.Prints.{each_after, tag_text}
+use Rattle.stab_lines.proofs.Names.{◌≡◌, ◌<◌, ℕ, ◌+◌, suc, List, [], ◌∷◌, ◌++◌, length, take, drop, get_or, refl, ap, sym, ◌∙◌, append_assoc, append-nil, arith, codes, drop-cons, take-append-drop, take_more, each_after, tag_text}
 
 pub tag_some : (tag : List ℕ) → 0 < length tag → tag_text tag ≡ codes "[" ++ (tag ++ codes "]")
 tag_some [] h = absurd (omega arith)

@@ -1,12 +1,5 @@
 -- Printed contents hold no line end and no comment, and begin and end without spacing.
-use Rattle.std.proofs.Common.{◌≡◌, refl, ap, ◌∙◌, ℕ, ◌<◌, ◌≤◌, ◌==◌, List, [], ◌∷◌, ◌++◌, Bool, true, false, arith, codes, inl, inr}
-use Rattle.std.specs.Fmt.{decimal}
-use Rattle.std.proofs.lemmas.Bool.Decides.{nat_tests}
-use Rattle.stab_lines.specs.declared.operation.Operation.{Operation}
-use Rattle.stab_lines.specs.Lines.{is_byte, is_digit, is_spacing, is_letter, is_name_byte}
-use Rattle.stab_lines.specs.Words.{is_some_word}
-use Rattle.stab_lines.specs.Targets.{is_coordinate_byte}
-use Rattle.stab_lines.specs.Prints.{kind_name, tag_text, arguments_text, kind_arguments, targets_text, head_text, operation_text, open_text}
+use Rattle.stab_lines.proofs.Names.{◌≡◌, refl, ap, ◌∙◌, ℕ, ◌<◌, ◌≤◌, ◌==◌, List, [], ◌∷◌, ◌++◌, Bool, true, false, arith, codes, inl, inr, decimal, nat_tests, Operation, is_byte, is_digit, is_spacing, is_letter, is_name_byte, is_some_word, is_coordinate_byte, kind_name, tag_text, arguments_text, kind_arguments, targets_text, head_text, operation_text, open_text}
 use Rattle.stab_lines.proofs.FreeLemmas.{Each, Free, free-append, each_weaker, digits_free}
 use Rattle.stab_lines.proofs.SureLemmas.{IsCount, IsCoordinate, IsGoodKind, IsTag}
 use Rattle.stab_lines.proofs.NeatLemmas.{Ends, IsSolid, IsNeat, ends-append, ends_one, solid_word}

@@ -1,8 +1,5 @@
 -- Products: whether a qubit occurs twice.
-use Rattle.std.proofs.Common.{◌≡◌, ◌<◌, ℕ, ◌+◌, zero, suc, true, ◌||◌, List, [], ◌∷◌, length, drop, get_or, ap, ◌∙◌, arith, drop-cons}
-use Rattle.stab_lines.specs.declared.product.Factor.{Factor}
-use Rattle.stab_lines.specs.Products.{is_on, names_twice}
-use Rattle.std.proofs.lemmas.Bool.{or_right, or_left}
+use Rattle.stab_lines.proofs.Names.{◌≡◌, ◌<◌, ℕ, ◌+◌, zero, suc, true, ◌||◌, List, [], ◌∷◌, length, drop, get_or, ap, ◌∙◌, arith, drop-cons, Factor, is_on, names_twice, or_right, or_left}
 
 -- from a place on: that factor's qubit among the later ones, or one of these
 pub twice_from : (fs : List Factor) (i : ℕ) (d : Factor) → i < length fs → names_twice (drop i fs) ≡ (is_on (get_or fs i d).qubit (drop (i + 1) fs) || names_twice (drop (i + 1) fs))

@@ -1,27 +1,8 @@
 -- Which refusals a line can have.
-use Rattle.std.proofs.Common.{◌≡◌, refl, ℕ, ◌==◌, List, [], ◌∷◌, Bool, true, false, length, drop, Option, None, Some, Result, Ok, Err, if◌then◌else◌}
-use Rattle.stab_io.specs.declared.refusal.Refusal.{Refusal}
-use Rattle.stab_letters.specs.declared.gate.Gate.{Gate}
-use Rattle.stab_lines.specs.declared.axis.Axis.{Axis}
-use Rattle.stab_lines.specs.declared.control.Control.{Control}
+use Rattle.stab_lines.proofs.Names.{◌≡◌, refl, ℕ, ◌==◌, List, [], ◌∷◌, Bool, true, false, length, drop, Option, None, Some, Result, Ok, Err, if◌then◌else◌, Refusal, Gate, Axis, Control, Factor, Measurement, Instruction, Name, Blank, Close, ◌>>=◌, each, slice_split, Shape, is_byte, starts_with_byte, bracketed, behind_tag, shaped, shape_of, words, arguments_of, first_named, instruction_named, name_of, gate_named, controlled_named, measurement_named, other_named, first_axis, unmarked, factor_on, factor_of, on_different, product_of, control_of, by_turns, pair_of, paired, controlled_of, qubit_of, measure_target_of, lookback_of, count_of, pairs_of, coordinate_of, one_argument, number_of, observable_of, targets_alone, coordinates_of, kind_of, observable_include_of, only_count, opened, block_of, named_line, shape_meaning, is_close, meaning_of, is_of_line}
 use Rattle.stab_lines.specs.declared.control.Control.TheVariants as control
-use Rattle.stab_lines.specs.declared.product.Factor.{Factor}
-use Rattle.stab_lines.specs.declared.operation.Measurement.{Measurement}
-use Rattle.stab_lines.specs.declared.name.Instruction.{Instruction}
 use Rattle.stab_lines.specs.declared.name.Instruction.TheVariants as instruction
-use Rattle.stab_lines.specs.declared.name.Name.{Name}
 use Rattle.stab_lines.specs.declared.name.Name.TheVariants as name
-use Rattle.stab_lines.specs.declared.meanings.Line.TheVariants.{Blank, Close}
-use Rattle.stab_lines.specs.Results.{◌>>=◌, each}
-use Rattle.std.specs.List.{slice_split}
-use Rattle.stab_lines.specs.Lines.{Shape, is_byte, starts_with_byte, bracketed, behind_tag, shaped, shape_of}
-use Rattle.stab_lines.specs.Words.{words, arguments_of}
-use Rattle.stab_lines.specs.Names.{first_named, instruction_named, name_of, gate_named, controlled_named, measurement_named, other_named}
-use Rattle.stab_lines.specs.Axes.{first_axis}
-use Rattle.stab_lines.specs.Products.{unmarked, factor_on, factor_of, on_different, product_of}
-use Rattle.stab_lines.specs.Controls.{control_of, by_turns, pair_of, paired, controlled_of}
-use Rattle.stab_lines.specs.Targets.{qubit_of, measure_target_of, lookback_of, count_of, pairs_of, coordinate_of, one_argument, number_of, observable_of}
-use Rattle.stab_lines.specs.Meanings.{targets_alone, coordinates_of, kind_of, observable_include_of, only_count, opened, block_of, named_line, shape_meaning, is_close, meaning_of, is_of_line}
 
 -- if it is refused, a line can be refused in this way
 abbrev pub OfLine : {A : Type 0} → Result A Refusal → Type 0

@@ -1,6 +1,5 @@
 -- Results that follow one another.
-use Rattle.std.proofs.Common.{◌≡◌, List, [], ◌∷◌, ◌++◌, Result, Ok, Err, refl, sym, ap, ◌∙◌, append_assoc, append-nil}
-use Rattle.stab_lines.specs.Results.{◌>>=◌, each}
+use Rattle.stab_lines.proofs.Names.{◌≡◌, List, [], ◌∷◌, ◌++◌, Result, Ok, Err, refl, sym, ap, ◌∙◌, append_assoc, append-nil, ◌>>=◌, each}
 
 -- a list that follows another
 abbrev pub behind : {X E : Type 0} → List X → Result (List X) E → Result (List X) E

@@ -1,11 +1,5 @@
 -- Searches for a byte that pass over runs of other bytes.
-use Rattle.std.proofs.Common.{◌≡◌, ◌≤◌, ℕ, ◌+◌, Bool, false, ◌||◌, not, List, [], ◌∷◌, ◌++◌, length, take, drop, sym, ap, ◌∙◌, arith, length-take, if◌then◌else◌}
-use Rattle.std.specs.List.{position_or_len, list_any}
-use Rattle.std.proofs.Math.Seq.{take-append-add}
-use Rattle.std.proofs.lemmas.List.{take-append-drop}
-use Rattle.std.proofs.lemmas.List.Folds.{list_any-append}
-use Rattle.stab_lines.specs.Lines.{is_byte}
-use Rattle.std.proofs.lemmas.Bool.{or_parts}
+use Rattle.stab_lines.proofs.Names.{◌≡◌, ◌≤◌, ℕ, ◌+◌, Bool, false, ◌||◌, not, List, [], ◌∷◌, ◌++◌, length, take, drop, sym, ap, ◌∙◌, arith, length-take, if◌then◌else◌, position_or_len, list_any, take-append-add, take-append-drop, list_any-append, is_byte, or_parts}
 
 taken : (n m : ℕ) (xs : List ℕ) → n ≤ length xs → take (n + m) xs ≡ take n xs ++ take m (drop n xs)
 taken n m xs within =

@@ -1,13 +1,5 @@
 -- The shape of a printed content is read again.
-use Rattle.std.proofs.Common.{◌≡◌, refl, ap, sym, ◌∙◌, ℕ, ◌-◌, ◌==◌, ◌&&◌, ◌||◌, List, [], ◌∷◌, ◌++◌, Bool, true, false, not, length, take, drop, append_assoc, arith, if◌then◌else◌, Ok, Err}
-use Rattle.std.specs.List.{prefix_len, before_first, after_first, list_any, list_all, take_while}
-use Rattle.std.proofs.lemmas.List.{length-append}
-use Rattle.std.proofs.lemmas.Bool.Decides.{nat_tests}
-use Rattle.stab_io.specs.declared.refusal.Refusal.TheVariants.{BadLine}
-use Rattle.stab_lines.specs.Results.{◌>>=◌}
-use Rattle.stab_lines.specs.Lines.{is_spacing, is_byte, is_letter, is_name_byte, is_brace, is_apart, bracketed, has_byte, starts_with_byte, ends_with_byte, without_brace, shaped, behind_tag, shape_of}
-use Rattle.stab_lines.specs.Targets.{is_coordinate_byte}
-use Rattle.stab_lines.specs.Prints.{tag_text, arguments_text, head_text}
+use Rattle.stab_lines.proofs.Names.{◌≡◌, refl, ap, sym, ◌∙◌, ℕ, ◌-◌, ◌==◌, ◌&&◌, ◌||◌, List, [], ◌∷◌, ◌++◌, Bool, true, false, not, length, take, drop, append_assoc, arith, if◌then◌else◌, Ok, Err, prefix_len, before_first, after_first, list_any, list_all, take_while, length-append, nat_tests, BadLine, ◌>>=◌, is_spacing, is_byte, is_letter, is_name_byte, is_brace, is_apart, bracketed, has_byte, starts_with_byte, ends_with_byte, without_brace, shaped, behind_tag, shape_of, is_coordinate_byte, tag_text, arguments_text, head_text}
 use Rattle.stab_lines.proofs.BoolLemmas.{chosen, passed, both, and_left, and_right}
 use Rattle.stab_lines.proofs.FreeLemmas.{Each, Free, drop_none, Stops, free-append, prefix_front, take_front, drop_front, before_front, after_front, has_front, any_free, ends_free, ends_with_last, each_weaker}
 use Rattle.stab_lines.proofs.SureLemmas.{IsCoordinate}

@@ -1,21 +1,7 @@
 -- Targets that are written as numbers, each after a space.
-use Rattle.std.proofs.Common.{Bor, Option, Some, None, MatchOption, ◌≡◌, ◌≢◌, ◌<◌, ◌≤◌, ℕ, true, false, ◌==◌, List, [], ◌∷◌, ◌++◌, length, take, drop, Result, Ok, Err, refl, sym, ap, ◌∙◌, append_assoc, append-nil}
-use Rattle.std.specs.List.{list_all}
-use Rattle.std.proofs.lemmas.List.Folds.{list_all-append}
-use Rattle.std.proofs.lemmas.List.{take-append-drop}
-use Rattle.stab_io.specs.declared.refusal.Refusal.{Refusal}
-use Rattle.stab_letters.specs.Limits.{most_qubits}
-use Rattle.stab_lines.specs.declared.range.MeasureTarget.{MeasureTarget}
+use Rattle.stab_lines.proofs.Names.{Bor, Option, Some, None, MatchOption, ◌≡◌, ◌≢◌, ◌<◌, ◌≤◌, ℕ, true, false, ◌==◌, List, [], ◌∷◌, ◌++◌, length, take, drop, Result, Ok, Err, refl, sym, ap, ◌∙◌, append_assoc, append-nil, list_all, list_all-append, take-append-drop, Refusal, most_qubits, MeasureTarget, ControlledPair, ◌>>=◌, each, is_digit, starts_with_byte, is_number, is_some_word, value, qubit_of, measure_target_of, pairs_of, by_turns, pair_of, paired, controlled_of, follows, paired_words, IsSpacedQubit, IsSpacedPair, spaced_words, AreNumbers, AreSpacedTargets}
 use Rattle.stab_lines.specs.declared.control.Control.TheVariants as control
-use Rattle.stab_lines.specs.declared.control.ControlledPair.{ControlledPair}
 use Rattle.stab_lines.specs.declared.control.ControlledPair.TheVariants as pair
-use Rattle.stab_lines.specs.Results.{◌>>=◌, each}
-use Rattle.stab_lines.specs.Lines.{is_digit, starts_with_byte}
-use Rattle.stab_lines.specs.Words.{is_number, is_some_word, value}
-use Rattle.stab_lines.specs.Targets.{qubit_of, measure_target_of, pairs_of}
-use Rattle.stab_lines.specs.Controls.{by_turns, pair_of, paired, controlled_of}
-use Rattle.stab_lines.specs.inner.FrontTargets.{follows}
-use Rattle.stab_lines.specs.inner.PlainLines.{paired_words, IsSpacedQubit, IsSpacedPair, spaced_words, AreNumbers, AreSpacedTargets}
 use Rattle.stab_lines.proofs.BoolLemmas.{both, passed}
 use Rattle.stab_lines.proofs.NumberLemmas.{some_taken}
 use Rattle.stab_lines.proofs.TargetLemmas.{different}

@@ -1,38 +1,11 @@
 -- What is known of all that a line is read as.
-use Rattle.std.proofs.Common.{◌≡◌, ◌≢◌, ◌<◌, ◌≤◌, ◌^◌, refl, sym, subst, ℕ, List, [], ◌∷◌, Bool, true, false, not, nat_lt, ◌==◌, ◌&&◌, ◌||◌, length, drop, take, Option, None, Some, Result, Ok, Err, if◌then◌else◌, arith}
-use Rattle.std.specs.List.{list_all, list_any, prefix_len, slice_split, take_while}
-use Rattle.std.proofs.lemmas.Bool.Decides.{nat_tests}
-use Rattle.stab_io.specs.declared.refusal.Refusal.{Refusal}
-use Rattle.stab_io.specs.declared.refusal.Refusal.TheVariants.{BadArguments, BadTarget, BadLine}
-use Rattle.stab_letters.specs.Limits.{most_qubits}
-use Rattle.stab_lines.specs.Limits.{most_observables}
-use Rattle.stab_lines.specs.declared.range.MeasureTarget.{MeasureTarget}
-use Rattle.stab_lines.specs.declared.axis.Axis.{Axis}
-use Rattle.stab_lines.specs.declared.product.Factor.{Factor}
-use Rattle.stab_lines.specs.declared.control.Control.{Control}
+use Rattle.stab_lines.proofs.Names.{◌≡◌, ◌≢◌, ◌<◌, ◌≤◌, ◌^◌, refl, sym, subst, ℕ, List, [], ◌∷◌, Bool, true, false, not, nat_lt, ◌==◌, ◌&&◌, ◌||◌, length, drop, take, Option, None, Some, Result, Ok, Err, if◌then◌else◌, arith, list_all, list_any, prefix_len, slice_split, take_while, nat_tests, Refusal, BadArguments, BadTarget, BadLine, most_qubits, most_observables, MeasureTarget, Axis, Factor, Control, ControlTarget, ControlledPair, Instruction, Name, Kind, Line, Blank, Close, Open, ◌>>=◌, each, Shape, is_byte, bracketed, behind_tag, shaped, shape_of, starts_with_byte, ends_with_byte, has_byte, is_name_byte, is_letter, is_brace, is_apart, without_brace, words, is_blank, arguments_of, is_some_word, is_number, value, IsLookback, name_of, first_axis, unmarked, is_factor, factor_on, factor_of, names_twice, on_different, product_of, control_of, by_turns, pair_of, paired, controlled_of, qubit_of, measure_target_of, lookback_of, is_lookback, count_of, pairs_of, is_coordinate_byte, coordinate_of, number_of, observable_of, targets_alone, coordinates_of, kind_of, observable_include_of, only_count, opened, block_of, named_line, shape_meaning, is_close, meaning_of}
 use Rattle.stab_lines.specs.declared.control.Control.TheVariants as control
-use Rattle.stab_lines.specs.declared.control.ControlTarget.{ControlTarget}
-use Rattle.stab_lines.specs.declared.control.ControlledPair.{ControlledPair}
 use Rattle.stab_lines.specs.declared.control.ControlledPair.TheVariants as pair
-use Rattle.stab_lines.specs.declared.name.Instruction.{Instruction}
 use Rattle.stab_lines.specs.declared.name.Instruction.TheVariants as instruction
-use Rattle.stab_lines.specs.declared.name.Name.{Name}
 use Rattle.stab_lines.specs.declared.name.Name.TheVariants as name
-use Rattle.stab_lines.specs.declared.operation.Kind.{Kind}
 use Rattle.stab_lines.specs.declared.operation.Kind.TheVariants as kind
-use Rattle.stab_lines.specs.declared.meanings.Line.{Line}
-use Rattle.stab_lines.specs.declared.meanings.Line.TheVariants.{Blank, Close, Open}
 use Rattle.stab_lines.specs.declared.meanings.Line.TheVariants as line
-use Rattle.stab_lines.specs.Results.{◌>>=◌, each}
-use Rattle.stab_lines.specs.Lines.{Shape, is_byte, bracketed, behind_tag, shaped, shape_of, starts_with_byte, ends_with_byte, has_byte, is_name_byte, is_letter, is_brace, is_apart, without_brace}
-use Rattle.stab_lines.specs.Words.{words, is_blank, arguments_of, is_some_word, is_number, value}
-use Rattle.stab_lines.specs.Lookbacks.{IsLookback}
-use Rattle.stab_lines.specs.Names.{name_of}
-use Rattle.stab_lines.specs.Axes.{first_axis}
-use Rattle.stab_lines.specs.Products.{unmarked, is_factor, factor_on, factor_of, names_twice, on_different, product_of}
-use Rattle.stab_lines.specs.Controls.{control_of, by_turns, pair_of, paired, controlled_of}
-use Rattle.stab_lines.specs.Targets.{qubit_of, measure_target_of, lookback_of, is_lookback, count_of, pairs_of, is_coordinate_byte, coordinate_of, number_of, observable_of}
-use Rattle.stab_lines.specs.Meanings.{targets_alone, coordinates_of, kind_of, observable_include_of, only_count, opened, block_of, named_line, shape_meaning, is_close, meaning_of}
 use Rattle.stab_lines.proofs.BoolLemmas.{and_left, and_right}
 use Rattle.stab_lines.proofs.WordLemmas.{eighteen_digits}
 use Rattle.stab_lines.proofs.TargetLemmas.{lookback_in_range, split_some}

@@ -1,15 +1,5 @@
 -- Targets: their ranges, and pairs.
-use Rattle.std.proofs.Common.{◌≡◌, ◌≢◌, ◌<◌, ℕ, ◌==◌, Bool, true, false, List, [], ◌∷◌, length, drop, get_or, Result, Ok, Err, refl, ap, subst, arith, nat_le, nat_lt, ◌&&◌, All, map, if◌then◌else◌}
-use Rattle.std.specs.List.{slice_split, onto_first}
-use Rattle.std.proofs.lemmas.List.Elements.{All-cons}
-use Rattle.std.proofs.lemmas.Bool.Decides.{nat_tests}
-use Rattle.stab_io.specs.declared.refusal.Refusal.{Refusal}
-use Rattle.stab_io.specs.declared.refusal.Refusal.TheVariants.{BadArguments, BadPairing, BadTarget}
-use Rattle.stab_lines.specs.Limits.{most_lookback}
-use Rattle.stab_lines.specs.Results.{◌>>=◌, each}
-use Rattle.stab_lines.specs.Words.{value}
-use Rattle.stab_lines.specs.Lookbacks.{IsLookback}
-use Rattle.stab_lines.specs.Targets.{lookback_of, lookback_digits, is_lookback, pairs_of, one_argument}
+use Rattle.stab_lines.proofs.Names.{◌≡◌, ◌≢◌, ◌<◌, ℕ, ◌==◌, Bool, true, false, List, [], ◌∷◌, length, drop, get_or, Result, Ok, Err, refl, ap, subst, arith, nat_le, nat_lt, ◌&&◌, All, map, if◌then◌else◌, slice_split, onto_first, All-cons, nat_tests, Refusal, BadArguments, BadPairing, BadTarget, most_lookback, ◌>>=◌, each, value, IsLookback, lookback_of, lookback_digits, is_lookback, pairs_of, one_argument}
 use Rattle.stab_lines.proofs.BoolLemmas.{chosen, passed}
 
 pub different : (a b : ℕ) → a ≢ b → (a == b) ≡ false

@@ -1,12 +1,7 @@
 -- Laws of words and numbers.
-use Rattle.std.proofs.Common.{◌≡◌, ◌≤◌, ◌<◌, ◌^◌, ℕ, ◌+◌, ◌*◌, ◌-◌, true, List, [], ◌∷◌, ◌++◌, length, take, arith, refl, ap, ◌∙◌, get_or, add-one, length-take, rules}
-use Rattle.std.proofs.lemmas.List.{take_more}
-use Rattle.std.specs.List.{list_all}
-use Rattle.std.proofs.lemmas.Str.Parse.{IsNumeralModel, numerals_by_fold, IsDigitsTest, digits_value_short}
+use Rattle.stab_lines.proofs.Names.{◌≡◌, ◌≤◌, ◌<◌, ◌^◌, ℕ, ◌+◌, ◌*◌, ◌-◌, true, List, [], ◌∷◌, ◌++◌, length, take, arith, refl, ap, ◌∙◌, get_or, add-one, length-take, rules, take_more, list_all, IsNumeralModel, numerals_by_fold, IsDigitsTest, digits_value_short, is_digit, value_from, value, is_number, is_some_word}
 use Rattle.std.proofs.Math.ListN.{drop}
 use Rattle.std.proofs.Math.Seq.{drop-cons}
-use Rattle.stab_lines.specs.Lines.{is_digit}
-use Rattle.stab_lines.specs.Words.{value_from, value, is_number, is_some_word}
 use Rattle.stab_lines.proofs.BoolLemmas.{and_left, and_right, both}
 
 -- further digits don't make it smaller

@@ -1,9 +1,5 @@
 -- Writes one after another.
-use Rattle.std.proofs.Common.{◌≡◌, ℕ, List, ◌++◌, Result, Ok, Err, sym, ap, ◌∙◌, subst, append_assoc}
-use Rattle.stab_io.specs.declared.refusal.Refusal.{Refusal}
-use Rattle.stab_io.specs.declared.refusal.Refusal.TheVariants.{WriteFault}
-use Rattle.stab_io.specs.Devices.{OutputView, Took, TookAndFailed, WritesAll}
-use Rattle.stab_io.proofs.DeviceLemmas.{took_more, took_and_failed, failed_within}
+use Rattle.stab_lines.proofs.Names.{◌≡◌, ℕ, List, ◌++◌, Result, Ok, Err, sym, ap, ◌∙◌, subst, append_assoc, Refusal, WriteFault, OutputView, Took, TookAndFailed, WritesAll, took_more, took_and_failed, failed_within}
 
 -- a write that fails ends the writing, and its failure is passed on
 failed_case : {a b : OutputView} {r e : Refusal} (q : Result (Unit {0}) Refusal) (front back : List ℕ)

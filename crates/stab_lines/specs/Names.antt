@@ -5,8 +5,8 @@ use Rattle.std.specs.Str.{str_eq_ignore_ascii_case}
 use Rattle.stab_lines.specs.Results.{◌>>=◌}
 use Rattle.stab_io.specs.declared.refusal.Refusal.{Refusal}
 use Rattle.stab_io.specs.declared.refusal.Refusal.TheVariants.{UnsupportedName}
-use Rattle.stab_letters.specs.declared.gate.Gate.{Gate}
-use Rattle.stab_letters.specs.declared.gate.Gate.TheVariants as one
+use Rattle.stab_gates.specs.declared.gate.Gate.{Gate}
+use Rattle.stab_gates.specs.declared.gate.Gate.TheVariants as one
 use Rattle.stab_lines.specs.declared.axis.Axis.{Axis}
 use Rattle.stab_lines.specs.declared.axis.Axis.TheVariants as axis
 use Rattle.stab_lines.specs.declared.operation.Measurement.{Measurement}

@@ -4,7 +4,7 @@ use Rattle.std.specs.Prelude.{ℕ, ◌-◌, Bool, true, false, ◌&&◌, ◌||�
 use Rattle.std.specs.List.{list_all, starts_with}
 use Rattle.stab_io.specs.declared.refusal.Refusal.{Refusal}
 use Rattle.stab_io.specs.declared.refusal.Refusal.TheVariants.{BadArguments, BadTarget, BadPairing, QubitOutOfRange, ObservableOutOfRange}
-use Rattle.stab_letters.specs.Limits.{most_qubits}
+use Rattle.stab_gates.specs.Limits.{most_qubits}
 use Rattle.stab_lines.specs.declared.range.MeasureTarget.{MeasureTarget}
 use Rattle.stab_lines.specs.Limits.{most_observables, most_lookback}
 use Rattle.stab_lines.specs.Results.{◌>>=◌}

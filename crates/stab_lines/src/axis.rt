@@ -1,7 +1,7 @@
 ghost use Rattle.std.specs.Prelude.{◌≡◌};
 ghost use Rattle.stab_lines.specs.Axes.{first_axis as first_axis_of};
 
-use stab_letters::Letter;
+use stab_gates::Letter;
 
 /// A letter other than the identity: what is measured, reset, or applied by a control.
 #[derive(Clone, Copy, Debug, PartialEq, Eq)]

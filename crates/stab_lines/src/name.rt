@@ -5,8 +5,8 @@ ghost use Rattle.stab_lines.specs.Names.{gate_named as gate_of, controlled_named
 use crate::axis::Axis;
 use crate::operation::Measurement;
 use crate::table::{controlled_gates, gates, measurements, others};
+use stab_gates::Gate;
 use stab_io::Refusal;
-use stab_letters::Gate;
 
 /// What an instruction is, by its name.
 #[derive(Clone, Copy)]

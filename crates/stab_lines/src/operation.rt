@@ -8,7 +8,7 @@ use crate::located::Located;
 use crate::product::{Product, copied_products};
 use crate::range::{Lookbacks, MeasureTarget, ObservableNumber, Pair, Qubit};
 use crate::sequence::Sequence;
-use stab_letters::Gate;
+use stab_gates::Gate;
 use std::alloc::{AllocError, Global};
 
 /// Which measurement: of which letter, and whether it resets the qubit.

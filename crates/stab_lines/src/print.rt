@@ -18,8 +18,8 @@ use crate::range::{Count, Lookback, MeasureTarget, Pair, Qubit};
 use crate::table::{controlled_gates, gates, measurements, others};
 use crate::word::{first_piece, is_blank};
 use itoa::Buffer;
+use stab_gates::Gate;
 use stab_io::{Output, Refusal, write_all};
-use stab_letters::Gate;
 
 /// The name that is printed of what a value is.
 macro_rules! printed {

@@ -1,5 +1,5 @@
 ghost use Rattle.std.specs.Prelude.{◌≡◌, ◌<◌, ◌≤◌, ◌^◌};
-ghost use Rattle.stab_letters.specs.Limits.{most_qubits};
+ghost use Rattle.stab_gates.specs.Limits.{most_qubits};
 ghost use Rattle.stab_lines.specs.Limits.{most_observables};
 
 use crate::sequence::Sequence;
@@ -14,7 +14,7 @@ pub struct Qubit {
 
 impl Model for Qubit {
     ghost use Rattle.std.specs.Prelude.{ℕ, ◌<◌};
-    ghost use Rattle.stab_letters.specs.Limits.{most_qubits};
+    ghost use Rattle.stab_gates.specs.Limits.{most_qubits};
 
     ghost Value = { ℕ };
 

@@ -1,10 +1,5 @@
 -- Bits of words: the lowest, and half of a word.
-use Rattle.std.proofs.Common.{◌≡◌, ℕ, zero, suc, ◌+◌, ◌/◌, ◌%◌, refl, sym, ◌∙◌, ap, arith, ◌&&◌, eqb, ◌<◌, inl, inr}
-use Rattle.std.specs.Prelude.{bit_xor, bit_and, min, ◌⊎◌}
-use Rattle.std.specs.Int.{bit_at}
-use Rattle.std.proofs.lemmas.Nat.Bits.{bit_at_lowest, bit_at-suc, bit_at_and, bit_at_xor, same_from_bits}
-use Rattle.stab_letters.specs.Letters.{◌⊕◌}
-use Rattle.stab_pauli.specs.inner.Words.{lowest}
+use Rattle.stab_pauli.proofs.Names.{◌≡◌, ℕ, zero, suc, ◌+◌, ◌/◌, ◌%◌, refl, sym, ◌∙◌, ap, arith, ◌&&◌, eqb, ◌<◌, inl, inr, bit_xor, bit_and, min, ◌⊎◌, bit_at, bit_at_lowest, bit_at-suc, bit_at_and, bit_at_xor, same_from_bits, ◌⊕◌, lowest}
 
 pub half_xor : (a b : ℕ) → bit_xor a b / 2 ≡ bit_xor (a / 2) (b / 2)
 half_xor a b = same_from_bits (bit_xor a b / 2) (bit_xor (a / 2) (b / 2)) (λ i.

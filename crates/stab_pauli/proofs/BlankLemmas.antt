@@ -1,19 +1,6 @@
 -- Words of zeros are letters I.
-use Rattle.std.proofs.Common.{◌≡◌, ℕ, zero, suc, ◌+◌, ◌-◌, ◌*◌, ◌≤◌, refl, sym, ◌∙◌, ap, List, ◌∷◌, ◌++◌, length, take, drop, replicate, arith, subst}
-use Rattle.std.specs.List.{All}
-use Rattle.std.specs.Simd.Lanes.{zip2}
-use Rattle.std.proofs.lemmas.List.{length-replicate}
-use Rattle.std.proofs.lemmas.List.Elements.{All-nil, All-cons}
-use Rattle.stab_letters.specs.declared.letter.Letter.{Letter}
-use Rattle.stab_letters.specs.declared.letter.Letter.TheVariants.{I}
-use Rattle.stab_letters.specs.declared.phase.Phase.{Phase}
-use Rattle.stab_letters.specs.declared.phase.Phase.TheVariants.{Zero}
-use Rattle.stab_letters.specs.Phases.{phase_add, is_even, sign_of_phase, phase_inverse}
-use Rattle.stab_pauli.specs.Paulis.{identity}
-use Rattle.stab_pauli.specs.inner.Powers.{sign_power, IsSign}
+use Rattle.stab_pauli.proofs.Names.{◌≡◌, ℕ, zero, suc, ◌+◌, ◌-◌, ◌*◌, ◌≤◌, refl, sym, ◌∙◌, ap, List, ◌∷◌, ◌++◌, length, take, drop, replicate, arith, subst, All, zip2, length-replicate, All-nil, All-cons, Letter, I, Phase, Zero, phase_add, is_even, sign_of_phase, phase_inverse, identity, sign_power, IsSign, word_letters, packed_letters, row_letters, full_rows, AreBlocks, IsPadded, IsRow, IsSignedRow, IsTable, table, row_sign, signed_row}
 use Rattle.stab_pauli.proofs.PowerLemmas.{string_power-blank}
-use Rattle.stab_pauli.specs.inner.Words.{word_letters, packed_letters}
-use Rattle.stab_pauli.specs.inner.Blocks.{row_letters, full_rows, AreBlocks, IsPadded, IsRow, IsSignedRow, IsTable, table, row_sign, signed_row}
 
 replicate-append : {A : Type 0} (a b : ℕ) (x : A) → replicate a x ++ replicate b x ≡ replicate (a + b) x
 replicate-append zero b x = let e : b ≡ 0 + b = omega arith in ap (λ n. replicate n x) e

@@ -1,17 +1,5 @@
 -- One block multiplied by another, of the same slice of words or of its own.
-use Rattle.std.proofs.Common.{◌≡◌, ℕ, ◌+◌, ◌*◌, ◌<◌, ◌≤◌, refl, sym, ◌∙◌, ap, List, ◌++◌, length, get_or, take, drop, inl, inr, arith}
-use Rattle.std.specs.Prelude.{bit_xor, bit_and}
-use Rattle.std.specs.Simd.Lanes.{zip2, chunk, put_chunk}
-use Rattle.std.proofs.Math.Nat.{mul-le-mul_left}
-use Rattle.std.proofs.Math.Seq.{take-append_seam, drop-append_seam}
-use Rattle.std.proofs.lemmas.List.{ext_get_or, take_all}
-use Rattle.std.proofs.lemmas.Simd.{get_or-zip2, length-zip2, length-chunk, get_or-chunk, length-put_chunk, get_or-put_chunk_below, get_or-put_chunk_at, get_or-put_chunk_above}
-use Rattle.stab_letters.specs.declared.phase.Phase.TheVariants.{Zero}
-use Rattle.stab_letters.specs.Phases.{phase_of_sign}
-use Rattle.stab_pauli.specs.inner.Words.{words_odd, xor_words}
-use Rattle.stab_pauli.specs.inner.Powers.{strings_meet}
-use Rattle.stab_pauli.specs.inner.Blocks.{row_letters}
-use Rattle.stab_letters.proofs.PhaseLemmas.{phase_of_sign-injective}
+use Rattle.stab_pauli.proofs.Names.{◌≡◌, ℕ, ◌+◌, ◌*◌, ◌<◌, ◌≤◌, refl, sym, ◌∙◌, ap, List, ◌++◌, length, get_or, take, drop, inl, inr, arith, bit_xor, bit_and, zip2, chunk, put_chunk, mul-le-mul_left, take-append_seam, drop-append_seam, ext_get_or, take_all, get_or-zip2, length-zip2, length-chunk, get_or-chunk, length-put_chunk, get_or-put_chunk_below, get_or-put_chunk_at, get_or-put_chunk_above, Zero, phase_of_sign, words_odd, xor_words, strings_meet, row_letters, phase_of_sign-injective}
 use Rattle.stab_pauli.proofs.PackedLemmas.{packed_meet}
 use Rattle.stab_pauli.proofs.SwapLemmas.{Place, place}
 use Rattle.stab_pauli.proofs.RowLemmas.{AddsUp-meet, IsPhaseBefore-more, IsPhaseBefore-all}

@@ -1,13 +1,5 @@
 -- Rows that a mask chooses: what a walk from one to the next has done.
-use Rattle.std.proofs.Common.{◌≡◌, ◌≢◌, ℕ, ◌+◌, ◌-◌, ◌*◌, ◌/◌, ◌^◌, ◌<◌, ◌≤◌, Bool, true, false, refl, sym, ◌∙◌, ap, subst, length, get_or, arith, inl, inr}
-use Rattle.std.specs.Prelude.{◌⊎◌}
-use Rattle.std.proofs.lemmas.Bool.{cases_order, cases_lt}
-use Rattle.std.proofs.lemmas.List.{length-set, get_or-set_same, get_or-set_other, get_or_past, get_or-replicate, length-replicate}
-use Rattle.stab_letters.specs.declared.letter.Letter.TheVariants.{I}
-use Rattle.stab_letters.specs.XParts.{has_x}
-use Rattle.stab_pauli.specs.Paulis.{Signed, identity}
-use Rattle.stab_pauli.specs.Rows.{Rows, row_at, with_row}
-use Rattle.stab_pauli.specs.Masks.{chooses, AreChosen}
+use Rattle.stab_pauli.proofs.Names.{◌≡◌, ◌≢◌, ℕ, ◌+◌, ◌-◌, ◌*◌, ◌/◌, ◌^◌, ◌<◌, ◌≤◌, Bool, true, false, refl, sym, ◌∙◌, ap, subst, length, get_or, arith, inl, inr, ◌⊎◌, cases_order, cases_lt, length-set, get_or-set_same, get_or-set_other, get_or_past, get_or-replicate, length-replicate, I, has_x, Signed, identity, Rows, row_at, with_row, chooses, AreChosen}
 use Rattle.stab_pauli.proofs.MaskLemmas.{clash, none-chosen, spared-above}
 
 -- the chosen rows are changed except those that are left in the rest of the mask

@@ -1,10 +1,5 @@
 -- Which letters are not I, by a mask: those of one word, and those of a string in its words.
-use Rattle.std.proofs.Common.{◌≡◌, ◌≢◌, ℕ, ◌+◌, ◌*◌, ◌/◌, ◌%◌, ◌<◌, ◌≤◌, true, false, sym, ◌∙◌, ap, List, length, get_or, take, arith, inl, inr}
-use Rattle.std.specs.Prelude.{◌⊎◌, bit_or}
-use Rattle.std.proofs.lemmas.List.{get_or-take, get_or_past}
-use Rattle.stab_letters.specs.declared.letter.Letter.TheVariants.{I}
-use Rattle.stab_pauli.specs.Masks.{chooses}
-use Rattle.stab_pauli.specs.inner.Blocks.{row_letters, IsRow}
+use Rattle.stab_pauli.proofs.Names.{◌≡◌, ◌≢◌, ℕ, ◌+◌, ◌*◌, ◌/◌, ◌%◌, ◌<◌, ◌≤◌, true, false, sym, ◌∙◌, ap, List, length, get_or, take, arith, inl, inr, ◌⊎◌, bit_or, get_or-take, get_or_past, I, chooses, row_letters, IsRow}
 use Rattle.stab_pauli.proofs.MaskLemmas.{bit-chosen, bit-spared}
 use Rattle.stab_pauli.proofs.NextLetterLemmas.{blank_letter, letter_there}
 use Rattle.stab_pauli.proofs.PaddedLemmas.{length-string}

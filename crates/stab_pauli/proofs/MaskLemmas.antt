@@ -1,17 +1,5 @@
 -- Masks: what they choose when a bit is set, cleared, or put before the others.
-use Rattle.std.proofs.Common.{◌≡◌, ◌≢◌, ℕ, zero, suc, ◌+◌, ◌-◌, ◌*◌, ◌/◌, ◌%◌, ◌^◌, ◌<◌, ◌≤◌, Bool, true, false, sym, ◌∙◌, ap, arith, eqb, inl, inr}
-use Rattle.std.specs.Prelude.{◌⊎◌, bit_and, bit_or, bit_xor}
-use Rattle.std.specs.Int.{bit_at, bit_not, trailing_zeros}
-use mir.Syntax.{w64}
-use mir.Val.{bool_byte}
-use Rattle.std.proofs.Math.Nat.{pow-succ'}
-use Rattle.std.proofs.Math.Pow.{pow_mono}
-use Rattle.std.proofs.lemmas.Nat.{pow-add}
-use Rattle.std.proofs.lemmas.Bool.{cases_order, cases_lt}
-use Rattle.std.proofs.lemmas.Nat.{and_le_l}
-use Rattle.std.proofs.lemmas.Nat.Bits.{bit_at-zero, bit_at-lt, bit_at-suc, bit_at_lowest, bit_at_or, bit_at_xor, bit_at_above, bit_at_set_same, bit_at_set_other, bit_at_clear_same, bit_at_clear_other, bit_at-trailing_zeros}
-use Rattle.stab_letters.specs.Letters.{◌⊕◌}
-use Rattle.stab_pauli.specs.Masks.{chooses}
+use Rattle.stab_pauli.proofs.Names.{◌≡◌, ◌≢◌, ℕ, zero, suc, ◌+◌, ◌-◌, ◌*◌, ◌/◌, ◌%◌, ◌^◌, ◌<◌, ◌≤◌, Bool, true, false, sym, ◌∙◌, ap, arith, eqb, inl, inr, ◌⊎◌, bit_and, bit_or, bit_xor, bit_at, bit_not, trailing_zeros, w64, bool_byte, pow-succ', pow_mono, pow-add, cases_order, cases_lt, and_le_l, bit_at-zero, bit_at-lt, bit_at-suc, bit_at_lowest, bit_at_or, bit_at_xor, bit_at_above, bit_at_set_same, bit_at_set_other, bit_at_clear_same, bit_at_clear_other, bit_at-trailing_zeros, ◌⊕◌, chooses}
 use Rattle.stab_pauli.proofs.BitLemmas.{two_cases, low_xor}
 
 pub chosen : (mask k : ℕ) → bit_at mask k ≡ 1 → chooses mask k ≡ true

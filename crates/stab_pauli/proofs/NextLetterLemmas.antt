@@ -1,14 +1,6 @@
 -- The next letter that is not I: what a walk over words knows.
-use Rattle.std.proofs.Common.{◌≡◌, ◌≢◌, ℕ, ◌+◌, ◌*◌, ◌/◌, ◌%◌, ◌^◌, ◌<◌, ◌≤◌, Bool, true, false, refl, sym, ◌∙◌, ap, subst, List, length, get_or, take, arith, eqb, inl, inr}
-use Rattle.std.specs.Prelude.{◌⊎◌, ◌-◌, bit_or}
-use Rattle.std.specs.Int.{bit_at, trailing_zeros}
-use mir.Syntax.{w64}
-use Rattle.std.proofs.lemmas.Nat.{shr-shr}
-use Rattle.std.proofs.lemmas.Nat.Bits.{bit_at-zero, bit_at-lt, bit_at_or, bit_at_above, bit_at-trailing_zeros}
-use Rattle.std.proofs.lemmas.List.{get_or-take}
-use Rattle.stab_letters.specs.declared.letter.Letter.TheVariants.{I}
-use Rattle.stab_pauli.specs.inner.Words.{letter_of_bits}
-use Rattle.stab_pauli.specs.inner.Blocks.{row_letters, IsRow, IsBlankFrom, IsNextBit, IsNextLetter}
+use Rattle.stab_pauli.proofs.Names.{◌≡◌, ◌≢◌, ℕ, ◌+◌, ◌*◌, ◌/◌, ◌%◌, ◌^◌, ◌<◌, ◌≤◌, Bool, true, false, refl, sym, ◌∙◌, ap, subst, List, length, get_or, take, arith, eqb, inl, inr, ◌⊎◌, bit_or, bit_at, trailing_zeros, w64, shr-shr, bit_at-zero, bit_at-lt, bit_at_or, bit_at_above, bit_at-trailing_zeros, get_or-take, I, letter_of_bits, row_letters, IsRow, IsBlankFrom, IsNextBit, IsNextLetter}
+use Rattle.std.specs.Prelude.{◌-◌}
 use Rattle.stab_pauli.proofs.BitLemmas.{two_cases}
 use Rattle.stab_pauli.proofs.MaskLemmas.{clash}
 use Rattle.stab_pauli.proofs.BlankLemmas.{fits}

@@ -1,12 +1,5 @@
 -- Set bits: their number, and whether it is odd.
-use Rattle.std.proofs.Common.{◌≡◌, ℕ, zero, suc, ◌+◌, ◌*◌, ◌/◌, ◌%◌, ◌^◌, ◌<◌, refl, sym, ◌∙◌, ap, arith, eqb, List, [], ◌∷◌, ◌++◌, length, get_or}
-use Rattle.std.specs.Prelude.{bit_xor}
-use Rattle.std.specs.Simd.Lanes.{zip2, pick_l}
-use lib.Count.{ones, ones_step, ones-ones}
-use Rattle.std.proofs.Math.Nat.{pow-suc}
-use Rattle.stab_letters.specs.Letters.{◌⊕◌}
-use Rattle.stab_pauli.specs.inner.Words.{lowest, word_odd, words_odd, word_ones}
-use Rattle.stab_letters.proofs.ParityLemmas.{parity-false, parity-assoc, parity-mid}
+use Rattle.stab_pauli.proofs.Names.{◌≡◌, ℕ, zero, suc, ◌+◌, ◌*◌, ◌/◌, ◌%◌, ◌^◌, ◌<◌, refl, sym, ◌∙◌, ap, arith, eqb, List, [], ◌∷◌, ◌++◌, length, get_or, bit_xor, zip2, pick_l, ones, ones_step, ones-ones, pow-suc, ◌⊕◌, lowest, word_odd, words_odd, word_ones, parity-false, parity-assoc, parity-mid}
 use Rattle.stab_pauli.proofs.BitLemmas.{half_xor, lowest_xor, lowest_add}
 
 -- one word

@@ -1,18 +1,5 @@
 -- Packed strings: appended words, products, and powers of i.
-use Rattle.std.proofs.Common.{◌≡◌, ℕ, zero, suc, ◌+◌, ◌*◌, ◌/◌, ◌%◌, ◌^◌, refl, sym, ◌∙◌, ap, arith, Bool, true, false, ◌&&◌, eqb, List, [], ◌∷◌, ◌++◌, length, length-append, inl, inr}
-use Rattle.std.specs.Prelude.{bit_xor, bit_and, ◌⊎◌}
-use Rattle.std.specs.Simd.Lanes.{zip2}
-use Rattle.std.proofs.lemmas.Nat.{and_comm}
-use Rattle.std.proofs.lemmas.Simd.{length-zip2}
-use Rattle.stab_letters.specs.declared.letter.Letter.{Letter}
-use Rattle.stab_letters.specs.declared.phase.Phase.{Phase}
-use Rattle.stab_letters.specs.declared.phase.Phase.TheVariants.{Zero, Quarter}
-use Rattle.stab_letters.specs.Phases.{phase_add, phase_of_sign, quarters}
-use Rattle.stab_letters.specs.Letters.{◌⊕◌, letter_product, letter_power}
-use Rattle.stab_pauli.specs.Paulis.{string_product}
-use Rattle.stab_pauli.specs.inner.Words.{lowest, letter_of_bits, word_letters, packed_letters, word_odd, words_odd, word_ones, words_ones, xor_words}
-use Rattle.stab_pauli.specs.inner.Powers.{string_power, letters_meet, strings_meet}
-use Rattle.stab_letters.proofs.PhaseLemmas.{phase_add-assoc, phase_of_sign-parity, quarters-add, quarters-mod}
+use Rattle.stab_pauli.proofs.Names.{◌≡◌, ℕ, zero, suc, ◌+◌, ◌*◌, ◌/◌, ◌%◌, ◌^◌, refl, sym, ◌∙◌, ap, arith, Bool, true, false, ◌&&◌, eqb, List, [], ◌∷◌, ◌++◌, length, length-append, inl, inr, bit_xor, bit_and, ◌⊎◌, zip2, and_comm, length-zip2, Letter, Phase, Zero, Quarter, phase_add, phase_of_sign, quarters, ◌⊕◌, letter_product, letter_power, string_product, lowest, letter_of_bits, word_letters, packed_letters, word_odd, words_odd, word_ones, words_ones, xor_words, string_power, letters_meet, strings_meet, phase_add-assoc, phase_of_sign-parity, quarters-add, quarters-mod}
 use Rattle.stab_pauli.proofs.PowerLemmas.{strings_meet-append, string_power-append}
 use Rattle.stab_pauli.proofs.BitLemmas.{half_xor, half_and, lowest_xor, lowest_and, two_cases, below_two}
 use Rattle.stab_pauli.proofs.OnesLemmas.{words_odd-xor}

@@ -1,11 +1,5 @@
 -- Words of which those that are 0 are left out: what a word more leaves, a gap that is cut, and a block.
-use Rattle.std.proofs.Common.{◌≡◌, ℕ, suc, ◌+◌, ◌*◌, ◌<◌, ◌≤◌, refl, sym, ◌∙◌, ap, arith, append_assoc, length-append, zero-add, List, [], ◌∷◌, ◌++◌, length, get_or, take, drop, replicate}
-use Rattle.std.proofs.Math.Seq.{take-add}
-use Rattle.std.proofs.lemmas.List.{length-replicate, take_more, take_all}
-use Rattle.std.proofs.lemmas.Grind.{replicate_next}
-use Rattle.std.proofs.lemmas.Nat.{le_or_l, le_or_r}
-use Rattle.std.specs.Prelude.{bit_or}
-use Rattle.stab_pauli.specs.inner.Sparse.{spread, IsSparse}
+use Rattle.stab_pauli.proofs.Names.{◌≡◌, ℕ, suc, ◌+◌, ◌*◌, ◌<◌, ◌≤◌, refl, sym, ◌∙◌, ap, arith, append_assoc, length-append, zero-add, List, [], ◌∷◌, ◌++◌, length, get_or, take, drop, replicate, take-add, length-replicate, take_more, take_all, replicate_next, le_or_l, le_or_r, bit_or, spread, IsSparse}
 use Rattle.stab_pauli.proofs.SparseLemmas.{spread-zeros, spread-kept, length-from}
 
 -- a block of words 0

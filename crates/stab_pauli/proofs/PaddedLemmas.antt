@@ -1,18 +1,5 @@
 -- One string in its words: what is past its last letter is I, which changes no product.
-use Rattle.std.proofs.Common.{◌≡◌, ℕ, zero, suc, [], ◌∷◌, ◌++◌, ◌-◌, ◌*◌, ◌<◌, refl, sym, ◌∙◌, ap, List, length, set, take, drop, replicate, arith, subst}
-use Rattle.std.specs.Prelude.{bit_xor}
-use Rattle.std.proofs.lemmas.List.{length-replicate, length-take-le, append-nil, drop-set-lt}
-use Rattle.std.proofs.Math.Seq.{take-length, drop-length}
-use Rattle.std.proofs.lemmas.Simd.{length-zip2}
-use Rattle.stab_letters.specs.declared.letter.Letter.{Letter}
-use Rattle.stab_letters.specs.declared.letter.Letter.TheVariants.{I}
-use Rattle.stab_letters.specs.declared.phase.Phase.{Phase}
-use Rattle.stab_letters.specs.Phases.{phase_add, phase_of_sign, sign_of_phase, phase_inverse}
-use Rattle.stab_letters.specs.Letters.{◌⊕◌}
-use Rattle.stab_pauli.specs.Paulis.{Signed, string_product, strings_anticommute}
-use Rattle.stab_pauli.specs.inner.Words.{xor_words}
-use Rattle.stab_pauli.specs.inner.Powers.{string_power, strings_meet, sign_power, power_of}
-use Rattle.stab_pauli.specs.inner.Blocks.{row_letters, blocks_of, AreBlocks, IsPadded, IsRow, IsSignedRow, signed_row}
+use Rattle.stab_pauli.proofs.Names.{◌≡◌, ℕ, zero, suc, [], ◌∷◌, ◌++◌, ◌-◌, ◌*◌, ◌<◌, refl, sym, ◌∙◌, ap, List, length, set, take, drop, replicate, arith, subst, bit_xor, length-replicate, length-take-le, append-nil, drop-set-lt, take-length, drop-length, length-zip2, Letter, I, Phase, phase_add, phase_of_sign, sign_of_phase, phase_inverse, ◌⊕◌, Signed, string_product, strings_anticommute, xor_words, string_power, strings_meet, sign_power, power_of, row_letters, blocks_of, AreBlocks, IsPadded, IsRow, IsSignedRow, signed_row}
 use Rattle.stab_pauli.proofs.PowerLemmas.{power_told, is_sign_left, sign_of_left, strings_anticommute-meet}
 use Rattle.stab_pauli.proofs.BlankLemmas.{fits, row-none, take-replicate, drop-replicate}
 use Rattle.stab_pauli.proofs.RowLemmas.{row_product, length-row}

@@ -1,16 +1,6 @@
 -- The letter at a place: its block, its words and its bits.
-use Rattle.std.proofs.Common.{◌≡◌, ℕ, zero, suc, ◌+◌, ◌*◌, ◌/◌, ◌%◌, ◌<◌, refl, sym, ◌∙◌, ap, List, [], ◌∷◌, ◌++◌, Bool, true, false, length, get_or, set, take, drop, arith, eqb, inl, inr}
-use Rattle.std.specs.Prelude.{◌⊎◌, ◌≢◌}
-use Rattle.std.specs.Int.{bit_at}
-use Rattle.std.proofs.lemmas.Nat.Bits.{bit_at_lowest, bit_at-suc}
-use Rattle.std.proofs.Math.ListN.{get_or-append}
-use Rattle.std.proofs.lemmas.Bool.{cases_order}
-use Rattle.std.proofs.lemmas.List.{get_or-append-add, get_or-drop, get_or-take, length-set, get_or-set_same, get_or-set_other, ext_get_or}
-use Rattle.stab_letters.specs.declared.letter.Letter.{Letter}
-use Rattle.stab_letters.specs.declared.letter.Letter.TheVariants.{I}
-use Rattle.stab_letters.specs.XParts.{has_x}
-use Rattle.stab_pauli.specs.inner.Words.{letter_of_bits, word_letters, packed_letters}
-use Rattle.stab_pauli.specs.inner.Blocks.{row_letters}
+use Rattle.stab_pauli.proofs.Names.{◌≡◌, ℕ, zero, suc, ◌+◌, ◌*◌, ◌/◌, ◌%◌, ◌<◌, refl, sym, ◌∙◌, ap, List, [], ◌∷◌, ◌++◌, Bool, true, false, length, get_or, set, take, drop, arith, eqb, inl, inr, ◌⊎◌, bit_at, bit_at_lowest, bit_at-suc, get_or-append, cases_order, get_or-append-add, get_or-drop, get_or-take, length-set, get_or-set_same, get_or-set_other, ext_get_or, Letter, I, has_x, letter_of_bits, word_letters, packed_letters, row_letters}
+use Rattle.std.specs.Prelude.{◌≢◌}
 use Rattle.stab_pauli.proofs.PackedLemmas.{length-word_letters}
 use Rattle.stab_pauli.proofs.RowLemmas.{length-block, length-front, length-second, length-rest, length-row}
 

@@ -1,19 +1,5 @@
 -- Powers of i before the bits of strings: what products add to them, and the signs that are left.
-use Rattle.std.proofs.Common.{◌≡◌, ℕ, zero, suc, ◌<◌, Bool, true, false, not, refl, sym, ◌∙◌, ap, List, [], ◌∷◌, ◌++◌, length, get_or, set, replicate, arith}
-use Rattle.std.specs.List.{list_any}
-use Rattle.stab_letters.specs.declared.letter.Letter.{Letter}
-use Rattle.stab_letters.specs.declared.letter.Letter.TheVariants.{I, X, Y, Z}
-use Rattle.stab_letters.specs.declared.phase.Phase.{Phase}
-use Rattle.stab_letters.specs.declared.phase.Phase.TheVariants.{Zero, Quarter}
-use Rattle.stab_letters.specs.Phases.{phase_add, phase_of_sign, is_even, sign_of_phase, phase_inverse}
-use Rattle.stab_letters.specs.Letters.{◌⊕◌, letter_product, letter_phase, letters_anticommute, letter_power}
-use Rattle.stab_pauli.specs.Paulis.{Signed, with_sign, anticommute, product, product_phase, string_product, string_phase, strings_anticommute}
-use Rattle.stab_letters.specs.XParts.{has_x}
-use Rattle.stab_pauli.specs.Rows.{product_times_i, with_letter}
-use Rattle.stab_pauli.specs.inner.Powers.{string_power, letters_meet, strings_meet, sign_power, power_of, IsSign}
-use Rattle.stab_letters.proofs.ParityLemmas.{parity-assoc, parity-mid}
-use Rattle.stab_letters.proofs.PhaseLemmas.{phase_add-zero, phase_add-comm, phase_add-assoc, phase_add-mid, phase_add-left, phase_add-back_left, phase_add-back_right, phase_add-cancel, phase_of_sign-parity, phase_of_sign-injective, phase_of_sign-sign_of_phase, sign_of_phase-phase_of_sign, is_even-phase_of_sign}
-use Rattle.stab_letters.proofs.LetterLemmas.{each_letter, by_letters}
+use Rattle.stab_pauli.proofs.Names.{◌≡◌, ℕ, zero, suc, ◌<◌, Bool, true, false, not, refl, sym, ◌∙◌, ap, List, [], ◌∷◌, ◌++◌, length, get_or, set, replicate, arith, list_any, Letter, I, X, Y, Z, Phase, Zero, Quarter, phase_add, phase_of_sign, is_even, sign_of_phase, phase_inverse, ◌⊕◌, letter_product, letter_phase, letters_anticommute, letter_power, Signed, with_sign, anticommute, product, product_phase, string_product, string_phase, strings_anticommute, has_x, product_times_i, with_letter, string_power, letters_meet, strings_meet, sign_power, power_of, IsSign, parity-assoc, parity-mid, phase_add-zero, phase_add-comm, phase_add-assoc, phase_add-mid, phase_add-left, phase_add-back_left, phase_add-back_right, phase_add-cancel, phase_of_sign-parity, phase_of_sign-injective, phase_of_sign-sign_of_phase, sign_of_phase-phase_of_sign, is_even-phase_of_sign, each_letter, by_letters}
 use Rattle.stab_pauli.proofs.SignedLemmas.{is_even-product_phase, is_even-times_phase}
 
 -- two letters
@@ -155,7 +141,7 @@ power_of-times_phase v v' e =
     ∙ sym (phase_add-assoc Quarter (product_phase v v') (string_power (string_product v.letters v'.letters)))
     ∙ ap (λ t. phase_add t (string_power (string_product v.letters v'.letters))) (sym (phase_of_sign-sign_of_phase (phase_add Quarter (product_phase v v')) (is_even-times_phase v v' e)))
 
--- of a string whose sign was turned
+-- of a string whose sign was flipped
 pub power_of-with_sign : (b : Bool) (v : Signed) → phase_add (power_of v) (phase_of_sign b) ≡ power_of (with_sign b v)
 power_of-with_sign b v =
     phase_add-comm (power_of v) (phase_of_sign b)

@@ -1,19 +1,6 @@
 -- Rows of blocks: their products, and what a loop over the blocks knows.
-use Rattle.std.proofs.Common.{◌≡◌, ℕ, zero, suc, ◌+◌, ◌-◌, ◌*◌, ◌<◌, ◌≤◌, refl, sym, ◌∙◌, ap, List, [], ◌∷◌, ◌++◌, length, take, drop, arith, subst, append_assoc, length-drop, length-append}
-use Rattle.std.specs.Prelude.{bit_xor}
-use Rattle.std.specs.Simd.Lanes.{zip2, chunk, put_chunk}
-use Rattle.std.proofs.lemmas.List.{take-append-drop, drop_at, take_at, drop-drop, length-take-le, take-append-le, drop-append-le}
-use Rattle.std.proofs.lemmas.Simd.{length-chunk, put_chunk_is}
-use Rattle.stab_letters.specs.declared.letter.Letter.{Letter}
-use Rattle.stab_letters.specs.declared.phase.Phase.{Phase}
-use Rattle.stab_letters.specs.declared.phase.Phase.TheVariants.{Zero}
-use Rattle.stab_letters.specs.Phases.{phase_add, phase_of_sign}
-use Rattle.stab_pauli.specs.Paulis.{string_product, strings_anticommute}
-use Rattle.stab_pauli.specs.inner.Powers.{string_power, strings_meet}
-use Rattle.stab_letters.proofs.PhaseLemmas.{phase_add-zero, phase_add-assoc, phase_add-mid, phase_of_sign-parity}
+use Rattle.stab_pauli.proofs.Names.{◌≡◌, ℕ, zero, suc, ◌+◌, ◌-◌, ◌*◌, ◌<◌, ◌≤◌, refl, sym, ◌∙◌, ap, List, [], ◌∷◌, ◌++◌, length, take, drop, arith, subst, append_assoc, length-drop, length-append, bit_xor, zip2, chunk, put_chunk, take-append-drop, drop_at, take_at, drop-drop, length-take-le, take-append-le, drop-append-le, length-chunk, put_chunk_is, Letter, Phase, Zero, phase_add, phase_of_sign, string_product, strings_anticommute, string_power, strings_meet, phase_add-zero, phase_add-assoc, phase_add-mid, phase_of_sign-parity, packed_letters, xor_words, row_letters, IsRewritten}
 use Rattle.stab_pauli.proofs.PowerLemmas.{strings_anticommute-meet, strings_meet-append, string_power-append}
-use Rattle.stab_pauli.specs.inner.Words.{packed_letters, xor_words}
-use Rattle.stab_pauli.specs.inner.Blocks.{row_letters, IsRewritten}
 use Rattle.stab_pauli.proofs.PackedLemmas.{packed_product, length-packed, string_product-append}
 use Rattle.stab_pauli.proofs.XorLemmas.{IsXorBefore, IsXorBefore-block, IsXorBefore-ahead, IsXorBefore-ahead_of}
 

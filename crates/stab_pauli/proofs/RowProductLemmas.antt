@@ -1,15 +1,5 @@
 -- Products with a row of a table, read and written through slices of its words, as contracts see them.
-use Rattle.std.proofs.Common.{◌≡◌, ℕ, ◌*◌, ◌<◌, Bool, true, false, refl, sym, ◌∙◌, ap, subst, List, ◌++◌, length, get_or, set, take, drop, arith, length-drop}
-use Rattle.std.proofs.lemmas.List.{take_all, take-append-drop}
-use Rattle.std.specs.Simd.Lanes.{chunk, put_chunk}
-use Rattle.stab_letters.specs.declared.phase.Phase.{Phase}
-use Rattle.stab_letters.specs.declared.phase.Phase.TheVariants.{Quarter}
-use Rattle.stab_letters.specs.Phases.{phase_add, phase_of_sign}
-use Rattle.stab_pauli.specs.Paulis.{Signed, anticommute, product}
-use Rattle.stab_pauli.specs.Rows.{Rows, row_at, with_row, product_times_i}
-use Rattle.stab_pauli.specs.inner.Words.{xor_words}
-use Rattle.stab_pauli.specs.inner.Powers.{strings_meet}
-use Rattle.stab_pauli.specs.inner.Blocks.{blocks_of, row_letters}
+use Rattle.stab_pauli.proofs.Names.{◌≡◌, ℕ, ◌*◌, ◌<◌, Bool, true, false, refl, sym, ◌∙◌, ap, subst, List, ◌++◌, length, get_or, set, take, drop, arith, length-drop, take_all, take-append-drop, chunk, put_chunk, Phase, Quarter, phase_add, phase_of_sign, Signed, anticommute, product, Rows, row_at, with_row, product_times_i, xor_words, strings_meet, blocks_of, row_letters}
 use Rattle.stab_pauli.proofs.PaddedLemmas.{IsView, IsFitting, same_numbers, alike, written_view}
 use Rattle.stab_pauli.proofs.SeenLemmas.{IsSeen, qubits_seen, row_seen, put_seen, written_seen, read_power, product_view, times_i_view, fitting}
 

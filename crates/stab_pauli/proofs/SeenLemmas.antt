@@ -1,19 +1,5 @@
 -- What contracts see of a table: its rows one by one, and a row that was replaced.
-use Rattle.std.proofs.Common.{◌≡◌, ℕ, ◌+◌, ◌*◌, ◌<◌, ◌≤◌, Bool, true, false, refl, sym, ◌∙◌, ap, List, ◌++◌, length, get_or, set, take, drop, replicate, arith, subst}
-use Rattle.std.specs.Simd.Lanes.{chunk, put_chunk}
-use Rattle.std.proofs.lemmas.List.{length-set, get_or-set_same}
-use Rattle.stab_letters.specs.declared.letter.Letter.{Letter}
-use Rattle.stab_letters.specs.declared.letter.Letter.TheVariants.{I}
-use Rattle.stab_letters.specs.declared.phase.Phase.{Phase}
-use Rattle.stab_letters.specs.declared.phase.Phase.TheVariants.{Zero, Quarter}
-use Rattle.stab_letters.specs.Phases.{phase_add, phase_of_sign, phase_inverse}
-use Rattle.stab_pauli.specs.Paulis.{Signed, identity, with_sign, anticommute, product, string_product}
-use Rattle.stab_pauli.specs.Phaseds.{phased, times_phase, phased_product}
-use Rattle.stab_pauli.specs.Rows.{Rows, row_at, with_row, with_letter, swapped_rows, product_times_i}
-use Rattle.stab_pauli.specs.inner.Words.{xor_words, swapped_words}
-use Rattle.stab_pauli.specs.inner.Powers.{string_power, strings_meet, power_of}
-use Rattle.stab_letters.specs.Letters.{letter_power}
-use Rattle.stab_pauli.specs.inner.Blocks.{row_letters, blocks_of, AreBlocks, IsRow, IsTable, table}
+use Rattle.stab_pauli.proofs.Names.{◌≡◌, ℕ, ◌+◌, ◌*◌, ◌<◌, ◌≤◌, Bool, true, false, refl, sym, ◌∙◌, ap, List, ◌++◌, length, get_or, set, take, drop, replicate, arith, subst, chunk, put_chunk, length-set, get_or-set_same, Letter, I, Phase, Zero, Quarter, phase_add, phase_of_sign, phase_inverse, Signed, identity, with_sign, anticommute, product, string_product, phased, times_phase, phased_product, Rows, row_at, with_row, with_letter, swapped_rows, product_times_i, xor_words, swapped_words, string_power, strings_meet, power_of, letter_power, row_letters, blocks_of, AreBlocks, IsRow, IsTable, table}
 use Rattle.stab_pauli.proofs.SignedLemmas.{phased-times_phase}
 use Rattle.stab_pauli.proofs.PowerLemmas.{power_of-product, power_of-times_phase, power_of-with_sign, power_of-with_letter}
 use Rattle.stab_pauli.proofs.BlankLemmas.{fits, IsSigned-none, signed_row-none}
@@ -147,7 +133,7 @@ letter_view {n} {m} {ws} {k} {v} new q old x r mine lt l e eo er = record {
       ∙ power_of-with_letter v q x (subst (λ j. q < j) (sym (length-view mine)) lt);
 }
 
--- a sign that was turned
+-- a sign that was flipped
 pub signed_view : {n m : ℕ} {ws : List ℕ} {k : Phase} {v : Signed} (b : Bool) (x r : Phase) → IsView n m ws k v → x ≡ k → r ≡ phase_add x (phase_of_sign b) → IsView n m ws r (with_sign b v)
 signed_view {v = v} b x r mine ex er = record { row = mine.row; letters = mine.letters; power = er ∙ ap (λ t. phase_add t (phase_of_sign b)) (ex ∙ mine.power) ∙ power_of-with_sign b v }
 
@@ -212,7 +198,7 @@ pub swapped_seen : {n m : ℕ} {ws : List ℕ} {ps : List Phase} {v : Rows} → 
 swapped_seen {n} {m} {ws} {ps} {v} mine a b la lb =
     put_seen (put_seen mine a la (row_seen mine b lb)) b (rw (length-set ps a (get_or ps b Zero)) lb) (row_seen mine a la)
 
--- a row whose sign was turned
+-- a row whose sign was flipped
 pub negated_seen : {n m : ℕ} {ws : List ℕ} {ps : List Phase} {v : Rows} → IsSeen n m ws ps v → (a : ℕ) (b : Bool) (x r : Phase) → a < length ps → x ≡ get_or ps a x → r ≡ phase_add x (phase_of_sign b)
     → IsSeen n m ws (set ps a r) (with_row v a (with_sign b (row_at v a)))
 negated_seen {n} {m} {ws} {ps} {v} mine a b x r la ex er =

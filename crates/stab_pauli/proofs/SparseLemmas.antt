@@ -1,9 +1,5 @@
 -- Words of which most are 0: what a word after them makes, how they are written over words 0, and how they are compared.
-use Rattle.std.proofs.Common.{◌≡◌, ℕ, zero, suc, ◌+◌, ◌<◌, ◌≤◌, refl, sym, ◌∙◌, ap, arith, append_assoc, length-append, List, [], ◌∷◌, ◌++◌, length, get_or, set, drop, replicate}
-use Rattle.std.proofs.lemmas.List.{length-replicate, replicate-append-replicate, set-append_right, set_at, drop_more, length-set, drop_all}
-use Rattle.stab_pauli.specs.inner.Words.{AreShort}
-use Rattle.stab_pauli.specs.declared.packed.sparse.SparseWords.{SparseWords}
-use Rattle.stab_pauli.specs.inner.Sparse.{spread}
+use Rattle.stab_pauli.proofs.Names.{◌≡◌, ℕ, zero, suc, ◌+◌, ◌<◌, ◌≤◌, refl, sym, ◌∙◌, ap, arith, append_assoc, length-append, List, [], ◌∷◌, ◌++◌, length, get_or, set, drop, replicate, length-replicate, replicate-append-replicate, set-append_right, set_at, drop_more, length-set, drop_all, AreShort, SparseWords, spread}
 use Rattle.stab_pauli.proofs.TellLemmas.{short_more, short_tail}
 
 -- the words that a value stands for

@@ -1,9 +1,5 @@
 -- Words of which most are 0, from a place on, compared with others.
-use Rattle.std.proofs.Common.{◌≡◌, ℕ, ◌+◌, ◌-◌, ◌≤◌, refl, sym, ◌∙◌, ap, arith, append_assoc, length-append, List, [], ◌∷◌, ◌++◌, length, get_or, take, drop, replicate}
-use Rattle.std.proofs.Math.Seq.{take-add}
-use Rattle.std.proofs.lemmas.List.{append-nil, replicate-append-replicate, take_at, drop_at, length-take-le}
-use Rattle.std.specs.Prelude.{bit_or}
-use Rattle.stab_pauli.specs.inner.Sparse.{spread_next, words_from}
+use Rattle.stab_pauli.proofs.Names.{◌≡◌, ℕ, ◌+◌, ◌-◌, ◌≤◌, refl, sym, ◌∙◌, ap, arith, append_assoc, length-append, List, [], ◌∷◌, ◌++◌, length, get_or, take, drop, replicate, take-add, append-nil, replicate-append-replicate, take_at, drop_at, length-take-le, bit_or, spread_next, words_from}
 
 -- a block of words 0 has no bit
 pub blank_told : (xs : List ℕ) → xs ≡ replicate 8 0

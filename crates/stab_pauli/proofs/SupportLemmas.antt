@@ -1,19 +1,5 @@
 -- Products by a walk over the blocks that a mask names, if all others are letters I.
-use Rattle.std.proofs.Common.{◌≡◌, ◌≢◌, ℕ, zero, suc, ◌+◌, ◌*◌, ◌/◌, ◌%◌, ◌<◌, ◌≤◌, Bool, true, false, refl, sym, ◌∙◌, ap, subst, List, [], ◌∷◌, length, get_or, take, drop, replicate, arith, inl, inr}
-use Rattle.std.specs.Prelude.{◌⊎◌, bit_xor}
-use Rattle.std.specs.Int.Bits.{xor_zero_r}
-use Rattle.std.specs.Simd.Lanes.{chunk, put_chunk}
-use Rattle.std.proofs.lemmas.Bool.{cases_order}
-use Rattle.std.proofs.lemmas.List.{ext_get_or, append-nil, drop-drop}
-use Rattle.std.proofs.lemmas.Simd.{get_or-zip2, length-zip2, length-chunk, get_or-chunk, length-put_chunk, get_or-put_chunk_at}
-use Rattle.stab_letters.specs.declared.letter.Letter.{Letter}
-use Rattle.stab_letters.specs.declared.letter.Letter.TheVariants.{I, X, Y, Z}
-use Rattle.stab_letters.specs.Letters.{◌⊕◌}
-use Rattle.stab_pauli.specs.Masks.{chooses}
-use Rattle.stab_pauli.specs.inner.Words.{packed_letters, xor_words, word_odd, words_odd}
-use Rattle.stab_pauli.specs.inner.Powers.{letters_meet, strings_meet}
-use Rattle.stab_pauli.specs.inner.Blocks.{row_letters, CoversLetters}
-use Rattle.stab_letters.proofs.ParityLemmas.{parity-false, parity-assoc, parity-comm}
+use Rattle.stab_pauli.proofs.Names.{◌≡◌, ◌≢◌, ℕ, zero, suc, ◌+◌, ◌*◌, ◌/◌, ◌%◌, ◌<◌, ◌≤◌, Bool, true, false, refl, sym, ◌∙◌, ap, subst, List, [], ◌∷◌, length, get_or, take, drop, replicate, arith, inl, inr, ◌⊎◌, bit_xor, xor_zero_r, chunk, put_chunk, cases_order, ext_get_or, append-nil, drop-drop, get_or-zip2, length-zip2, length-chunk, get_or-chunk, length-put_chunk, get_or-put_chunk_at, Letter, I, X, Y, Z, ◌⊕◌, chooses, packed_letters, xor_words, word_odd, words_odd, letters_meet, strings_meet, row_letters, CoversLetters, parity-false, parity-assoc, parity-comm}
 use Rattle.stab_pauli.proofs.MaskLemmas.{clash, none-chosen}
 use Rattle.stab_pauli.proofs.PowerLemmas.{strings_meet-append}
 use Rattle.stab_pauli.proofs.PackedLemmas.{length-packed}

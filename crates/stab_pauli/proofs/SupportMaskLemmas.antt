@@ -1,13 +1,5 @@
 -- The support of a string, by blocks: a mask covers its words if and only if it covers its letters.
-use Rattle.std.proofs.Common.{◌≡◌, ℕ, ◌+◌, ◌*◌, ◌/◌, ◌%◌, ◌^◌, ◌<◌, ◌≤◌, false, sym, ◌∙◌, ap, List, length, get_or, take, drop, replicate, arith, refl, subst, inl, inr}
-use Rattle.std.specs.Prelude.{◌⊎◌}
-use Rattle.std.specs.Simd.Lanes.{chunk}
-use Rattle.std.proofs.lemmas.List.{ext_get_or, get_or-replicate, get_or_past, length-replicate}
-use Rattle.std.proofs.lemmas.Simd.{length-chunk, get_or-chunk}
-use Rattle.stab_letters.specs.declared.letter.Letter.TheVariants.{I}
-use Rattle.stab_pauli.specs.Masks.{chooses, CoversSupport}
-use Rattle.stab_pauli.specs.inner.Words.{word_letters, AreShort}
-use Rattle.stab_pauli.specs.inner.Blocks.{row_letters, IsRow, CoversLetters}
+use Rattle.stab_pauli.proofs.Names.{◌≡◌, ℕ, ◌+◌, ◌*◌, ◌/◌, ◌%◌, ◌^◌, ◌<◌, ◌≤◌, false, sym, ◌∙◌, ap, List, length, get_or, take, drop, replicate, arith, refl, subst, inl, inr, ◌⊎◌, chunk, ext_get_or, get_or-replicate, get_or_past, length-replicate, length-chunk, get_or-chunk, I, chooses, CoversSupport, word_letters, AreShort, row_letters, IsRow, CoversLetters}
 use Rattle.stab_pauli.proofs.RowLemmas.{length-row}
 use Rattle.stab_pauli.proofs.PlaceLemmas.{get_or-row}
 use Rattle.stab_pauli.proofs.BlankLemmas.{row-none}

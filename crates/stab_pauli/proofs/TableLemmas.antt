@@ -1,27 +1,8 @@
 -- Rows one after another: what a row that was replaced does to their letters, and products of padded rows.
-use Rattle.std.proofs.Common.{◌≡◌, ℕ, zero, suc, ◌+◌, ◌-◌, ◌*◌, ◌<◌, ◌≤◌, refl, sym, ◌∙◌, ap, List, [], ◌∷◌, ◌++◌, length, get_or, set, take, drop, arith, subst, inl, inr, length-drop}
-use Rattle.std.specs.Prelude.{◌⊎◌, ◌≢◌}
-use Rattle.std.proofs.Math.Seq.{take-length, drop-length}
-use Rattle.std.proofs.lemmas.Bool.{cases_order}
-use Rattle.std.specs.List.{All}
-use Rattle.std.specs.Simd.Lanes.{zip2, chunk, put_chunk}
-use Rattle.std.proofs.lemmas.List.{drop-drop, length-take-le, take-append-drop, length-set, append-nil}
-use Rattle.std.proofs.lemmas.List.Elements.{All-set, All-get_or}
-use Rattle.std.proofs.lemmas.Simd.{get_or-zip2, length-zip2, length-chunk, length-put_chunk}
-use Rattle.std.proofs.Math.Nat.{mul-le-mul_left}
-use Rattle.stab_letters.specs.declared.letter.Letter.{Letter}
-use Rattle.stab_letters.specs.declared.phase.Phase.{Phase}
-use Rattle.stab_letters.specs.declared.phase.Phase.TheVariants.{Zero}
-use Rattle.stab_letters.specs.Phases.{phase_add}
-use Rattle.stab_letters.specs.Letters.{◌⊕◌, letter_product}
-use Rattle.stab_pauli.specs.Paulis.{identity, string_product}
-use Rattle.stab_pauli.specs.inner.Powers.{string_power, strings_meet, IsSign}
-use Rattle.stab_letters.proofs.ParityLemmas.{parity-false}
-use Rattle.stab_letters.proofs.PhaseLemmas.{phase_add-zero}
+use Rattle.stab_pauli.proofs.Names.{◌≡◌, ℕ, zero, suc, ◌+◌, ◌-◌, ◌*◌, ◌<◌, ◌≤◌, refl, sym, ◌∙◌, ap, List, [], ◌∷◌, ◌++◌, length, get_or, set, take, drop, arith, subst, inl, inr, length-drop, ◌⊎◌, take-length, drop-length, cases_order, All, zip2, chunk, put_chunk, drop-drop, length-take-le, take-append-drop, length-set, append-nil, All-set, All-get_or, get_or-zip2, length-zip2, length-chunk, length-put_chunk, mul-le-mul_left, Letter, Phase, Zero, phase_add, ◌⊕◌, letter_product, identity, string_product, string_power, strings_meet, IsSign, parity-false, phase_add-zero, Rows, row_at, with_row, row_letters, full_rows, IsPadded, IsSignedRow, IsTable, table, row_sign, signed_row}
+use Rattle.std.specs.Prelude.{◌≢◌}
 use Rattle.stab_pauli.proofs.StringLemmas.{string_product-blank}
 use Rattle.stab_pauli.proofs.PowerLemmas.{strings_meet-append, strings_meet-blank, string_power-append, string_power-blank}
-use Rattle.stab_pauli.specs.Rows.{Rows, row_at, with_row}
-use Rattle.stab_pauli.specs.inner.Blocks.{row_letters, full_rows, IsPadded, IsSignedRow, IsTable, table, row_sign, signed_row}
 
 -- words that are replaced
 

@@ -1,22 +1,6 @@
 -- Rows are determined by their letters: equal letters lie in equal words.
-use Rattle.std.proofs.Common.{◌≡◌, ℕ, zero, suc, ◌+◌, ◌*◌, ◌/◌, ◌%◌, ◌^◌, ◌<◌, Bool, true, false, refl, sym, ◌∙◌, ap, List, [], ◌∷◌, ◌++◌, length, get_or, take, drop, map, arith, rules, subst, inl, inr, eqb, length-drop}
-use Rattle.std.specs.Prelude.{◌⊎◌, ◌↔◌}
-use Rattle.std.specs.List.{All}
+use Rattle.stab_pauli.proofs.Names.{◌≡◌, ℕ, zero, suc, ◌+◌, ◌*◌, ◌/◌, ◌%◌, ◌^◌, ◌<◌, Bool, true, false, refl, sym, ◌∙◌, ap, List, [], ◌∷◌, ◌++◌, length, get_or, take, drop, map, arith, rules, subst, inl, inr, eqb, length-drop, ◌⊎◌, ◌↔◌, All, zip2, pow-suc, take_at, drop_at, take-append-drop, drop-drop, get_or-drop, length-map, length-take-le, All-head, All-tail, Letter, I, X, Y, Z, Phase, Zero, has_x, Signed, Rows, unsigned_rows, lowest, letter_of_bits, word_letters, packed_letters, AreShort, row_letters, blocks_of, full_rows, IsPadded, row_sign, signed_row, power_of, IsSign}
 use Rattle.std.specs.Bool.{IsTrue}
-use Rattle.std.specs.Simd.Lanes.{zip2}
-use Rattle.std.proofs.Math.Nat.{pow-suc}
-use Rattle.std.proofs.lemmas.List.{take_at, drop_at, take-append-drop, drop-drop, get_or-drop, length-map, length-take-le}
-use Rattle.std.proofs.lemmas.List.Elements.{All-head, All-tail}
-use Rattle.stab_letters.specs.declared.letter.Letter.{Letter}
-use Rattle.stab_letters.specs.declared.letter.Letter.TheVariants.{I, X, Y, Z}
-use Rattle.stab_letters.specs.declared.phase.Phase.{Phase}
-use Rattle.stab_letters.specs.declared.phase.Phase.TheVariants.{Zero}
-use Rattle.stab_letters.specs.XParts.{has_x}
-use Rattle.stab_pauli.specs.Paulis.{Signed}
-use Rattle.stab_pauli.specs.Rows.{Rows, unsigned_rows}
-use Rattle.stab_pauli.specs.inner.Words.{lowest, letter_of_bits, word_letters, packed_letters, AreShort}
-use Rattle.stab_pauli.specs.inner.Blocks.{row_letters, blocks_of, full_rows, IsPadded, row_sign, signed_row}
-use Rattle.stab_pauli.specs.inner.Powers.{power_of, IsSign}
 use Rattle.stab_pauli.proofs.PowerLemmas.{power_told, power_of-tells}
 use Rattle.stab_pauli.proofs.BitLemmas.{two_cases, below_two}
 use Rattle.stab_pauli.proofs.PlaceLemmas.{has_x_bits}

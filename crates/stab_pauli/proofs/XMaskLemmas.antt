@@ -1,11 +1,5 @@
 -- Which letters of a word are X or Y, by a mask, and at which places any of several rows has X, by the masks of all.
-use Rattle.std.proofs.Common.{◌≡◌, ℕ, ◌+◌, ◌-◌, ◌*◌, ◌/◌, ◌%◌, ◌<◌, ◌≤◌, Bool, true, sym, ◌∙◌, ap, List, length, get_or, arith, below_more, inl, inr}
-use Rattle.std.specs.Prelude.{◌⊎◌, bit_or}
-use Rattle.std.proofs.lemmas.Bool.{cases_lt}
-use Rattle.stab_letters.specs.declared.letter.Letter.TheVariants.{I}
-use Rattle.stab_letters.specs.XParts.{has_x}
-use Rattle.stab_pauli.specs.Masks.{chooses}
-use Rattle.stab_pauli.specs.inner.Blocks.{row_letters}
+use Rattle.stab_pauli.proofs.Names.{◌≡◌, ℕ, ◌+◌, ◌-◌, ◌*◌, ◌/◌, ◌%◌, ◌<◌, ◌≤◌, Bool, true, sym, ◌∙◌, ap, List, length, get_or, arith, below_more, inl, inr, ◌⊎◌, bit_or, cases_lt, I, has_x, chooses, row_letters}
 use Rattle.stab_pauli.proofs.MaskLemmas.{chosen-first, chosen-second}
 use Rattle.stab_pauli.proofs.PlaceLemmas.{x_place, has_x_at_place}
 

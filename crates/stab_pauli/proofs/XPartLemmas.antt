@@ -1,21 +1,9 @@
 -- The first letter that is X or Y: what a walk over words knows.
-use Rattle.std.proofs.Common.{◌≡◌, ℕ, zero, suc, ◌+◌, ◌*◌, ◌/◌, ◌%◌, ◌^◌, ◌<◌, ◌≤◌, true, false, refl, sym, ◌∙◌, ap, List, [], ◌∷◌, length, get_or, take, arith, eqb, inl, inr}
-use Rattle.std.specs.Prelude.{◌⊎◌, bit_or}
-use Rattle.std.specs.Int.{bit_at, trailing_zeros}
-use Rattle.std.specs.List.{list_any}
-use mir.Syntax.{w64}
-use Rattle.std.proofs.lemmas.Bool.{cases_order}
-use Rattle.std.proofs.lemmas.Nat.{le_or_l, le_or_r}
-use Rattle.std.proofs.lemmas.Nat.Bits.{bit_at-zero, bit_at-trailing_zeros}
-use Rattle.stab_letters.specs.declared.letter.Letter.{Letter}
-use Rattle.stab_letters.specs.declared.letter.Letter.TheVariants.{I}
-use Rattle.stab_letters.specs.XParts.{has_x}
-use Rattle.stab_pauli.specs.inner.Blocks.{row_letters, IsRow, HasNoXBefore, IsFirstX}
+use Rattle.stab_pauli.proofs.Names.{◌≡◌, ℕ, zero, suc, ◌+◌, ◌*◌, ◌/◌, ◌%◌, ◌^◌, ◌<◌, ◌≤◌, true, false, refl, sym, ◌∙◌, ap, List, [], ◌∷◌, length, get_or, take, arith, eqb, inl, inr, ◌⊎◌, bit_or, bit_at, trailing_zeros, list_any, w64, cases_order, le_or_l, le_or_r, bit_at-zero, bit_at-trailing_zeros, Letter, I, has_x, row_letters, IsRow, HasNoXBefore, IsFirstX, IfNone, Option, Some, None, get_or-take, get_or-drop}
 use Rattle.stab_pauli.proofs.BlankLemmas.{fits}
 use Rattle.stab_pauli.proofs.RowLemmas.{length-row}
 use Rattle.stab_pauli.proofs.PaddedLemmas.{length-string}
-use Rattle.std.specs.Prelude.{IfNone, Option, Some, None, replicate, ◌-◌}
-use Rattle.std.proofs.lemmas.List.{get_or-take, get_or-drop}
+use Rattle.std.specs.Prelude.{replicate, ◌-◌}
 use Rattle.stab_pauli.proofs.PlaceLemmas.{x_place, has_x_at_place}
 
 -- a place before k, or at k or later

@@ -1,11 +1,5 @@
 -- The words of a product: what a loop over them knows, some words later.
-use Rattle.std.proofs.Common.{◌≡◌, ℕ, ◌+◌, ◌<◌, ◌≤◌, sym, ◌∙◌, ap, List, length, get_or, ◌-◌, inl, inr, arith}
-use Rattle.std.specs.Prelude.{bit_xor, ◌⊎◌}
-use Rattle.std.specs.Simd.Lanes.{zip2, chunk, put_chunk}
-use Rattle.std.proofs.lemmas.List.{ext_get_or}
-use Rattle.std.proofs.lemmas.Bool.{cases_order}
-use Rattle.std.proofs.lemmas.Simd.{get_or-zip2, length-zip2, length-chunk, get_or-chunk, length-put_chunk, get_or-put_chunk_below, get_or-put_chunk_at, get_or-put_chunk_above}
-use Rattle.stab_pauli.specs.inner.Words.{xor_words}
+use Rattle.stab_pauli.proofs.Names.{◌≡◌, ℕ, ◌+◌, ◌<◌, ◌≤◌, sym, ◌∙◌, ap, List, length, get_or, ◌-◌, inl, inr, arith, bit_xor, ◌⊎◌, zip2, chunk, put_chunk, ext_get_or, cases_order, get_or-zip2, length-zip2, length-chunk, get_or-chunk, length-put_chunk, get_or-put_chunk_below, get_or-put_chunk_at, get_or-put_chunk_above, xor_words}
 
 -- products of words
 

@@ -1,9 +1,9 @@
 -- Several signed Pauli strings of one length, side by side.
 -- Source: the rows of a tableau in Aaronson and Gottesman 2004, section III, of any number and in any relation.
 use Rattle.std.specs.Prelude.{ℕ, ◌≡◌, ◌<◌, Bool, true, false, List, length, map, slice_index_or, slice_set}
-use Rattle.stab_letters.specs.declared.letter.Letter.{Letter}
-use Rattle.stab_letters.specs.declared.phase.Phase.TheVariants.{Quarter}
-use Rattle.stab_letters.specs.Phases.{phase_add, sign_of_phase}
+use Rattle.stab_gates.specs.declared.letter.Letter.{Letter}
+use Rattle.stab_gates.specs.declared.phase.Phase.TheVariants.{Quarter}
+use Rattle.stab_gates.specs.Phases.{phase_add, sign_of_phase}
 use Rattle.stab_pauli.specs.Paulis.{Signed, identity, product_phase, string_product}
 
 -- signed strings of one length

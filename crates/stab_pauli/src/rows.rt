@@ -4,8 +4,8 @@ mod compact;
 use super::packed::{flat, row};
 use super::pauli::Pauli;
 pub use compact::CompactRows;
+use stab_gates::{Letter, Phase};
 use stab_io::Refusal;
-use stab_letters::{Letter, Phase};
 use std::alloc::Global;
 use std::marker::Model;
 
@@ -49,10 +49,10 @@ impl PauliRows {
     ghost use Rattle.std.specs.List.{list_any};
     ghost use Rattle.stab_pauli.specs.Paulis.{identity, with_sign, anticommute, product};
     ghost use Rattle.stab_pauli.specs.Phaseds.{phased, times_phase, phased_product};
-    ghost use Rattle.stab_letters.specs.XParts.{has_x};
+    ghost use Rattle.stab_gates.specs.XParts.{has_x};
     ghost use Rattle.stab_pauli.specs.Rows.{row_at, with_row, with_letter, swapped_rows, product_times_i, unsigned_rows};
-    ghost use Rattle.stab_letters.specs.declared.letter.Letter.TheVariants.{I};
-    ghost use Rattle.stab_letters.specs.declared.phase.Phase.TheVariants.{Quarter};
+    ghost use Rattle.stab_gates.specs.declared.letter.Letter.TheVariants.{I};
+    ghost use Rattle.stab_gates.specs.declared.phase.Phase.TheVariants.{Quarter};
     ghost use Rattle.stab_io.specs.declared.refusal.Refusal.TheVariants.{OutOfMemory};
 
     /// This many strings of letters I with the sign +.
@@ -179,7 +179,7 @@ impl PauliRows {
         self.powers[a] = row::power_with(self.powers[a], old, letter);
     }
 
-    /// Turns the sign of row a if the bit is 1.
+    /// Flips the sign of row a if the bit is 1.
     #[inline(always)]
     pub fn negate_if(&mut self, a: usize, bit: bool)
         requires in_range { a < length self.old.rows }
@@ -199,7 +199,7 @@ impl PauliRows {
         self.powers[a] = Phase::Zero;
     }
 
-    /// Exchanges row a and row b.
+    /// IsPivot row a and row b.
     #[inline(always)]
     pub fn swap(&mut self, a: usize, b: usize)
         requires a_in_range { a < length self.old.rows }

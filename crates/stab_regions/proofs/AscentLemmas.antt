@@ -1,13 +1,6 @@
 -- Ascents: an ascending list of numbers is that of the numbers that it names.
-use Rattle.std.proofs.Common.{◌≡◌, ℕ, zero, suc, ◌+◌, ◌<◌, ◌≤◌, refl, sym, ap, ◌∙◌, subst, Bool, true, false, List, [], ◌∷◌, ⊎_elim, arith}
-use Rattle.std.specs.Prelude.{◌==◌, ◌&&◌, if◌then◌else◌}
-use Rattle.std.proofs.lemmas.Bool.{cases_eq, cases_lt}
-use Rattle.std.proofs.lemmas.Bool.Decides.{nat_tests}
-use Rattle.stab_letters.specs.Letters.{◌⊕◌}
-use Rattle.stab_regions.specs.Rows.{odd}
-use Rattle.stab_regions.specs.Faults.{numbers_where}
-use Rattle.stab_regions.specs.inner.StoredRows.{is_kept, kept_of}
-use Rattle.stab_distance.specs.Ascending.{AscendsFrom}
+use Rattle.stab_regions.proofs.Names.{◌≡◌, ℕ, zero, suc, ◌+◌, ◌<◌, ◌≤◌, refl, sym, ap, ◌∙◌, subst, Bool, true, false, List, [], ◌∷◌, ⊎_elim, arith, ◌==◌, if◌then◌else◌, cases_eq, cases_lt, nat_tests, ◌⊕◌, odd, numbers_where, is_kept, kept_of, AscendsFrom}
+use Rattle.std.specs.Prelude.{◌&&◌}
 
 -- numbers ascend, from one on up to below another
 abbrev pub Ascends : (from below : ℕ) → List ℕ → Type 0

@@ -1,18 +1,9 @@
 -- Observables that steps name: those of a circuit's items are among this many.
-use Rattle.std.proofs.Common.{ℕ, zero, suc, ◌≤◌, false, true, List, [], ◌∷◌, map, get_or, arith}
-use Rattle.std.specs.Prelude.{All}
-use Rattle.std.proofs.lemmas.List.Elements.{All-nil, All-cons, All-append, All-map}
-use Rattle.stab_letters.specs.declared.gate.PairGate.TheVariants as gate
-use Rattle.stab_lines.specs.declared.axis.Axis.{Axis}
-use Rattle.stab_lines.specs.declared.control.ControlledPair.{ControlledPair}
+use Rattle.stab_regions.proofs.Names.{ℕ, zero, suc, ◌≤◌, false, true, List, [], ◌∷◌, map, get_or, arith, All, All-nil, All-cons, All-append, All-map, Axis, ControlledPair, Kind, Items, done, next, block, letter_of, Step, one, two, collapse, detector, observable, measured, controlled_step, steps_of, rounds, unroll, past, named_observables, observables_of, max-left, max-right, NamesBelow}
+use Rattle.stab_gates.specs.declared.gate.PairGate.TheVariants as gate
 use Rattle.stab_lines.specs.declared.control.ControlledPair.TheVariants as pair
-use Rattle.stab_lines.specs.declared.operation.Kind.{Kind}
 use Rattle.stab_lines.specs.declared.operation.Kind.TheVariants as kind
-use Rattle.stab_circuit.specs.Items.{Items, done, next, block}
-use Rattle.stab_lines.specs.Axes.{letter_of}
-use Rattle.stab_circuit.specs.Steps.{Step, one, two, collapse, detector, observable, measured, measured_product, controlled_step, steps_of, rounds, unroll, past, named_observables, observables_of}
-use Rattle.stab_laws.proofs.FitLemmas.{max-left, max-right}
-use Rattle.stab_regions.specs.inner.Sweeps.{NamesBelow}
+use Rattle.stab_circuit.specs.Steps.{measured_product}
 
 each : {A : Type 0} (m : ℕ) (f : A → Step) → ((x : A) → NamesBelow m (f x)) → (xs : List A) → All (NamesBelow m) (map f xs)
 each m f below xs = All-map (NamesBelow m) f xs (λ k d lt. below (get_or xs k d))

@@ -1,24 +1,13 @@
 -- Bits by their numbers: a bit of a run is that of a detector or an observable, and what the pass finds of a parity is what it
 -- finds of that one.
-use Rattle.std.proofs.Common.{◌≡◌, ℕ, ◌-◌, ◌<◌, ◌≤◌, ◌⊎◌, inl, inr, sym, ◌∙◌, ap, arith, Bool, false, List, [], ◌++◌, nat_lt, lt-ltb, le-ltb}
-use Rattle.std.proofs.lemmas.Bool.{cases_lt, cond-true, cond-false}
-use Rattle.std.proofs.lemmas.List.{get_or_append_left, get_or-append_right}
+use Rattle.stab_regions.proofs.Names.{◌≡◌, ℕ, ◌-◌, ◌<◌, ◌≤◌, ◌⊎◌, inl, inr, sym, ◌∙◌, ap, arith, Bool, false, List, [], ◌++◌, lt-ltb, le-ltb, cases_lt, cond-true, cond-false, get_or_append_left, get_or-append_right, Letter, single, anticommute, strings_anticommute-blank_right, diagonal, Step, detectors_of, State, start, run, RunsArePointsWithOutputs, region_of, region_through, keep_region, asks_nothing, asks_observable, is_deterministic, steps_before_detector, named_by, region_of_detector, detectors_before, parity_region, parity_kept, parity_deterministic, parity_flips, bit, deterministic_bit, parity_bit}
+use Rattle.std.proofs.Common.{nat_lt}
 use Rattle.std.specs.Prelude.{◌&&◌}
-use Rattle.stab_letters.specs.declared.letter.Letter.{Letter}
-use Rattle.stab_pauli.specs.Paulis.{single, anticommute}
-use Rattle.stab_pauli.proofs.StringLemmas.{strings_anticommute-blank_right}
-use Rattle.stab_tableau.specs.Traces.{diagonal}
-use Rattle.stab_circuit.specs.Steps.{Step, detectors_of}
-use Rattle.stab_run.specs.Runs.{State, start, run}
-use Rattle.stab_run.specs.Laws.{RunsArePointsWithOutputs}
-use Rattle.stab_regions.specs.Regions.{region_of, region_through, keep_region, asks_nothing, asks_observable, is_sure}
-use Rattle.stab_regions.specs.Laws.{flips_asked}
-use Rattle.stab_regions.specs.Tables.{steps_before_detector, named_by, region_of_detector, is_sure_detector, flips_detector}
-use Rattle.stab_regions.specs.TableLaws.{detector_bit, observable_bit}
-use Rattle.stab_regions.specs.Parities.{detectors_before, parity_region, parity_kept, parity_sure, parity_flips}
-use Rattle.stab_regions.specs.Faults.{bit}
-use Rattle.stab_regions.proofs.DetectorLemmas.{count-detectors}
+use Rattle.stab_regions.proofs.DetectorLemmas.{detector_bit, count-detectors}
 use Rattle.stab_regions.proofs.FaultLemmas.{count-append}
+use Rattle.stab_regions.proofs.RandomLemmas.{flips_asked}
+use Rattle.stab_regions.proofs.ObservableLemmas.{observable_bit}
+use Rattle.stab_regions.proofs.TableLemmas.{flips_detector}
 
 -- the bits of a run
 
@@ -65,14 +54,21 @@ module _ (n i : ℕ) (xs : List Step) where
   place : i - detectors_before (detectors_of xs) xs ≡ i
   place = omega arith
 
-  pub sure-detector : i < detectors_of xs → parity_sure n (detectors_of xs) i xs ≡ is_sure_detector n i xs
-  sure-detector lt =
+  pub deterministic-detector : i < detectors_of xs → parity_deterministic n (detectors_of xs) i xs ≡ is_deterministic n asks_nothing (steps_before_detector i xs) (named_by i xs)
+  deterministic-detector lt =
       (λ t. kept-detector n (detectors_of xs) i xs lt (omega arith) t && diagonal (region-detector n (detectors_of xs) i xs lt (omega arith) t).string.letters)
-      ∙ ap (λ d. is_sure_detector n d xs) place
+      ∙ ap (λ d. is_deterministic n asks_nothing (steps_before_detector d xs) (named_by d xs)) place
 
-  pub sure-observable : detectors_of xs ≤ i → parity_sure n (detectors_of xs) i xs ≡ is_sure n (asks_observable (i - detectors_of xs)) xs []
-  sure-observable le =
+  pub value-detector : i < detectors_of xs → parity_bit n (detectors_of xs) i xs ≡ deterministic_bit n asks_nothing (steps_before_detector i xs) (named_by i xs)
+  value-detector lt =
+      ap (λ r. r.string.negative) (region-detector n (detectors_of xs) i xs lt (omega arith)) ∙ ap (λ d. (region_of_detector n d xs).string.negative) place
+
+  pub deterministic-observable : detectors_of xs ≤ i → parity_deterministic n (detectors_of xs) i xs ≡ is_deterministic n (asks_observable (i - detectors_of xs)) xs []
+  deterministic-observable le =
       (λ t. kept-observable n (detectors_of xs) i xs le t && diagonal (region-observable n (detectors_of xs) i xs le t).string.letters)
+
+  pub value-observable : detectors_of xs ≤ i → parity_bit n (detectors_of xs) i xs ≡ deterministic_bit n (asks_observable (i - detectors_of xs)) xs []
+  value-observable le = ap (λ r. r.string.negative) (region-observable n (detectors_of xs) i xs le)
 
 -- what it says of an inserted letter
 

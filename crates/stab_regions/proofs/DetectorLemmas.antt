@@ -1,17 +1,6 @@
 -- Detectors among steps: how many there are, the steps before each, its region in the table, and the bit that a run gives it.
-use Rattle.std.proofs.Common.{◌≡◌, ℕ, zero, suc, ◌+◌, ◌<◌, refl, sym, ◌∙◌, ap, subst, arith, Bool, true, false, List, [], ◌∷◌, ◌++◌, length, All}
-use Rattle.std.specs.Prelude.{if◌then◌else◌, slice_index_or}
-use Rattle.std.proofs.lemmas.List.Elements.{All-nil, All-cons, All-head, All-tail}
-use Rattle.stab_circuit.specs.Steps.{Step, one, two, controlled, collapse, product, detector, observable, is_detector, detectors_of}
-use Rattle.stab_run.specs.Records.{parity}
-use Rattle.stab_run.specs.Runs.{State, start, run, when}
-use Rattle.stab_run.specs.Points.{Point, origin, given, next_point, outputs}
-use Rattle.stab_run.specs.ProgramStates.{StepFits}
-use Rattle.stab_run.specs.Laws.{RunsArePointsWithOutputs}
-use Rattle.stab_regions.specs.Regions.{asks_nothing}
-use Rattle.stab_regions.specs.Laws.{bit_asked}
-use Rattle.stab_regions.specs.Tables.{named, steps_before_detector, named_by}
-use Rattle.stab_regions.specs.TableLaws.{detector_bit}
+use Rattle.stab_regions.proofs.Names.{◌≡◌, ℕ, zero, suc, ◌+◌, ◌<◌, refl, sym, ◌∙◌, ap, subst, arith, Bool, true, false, List, [], ◌∷◌, ◌++◌, length, if◌then◌else◌, slice_index_or, All-nil, All-cons, All-head, All-tail, Step, one, two, controlled, collapse, product, detector, observable, is_detector, detectors_of, parity, State, start, run, when, Point, origin, given, next_point, outputs, StepFits, RunsArePointsWithOutputs, asks_nothing, bit_asked, named, steps_before_detector, named_by}
+use Rattle.std.proofs.Common.{All}
 
 -- the first step, if it is a detector and if it is not: how many there are, the steps before detector d, and what it names
 
@@ -121,6 +110,10 @@ module _ (n : ℕ) (coins : ℕ → Bool) (x : Step) (xs : List Step) (p : Point
 has-bits : (n : ℕ) (coins : ℕ → Bool) (xs : List Step) (p : Point) → HasBits n coins xs p
 has-bits n coins [] p d lt = absurd (none d lt)
 has-bits n coins (x ∷ xs) p d lt = bits-next n coins x xs p (has-bits n coins xs (next_point n coins x p)) (is_detector x) refl d lt
+
+-- a detector of the run of steps, with this many observables
+abbrev pub detector_bit : ℕ → (ℕ → Bool) → List Step → ℕ → ℕ → Bool
+detector_bit n coins xs count d = slice_index_or (run n coins xs (start count)).detectors d false
 
 -- a detector of a run is the parity that is asked for after the steps before it
 pub detector-bit : RunsArePointsWithOutputs → (n : ℕ) (coins : ℕ → Bool) (xs : List Step) (count d : ℕ) → d < detectors_of xs

@@ -1,24 +1,5 @@
 -- Factors: the string of a product, one factor after another, and what it flips and is multiplied by.
-use Rattle.std.proofs.Common.{◌≡◌, ℕ, zero, suc, ◌+◌, ◌<◌, refl, sym, ◌∙◌, ap, subst, arith, Bool, true, false, ◌||◌, List, [], ◌∷◌, ◌++◌, length, take, drop, drop-cons, get_or, set}
-use Rattle.std.specs.Prelude.{replicate, ◌==◌}
-use Rattle.std.proofs.lemmas.List.{get_or-set_other, take-append-drop}
-use Rattle.std.proofs.lemmas.Bool.{eqb-false}
-use Rattle.stab_letters.specs.declared.letter.Letter.{Letter}
-use Rattle.stab_letters.specs.declared.letter.Letter.TheVariants.{I}
-use Rattle.stab_letters.specs.Letters.{◌⊕◌, letter_product}
-use Rattle.stab_pauli.specs.Paulis.{Signed, single, anticommute, strings_anticommute, string_product}
-use Rattle.stab_letters.proofs.ParityLemmas.{parity-comm, parity-false}
-use Rattle.stab_pauli.proofs.StringLemmas.{string_product-assoc, string_product-blank, strings_anticommute-product, strings_anticommute-blank}
-use Rattle.stab_tableau.specs.Gates.{letter_at}
-use Rattle.stab_lines.specs.declared.product.Factor.{Factor}
-use Rattle.stab_lines.specs.Axes.{letter_of}
-use Rattle.stab_lines.specs.Products.{is_on, names_twice}
-use Rattle.stab_circuit.specs.Steps.{product as measured_product}
-use Rattle.stab_steps.proofs.ProductLemmas.{length-string_of}
-use Rattle.stab_laws.proofs.LookbackLemmas.{or-left, or-right}
-use Rattle.stab_run.specs.Runs.{with_factors, string_of}
-use Rattle.stab_regions.specs.Regions.{names_newest, times_where}
-use Rattle.stab_regions.specs.Rows.{odd, row, ShowsLetters, MovesLetters, multiplied, MovesRegion}
+use Rattle.stab_regions.proofs.Names.{◌≡◌, ℕ, zero, suc, ◌+◌, ◌<◌, refl, sym, ◌∙◌, ap, subst, arith, Bool, true, false, ◌||◌, List, [], ◌∷◌, ◌++◌, length, take, drop, drop-cons, get_or, set, replicate, ◌==◌, get_or-set_other, take-append-drop, eqb-false, Letter, I, ◌⊕◌, letter_product, Signed, single, anticommute, strings_anticommute, string_product, parity-comm, parity-false, string_product-assoc, string_product-blank, strings_anticommute-product, strings_anticommute-blank, letter_at, Factor, letter_of, is_on, names_twice, measured_product, length-string_of, or-left, or-right, with_factors, string_of, names_newest, times_where, odd, row, ShowsLetters, MovesLetters, multiplied, MovesRegion}
 use Rattle.stab_regions.proofs.ReadLemmas.{length-times}
 use Rattle.stab_regions.proofs.ShowLemmas.{newest-odd, earlier-shows}
 
@@ -28,14 +9,14 @@ on-middle : (q : ℕ) (gs : List Factor) (f : Factor) (rest : List Factor) → i
 on-middle q [] f rest e = or-left (f.qubit == q) (is_on q rest) e
 on-middle q (g ∷ gs) f rest e = on-middle q gs f rest (or-right (g.qubit == q) (is_on q (gs ++ f ∷ rest)) e)
 
-equal-turned : (a b : ℕ) → (a == b) ≡ false → (b == a) ≡ false
-equal-turned a b e = grind arith
+unequal-swapped : (a b : ℕ) → (a == b) ≡ false → (b == a) ≡ false
+unequal-swapped a b e = grind arith
 
 front-apart : (fs : List Factor) (f : Factor) (rest : List Factor) → names_twice (fs ++ f ∷ rest) ≡ false → is_on f.qubit fs ≡ false
 front-apart [] f rest e = refl
 front-apart (g ∷ gs) f rest e =
     ap (λ b. b || is_on f.qubit gs)
-    (equal-turned f.qubit g.qubit (on-middle g.qubit gs f rest (or-left (is_on g.qubit (gs ++ f ∷ rest)) (names_twice (gs ++ f ∷ rest)) e)))
+    (unequal-swapped f.qubit g.qubit (on-middle g.qubit gs f rest (or-left (is_on g.qubit (gs ++ f ∷ rest)) (names_twice (gs ++ f ∷ rest)) e)))
     ∙ front-apart gs f rest (or-right (is_on g.qubit (gs ++ f ∷ rest)) (names_twice (gs ++ f ∷ rest)) e)
 
 -- its letter is put in last

@@ -1,20 +1,8 @@
 -- Sums of rows: faults of a table flip a deterministic bit together if an odd number of their rows name it.
-use Rattle.std.proofs.Common.{◌≡◌, ℕ, zero, suc, ◌+◌, ◌<◌, ◌≤◌, ◌⊎◌, inl, inr, refl, sym, ap, ◌∙◌, Bool, true, false, List, [], ◌∷◌, map, length, arith}
-use Rattle.std.specs.Prelude.{All, ◌==◌, ◌&&◌, slice_index_or, if◌then◌else◌}
-use Rattle.std.specs.List.{flat_map}
-use Rattle.std.proofs.lemmas.Bool.{cases_eq, eq-eqb, ne_eqb}
-use Rattle.std.proofs.lemmas.List.{get_or-map, length-map}
-use Rattle.std.proofs.lemmas.List.Elements.{All-nil, All-cons, All-head, All-tail, All-append, All-get_or, All-map, All-weaker}
-use Rattle.stab_letters.specs.declared.letter.Letter.TheVariants as letter
-use Rattle.stab_letters.specs.Letters.{◌⊕◌}
-use Rattle.stab_letters.proofs.ParityLemmas.{parity-false}
-use Rattle.stab_circuit.specs.Items.{Items}
-use Rattle.stab_circuit.specs.Steps.{Step, unroll}
-use Rattle.stab_run.specs.ProgramStates.{StepFits}
-use Rattle.stab_regions.specs.Rows.{odd, row}
-use Rattle.stab_regions.specs.Faults.{Site, FaultPlace, in_front, fault_on, faults_on, faults_from, faults_of, sites_at, numbers_where, bits_in, IsSure, IsFaultTable, flips, flipped, fault_at, RowsAdd}
-use Rattle.stab_regions.specs.FaultLaws.{FaultFits, flips_together, FaultsAdd}
-use Rattle.stab_distance.proofs.Totals.{odd-append}
+use Rattle.stab_regions.proofs.Names.{◌≡◌, ℕ, zero, suc, ◌+◌, ◌<◌, ◌≤◌, ◌⊎◌, inl, inr, refl, sym, ap, ◌∙◌, Bool, true, false, List, [], ◌∷◌, map, length, arith, All, ◌==◌, slice_index_or, if◌then◌else◌, flat_map, cases_eq, eq-eqb, get_or-map, length-map, All-nil, All-cons, All-head, All-tail, All-append, All-get_or, All-map, All-weaker, ◌⊕◌, parity-false, Items, Step, unroll, StepFits, odd, row, Site, FaultPlace, in_front, fault_on, faults_on, faults_from, faults_of, sites_at, numbers_where, bits_in, IsDeterministic, IsFaultTable, flips, flipped, fault_at, RowsAdd, FaultFits, flips_together, FaultsAdd, odd-append}
+use Rattle.std.specs.Prelude.{◌&&◌}
+use Rattle.std.proofs.lemmas.Bool.{ne_eqb}
+use Rattle.stab_gates.specs.declared.letter.Letter.TheVariants as letter
 use Rattle.stab_regions.proofs.InsertedLemmas.{faults-within}
 
 -- a list of the numbers with a property names just those
@@ -88,13 +76,13 @@ fault-fits n everywhere xs k fits lt = record {
 
 -- rows
 
-module _ (n : ℕ) (everywhere : Bool) (items : Items) (sure : List Bool) (rows : List (List ℕ)) (fits : All (StepFits n) (unroll items))
-    (table : IsFaultTable n everywhere items sure rows) where
+module _ (n : ℕ) (everywhere : Bool) (items : Items) (deterministic : List Bool) (rows : List (List ℕ)) (fits : All (StepFits n) (unroll items))
+    (table : IsFaultTable n everywhere items deterministic rows) where
   abbrev faults : List FaultPlace
   faults = faults_of everywhere (unroll items)
 
   as-many : length rows ≡ length faults
-  as-many = ap length (table.are_flipped (λ t. false)) ∙ length-map faults (flipped n items sure (λ t. false))
+  as-many = ap length (table.are_flipped (λ t. false)) ∙ length-map faults (flipped n items deterministic (λ t. false))
 
   all-fit : (numbers : List ℕ) → All (λ k. k < length rows) numbers → All (FaultFits n (unroll items)) (map (fault_at everywhere (unroll items)) numbers)
   all-fit numbers within =
@@ -102,17 +90,17 @@ module _ (n : ℕ) (everywhere : Bool) (items : Items) (sure : List Bool) (rows 
       (All-weaker (λ k. k < length rows) (λ k. FaultFits n (unroll items) (fault_at everywhere (unroll items) k))
       (λ k lt. fault-fits n everywhere (unroll items) k fits (omega (arith, lt, as-many))) numbers within)
 
-  module _ (i : ℕ) (lt : i < bits_in items) (same : IsSure n items i) (coins : ℕ → Bool) where
+  module _ (i : ℕ) (lt : i < bits_in items) (same : IsDeterministic n items i) (coins : ℕ → Bool) where
     -- a row names a deterministic bit if its fault flips it
     pub row-names : (k : ℕ) → k < length rows → flips n items coins (fault_at everywhere (unroll items) k) i ≡ odd i (row rows k)
     row-names k within =
         let f : FaultPlace = fault_at everywhere (unroll items) k in
-        let is_row : row rows k ≡ flipped n items sure coins f =
+        let is_row : row rows k ≡ flipped n items deterministic coins f =
         ap (λ rs. row rs k) (table.are_flipped coins)
-        ∙ get_or-map (flipped n items sure coins) faults k (fault_on 0 (in_front 0) letter.X) [] (omega (arith, within, as-many)) in
-        let is_sure : slice_index_or sure i false ≡ true = (table.are_sure.exact i lt).1 same in
-        sym (ap (odd i) is_row ∙ odd-where (λ m. slice_index_or sure m false && flips n items coins f m) 0 (bits_in items) i (omega arith) (omega (arith, lt))
-        ∙ ap (λ b. b && flips n items coins f i) is_sure)
+        ∙ get_or-map (flipped n items deterministic coins) faults k (fault_on 0 (in_front 0) letter.X) [] (omega (arith, within, as-many)) in
+        let is_deterministic : slice_index_or deterministic i false ≡ true = (table.are_deterministic.exact i lt).1 same in
+        sym (ap (odd i) is_row ∙ odd-where (λ m. slice_index_or deterministic m false && flips n items coins f m) 0 (bits_in items) i (omega arith) (omega (arith, lt))
+        ∙ ap (λ b. b && flips n items coins f i) is_deterministic)
 
     -- so the rows of faults name it as often as these flip it
     rows-name : (numbers : List ℕ) → All (λ k. k < length rows) numbers

@@ -1,14 +1,5 @@
 -- Gates on rows: how what X and Z flip before a gate follows from what they flip after it.
-use Rattle.std.proofs.Common.{◌≡◌, ◌≢◌, ℕ, ◌<◌, refl, sym, subst, ◌∙◌, ap, arith, Bool, false, ◌⊎◌, inl, inr, List, [], length, set}
-use Rattle.std.specs.Prelude.{Result, Ok, Err, OnOk}
-use Rattle.std.proofs.lemmas.Bool.{cases_eq}
-use Rattle.std.proofs.lemmas.List.{get_or-set_same, get_or-set_other}
-use Rattle.stab_letters.specs.declared.letter.Letter.{Letter}
-use Rattle.stab_letters.specs.declared.letter.Letter.TheVariants.{I, X, Y, Z}
-use Rattle.stab_letters.specs.Letters.{◌⊕◌, letters_anticommute}
-use Rattle.stab_letters.specs.declared.gate.Gate.{Gate}
-use Rattle.stab_tableau.specs.Gates.{letter_at, letter_image, inverse, back}
-use Rattle.stab_regions.specs.Rows.{odd, row, Toggles, MovesLetters}
+use Rattle.stab_regions.proofs.Names.{◌≡◌, ◌≢◌, ℕ, ◌<◌, refl, sym, subst, ◌∙◌, ap, arith, Bool, false, ◌⊎◌, inl, inr, List, [], length, set, Result, Ok, Err, OnOk, cases_eq, get_or-set_same, get_or-set_other, Letter, I, X, Y, Z, ◌⊕◌, letters_anticommute, Gate, letter_at, letter_image, inverse, back, odd, row, Toggles, MovesLetters}
 
 -- what a letter flips, by what X and Z flip
 abbrev pub by_parts : Letter → Bool → Bool → Bool

@@ -1,19 +1,7 @@
 -- Inserted letters: their rows, when these are put together, and the letters that the faults of a circuit insert.
-use Rattle.std.proofs.Common.{◌≡◌, ℕ, zero, suc, ◌+◌, ◌-◌, ◌*◌, ◌<◌, refl, sym, ap, ◌∙◌, subst, Bool, true, false, List, [], ◌∷◌, ◌++◌, map, length, get_or, drop, arith}
-use Rattle.std.specs.Prelude.{All, if◌then◌else◌}
-use Rattle.std.specs.List.{flat_map}
-use Rattle.std.proofs.lemmas.List.{append_assoc, drop-drop, map-append}
-use Rattle.std.proofs.lemmas.List.Concat.{flat_map-append}
-use Rattle.std.proofs.lemmas.List.Elements.{All-nil, All-cons, All-head, All-tail, All-append}
-use Rattle.stab_letters.specs.declared.letter.Letter.{Letter}
-use Rattle.stab_letters.specs.declared.letter.Letter.TheVariants as letter
-use Rattle.stab_circuit.specs.Steps.{Step}
-use Rattle.stab_run.specs.ProgramStates.{StepFits}
-use Rattle.stab_regions.specs.Faults.{Site, FaultPlace, fault_on, faults_on, faults_from, sites_at}
-use Rattle.stab_regions.specs.declared.regions.Regions.{Regions}
-use Rattle.stab_regions.specs.inner.Sites.{where_asked}
-use Rattle.stab_regions.specs.inner.RegionsAt.{IsRegionsAt, AreFlipped}
-use Rattle.stab_regions.specs.inner.Sweeps.{Inserted, inserted_on, inserted_at, inserted_from, IsRowOf, HaveRows, AreKept}
+use Rattle.stab_regions.proofs.Names.{◌≡◌, ℕ, zero, suc, ◌+◌, ◌-◌, ◌*◌, ◌<◌, refl, sym, ap, ◌∙◌, subst, Bool, true, false, List, [], ◌∷◌, ◌++◌, map, length, get_or, drop, arith, All, if◌then◌else◌, flat_map, drop-drop, map-append, flat_map-append, All-nil, All-cons, All-head, All-tail, All-append, Letter, Step, StepFits, Site, FaultPlace, fault_on, faults_on, faults_from, sites_at, Regions, where_asked, IsRegionsAt, AreFlipped, Inserted, inserted_on, inserted_at, inserted_from, IsRowOf, HaveRows, AreKept}
+use Rattle.std.proofs.lemmas.List.{append_assoc}
+use Rattle.stab_gates.specs.declared.letter.Letter.TheVariants as letter
 use Rattle.stab_regions.proofs.SiteLemmas.{sites-within}
 
 -- the rows of X and of Z on a qubit

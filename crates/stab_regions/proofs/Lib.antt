@@ -1,3 +1,4 @@
+mod Names
 pub mod ShowLemmas
 mod LookRowLemmas
 mod PairLemmas
@@ -8,10 +9,10 @@ mod RowLemmas
 mod SignLemmas
 mod LookLemmas
 mod ReadLemmas
-mod SureLemmas
+mod DeterministicLemmas
 mod MovedLemmas
 mod TouchLemmas
-mod UnsureLemmas
+mod RandomLemmas
 mod DetectorLemmas
 mod ParityLemmas
 pub mod MoveLemmas
@@ -25,7 +26,7 @@ pub mod AscentLemmas
 pub mod InsertedLemmas
 mod SweepLemmas
 mod BelowLemmas
-mod FaultTableLemmas
+pub mod FaultTableLemmas
 mod BitLemmas
 mod FaultBitLemmas
 mod TwoFaultLemmas

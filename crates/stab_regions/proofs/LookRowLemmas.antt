@@ -1,10 +1,5 @@
 -- Rows of records: rows that are added, the one that leaves, and one that is toggled.
-use Rattle.std.proofs.Common.{◌≡◌, ◌≢◌, ℕ, suc, ◌+◌, ◌<◌, sym, ◌∙◌, ap, arith, Bool, true, false, List, [], ◌∷◌, ◌++◌, length, take, get_or, ne_eqb}
-use Rattle.std.specs.Prelude.{◌==◌}
-use Rattle.std.proofs.Math.Seq.{take-suc}
-use Rattle.stab_letters.specs.Letters.{◌⊕◌}
-use Rattle.stab_regions.specs.Rows.{odd, ShowsLooks}
-use Rattle.stab_distance.proofs.Totals.{odd-append}
+use Rattle.stab_regions.proofs.Names.{◌≡◌, ◌≢◌, ℕ, suc, ◌+◌, ◌<◌, sym, ◌∙◌, ap, arith, Bool, true, false, List, [], ◌∷◌, ◌++◌, length, take, get_or, ne_eqb, ◌==◌, take-suc, ◌⊕◌, odd, ShowsLooks, odd-append}
 
 -- one parity alone
 

@@ -1,19 +1,8 @@
 -- Many faults: what they flip together of a deterministic bit is the exclusive or of what each flips alone.
-use Rattle.std.proofs.Common.{◌≡◌, ℕ, ◌+◌, ◌-◌, ◌<◌, ◌≤◌, ◌⊎◌, inl, inr, sym, ◌∙◌, ap, subst, arith, refl, Bool, List, [], ◌∷◌, ◌++◌, append_assoc, take, drop, length, All, take-append-drop, length-take-le}
-use Rattle.std.specs.Prelude.{if◌then◌else◌}
-use Rattle.std.proofs.lemmas.Bool.{cases_lt, eq-eqb, ne_eqb}
-use Rattle.std.proofs.lemmas.List.{length-append}
-use Rattle.std.proofs.lemmas.List.Elements.{All-head, All-tail}
-use Rattle.stab_letters.specs.declared.letter.Letter.{Letter}
-use Rattle.stab_letters.specs.Letters.{◌⊕◌}
-use Rattle.stab_letters.proofs.ParityLemmas.{parity-self}
-use Rattle.stab_circuit.specs.Steps.{Step, one, unroll, observables_of, detectors_of}
-use Rattle.stab_run.specs.Runs.{gate_of}
-use Rattle.stab_run.specs.Laws.{RunsArePointsWithOutputs}
-use Rattle.stab_regions.specs.Parities.{parity_flips}
-use Rattle.stab_regions.specs.Faults.{FaultPlace, with_gate, gates_at, with_gates_from, with_gates, bit}
-use Rattle.stab_regions.specs.FaultLaws.{FaultFits, flips_together, FaultsAdd}
-use Rattle.stab_regions.proofs.TwoFaultLemmas.{HasSureBit, letter-turns, count-flipped, still-sure, flips-alike}
+use Rattle.stab_regions.proofs.Names.{◌≡◌, ℕ, ◌+◌, ◌-◌, ◌<◌, ◌≤◌, ◌⊎◌, inl, inr, sym, ◌∙◌, ap, subst, arith, refl, Bool, List, [], ◌∷◌, ◌++◌, append_assoc, take, drop, length, length-take-le, if◌then◌else◌, cases_lt, eq-eqb, length-append, All-head, All-tail, Letter, ◌⊕◌, parity-self, Step, one, unroll, observables_of, detectors_of, gate_of, RunsArePointsWithOutputs, parity_flips, FaultPlace, with_gate, gates_at, with_gates_from, with_gates, bit, FaultFits, flips_together, FaultsAdd}
+use Rattle.std.proofs.Common.{All, take-append-drop}
+use Rattle.std.proofs.lemmas.Bool.{ne_eqb}
+use Rattle.stab_regions.proofs.TwoFaultLemmas.{HasDeterministicBit, letter-flips, count-flipped, still-deterministic, flips-alike}
 
 -- where the gates of faults are put in
 
@@ -74,7 +63,7 @@ module _ (f : FaultPlace) (fs : List FaultPlace) where
 
 -- with other steps after a place, the bit is still deterministic, and the letter flips it as before
 record Alike (n count i : ℕ) (front : List Step) (l : Letter) (q : ℕ) (back others : List Step) : Type 0 where
-  sure : HasSureBit n count (front ++ others) i
+  deterministic : HasDeterministicBit n count (front ++ others) i
   detectors : detectors_of (front ++ others) ≡ detectors_of (front ++ back)
   flips : parity_flips n (detectors_of (front ++ back)) i l q others ≡ parity_flips n (detectors_of (front ++ back)) i l q back
 
@@ -87,12 +76,12 @@ module _ (law : RunsArePointsWithOutputs) (n count i : ℕ) (front : List Step) 
       let parts : before ≡ (front ++ mid) ++ rest = sym (append_assoc front mid rest) in
       let joined : (front ++ mid) ++ one (gate_of m) r ∷ rest ≡ front ++ (mid ++ one (gate_of m) r ∷ rest) = append_assoc front mid (one (gate_of m) r ∷ rest) in
       record {
-        sure = subst (λ ys. HasSureBit n count ys i) joined (still-sure law n count (front ++ mid) m r rest i before parts a.sure lt_r);
+        deterministic = subst (λ ys. HasDeterministicBit n count ys i) joined (still-deterministic law n count (front ++ mid) m r rest i before parts a.deterministic lt_r);
         detectors =
-            ap detectors_of (sym joined) ∙ count-flipped law n count (front ++ mid) m r rest i before parts a.sure lt_r ∙ a.detectors;
+            ap detectors_of (sym joined) ∙ count-flipped law n count (front ++ mid) m r rest i before parts a.deterministic lt_r ∙ a.detectors;
         flips =
             ap (λ d. parity_flips n d i l q (mid ++ one (gate_of m) r ∷ rest)) (sym a.detectors)
-            ∙ flips-alike law n count front l q mid m r rest i before parts a.sure lt lt_r
+            ∙ flips-alike law n count front l q mid m r rest i before parts a.deterministic lt lt_r
             ∙ ap (λ d. parity_flips n d i l q (mid ++ rest)) a.detectors
             ∙ a.flips;
       }
@@ -120,37 +109,37 @@ module _ (law : RunsArePointsWithOutputs) (n count i : ℕ) (front : List Step) 
             subst (Alike n count i front l q back) (sym with_it) (one-more mid rest f.letter f.qubit fit.qubit (subst (Alike n count i front l q back) without a))
 
     -- by induction on the faults
-    faults-alike : HasSureBit n count (front ++ back) i → (fs : List FaultPlace) → All (FaultFits n (front ++ back)) fs
+    faults-alike : HasDeterministicBit n count (front ++ back) i → (fs : List FaultPlace) → All (FaultFits n (front ++ back)) fs
         → Alike n count i front l q back (with_gates_from t fs back)
-    faults-alike sure [] fit = subst (Alike n count i front l q back) (sym (none-put t back)) (record { sure = sure; detectors = refl; flips = refl })
-    faults-alike sure (f ∷ fs) fit =
-        one-fault-more f fs (All-head (FaultFits n (front ++ back)) f fs fit) (faults-alike sure fs (All-tail (FaultFits n (front ++ back)) f fs fit))
+    faults-alike deterministic [] fit = subst (Alike n count i front l q back) (sym (none-put t back)) (record { deterministic = deterministic; detectors = refl; flips = refl })
+    faults-alike deterministic (f ∷ fs) fit =
+        one-fault-more f fs (All-head (FaultFits n (front ++ back)) f fs fit) (faults-alike deterministic fs (All-tail (FaultFits n (front ++ back)) f fs fit))
 
 -- what faults flip together
 
 -- one more flips what it flips alone, in front of others or after them
 flips-still : (law : RunsArePointsWithOutputs) (n count i : ℕ) (f : FaultPlace) (front back : List Step) → length front ≡ f.before → f.qubit < n
-    → HasSureBit n count (front ++ back) i → (fs : List FaultPlace) → All (FaultFits n (front ++ back)) fs → (coins : ℕ → Bool)
+    → HasDeterministicBit n count (front ++ back) i → (fs : List FaultPlace) → All (FaultFits n (front ++ back)) fs → (coins : ℕ → Bool)
     → bit n count coins (with_gates (f ∷ fs) (front ++ back)) i ⊕ bit n count coins (with_gates fs (front ++ back)) i
     ≡ bit n count coins (front ++ one (gate_of f.letter) f.qubit ∷ back) i ⊕ bit n count coins (front ++ back) i
-flips-still law n count i f front back long lt sure fs fit coins =
+flips-still law n count i f front back long lt deterministic fs fit coins =
     let there : f.before ≡ 0 + length front = omega (arith, long) in
     let mid : List Step = front_with 0 fs front in
     let rest : List Step = with_gates_from f.before fs back in
     let all : Alike n count i [] f.letter f.qubit (front ++ back) (with_gates fs (front ++ back)) =
-    faults-alike law n count i [] f.letter f.qubit lt (front ++ back) 0 refl sure fs fit in
-    let behind : Alike n count i front f.letter f.qubit back rest = faults-alike law n count i front f.letter f.qubit lt back f.before long sure fs fit in
+    faults-alike law n count i [] f.letter f.qubit lt (front ++ back) 0 refl deterministic fs fit in
+    let behind : Alike n count i front f.letter f.qubit back rest = faults-alike law n count i front f.letter f.qubit lt back f.before long deterministic fs fit in
     ap (λ ys. bit n count coins ys i ⊕ bit n count coins (with_gates fs (front ++ back)) i) (put-in f fs 0 front back there)
-    ∙ letter-turns law n count mid f.letter f.qubit rest i (with_gates fs (front ++ back)) (in-parts 0 fs front back f.before there) all.sure lt coins coins
+    ∙ letter-flips law n count mid f.letter f.qubit rest i (with_gates fs (front ++ back)) (in-parts 0 fs front back f.before there) all.deterministic lt coins coins
     ∙ ap (λ d. parity_flips n d i f.letter f.qubit rest) all.detectors
     ∙ behind.flips
-    ∙ sym (letter-turns law n count front f.letter f.qubit back i (front ++ back) refl sure lt coins coins)
+    ∙ sym (letter-flips law n count front f.letter f.qubit back i (front ++ back) refl deterministic lt coins coins)
 
 -- one bit more
 add-on : (more some plain here there : Bool) → more ⊕ some ≡ here → some ⊕ plain ≡ there → more ⊕ plain ≡ here ⊕ there
 add-on more some plain here there e f = grind arith
 
-module _ (law : RunsArePointsWithOutputs) (n count : ℕ) (xs : List Step) (i : ℕ) (sure : HasSureBit n count xs i) (coins : ℕ → Bool) where
+module _ (law : RunsArePointsWithOutputs) (n count : ℕ) (xs : List Step) (i : ℕ) (deterministic : HasDeterministicBit n count xs i) (coins : ℕ → Bool) where
   abbrev flips_alone : FaultPlace → Bool
   flips_alone f = bit n count coins (with_gate f xs) i ⊕ bit n count coins xs i
 
@@ -163,7 +152,7 @@ module _ (law : RunsArePointsWithOutputs) (n count : ℕ) (xs : List Step) (i : 
       let whole : front ++ back ≡ xs = take-append-drop f.before xs in
       subst (λ ys. bit n count coins (with_gates (f ∷ fs) ys) i ⊕ bit n count coins (with_gates fs ys) i
       ≡ bit n count coins (with_gate f xs) i ⊕ bit n count coins ys i) whole
-      (flips-still law n count i f front back (length-take-le f.before xs here.before) here.qubit (subst (λ ys. HasSureBit n count ys i) (sym whole) sure) fs
+      (flips-still law n count i f front back (length-take-le f.before xs here.before) here.qubit (subst (λ ys. HasDeterministicBit n count ys i) (sym whole) deterministic) fs
       (subst (λ ys. All (FaultFits n ys) fs) (sym whole) fit) coins)
 
   -- and all of them flip what an odd number of them flips

@@ -1,18 +1,5 @@
 -- Moves: what regions at a place become one step before it, if the rows, the records and the marks are changed.
-use Rattle.std.proofs.Common.{◌≡◌, ℕ, ◌+◌, ◌-◌, ◌<◌, ◌≤◌, refl, sym, ◌∙◌, ap, subst, arith, Bool, true, false, not, ◌||◌, ◌&&◌, List, [], ◌∷◌, ◌++◌, append-nil, length, take, ne_eqb, Vec}
-use Rattle.std.specs.Prelude.{if◌then◌else◌, nat_lt, ◌==◌, slice_index_or, Result, OnOk}
-use Rattle.std.specs.Vec.{with_items}
-use Rattle.std.proofs.Math.ListN.{drop_of_length-le}
-use Rattle.std.proofs.Math.Seq.{take-length}
-use Rattle.std.proofs.lemmas.List.{length-replicate}
-use Rattle.stab_letters.specs.declared.letter.Letter.TheVariants.{I}
-use Rattle.stab_circuit.specs.Steps.{Step, one, two, controlled, collapse, product, detector, observable, is_detector}
-use Rattle.stab_regions.specs.declared.regions.Regions.{Regions}
-use Rattle.stab_regions.specs.Regions.{Region, region_of, region_before, region_through, with_looks, keeps_region, asks_nothing, asks_observable}
-use Rattle.stab_regions.specs.Tables.{named, steps_before_detector, named_by, region_of_detector}
-use Rattle.stab_regions.specs.Parities.{detectors_before, parity_region, parity_kept}
-use Rattle.stab_regions.specs.Rows.{ShowsRegion, MovesRegion}
-use Rattle.stab_regions.specs.inner.RegionsAt.{Shows, HasParity, asked_of, in_front_of, MovesBack, MovesTo}
+use Rattle.stab_regions.proofs.Names.{◌≡◌, ℕ, ◌+◌, ◌-◌, ◌<◌, ◌≤◌, refl, sym, ◌∙◌, ap, subst, arith, Bool, true, false, not, ◌||◌, ◌&&◌, List, [], ◌∷◌, ◌++◌, append-nil, length, take, ne_eqb, Vec, if◌then◌else◌, nat_lt, ◌==◌, slice_index_or, Result, OnOk, with_items, drop_of_length-le, take-length, length-replicate, I, Step, one, two, controlled, collapse, product, detector, observable, is_detector, Regions, Region, region_of, region_before, region_through, with_looks, keeps_region, asks_nothing, asks_observable, named, steps_before_detector, named_by, region_of_detector, detectors_before, parity_region, parity_kept, ShowsRegion, MovesRegion, Shows, HasParity, asked_of, in_front_of, MovesBack, MovesTo}
 use Rattle.stab_regions.proofs.DetectorLemmas.{count-other, count-detector}
 use Rattle.stab_regions.proofs.GateLemmas.{on_ok}
 use Rattle.stab_regions.proofs.ReadLemmas.{size-through}
@@ -45,24 +32,24 @@ twice-not false = refl
 
 -- old and new regions of which the new ones have these rows, records and marks
 module _ (n : ℕ) (x : Step) (old new : Regions) (plain : is_detector x ≡ false) (silent : (j : ℕ) → asks_observable j x ≡ [])
-    (by_x by_z : List (List ℕ)) (unsure : List Bool) (is_x : new.by_x.items ≡ by_x) (is_z : new.by_z.items ≡ by_z) (is_unsure : new.unsure.items ≡ unsure)
-    (long_x : length by_x ≡ length old.by_x.items) (long_z : length by_z ≡ length old.by_z.items) (long_unsure : length unsure ≡ length old.unsure.items)
+    (by_x by_z : List (List ℕ)) (random : List Bool) (is_x : new.by_x.items ≡ by_x) (is_z : new.by_z.items ≡ by_z) (is_random : new.random.items ≡ random)
+    (long_x : length by_x ≡ length old.by_x.items) (long_z : length by_z ≡ length old.by_z.items) (long_random : length random ≡ length old.random.items)
     (same_detectors : new.detectors ≡ old.detectors) (same_before : new.before ≡ old.before) where
   pub moves-back : MovesRegion n x old.by_x.items old.by_z.items old.records.items by_x by_z new.records.items
-      → ((i : ℕ) (r : Region) → length r.string.letters ≡ n → Shows old i r → i < length old.unsure.items
-      → slice_index_or unsure i false ≡ (not (keeps_region n x r) || slice_index_or old.unsure.items i false))
+      → ((i : ℕ) (r : Region) → length r.string.letters ≡ n → Shows old i r → i < length old.random.items
+      → slice_index_or random i false ≡ (not (keeps_region n x r) || slice_index_or old.random.items i false))
       → MovesBack n x old new
   moves-back moves marks = record {
     rows = ap length is_z ∙ long_z;
     qubits = ap length is_x ∙ long_x;
     detectors = same_detectors;
     before = same_before ∙ ap (λ b. if b then old.before - 1 else old.before) (sym plain);
-    marks = ap length is_unsure ∙ long_unsure;
+    marks = ap length is_random ∙ long_random;
     regions = λ i r long shows.
         subst (λ looks. Shows new i (with_looks looks (region_before n x r))) (sym (asked-none old.detectors old.before i x plain (silent (i - old.detectors))))
         (subst (λ rows. ShowsRegion i rows new.by_z.items new.records.items (region_before n x r)) (sym is_x)
         (subst (λ rows. ShowsRegion i by_x rows new.records.items (region_before n x r)) (sym is_z) (moves i r long shows)));
-    unsure = λ i r long shows lt. ap (λ bits. slice_index_or bits i false) is_unsure ∙ marks i r long shows lt;
+    random = λ i r long shows lt. ap (λ bits. slice_index_or bits i false) is_random ∙ marks i r long shows lt;
   }
 
 -- wherever the regions are those at a place, they are so one step before it
@@ -94,7 +81,7 @@ long-parity n D i back = by_place (nat_lt i D) (nat_lt i (detectors_before D bac
     by_place false c = size-through n (asks_observable (i - D)) back (region_of n []) (none [])
 
 -- none of the observables that are counted is beyond them
-beyond : (D count before i : ℕ) (x : Step) (r : Regions) → r.detectors ≡ D → length r.unsure.items ≡ D + count → D + count ≤ i → HasParity r x
+beyond : (D count before i : ℕ) (x : Step) (r : Regions) → r.detectors ≡ D → length r.random.items ≡ D + count → D + count ≤ i → HasParity r x
     → asked_of D before i x ≡ []
 beyond D count before i x r detectors marks le there = asked-observable D before i x (omega arith) ∙ by_kind x there
   where
@@ -153,9 +140,9 @@ moves-to x old new there m n D count back h =
           ((λ t. with_looks (asked_of (h.detectors t) (h.before t) i x) (none-before n x t))
           ∙ ap (λ looks. with_looks looks (region_of n [])) (beyond D count (detectors_before D back) i x old h.detectors h.marks le there))
           (moved.regions i (region_of n []) (length-replicate n I) (h.others i le));
-      unsure = λ i lt.
-          moved.unsure i (parity_region n D i back) (long-parity n D i back) (h.regions i lt) (omega (arith, lt, h.marks))
-          ∙ marked (keeps_region n x (parity_region n D i back)) (parity_kept n D i back) _ (h.unsure i lt)
+      random = λ i lt.
+          moved.random i (parity_region n D i back) (long-parity n D i back) (h.regions i lt) (omega (arith, lt, h.marks))
+          ∙ marked (keeps_region n x (parity_region n D i back)) (parity_kept n D i back) _ (h.random i lt)
           ∙ ap not (sym (next i).kept);
     }
 

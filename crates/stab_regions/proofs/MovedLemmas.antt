@@ -1,31 +1,5 @@
--- Moved points: points that differ by a frame lead, by turned coins, to points that differ by the frame after the steps.
-use Rattle.std.proofs.Common.{◌≡◌, ◌≢◌, ℕ, ◌+◌, ◌<◌, refl, sym, ◌∙◌, ap, arith, Bool, true, false, not, ◌&&◌, ◌||◌, List, [], ◌∷◌, ◌++◌, append-nil, length}
-use Rattle.std.specs.Prelude.{if◌then◌else◌}
-use Rattle.stab_letters.specs.declared.letter.Letter.{Letter}
-use Rattle.stab_letters.specs.Letters.{◌⊕◌}
-use Rattle.stab_pauli.specs.Paulis.{Signed, single, minus, with_sign, anticommute}
-use Rattle.stab_pauli.specs.Paulis.{product as times}
-use Rattle.stab_letters.proofs.ParityLemmas.{parity-assoc, parity-false}
-use Rattle.stab_pauli.proofs.SignedLemmas.{signed_path, anticommute-product, anticommute-comm, length-product}
-use Rattle.stab_letters.specs.declared.gate.Gate.{Gate}
-use Rattle.stab_letters.specs.declared.gate.PairGate.{PairGate}
-use Rattle.stab_tableau.specs.Gates.{inverse, image, image_pair, back, back_pair}
-use Rattle.stab_tableau.specs.Traces.{Event, applied, applied_pair, projected, member, outcome}
-use Rattle.stab_tableau.specs.Groups.{IsStabiliserGroup}
-use Rattle.stab_tableau.proofs.OneLetterLemmas.{length-one_letter}
-use Rattle.stab_tableau.proofs.SymmetryLemmas.{IsSymmetry-image, IsSymmetry-pair, image-length, pair-length, image-back, pair-undone}
-use Rattle.stab_tableau.proofs.GroupLemmas.{anticommute-product_right}
-use Rattle.stab_tableau.proofs.TraceLemmas.{group-member}
-use Rattle.stab_circuit.specs.Steps.{Step, one, two, controlled, collapse, product, detector, observable}
-use Rattle.stab_steps.proofs.ProductLemmas.{length-string_of}
-use Rattle.stab_laws.proofs.SoundLemmas.{IsGood}
-use Rattle.stab_frames.proofs.SignLemmas.{sign-sign}
-use Rattle.stab_run.specs.Records.{looked_up}
-use Rattle.stab_run.specs.Runs.{when, string_of, flip_of, applied_where, outcome_at}
-use Rattle.stab_run.specs.Points.{Point, next_point}
-use Rattle.stab_run.specs.ProgramStates.{StepFits}
-use Rattle.stab_regions.specs.Regions.{times_where}
-use Rattle.stab_regions.specs.Frames.{Frame, frame_after, IsMoved}
+-- Moved points: points that differ by a frame lead, by flipped coins, to points that differ by the frame after the steps.
+use Rattle.stab_regions.proofs.Names.{◌≡◌, ◌≢◌, ℕ, ◌+◌, ◌<◌, refl, sym, ◌∙◌, ap, arith, Bool, true, false, not, ◌&&◌, ◌||◌, List, [], ◌∷◌, ◌++◌, append-nil, length, if◌then◌else◌, Letter, ◌⊕◌, Signed, single, minus, with_sign, anticommute, times, parity-assoc, parity-false, signed_path, anticommute-product, anticommute-comm, length-product, Gate, PairGate, inverse, image, image_pair, back, back_pair, Event, applied, applied_pair, projected, member, outcome, IsStabiliserGroup, length-one_letter, IsSymmetry-image, IsSymmetry-pair, image-length, pair-length, image-back, pair-undone, anticommute-product_right, group-member, Step, one, two, controlled, collapse, product, detector, observable, length-string_of, IsGood, sign-sign, looked_up, when, string_of, flip_of, applied_where, outcome_at, Point, next_point, StepFits, times_where, Frame, frame_after, IsConjugated}
 use Rattle.stab_regions.proofs.SignLemmas.{image-sign, pair-sign, product-signs, member-where}
 use Rattle.stab_regions.proofs.LookLemmas.{look-flipped}
 use Rattle.stab_regions.proofs.ReadLemmas.{length-times}
@@ -60,28 +34,25 @@ size-after n (product factors inverted) f long = long
 size-after n (detector ks) f long = long
 size-after n (observable j ks) f long = long
 
--- groups that differ by a string
+-- groups that are conjugated by a string
 
-abbrev pub Turned : ℕ → Signed → (Signed → Bool) → (Signed → Bool) → Type 0
-Turned n f old new = (s : Signed) → length s.letters ≡ n → new s ≡ old (with_sign (anticommute f s) s)
-
-module _ (n : ℕ) (f : Signed) (lf : length f.letters ≡ n) (t u : List Event) (moved : Turned n f (member t) (member u)) where
-  turned-gate : (g : Gate) (q : ℕ) → Turned n (image g q f) (member (applied g q ∷ t)) (member (applied g q ∷ u))
-  turned-gate g q s ls =
+module _ (n : ℕ) (f : Signed) (lf : length f.letters ≡ n) (t u : List Event) (moved : IsConjugated n f.letters (member t) (member u)) where
+  conjugated-gate : (g : Gate) (q : ℕ) → IsConjugated n (image g q f).letters (member (applied g q ∷ t)) (member (applied g q ∷ u))
+  conjugated-gate g q s ls =
       moved (back g q s) (image-length (inverse g) q s ∙ ls)
       ∙ ap (λ b. member t (with_sign b (back g q s))) (sym (moved-gate n q g f s lf ls))
       ∙ ap (member t) (sym (image-sign (inverse g) q (anticommute (image g q f) s) s))
 
-  turned-pair : (g : PairGate) (a b : ℕ) → a < n → b < n → b ≢ a
-      → Turned n (image_pair g a b f) (member (applied_pair g a b ∷ t)) (member (applied_pair g a b ∷ u))
-  turned-pair g a b lt_a lt_b apart s ls =
+  conjugated-pair : (g : PairGate) (a b : ℕ) → a < n → b < n → b ≢ a
+      → IsConjugated n (image_pair g a b f).letters (member (applied_pair g a b ∷ t)) (member (applied_pair g a b ∷ u))
+  conjugated-pair g a b lt_a lt_b apart s ls =
       moved (back_pair g a b s) (pair-length g a b s ∙ ls)
       ∙ ap (λ c. member t (with_sign c (back_pair g a b s))) (sym (moved-pair n a b g lt_a lt_b apart f s lf ls))
       ∙ ap (member t) (sym (pair-sign g a b (anticommute (image_pair g a b f) s) s))
 
-  turned-where : (l : Letter) (q : ℕ) (bit other flip : Bool) → q < n → other ≡ bit ⊕ flip
-      → Turned n (times_where flip (single n q l) f) (member (applied_where bit l q t)) (member (applied_where other l q u))
-  turned-where l q bit other flip lt e s ls =
+  conjugated-where : (l : Letter) (q : ℕ) (bit other flip : Bool) → q < n → other ≡ bit ⊕ flip
+      → IsConjugated n (times_where flip (single n q l) f).letters (member (applied_where bit l q t)) (member (applied_where other l q u))
+  conjugated-where l q bit other flip lt e s ls =
       member-where n q l other u s ls lt
       ∙ moved _ ls
       ∙ ap (member t)
@@ -96,9 +67,9 @@ module _ (n : ℕ) (f : Signed) (lf : length f.letters ≡ n) (t u : List Event)
       signs : (c b i a : Bool) → c ⊕ ((b ⊕ i) && a) ≡ (b && a) ⊕ ((i && a) ⊕ c)
       signs c b i a = grind arith
 
-  turned-projected : (m : Signed) (o other : Bool) → length m.letters ≡ n → other ≡ o ⊕ anticommute m f
-      → Turned n f (member (projected m o ∷ t)) (member (projected m other ∷ u))
-  turned-projected m o other lm e s ls = by_side (anticommute m s) refl
+  conjugated-projected : (m : Signed) (o other : Bool) → length m.letters ≡ n → other ≡ o ⊕ anticommute m f
+      → IsConjugated n f.letters (member (projected m o ∷ t)) (member (projected m other ∷ u))
+  conjugated-projected m o other lm e s ls = by_side (anticommute m s) refl
     where
       signs : (fm fs o : Bool) → (fm ⊕ fs) ⊕ (o ⊕ fm) ≡ o ⊕ fs
       signs fm fs o = grind arith
@@ -122,17 +93,17 @@ module _ (n : ℕ) (f : Signed) (lf : length f.letters ≡ n) (t u : List Event)
       by_side false apart =
           λ i. not (anticommute m s) && (moved s ls i || (moved (times (with_sign other m) s) (length-product n (with_sign other m) s lm ls) ∙ ap (member t) (beside apart)) i)
 
--- outcomes differ if the string anticommutes with what is measured, and a coin that decides is turned with them
+-- outcomes differ if the string anticommutes with what is measured, and a coin that decides is flipped with them
 
-turned-choice : (x y c : Bool) → (x ≡ true → y ≡ false) → (if y then false else (if x then true else not c)) ≡ not (if x then false else (if y then true else c))
-turned-choice true true c apart = let e : true ≡ false = apart refl in cc
-turned-choice true false c apart = refl
-turned-choice false true c apart = refl
-turned-choice false false c apart = refl
+choice-flipped : (x y c : Bool) → (x ≡ true → y ≡ false) → (if y then false else (if x then true else not c)) ≡ not (if x then false else (if y then true else c))
+choice-flipped true true c apart = let e : true ≡ false = apart refl in cc
+choice-flipped true false c apart = refl
+choice-flipped false true c apart = refl
+choice-flipped false false c apart = refl
 
-outcome-turned : (n : ℕ) (f m : Signed) (t u : List Event) → IsGood n t → Turned n f (member t) (member u) → length m.letters ≡ n → (c : Bool)
+outcome-flipped : (n : ℕ) (f m : Signed) (t u : List Event) → IsGood n t → IsConjugated n f.letters (member t) (member u) → length m.letters ≡ n → (c : Bool)
     → outcome u m (c ⊕ anticommute m f) ≡ outcome t m c ⊕ anticommute m f
-outcome-turned n f m t u good moved lm c = by_side (anticommute m f) refl
+outcome-flipped n f m t u good moved lm c = by_side (anticommute m f) refl
   where
     twice : (x : Bool) → not (not x) ≡ x
     twice x = grind arith
@@ -149,7 +120,7 @@ outcome-turned n f m t u good moved lm c = by_side (anticommute m f) refl
         ∙ sym (ap (λ x. outcome t m c ⊕ x) e ∙ parity-false (outcome t m c))
     by_side true e =
         (λ i. if plain true e i then false else (if (other true e ∙ ap (member t) (signed_path _ _ (twice m.negative) refl)) i then true else (ap (λ x. c ⊕ x) e ∙ odd c) i))
-        ∙ turned-choice (member t m) (member t (minus m)) c (group.one_sign m lm)
+        ∙ choice-flipped (member t m) (member t (minus m)) c (group.one_sign m lm)
         ∙ sym (ap (λ x. outcome t m c ⊕ x) e ∙ odd (outcome t m c))
       where
         odd : (x : Bool) → x ⊕ true ≡ not x
@@ -160,15 +131,21 @@ outcome-turned n f m t u good moved lm c = by_side (anticommute m f) refl
 
 -- a step
 
--- the step's coin, if it has one, is turned as the frame says
-abbrev pub TurnsCoin : ℕ → Step → Frame → ℕ → (ℕ → Bool) → (ℕ → Bool) → Type 0
-TurnsCoin n (one g q) f t coins others = Unit {0}
-TurnsCoin n (two g a b) f t coins others = Unit {0}
-TurnsCoin n (controlled l k q) f t coins others = Unit {0}
-TurnsCoin n (collapse l q recorded inverted resets) f t coins others = others t ≡ coins t ⊕ anticommute (single n q l) f.string
-TurnsCoin n (product factors inverted) f t coins others = others t ≡ coins t ⊕ anticommute (string_of n factors) f.string
-TurnsCoin n (detector ks) f t coins others = Unit {0}
-TurnsCoin n (observable j ks) f t coins others = Unit {0}
+-- a point differs from another by a frame: the groups are conjugated by its string, and records differ where the frame flips them
+pub record IsMoved (n : ℕ) (f : Frame) (p moved : Point) : Type 0 where
+  pub group : IsConjugated n f.string.letters (member p.trace) (member moved.trace)
+  pub coin : moved.coin ≡ p.coin
+  pub records : (k : ℕ) → looked_up moved.records k ≡ looked_up p.records k ⊕ looked_up f.flips k
+
+-- the step's coin, if it has one, is flipped as the frame says
+abbrev pub FlipsCoin : ℕ → Step → Frame → ℕ → (ℕ → Bool) → (ℕ → Bool) → Type 0
+FlipsCoin n (one g q) f t coins others = Unit {0}
+FlipsCoin n (two g a b) f t coins others = Unit {0}
+FlipsCoin n (controlled l k q) f t coins others = Unit {0}
+FlipsCoin n (collapse l q recorded inverted resets) f t coins others = others t ≡ coins t ⊕ anticommute (single n q l) f.string
+FlipsCoin n (product factors inverted) f t coins others = others t ≡ coins t ⊕ anticommute (string_of n factors) f.string
+FlipsCoin n (detector ks) f t coins others = Unit {0}
+FlipsCoin n (observable j ks) f t coins others = Unit {0}
 
 module _ (n : ℕ) (coins others : ℕ → Bool) (f : Frame) (long : length f.string.letters ≡ n) (p moved : Point) (good : IsGood n p.trace) (is : IsMoved n f p moved) where
   outcome-moved : (m : Signed) → length m.letters ≡ n → others p.coin ≡ coins p.coin ⊕ anticommute m f.string
@@ -176,7 +153,7 @@ module _ (n : ℕ) (coins others : ℕ → Bool) (f : Frame) (long : length f.st
   outcome-moved m lm e =
       ap (λ t. outcome moved.trace m (others t)) is.coin
       ∙ ap (outcome moved.trace m) e
-      ∙ outcome-turned n f.string m p.trace moved.trace good is.group lm (coins p.coin)
+      ∙ outcome-flipped n f.string m p.trace moved.trace good is.group lm (coins p.coin)
 
   -- no record is made
   records-same : (k : ℕ) → looked_up (moved.records ++ []) k ≡ looked_up (p.records ++ []) k ⊕ looked_up f.flips k
@@ -191,45 +168,45 @@ module _ (n : ℕ) (coins others : ℕ → Bool) (f : Frame) (long : length f.st
       (ap (λ x. inverted ⊕ x) e ∙ sym (parity-assoc inverted o a)) k
   records-when false inverted a o other e k = records-same k ∙ ap (λ r. looked_up (p.records ++ []) k ⊕ looked_up r k) (sym (append-nil f.flips))
 
-  pub moved-next : (x : Step) → StepFits n x → TurnsCoin n x f p.coin coins others
+  pub moved-next : (x : Step) → StepFits n x → FlipsCoin n x f p.coin coins others
       → IsMoved n (frame_after n x f) (next_point n coins x p) (next_point n others x moved)
-  moved-next (one g q) fits turn = record {
-    group = turned-gate n f.string long p.trace moved.trace is.group g q;
+  moved-next (one g q) fits flip = record {
+    group = conjugated-gate n f.string long p.trace moved.trace is.group g q;
     coin = ap (λ t. t + 0) is.coin;
     records = records-same;
   }
-  moved-next (two g a b) fits turn = record {
-    group = turned-pair n f.string long p.trace moved.trace is.group g a b fits.0 fits.1 fits.2;
+  moved-next (two g a b) fits flip = record {
+    group = conjugated-pair n f.string long p.trace moved.trace is.group g a b fits.0 fits.1 fits.2;
     coin = ap (λ t. t + 0) is.coin;
     records = records-same;
   }
-  moved-next (controlled l k q) fits turn = record {
-    group = turned-where n f.string long p.trace moved.trace is.group l q (looked_up p.records k) (looked_up moved.records k) (looked_up f.flips k) fits (is.records k);
+  moved-next (controlled l k q) fits flip = record {
+    group = conjugated-where n f.string long p.trace moved.trace is.group l q (looked_up p.records k) (looked_up moved.records k) (looked_up f.flips k) fits (is.records k);
     coin = ap (λ t. t + 0) is.coin;
     records = records-same;
   }
-  moved-next (collapse l q recorded inverted resets) fits turn = record {
+  moved-next (collapse l q recorded inverted resets) fits flip = record {
     group =
-        turned-where n f.string long _ _
-        (turned-projected n f.string long p.trace moved.trace is.group (single n q l) _ _ (length-one_letter n q l) flipped)
+        conjugated-where n f.string long _ _
+        (conjugated-projected n f.string long p.trace moved.trace is.group (single n q l) _ _ (length-one_letter n q l) flipped)
         (flip_of l) q _ _ (resets && anticommute (single n q l) f.string) fits (ap (λ o. resets && o) flipped ∙ spread resets _ _);
     coin = ap (λ t. t + 1) is.coin;
     records = records-when recorded inverted (anticommute (single n q l) f.string) _ _ flipped;
   }
     where
       flipped : outcome_at others (single n q l) moved.trace moved.coin ≡ outcome_at coins (single n q l) p.trace p.coin ⊕ anticommute (single n q l) f.string
-      flipped = outcome-moved (single n q l) (length-one_letter n q l) turn
+      flipped = outcome-moved (single n q l) (length-one_letter n q l) flip
 
       spread : (here x y : Bool) → (here && (x ⊕ y)) ≡ (here && x) ⊕ (here && y)
       spread true x y = refl
       spread false x y = refl
-  moved-next (product factors inverted) fits turn = record {
-    group = turned-projected n f.string long p.trace moved.trace is.group (string_of n factors) _ _ (length-string_of n factors) flipped;
+  moved-next (product factors inverted) fits flip = record {
+    group = conjugated-projected n f.string long p.trace moved.trace is.group (string_of n factors) _ _ (length-string_of n factors) flipped;
     coin = ap (λ t. t + 1) is.coin;
     records = records-when true inverted (anticommute (string_of n factors) f.string) _ _ flipped;
   }
     where
       flipped : outcome_at others (string_of n factors) moved.trace moved.coin ≡ outcome_at coins (string_of n factors) p.trace p.coin ⊕ anticommute (string_of n factors) f.string
-      flipped = outcome-moved (string_of n factors) (length-string_of n factors) turn
-  moved-next (detector ks) fits turn = record { group = is.group; coin = ap (λ t. t + 0) is.coin; records = records-same }
-  moved-next (observable j ks) fits turn = record { group = is.group; coin = ap (λ t. t + 0) is.coin; records = records-same }
+      flipped = outcome-moved (string_of n factors) (length-string_of n factors) flip
+  moved-next (detector ks) fits flip = record { group = is.group; coin = ap (λ t. t + 0) is.coin; records = records-same }
+  moved-next (observable j ks) fits flip = record { group = is.group; coin = ap (λ t. t + 0) is.coin; records = records-same }

@@ -1,15 +1,5 @@
 -- Multiplying strings by a letter: the rows that change, and the strings that they then show.
-use Rattle.std.proofs.Common.{◌≡◌, ◌≢◌, ℕ, ◌<◌, sym, ◌∙◌, ap, arith, Bool, true, false, ◌&&◌, ◌⊎◌, inl, inr, List}
-use Rattle.std.proofs.lemmas.Bool.{cases_eq}
-use Rattle.stab_letters.specs.declared.letter.Letter.{Letter}
-use Rattle.stab_letters.specs.declared.letter.Letter.TheVariants.{X, Z}
-use Rattle.stab_letters.specs.Letters.{◌⊕◌, letter_product, letters_anticommute}
-use Rattle.stab_pauli.specs.Paulis.{Signed, single}
-use Rattle.stab_pauli.proofs.StringLemmas.{get_or-string_product}
-use Rattle.stab_tableau.specs.Gates.{letter_at}
-use Rattle.stab_tableau.proofs.OneLetterLemmas.{here_one_letter, off_one_letter}
-use Rattle.stab_regions.specs.Regions.{times_where}
-use Rattle.stab_regions.specs.Rows.{odd, row, Toggles, MovesLetters, multiplied}
+use Rattle.stab_regions.proofs.Names.{◌≡◌, ◌≢◌, ℕ, ◌<◌, sym, ◌∙◌, ap, arith, Bool, true, false, ◌&&◌, ◌⊎◌, inl, inr, List, cases_eq, Letter, X, Z, ◌⊕◌, letter_product, letters_anticommute, Signed, single, get_or-string_product, letter_at, here_one_letter, off_one_letter, times_where, odd, row, Toggles, MovesLetters, multiplied}
 
 -- a row is toggled if the bit is 1, and the others stay
 pub record TogglesWhere (bit : Bool) (old new : List (List ℕ)) (place : ℕ) (numbers : List ℕ) : Type 0 where

@@ -1,18 +1,6 @@
 -- Observables: the bit that a run gives one is the exclusive or of all that is asked for on the way.
-use Rattle.std.proofs.Common.{◌≡◌, ℕ, ◌<◌, ◌==◌, refl, sym, ◌∙◌, ap, arith, Bool, true, false, List, [], ◌∷◌, length, replicate, eqb-true, eq-eqb}
-use Rattle.std.specs.Prelude.{if◌then◌else◌, slice_index_or}
-use Rattle.std.proofs.lemmas.List.{length-replicate, get_or-replicate, length-set, get_or-set_same, get_or-set_other}
-use Rattle.stab_letters.specs.Letters.{◌⊕◌}
-use Rattle.stab_letters.proofs.ParityLemmas.{parity-assoc, parity-comm, parity-false}
-use Rattle.stab_tableau.proofs.TestLemmas.{not_both}
-use Rattle.stab_circuit.specs.Steps.{Step, one, two, controlled, collapse, product, detector, observable}
-use Rattle.stab_run.specs.Records.{parity}
-use Rattle.stab_run.specs.Runs.{State, start, added}
-use Rattle.stab_run.specs.Points.{Point, origin, next_point, outputs, with_additions}
-use Rattle.stab_run.specs.Laws.{RunsArePointsWithOutputs}
-use Rattle.stab_regions.specs.Regions.{asks_observable}
-use Rattle.stab_regions.specs.Laws.{bit_asked}
-use Rattle.stab_regions.specs.TableLaws.{observable_bit}
+use Rattle.stab_regions.proofs.Names.{◌≡◌, ℕ, ◌<◌, refl, sym, ◌∙◌, ap, arith, Bool, true, false, List, [], ◌∷◌, length, eqb-true, if◌then◌else◌, slice_index_or, length-replicate, get_or-replicate, length-set, get_or-set_same, get_or-set_other, ◌⊕◌, parity-assoc, parity-comm, parity-false, not_both, Step, one, two, controlled, collapse, product, detector, observable, parity, State, start, added, Point, origin, next_point, outputs, with_additions, RunsArePointsWithOutputs, asks_observable, bit_asked, run}
+use Rattle.std.proofs.Common.{◌==◌, replicate, eq-eqb}
 
 -- a bit that is added to an observable counts for that one alone
 added-bit : (i j : ℕ) (records : List Bool) (ks : List ℕ) (bits : List Bool) → j < length bits
@@ -48,6 +36,10 @@ added-asked n coins j (observable i ks ∷ xs) p bits lt =
     added-asked n coins j xs next (added i (parity p.records ks) bits) (omega (arith, lt, length-set bits i (parity p.records ks ⊕ slice_index_or bits i false)))
     ∙ ap (λ b. b ⊕ bit_asked n coins (asks_observable j) xs [] next) (added-bit i j p.records ks bits lt)
     ∙ parity-assoc (slice_index_or bits j false) (parity p.records (asks_observable j (observable i ks))) (bit_asked n coins (asks_observable j) xs [] next)
+
+-- an observable of the run of steps, with this many
+abbrev pub observable_bit : ℕ → (ℕ → Bool) → List Step → ℕ → ℕ → Bool
+observable_bit n coins xs count j = slice_index_or (run n coins xs (start count)).observables j false
 
 -- an observable of a run is what is asked for on the way
 pub observable-bit : RunsArePointsWithOutputs → (n : ℕ) (coins : ℕ → Bool) (xs : List Step) (count j : ℕ) → j < count

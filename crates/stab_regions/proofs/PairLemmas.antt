@@ -1,14 +1,5 @@
 -- Gates on two qubits on rows: what X and Z flip before them on each of the two, by what they flip after them.
-use Rattle.std.proofs.Common.{◌≡◌, ◌≢◌, ℕ, ◌<◌, refl, sym, subst, ◌∙◌, ap, arith, Bool, ◌⊎◌, inl, inr, List, [], length, set}
-use Rattle.std.proofs.lemmas.Bool.{cases_eq}
-use Rattle.std.proofs.lemmas.List.{get_or-set_same, get_or-set_other, length-set}
-use Rattle.stab_letters.specs.declared.letter.Letter.{Letter}
-use Rattle.stab_letters.specs.declared.letter.Letter.TheVariants.{I, X, Z}
-use Rattle.stab_letters.specs.Letters.{◌⊕◌, letters_anticommute}
-use Rattle.stab_letters.specs.declared.gate.PairGate.{PairGate}
-use Rattle.stab_letters.specs.declared.gate.PairGate.TheVariants.{Cx, Cy, Cz, Swap}
-use Rattle.stab_tableau.specs.Gates.{letter_at, pair_letters, back_pair}
-use Rattle.stab_regions.specs.Rows.{odd, row, Toggles, MovesLetters}
+use Rattle.stab_regions.proofs.Names.{◌≡◌, ◌≢◌, ℕ, ◌<◌, refl, sym, subst, ◌∙◌, ap, arith, Bool, ◌⊎◌, inl, inr, List, [], length, set, cases_eq, get_or-set_same, get_or-set_other, length-set, Letter, I, X, Z, ◌⊕◌, letters_anticommute, PairGate, Cx, Cy, Cz, Swap, letter_at, pair_letters, back_pair, odd, row, Toggles, MovesLetters}
 
 -- what X flips before a gate on the first qubit, what Z does, and the same for the second, by what X and Z flip after it on the
 -- first and on the second

@@ -1,24 +1,5 @@
 -- Parities one step backwards: how the region of each before a step, and whether it is kept, follow from those after it.
-use Rattle.std.proofs.Common.{◌≡◌, ℕ, suc, ◌+◌, ◌-◌, ◌<◌, ◌≤◌, ◌⊎◌, inl, inr, refl, sym, ◌∙◌, ap, subst, arith, Bool, true, false, not, ◌&&◌, List, [], ◌∷◌, append-nil, set, le-ltb, lt-ltb, ne_eqb}
-use Rattle.std.specs.Prelude.{if◌then◌else◌, nat_lt, ◌==◌, replicate}
-use Rattle.std.proofs.lemmas.Bool.{cases_lt, cases_eq, eq-eqb}
-use Rattle.std.proofs.lemmas.List.{set-get_or}
-use Rattle.std.proofs.Math.Bool.{and-false}
-use Rattle.stab_letters.specs.declared.letter.Letter.{Letter}
-use Rattle.stab_letters.specs.declared.letter.Letter.TheVariants.{I}
-use Rattle.stab_pauli.specs.Phaseds.{plain}
-use Rattle.stab_pauli.specs.Paulis.{Signed, identity, single, anticommute}
-use Rattle.stab_pauli.proofs.StringLemmas.{strings_anticommute-blank_right}
-use Rattle.stab_pauli.proofs.SignedLemmas.{signed_path}
-use Rattle.stab_letters.specs.declared.gate.Gate.{Gate}
-use Rattle.stab_letters.specs.declared.gate.PairGate.{PairGate}
-use Rattle.stab_tableau.specs.Gates.{letter_at, letter_image, inverse, put_letter, put_letters, pair_letters, back, back_pair}
-use Rattle.stab_circuit.specs.Steps.{Step, one, two, controlled, collapse, product, detector, observable, is_detector}
-use Rattle.stab_run.specs.Runs.{string_of, flip_of}
-use Rattle.stab_regions.specs.Regions.{Region, region_of, look_where, before_measured, region_before, region_through, with_looks, keeps_region, keep_region, asks_nothing, asks_observable}
-use Rattle.stab_regions.specs.Tables.{named, steps_before_detector, named_by, region_of_detector}
-use Rattle.stab_regions.specs.Parities.{detectors_before, parity_region, parity_kept}
-use Rattle.stab_regions.specs.inner.RegionsAt.{asked_of}
+use Rattle.stab_regions.proofs.Names.{◌≡◌, ℕ, suc, ◌+◌, ◌-◌, ◌<◌, ◌≤◌, ◌⊎◌, inl, inr, refl, sym, ◌∙◌, ap, subst, arith, Bool, true, false, not, ◌&&◌, List, [], ◌∷◌, append-nil, set, le-ltb, lt-ltb, ne_eqb, if◌then◌else◌, nat_lt, ◌==◌, replicate, cases_lt, cases_eq, eq-eqb, set-get_or, and-false, Letter, I, plain, Signed, identity, single, anticommute, strings_anticommute-blank_right, signed_path, Gate, PairGate, letter_at, letter_image, inverse, put_letter, put_letters, pair_letters, back, back_pair, Step, one, two, controlled, collapse, product, detector, observable, is_detector, string_of, flip_of, Region, region_of, look_where, before_measured, region_before, region_through, with_looks, keeps_region, keep_region, asks_nothing, asks_observable, named, steps_before_detector, named_by, region_of_detector, detectors_before, parity_region, parity_kept, asked_of}
 use Rattle.stab_regions.proofs.FactorLemmas.{blank-at}
 use Rattle.stab_regions.proofs.DetectorLemmas.{count-other, before-other, named-other}
 

@@ -1,20 +1,5 @@
 -- Places: what regions at one say of what a letter flips there, of the end of all steps, and of what is deterministic at the start.
-use Rattle.std.proofs.Common.{◌≡◌, ℕ, zero, suc, ◌+◌, ◌-◌, ◌^◌, ◌<◌, refl, sym, ◌∙◌, ap, subst, arith, Bool, true, false, not, ◌||◌, ◌&&◌, List, [], ◌∷◌, length}
-use Rattle.std.specs.Prelude.{if◌then◌else◌, nat_lt, slice_index_or, replicate}
-use Rattle.std.specs.List.{list_any}
-use Rattle.std.proofs.lemmas.List.{length-replicate, get_or-replicate}
-use Rattle.stab_letters.specs.declared.letter.Letter.{Letter}
-use Rattle.stab_letters.specs.declared.letter.Letter.TheVariants.{I, X, Y, Z}
-use Rattle.stab_letters.specs.Letters.{letters_anticommute}
-use Rattle.stab_tableau.specs.Gates.{letter_at}
-use Rattle.stab_tableau.specs.Traces.{diagonal}
-use Rattle.stab_regions.specs.declared.regions.Regions.{Regions}
-use Rattle.stab_regions.specs.Regions.{region_of, keep_region, asks_nothing, asks_observable}
-use Rattle.stab_regions.specs.Tables.{steps_before_detector, named_by}
-use Rattle.stab_regions.specs.Parities.{detectors_before, parity_region, parity_kept}
-use Rattle.stab_distance.specs.Ascending.{IsAscending}
-use Rattle.stab_regions.specs.Rows.{odd, row, ShowsRegion}
-use Rattle.stab_regions.specs.inner.RegionsAt.{Shows, IsRegionsAt, AreFlipped, TellSure}
+use Rattle.stab_regions.proofs.Names.{◌≡◌, ℕ, zero, suc, ◌+◌, ◌-◌, ◌^◌, ◌<◌, refl, sym, ◌∙◌, ap, subst, arith, Bool, true, false, not, ◌||◌, ◌&&◌, List, [], ◌∷◌, length, if◌then◌else◌, nat_lt, slice_index_or, replicate, list_any, length-replicate, get_or-replicate, Letter, I, X, Y, Z, letters_anticommute, letter_at, diagonal, Regions, region_of, keep_region, asks_nothing, asks_observable, steps_before_detector, named_by, detectors_before, parity_region, parity_kept, IsAscending, odd, row, ShowsRegion, Shows, IsRegionsAt, AreFlipped, TellDeterministic}
 use Rattle.stab_regions.proofs.FactorLemmas.{blank-at}
 use Rattle.stab_regions.proofs.ShowLemmas.{bits-anticommute}
 use Rattle.stab_regions.proofs.MoveLemmas.{region_where, long-parity}
@@ -82,11 +67,11 @@ end-shown n i by_x by_z records is_x is_z is_records = record {
 }
 
 pub is-at-end : (n D count : ℕ) (r : Regions) → D + count < 2 ^ 32 → r.by_x.items ≡ replicate n [] → r.by_z.items ≡ replicate n [] → r.records.items ≡ []
-    → r.detectors ≡ D → r.before ≡ D → r.unsure.items ≡ replicate (D + count) false → IsRegionsAt n D count [] r
-is-at-end n D count r few is_x is_z is_records detectors before unsure =
+    → r.detectors ≡ D → r.before ≡ D → r.random.items ≡ replicate (D + count) false → IsRegionsAt n D count [] r
+is-at-end n D count r few is_x is_z is_records detectors before random =
     let rows_x : length r.by_x.items ≡ n = ap length is_x ∙ length-replicate n [] in
     let rows_z : length r.by_z.items ≡ n = ap length is_z ∙ length-replicate n [] in
-    let marks : length r.unsure.items ≡ D + count = ap length unsure ∙ length-replicate (D + count) false in
+    let marks : length r.random.items ≡ D + count = ap length random ∙ length-replicate (D + count) false in
     let none : (i : ℕ) → Shows r i (region_of n []) = λ i. end-shown n i r.by_x.items r.by_z.items r.records.items is_x is_z is_records in
     record {
       sized = record {
@@ -101,8 +86,8 @@ is-at-end n D count r few is_x is_z is_records detectors before unsure =
       marks = marks;
       regions = λ i lt. subst (Shows r i) (sym (end-region n D i)) (none i);
       others = λ i le. none i;
-      unsure = λ i lt.
-          ap (λ bits. slice_index_or bits i false) unsure ∙ get_or-replicate (D + count) i false false lt ∙ ap not (sym (end-kept n D i));
+      random = λ i lt.
+          ap (λ bits. slice_index_or bits i false) random ∙ get_or-replicate (D + count) i false false lt ∙ ap not (sym (end-kept n D i));
     }
 
 -- the start
@@ -126,14 +111,14 @@ diagonal-rows i (l ∷ letters) (r ∷ rows) long shows =
 neither : (a b c d : Bool) → not a ≡ d → b ≡ not c → not (a || b) ≡ (c && d)
 neither a b c d ed ec = grind arith
 
-pub tells-sure : (r : Regions) (sure : List Bool) → length sure ≡ length r.unsure.items
-    → ((i : ℕ) → i < length r.unsure.items → slice_index_or sure i false ≡ not (list_any (odd i) r.by_z.items || slice_index_or r.unsure.items i false))
-    → TellSure r sure
-tells-sure r sure long each = record {
+pub tells-deterministic : (r : Regions) (deterministic : List Bool) → length deterministic ≡ length r.random.items
+    → ((i : ℕ) → i < length r.random.items → slice_index_or deterministic i false ≡ not (list_any (odd i) r.by_z.items || slice_index_or r.random.items i false))
+    → TellDeterministic r deterministic
+tells-deterministic r deterministic long each = record {
   count = long;
   value = λ n D count back h i lt.
       each i (omega (arith, lt, h.marks))
-      ∙ neither (list_any (odd i) r.by_z.items) (slice_index_or r.unsure.items i false) (parity_kept n D i back) (diagonal (parity_region n D i back).string.letters)
+      ∙ neither (list_any (odd i) r.by_z.items) (slice_index_or r.random.items i false) (parity_kept n D i back) (diagonal (parity_region n D i back).string.letters)
       (diagonal-rows i (parity_region n D i back).string.letters r.by_z.items (h.sized.rows ∙ h.qubits ∙ sym (long-parity n D i back)) (h.regions i lt).letters.z)
-      (h.unsure i lt);
+      (h.random i lt);
 }

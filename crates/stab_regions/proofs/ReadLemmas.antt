@@ -1,26 +1,6 @@
 -- Reading: at a point a region reads a bit if its string stabilises with the sign that makes it so; steps that keep the region
 -- lead to a point where the region after them reads the same bit.
-use Rattle.std.proofs.Common.{◌≡◌, ℕ, ◌<◌, refl, sym, ◌∙◌, ap, arith, Bool, true, false, not, ◌&&◌, List, [], ◌∷◌, ◌++◌, append-nil, length}
-use Rattle.std.specs.Prelude.{if◌then◌else◌}
-use Rattle.stab_letters.specs.declared.letter.Letter.{Letter}
-use Rattle.stab_letters.specs.Letters.{◌⊕◌}
-use Rattle.stab_pauli.specs.Paulis.{Signed, single, with_sign, anticommute}
-use Rattle.stab_pauli.specs.Paulis.{product as times}
-use Rattle.stab_letters.proofs.ParityLemmas.{parity-false}
-use Rattle.stab_pauli.proofs.SignedLemmas.{length-product}
-use Rattle.stab_tableau.specs.Gates.{inverse, back, back_pair}
-use Rattle.stab_tableau.specs.Traces.{Event, projected, member}
-use Rattle.stab_tableau.proofs.OneLetterLemmas.{length-one_letter}
-use Rattle.stab_tableau.proofs.SymmetryLemmas.{image-length, pair-length}
-use Rattle.stab_tableau.proofs.TestLemmas.{test_left, test_right}
-use Rattle.stab_circuit.specs.Steps.{Step, one, two, controlled, collapse, product, detector, observable}
-use Rattle.stab_steps.proofs.ProductLemmas.{length-string_of}
-use Rattle.stab_frames.proofs.SignLemmas.{sign-sign, product-sign_right}
-use Rattle.stab_run.specs.Records.{looked_up, parity}
-use Rattle.stab_run.specs.Runs.{when, string_of, flip_of, applied_where, outcome_at}
-use Rattle.stab_run.specs.Points.{Point, next_point}
-use Rattle.stab_run.specs.ProgramStates.{StepFits}
-use Rattle.stab_regions.specs.Regions.{Region, names_newest, earlier, times_where, before_measured, region_before, region_through, keeps_region}
+use Rattle.stab_regions.proofs.Names.{◌≡◌, ℕ, ◌<◌, refl, sym, ◌∙◌, ap, arith, Bool, true, false, not, ◌&&◌, List, [], ◌∷◌, ◌++◌, append-nil, length, if◌then◌else◌, Letter, ◌⊕◌, Signed, single, with_sign, anticommute, times, parity-false, length-product, inverse, back, back_pair, Event, projected, member, length-one_letter, image-length, pair-length, test_left, test_right, Step, one, two, controlled, collapse, product, detector, observable, length-string_of, sign-sign, product-sign_right, looked_up, parity, when, string_of, flip_of, applied_where, outcome_at, Point, next_point, StepFits, Region, names_newest, earlier, times_where, before_measured, region_before, region_through, keeps_region}
 use Rattle.stab_regions.proofs.SignLemmas.{image-sign, pair-sign, product-signs, member-where}
 use Rattle.stab_regions.proofs.LookLemmas.{parity-where, parity-when}
 

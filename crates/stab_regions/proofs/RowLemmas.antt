@@ -1,9 +1,5 @@
 -- Rows of numbers: one of them written anew, and looked up.
-use Rattle.std.proofs.Common.{◌≡◌, ℕ, zero, suc, ◌+◌, ◌<◌, refl, sym, subst, ◌∙◌, ap, arith, Bool, false, List, [], ◌∷◌, ◌++◌, length, drop, get_or, set}
-use Rattle.std.specs.Prelude.{◌==◌}
-use Rattle.std.proofs.lemmas.List.{get_or-set_same, get_or-set_other, length-set}
-use Rattle.stab_letters.specs.Letters.{◌⊕◌}
-use Rattle.stab_regions.specs.Rows.{odd, row, Toggles}
+use Rattle.stab_regions.proofs.Names.{◌≡◌, ℕ, zero, suc, ◌+◌, ◌<◌, refl, sym, subst, ◌∙◌, ap, arith, Bool, false, List, [], ◌∷◌, ◌++◌, length, drop, get_or, set, ◌==◌, get_or-set_same, get_or-set_other, length-set, ◌⊕◌, odd, row, Toggles}
 
 -- writing a row toggles it
 pub toggles_set : (old : List (List ℕ)) (place : ℕ) (numbers new : List ℕ) → place < length old

@@ -1,16 +1,5 @@
 -- What rows show of a region: its letters flip, and its lookbacks are named.
-use Rattle.std.proofs.Common.{◌≡◌, ℕ, zero, suc, ◌+◌, ◌-◌, ◌<◌, refl, sym, ◌∙◌, ap, arith, Bool, true, false, ◌&&◌, List, [], ◌∷◌, length}
-use Rattle.std.specs.Prelude.{◌==◌, if◌then◌else◌}
-use Rattle.stab_letters.specs.declared.letter.Letter.{Letter}
-use Rattle.stab_letters.specs.declared.letter.Letter.TheVariants.{I, X, Y, Z}
-use Rattle.stab_letters.specs.Letters.{◌⊕◌, letters_anticommute}
-use Rattle.stab_pauli.specs.Paulis.{Signed, single, anticommute}
-use Rattle.stab_tableau.specs.Gates.{letter_at}
-use Rattle.stab_tableau.proofs.OneLetterLemmas.{one_letter-anticommute}
-use Rattle.stab_circuit.specs.Steps.{controlled, collapse}
-use Rattle.stab_run.specs.Runs.{flip_of}
-use Rattle.stab_regions.specs.Regions.{names_newest, earlier, look_where, times_where}
-use Rattle.stab_regions.specs.Rows.{odd, row, bits_at, ShowsLetters, MovesLetters, multiplied, ShowsLooks, MovesRegion}
+use Rattle.stab_regions.proofs.Names.{◌≡◌, ℕ, zero, suc, ◌+◌, ◌-◌, ◌<◌, refl, sym, ◌∙◌, ap, arith, Bool, true, false, ◌&&◌, List, [], ◌∷◌, length, ◌==◌, if◌then◌else◌, Letter, I, X, Y, Z, ◌⊕◌, letters_anticommute, Signed, single, anticommute, letter_at, one_letter-anticommute, controlled, collapse, flip_of, names_newest, earlier, look_where, times_where, odd, row, bits_at, ShowsLetters, MovesLetters, multiplied, ShowsLooks, MovesRegion}
 
 -- what a letter flips
 

@@ -1,16 +1,6 @@
--- Signs: they pass through gates and products, and a letter that is applied turns the sign of what it anticommutes with.
-use Rattle.std.proofs.Common.{◌≡◌, ℕ, ◌<◌, refl, sym, ◌∙◌, ap, Bool, true, false, ◌&&◌, List, length}
-use Rattle.stab_letters.specs.declared.letter.Letter.{Letter}
-use Rattle.stab_letters.specs.Letters.{◌⊕◌}
-use Rattle.stab_pauli.specs.Paulis.{Signed, single, with_sign, anticommute, product}
-use Rattle.stab_letters.proofs.ParityLemmas.{parity-assoc, parity-comm}
-use Rattle.stab_pauli.proofs.SignedLemmas.{signed_path}
-use Rattle.stab_letters.specs.declared.gate.Gate.{Gate}
-use Rattle.stab_letters.specs.declared.gate.PairGate.{PairGate}
-use Rattle.stab_tableau.specs.Gates.{letter_image, letter_at, image, image_pair}
-use Rattle.stab_tableau.specs.Traces.{Event, member}
-use Rattle.stab_frames.proofs.SignLemmas.{sign-sign, product-sign_right, product-sign_left, back-letter}
-use Rattle.stab_run.specs.Runs.{applied_where}
+-- Signs: they pass through gates and products, and a letter that is applied flips the sign of what it anticommutes with.
+use Rattle.stab_regions.proofs.Names.{◌≡◌, ℕ, ◌<◌, refl, sym, ◌∙◌, ap, Bool, true, false, ◌&&◌, List, length, Letter, ◌⊕◌, Signed, single, with_sign, anticommute, parity-assoc, parity-comm, signed_path, Gate, PairGate, letter_image, letter_at, image, image_pair, Event, member, sign-sign, product-sign_right, product-sign_left, back-letter, applied_where}
+use Rattle.stab_pauli.specs.Paulis.{product}
 
 pub parity-left : (a b c : Bool) → a ⊕ (b ⊕ c) ≡ b ⊕ (a ⊕ c)
 parity-left a b c = sym (parity-assoc a b c) ∙ ap (λ x. x ⊕ c) (parity-comm a b) ∙ parity-assoc b a c

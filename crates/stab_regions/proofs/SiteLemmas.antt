@@ -1,18 +1,7 @@
 -- Sites: those of a step, by its qubits.
-use Rattle.std.proofs.Common.{◌≡◌, ℕ, ◌<◌, refl, sym, ap, Bool, true, false, List, [], ◌∷◌, arith}
-use Rattle.std.specs.Prelude.{All}
-use Rattle.std.specs.List.{flat_map}
-use Rattle.std.proofs.lemmas.List.Elements.{All-nil, All-cons, All-tail, All-map}
-use Rattle.stab_letters.specs.declared.letter.Letter.TheVariants as letter
-use Rattle.stab_letters.specs.declared.gate.Gate.TheVariants as gate
-use Rattle.stab_lines.specs.declared.product.Factor.{Factor}
-use Rattle.stab_circuit.specs.Steps.{Step, one, two, controlled, collapse, product, detector, observable, factor_qubits}
-use Rattle.stab_run.specs.ProgramStates.{StepFits}
-use Rattle.stab_regions.specs.declared.sites.Asked.{Asked}
-use Rattle.stab_regions.specs.declared.sites.Asked.TheVariants.{Nowhere, Marked, Everywhere}
-use Rattle.stab_regions.specs.Faults.{Site, in_front, behind, marked_at, all_at, sites_at}
-use Rattle.stab_regions.specs.inner.Sites.{sites_asked, step_qubits, sides_asked}
-use Rattle.stab_regions.specs.inner.Sweeps.{Inserted, inserted_at, inserted_by}
+use Rattle.stab_regions.proofs.Names.{◌≡◌, ℕ, ◌<◌, refl, sym, ap, Bool, true, false, List, [], ◌∷◌, arith, All, flat_map, All-nil, All-cons, All-tail, All-map, Factor, Step, one, two, controlled, collapse, product, detector, observable, factor_qubits, StepFits, Asked, Nowhere, Marked, Everywhere, Site, in_front, behind, marked_at, all_at, sites_at, sites_asked, step_qubits, sides_asked, Inserted, inserted_at, inserted_by}
+use Rattle.stab_gates.specs.declared.letter.Letter.TheVariants as letter
+use Rattle.stab_gates.specs.declared.gate.Gate.TheVariants as gate
 
 none : (x : Step) (back : List Step) (qs : List ℕ) → flat_map (inserted_by (record { front = false; behind = false }) x back) qs ≡ []
 none x back [] = refl

@@ -1,9 +1,6 @@
 -- Stored rows: one more row, one of them, and what is left of them once numbers are taken out.
-use Rattle.std.proofs.Common.{◌≡◌, ℕ, zero, suc, ◌+◌, ◌-◌, ◌<◌, ◌≤◌, refl, sym, ap, ◌∙◌, subst, Bool, true, false, List, [], ◌∷◌, ◌++◌, length, get_or, take, drop, map, arith}
-use Rattle.std.specs.Prelude.{slice_set, if◌then◌else◌}
-use Rattle.std.proofs.lemmas.List.{length-drop, length-append, length-take, append-nil, drop_all, take-append-drop, take-append-le, drop-append-le, take_all, take_at, drop_at, drop-drop, drop_more, take_more_set, drop-set-lt, nil_from_length, append_assoc}
-use Rattle.std.proofs.lemmas.List.Elements.{filter-append}
-use Rattle.stab_regions.specs.inner.StoredRows.{rows_cut, Rises, is_kept, kept_of, ends_kept}
+use Rattle.stab_regions.proofs.Names.{◌≡◌, ℕ, zero, suc, ◌+◌, ◌-◌, ◌<◌, ◌≤◌, refl, sym, ap, ◌∙◌, subst, Bool, true, false, List, [], ◌∷◌, ◌++◌, length, get_or, take, drop, map, arith, slice_set, if◌then◌else◌, length-drop, length-append, length-take, drop_all, take-append-drop, take-append-le, drop-append-le, take_all, take_at, drop_at, drop-drop, drop_more, take_more_set, drop-set-lt, nil_from_length, filter-append, rows_cut, Rises, is_kept, kept_of, ends_kept}
+use Rattle.std.proofs.lemmas.List.{append-nil, append_assoc}
 
 -- ends
 

@@ -1,19 +1,5 @@
 -- Sweeps: the pass goes on before one step and before several, over pieces of a circuit's steps.
-use Rattle.std.proofs.Common.{◌≡◌, ℕ, zero, suc, ◌+◌, ◌-◌, ◌<◌, ◌≤◌, sym, ap, ◌∙◌, subst, Bool, true, false, List, [], ◌∷◌, ◌++◌, map, length, get_or, take, drop, reverse, min, arith}
-use Rattle.std.specs.Prelude.{All, if◌then◌else◌, None}
-use Rattle.std.specs.List.{flat_map}
-use Rattle.std.proofs.lemmas.List.{drop_more, drop-drop, drop-map, get_or-map, length-drop, length-map, take_more, take-append-drop}
-use Rattle.std.proofs.lemmas.List.Elements.{All-nil, All-cons, All-head, All-tail, All-take, All-drop}
-use Rattle.stab_circuit.specs.Items.{Items}
-use Rattle.stab_circuit.specs.Steps.{Step, unroll, check_of, is_detector, detectors_of}
-use Rattle.stab_circuit.specs.Cursors.{IsApart}
-use Rattle.stab_run.specs.ProgramStates.{StepFits}
-use Rattle.stab_laws.proofs.FitLemmas.{check-steps}
-use Rattle.stab_regions.specs.declared.sites.Asked.{Asked}
-use Rattle.stab_regions.specs.declared.sweep.Sweep.{Sweep}
-use Rattle.stab_regions.specs.inner.Sites.{sites_asked, sides_asked, step_qubits}
-use Rattle.stab_regions.specs.inner.RegionsAt.{IsRegionsAt}
-use Rattle.stab_regions.specs.inner.Sweeps.{Inserted, inserted_by, inserted_from, HaveRows, IsSwept, NamesBelow, MayPass, StandsBehind, Sweeps}
+use Rattle.stab_regions.proofs.Names.{◌≡◌, ℕ, zero, suc, ◌+◌, ◌-◌, ◌<◌, ◌≤◌, sym, ap, ◌∙◌, subst, Bool, true, false, List, [], ◌∷◌, ◌++◌, map, length, get_or, take, drop, reverse, min, arith, All, if◌then◌else◌, None, flat_map, drop_more, drop-drop, drop-map, get_or-map, length-drop, length-map, take_more, take-append-drop, All-nil, All-cons, All-head, All-tail, All-take, All-drop, Items, Step, unroll, check_of, is_detector, detectors_of, IsApart, StepFits, check-steps, Asked, Sweep, sites_asked, sides_asked, step_qubits, IsRegionsAt, Inserted, inserted_by, inserted_from, HaveRows, IsSwept, NamesBelow, MayPass, StandsBehind, Sweeps}
 use Rattle.stab_regions.proofs.SiteLemmas.{sites-split}
 
 -- how many detectors there are

@@ -1,58 +1,23 @@
--- Tables: what is proved of parities that are asked for holds of the detectors and observables that a run gives.
-use Rattle.std.proofs.Common.{◌≡◌, ℕ, ◌+◌, ◌-◌, ◌<◌, ◌≤◌, ◌⊎◌, inl, inr, ◌↔◌, refl, sym, ◌∙◌, ap, subst, arith, Bool, true, false, List, [], ◌∷◌, ◌++◌, All, le-ltb, lt-ltb}
-use Rattle.std.specs.Prelude.{if◌then◌else◌}
-use Rattle.std.proofs.lemmas.Bool.{cases_lt}
-use Rattle.std.proofs.lemmas.List.Elements.{All-append}
-use Rattle.stab_letters.specs.declared.letter.Letter.{Letter}
-use Rattle.stab_letters.specs.Letters.{◌⊕◌}
-use Rattle.stab_pauli.specs.Paulis.{single, anticommute}
-use Rattle.stab_letters.proofs.ParityLemmas.{parity-false}
-use Rattle.stab_circuit.specs.Steps.{Step, one, detectors_of}
-use Rattle.stab_laws.proofs.CoinLemmas.{coins-append}
-use Rattle.stab_run.specs.Runs.{gate_of}
-use Rattle.stab_run.specs.Points.{origin, all_coins_of}
-use Rattle.stab_run.specs.Laws.{RunsArePointsWithOutputs}
-use Rattle.stab_run.specs.ProgramStates.{StepFits}
-use Rattle.stab_regions.specs.Regions.{asks_nothing, asks_observable, is_sure}
-use Rattle.stab_regions.specs.Laws.{bit_asked, with_fault, flips_asked, turned_with}
-use Rattle.stab_regions.specs.Tables.{steps_before_detector, named_by, region_of_detector, is_sure_detector, flips_detector}
-use Rattle.stab_regions.specs.TableLaws.{detector_bit, observable_bit, SureDetectors, SureObservables, FlipsDetector, FaultsFlipDetectors, FaultsFlipObservables}
-use Rattle.stab_regions.proofs.SureLemmas.{sure-bits, faults-flip}
-use Rattle.stab_regions.proofs.TouchLemmas.{turned-before}
-use Rattle.stab_regions.proofs.UnsureLemmas.{sure-where-the-same, faults-flip-with-their-coins}
-use Rattle.stab_regions.proofs.DetectorLemmas.{count-other, before-other, named-other, before-front, fits-before, detector-bit}
-use Rattle.stab_regions.proofs.FaultLemmas.{count-append, stands-first, stands-behind, bit-same, turned-with, coins-before}
-use Rattle.stab_regions.proofs.ObservableLemmas.{observable-bit}
+-- Tables: an inserted letter flips the detectors and observables that a run gives as it flips what is asked for.
+use Rattle.stab_regions.proofs.Names.{◌≡◌, ℕ, ◌+◌, ◌-◌, ◌<◌, ◌≤◌, ◌⊎◌, inl, inr, refl, sym, ◌∙◌, ap, subst, arith, Bool, false, List, [], ◌∷◌, ◌++◌, le-ltb, lt-ltb, if◌then◌else◌, cases_lt, Letter, ◌⊕◌, single, anticommute, parity-false, Step, one, detectors_of, coins-append, gate_of, origin, all_coins_of, RunsArePointsWithOutputs, StepFits, asks_nothing, asks_observable, bit_asked, with_fault, flipped_with, steps_before_detector, named_by, region_of_detector, nat_lt}
+use Rattle.std.proofs.Common.{All}
+use Rattle.stab_regions.proofs.TouchLemmas.{flipped-before}
+use Rattle.stab_regions.proofs.RandomLemmas.{flips_asked, faults-flip-with-their-coins}
+use Rattle.stab_regions.proofs.DetectorLemmas.{detector_bit, count-other, before-other, named-other, before-front, fits-before, detector-bit}
+use Rattle.stab_regions.proofs.FaultLemmas.{count-append, stands-first, stands-behind, bit-same, flipped-with, coins-before}
+use Rattle.stab_regions.proofs.ObservableLemmas.{observable_bit, observable-bit}
 
--- what is the same of bits is the same of bits that equal them
-pub same-of : (bit asked : (ℕ → Bool) → Bool) → ((coins : ℕ → Bool) → bit coins ≡ asked coins) → (sure : Bool)
-    → ((sure ≡ true) ↔ ((coins others : ℕ → Bool) → asked others ≡ asked coins)) → (sure ≡ true) ↔ ((coins others : ℕ → Bool) → bit others ≡ bit coins)
-same-of bit asked is sure exact = (
-  λ e coins others. is others ∙ exact.0 e coins others ∙ sym (is coins),
-  λ same. exact.1 (λ coins others. sym (is others) ∙ same coins others ∙ is coins),
-)
+-- whether a letter between front and back flips detector d: not one before it
+abbrev pub flips_detector : ℕ → ℕ → List Step → Letter → ℕ → List Step → Bool
+flips_detector n d front l q back =
+    if nat_lt d (detectors_of front) then false else anticommute (single n q l) (region_of_detector n (d - detectors_of front) back).string
 
--- the law of deterministic detectors
-pub sure-detectors : RunsArePointsWithOutputs → SureDetectors
-sure-detectors law n xs count d fits lt = record {
-  bit = λ sure coins. detector-bit law n coins xs count d lt ∙ sure-bits n coins asks_nothing (steps_before_detector d xs) (named_by d xs) (fits-before n d xs fits) sure;
-  exact =
-      same-of (λ coins. detector_bit n coins xs count d) (λ coins. bit_asked n coins asks_nothing (steps_before_detector d xs) (named_by d xs) origin)
-      (λ coins. detector-bit law n coins xs count d lt) (is_sure_detector n d xs)
-      (sure-where-the-same n asks_nothing (steps_before_detector d xs) (named_by d xs) (fits-before n d xs fits));
-}
-
--- the law of deterministic observables
-pub sure-observables : RunsArePointsWithOutputs → SureObservables
-sure-observables law n xs count j fits lt = record {
-  bit = λ sure coins. observable-bit law n coins xs count j lt ∙ sure-bits n coins (asks_observable j) xs [] fits sure;
-  exact =
-      same-of (λ coins. observable_bit n coins xs count j) (λ coins. bit_asked n coins (asks_observable j) xs [] origin)
-      (λ coins. observable-bit law n coins xs count j lt) (is_sure n (asks_observable j) xs [])
-      (sure-where-the-same n (asks_observable j) xs [] fits);
-}
-
--- inserted letters
+-- with the coins that are flipped with a letter it flips detector d if its region says so
+abbrev pub FlipsDetector : (n : ℕ) (front : List Step) (l : Letter) (q : ℕ) (back : List Step) (count d : ℕ) → Type 0
+FlipsDetector n front l q back count d =
+    (coins : ℕ → Bool) →
+    detector_bit n (flipped_with n front l q back coins) (with_fault front l q back) count d
+    ≡ detector_bit n coins (front ++ back) count d ⊕ flips_detector n d front l q back
 
 -- a bit that is not flipped
 kept-bit : (flipped plain flips : Bool) → flipped ≡ plain → flips ≡ false → flipped ≡ plain ⊕ flips
@@ -74,31 +39,16 @@ module _ (law : RunsArePointsWithOutputs) (n : ℕ) (front back : List Step) (l 
     flips-none : flips_detector n d front l q back ≡ false
     flips-none = ap (λ b. if b then false else anticommute (single n q l) (region_of_detector n (d - detectors_of front) back).string) (lt-ltb d (detectors_of front) lt)
 
-    -- it is deterministic by the steps in front
-    sure-first : is_sure_detector n d (front ++ back) ≡ true → is_sure n asks_nothing (steps_before_detector d front) (named_by d front) ≡ true
-    sure-first sure =
-        let there = stands-first d front back lt in
-        (λ i. is_sure n asks_nothing (sym there.0 i) (sym there.1 i)) ∙ sure
-
     -- so the law holds of it
     flips-first : FlipsDetector n front l q back count d
-    flips-first = record {
-      sure = λ sure coins others.
-          kept-bit (detector_bit n others (with_fault front l q back) count d) (detector_bit n coins (front ++ back) count d) (flips_detector n d front l q back)
-          (bit-first others (one (gate_of l) q ∷ back)
-          ∙ sure-bits n others asks_nothing (steps_before_detector d front) (named_by d front) (fits-before n d front ff) (sure-first sure)
-          ∙ sym (sure-bits n coins asks_nothing (steps_before_detector d front) (named_by d front) (fits-before n d front ff) (sure-first sure))
-          ∙ sym (bit-first coins back))
-          flips-none;
-      any = λ coins.
-          let others : ℕ → Bool = turned_with n front l q back coins in
-          kept-bit (detector_bit n others (with_fault front l q back) count d) (detector_bit n coins (front ++ back) count d) (flips_detector n d front l q back)
-          (bit-first others (one (gate_of l) q ∷ back)
-          ∙ bit-same n coins others asks_nothing (steps_before_detector d front) (named_by d front) origin
-          (λ t less. turned-before (all_coins_of front) _ coins t (omega (arith, less, coins-before d front)))
-          ∙ sym (bit-first coins back))
-          flips-none;
-    }
+    flips-first coins =
+        let others : ℕ → Bool = flipped_with n front l q back coins in
+        kept-bit (detector_bit n others (with_fault front l q back) count d) (detector_bit n coins (front ++ back) count d) (flips_detector n d front l q back)
+        (bit-first others (one (gate_of l) q ∷ back)
+        ∙ bit-same n coins others asks_nothing (steps_before_detector d front) (named_by d front) origin
+        (λ t less. flipped-before (all_coins_of front) _ coins t (omega (arith, less, coins-before d front)))
+        ∙ sym (bit-first coins back))
+        flips-none
 
   -- a detector after it
 
@@ -138,40 +88,28 @@ module _ (law : RunsArePointsWithOutputs) (n : ℕ) (front back : List Step) (l 
         (le-ltb place (detectors_of front) (omega arith))
         ∙ ap (λ k. anticommute (single n q l) (region_of_detector n k back).string) (omega arith)
 
-    -- it is deterministic by the steps before it
-    sure-behind : is_sure_detector n place (front ++ back) ≡ true → is_sure n asks_nothing (front ++ ys) ks ≡ true
-    sure-behind sure =
-        let there = stands-behind d front back in
-        (λ i. is_sure n asks_nothing (sym there.0 i) (sym there.1 i)) ∙ sure
-
-    -- which fit
+    -- the steps before it fit
     fits-behind : All (StepFits n) ys
     fits-behind = fits-before n d back fb
 
     -- so the law holds of it
     flips-behind : FlipsDetector n front l q back count place
-    flips-behind = record {
-      sure = λ sure coins others.
-          fault-behind others
-          ∙ faults-flip n others asks_nothing front ys ks l q lt_q ff fits-behind refl (sure-behind sure)
-          ∙ (λ i. (sym (sure-bits n coins asks_nothing (front ++ ys) ks (All-append (StepFits n) front ys ff fits-behind) (sure-behind sure)) ∙ sym (bit-behind coins)) i
-          ⊕ sym flips-asked i);
-      any = λ coins.
-          let others : ℕ → Bool = turned_with n front l q back coins in
-          fault-behind others
-          ∙ bit-same n (turned_with n front l q ys coins) others asks_nothing (with_fault front l q ys) ks origin (turned-same coins)
-          ∙ faults-flip-with-their-coins n coins front ys l q lt_q ff fits-behind asks_nothing ks refl
-          ∙ (λ i. sym (bit-behind coins) i ⊕ sym flips-asked i);
-    }
+    flips-behind coins =
+        let others : ℕ → Bool = flipped_with n front l q back coins in
+        fault-behind others
+        ∙ bit-same n (flipped_with n front l q ys coins) others asks_nothing (with_fault front l q ys) ks origin (flipped-same coins)
+        ∙ faults-flip-with-their-coins n coins front ys l q lt_q ff fits-behind asks_nothing ks refl
+        ∙ (λ i. sym (bit-behind coins) i ⊕ sym flips-asked i)
       where
-        turned-same : (coins : ℕ → Bool) (t : ℕ) → t < 0 + all_coins_of (with_fault front l q ys) → turned_with n front l q back coins t ≡ turned_with n front l q ys coins t
-        turned-same coins t less =
+        flipped-same : (coins : ℕ → Bool) (t : ℕ) → t < 0 + all_coins_of (with_fault front l q ys) → flipped_with n front l q back coins t ≡ flipped_with n front l q ys coins t
+        flipped-same coins t less =
             let parts = before-front d back in
-            ap (λ zs. turned_with n front l q zs coins t) parts.1
-            ∙ turned-with n front l q ys parts.0 coins t (omega (arith, less, coins-append front (one (gate_of l) q ∷ ys)))
+            ap (λ zs. flipped_with n front l q zs coins t) parts.1
+            ∙ flipped-with n front l q ys parts.0 coins t (omega (arith, less, coins-append front (one (gate_of l) q ∷ ys)))
 
 -- the law of letters and detectors
-pub faults-flip-detectors : RunsArePointsWithOutputs → FaultsFlipDetectors
+pub faults-flip-detectors : RunsArePointsWithOutputs → (n : ℕ) (front back : List Step) (l : Letter) (q count d : ℕ) → q < n → All (StepFits n) front → All (StepFits n) back
+    → d < detectors_of (front ++ back) → FlipsDetector n front l q back count d
 faults-flip-detectors law n front back l q count d lt_q ff fb lt = by_place (cases_lt d (detectors_of front))
   where
     by_place : (d < detectors_of front) ⊎ (detectors_of front ≤ d) → FlipsDetector n front l q back count d
@@ -181,15 +119,11 @@ faults-flip-detectors law n front back l q count d lt_q ff fb lt = by_place (cas
         (flips-behind law n front back l q count lt_q ff fb (d - detectors_of front) (omega (arith, lt, more, count-append front back)))
 
 -- the law of letters and observables
-pub faults-flip-observables : RunsArePointsWithOutputs → FaultsFlipObservables
-faults-flip-observables law n front back l q count j lt_q ff fb lt = record {
-  sure = λ sure coins others.
-      observable-bit law n others (with_fault front l q back) count j lt
-      ∙ faults-flip n others (asks_observable j) front back [] l q lt_q ff fb refl sure
-      ∙ ap (λ b. b ⊕ flips_asked n (asks_observable j) l q back [])
-      (sym (sure-bits n coins (asks_observable j) (front ++ back) [] (All-append (StepFits n) front back ff fb) sure) ∙ sym (observable-bit law n coins (front ++ back) count j lt));
-  any = λ coins.
-      observable-bit law n (turned_with n front l q back coins) (with_fault front l q back) count j lt
-      ∙ faults-flip-with-their-coins n coins front back l q lt_q ff fb (asks_observable j) [] refl
-      ∙ ap (λ b. b ⊕ flips_asked n (asks_observable j) l q back []) (sym (observable-bit law n coins (front ++ back) count j lt));
-}
+pub faults-flip-observables : RunsArePointsWithOutputs → (n : ℕ) (front back : List Step) (l : Letter) (q count j : ℕ) → q < n → All (StepFits n) front → All (StepFits n) back
+    → j < count → (coins : ℕ → Bool)
+    → observable_bit n (flipped_with n front l q back coins) (with_fault front l q back) count j
+    ≡ observable_bit n coins (front ++ back) count j ⊕ flips_asked n (asks_observable j) l q back []
+faults-flip-observables law n front back l q count j lt_q ff fb lt coins =
+    observable-bit law n (flipped_with n front l q back coins) (with_fault front l q back) count j lt
+    ∙ faults-flip-with-their-coins n coins front back l q lt_q ff fb (asks_observable j) [] refl
+    ∙ ap (λ b. b ⊕ flips_asked n (asks_observable j) l q back []) (sym (observable-bit law n coins (front ++ back) count j lt))

@@ -1,27 +1,14 @@
 -- What a frame makes of what a region asks for is the same before a step and after it, so a bit that is asked for at the end is
--- flipped if the frame touches the region, once the coins are turned with the frame.
-use Rattle.std.proofs.Common.{◌≡◌, ℕ, ◌+◌, ◌-◌, ◌<◌, refl, sym, ◌∙◌, ap, subst, arith, Bool, true, false, ◌&&◌, List, [], ◌∷◌, ◌++◌, length, All, add-zero, le-ltb, lt-ltb}
-use Rattle.std.specs.Prelude.{if◌then◌else◌, slice_index_or}
-use Rattle.std.proofs.lemmas.List.{length-replicate, get_or-append-add}
-use Rattle.std.proofs.lemmas.List.Elements.{All-head, All-tail}
-use Rattle.stab_letters.specs.declared.letter.Letter.TheVariants.{I}
-use Rattle.stab_letters.specs.Letters.{◌⊕◌}
-use Rattle.stab_pauli.specs.Paulis.{Signed, single, anticommute, with_sign}
-use Rattle.stab_letters.proofs.ParityLemmas.{parity-false, parity-mid}
-use Rattle.stab_pauli.proofs.StringLemmas.{strings_anticommute-blank_right}
-use Rattle.stab_pauli.proofs.SignedLemmas.{anticommute-comm}
-use Rattle.stab_circuit.specs.Steps.{Step, one, two, controlled, collapse, product, detector, observable}
-use Rattle.stab_laws.proofs.SoundLemmas.{good-next, IsGood}
-use Rattle.stab_run.specs.Records.{looked_up, parity}
-use Rattle.stab_run.specs.Runs.{string_of, flip_of}
-use Rattle.stab_run.specs.Points.{Point, coins_of, next_point}
-use Rattle.stab_run.specs.ProgramStates.{StepFits}
-use Rattle.stab_regions.specs.Regions.{Region, region_of, names_newest, earlier, region_before, with_looks, region_through}
-use Rattle.stab_regions.specs.Frames.{Frame, frame_after, turned_by, all_turned_by, turned, touches, IsMoved}
-use Rattle.stab_regions.specs.Laws.{bit_asked}
+-- flipped if the frame touches the region, once the coins are flipped with the frame.
+use Rattle.stab_regions.proofs.Names.{◌≡◌, ℕ, ◌+◌, ◌-◌, ◌<◌, refl, sym, ◌∙◌, ap, subst, arith, Bool, true, false, ◌&&◌, List, [], ◌∷◌, ◌++◌, length, add-zero, le-ltb, lt-ltb, if◌then◌else◌, slice_index_or, length-replicate, get_or-append-add, All-head, All-tail, I, ◌⊕◌, Signed, single, anticommute, with_sign, parity-false, parity-mid, strings_anticommute-blank_right, anticommute-comm, Step, one, two, controlled, collapse, product, detector, observable, good-next, IsGood, looked_up, parity, string_of, flip_of, Point, coins_of, next_point, StepFits, Region, region_of, names_newest, earlier, region_before, with_looks, region_through, Frame, frame_after, flipped_coins, all_flipped_coins, flipped_from, bit_asked, nat_lt}
+use Rattle.std.proofs.Common.{All}
 use Rattle.stab_regions.proofs.LookLemmas.{parity-append, parity-where, parity-when, parity-flipped}
 use Rattle.stab_regions.proofs.ReadLemmas.{size-through}
-use Rattle.stab_regions.proofs.MovedLemmas.{moved-gate, moved-pair, anticommute-times, anticommute-times_right, size-after, TurnsCoin, moved-next}
+use Rattle.stab_regions.proofs.MovedLemmas.{IsMoved, moved-gate, moved-pair, anticommute-times, anticommute-times_right, size-after, FlipsCoin, moved-next}
+
+-- what a frame makes of the bit that a region asks for
+abbrev pub touches : Frame → Region → Bool
+touches f r = anticommute f.string r.string ⊕ parity f.flips r.looks
 
 -- a step
 
@@ -71,48 +58,55 @@ touches-next n (product factors inverted) f r fits lf lr =
 touches-next n (detector ks) f r fits lf lr = refl
 touches-next n (observable j ks) f r fits lf lr = refl
 
--- coins that are turned from a number on
+-- coins that are flipped from a number on
 
-abbrev pub Turns : ℕ → List Bool → (ℕ → Bool) → (ℕ → Bool) → Type 0
-Turns from bits coins others = (t : ℕ) → others (from + t) ≡ coins (from + t) ⊕ slice_index_or bits t false
+abbrev pub FlipsCoins : ℕ → List Bool → (ℕ → Bool) → (ℕ → Bool) → Type 0
+FlipsCoins from bits coins others = (t : ℕ) → others (from + t) ≡ coins (from + t) ⊕ slice_index_or bits t false
 
-pub turned-turns : (from : ℕ) (bits : List Bool) (coins : ℕ → Bool) → Turns from bits coins (turned from bits coins)
-turned-turns from bits coins t =
+pub coins-flip : (from : ℕ) (bits : List Bool) (coins : ℕ → Bool) → FlipsCoins from bits coins (flipped_from from bits coins)
+coins-flip from bits coins t =
     ap (λ b. coins (from + t) ⊕ (if b then false else slice_index_or bits ((from + t) - from) false)) (le-ltb (from + t) from (omega arith))
     ∙ ap (λ i. coins (from + t) ⊕ slice_index_or bits i false) (omega arith)
 
-pub turned-before : (from : ℕ) (bits : List Bool) (coins : ℕ → Bool) (t : ℕ) → t < from → turned from bits coins t ≡ coins t
-turned-before from bits coins t lt =
+pub flipped-before : (from : ℕ) (bits : List Bool) (coins : ℕ → Bool) (t : ℕ) → t < from → flipped_from from bits coins t ≡ coins t
+flipped-before from bits coins t lt =
     ap (λ b. coins t ⊕ (if b then false else slice_index_or bits (t - from) false)) (lt-ltb t from lt) ∙ parity-false (coins t)
+
+-- flipped again, they are as before
+pub flipped-twice : (from : ℕ) (bits : List Bool) (coins : ℕ → Bool) → flipped_from from bits (flipped_from from bits coins) ≡ coins
+flipped-twice from bits coins = λ i. λ t. twice (coins t) (if nat_lt t from then false else slice_index_or bits (t - from) false) i
+  where
+    twice : (a b : Bool) → (a ⊕ b) ⊕ b ≡ a
+    twice a b = grind arith
 
 -- the coins of a step, and those after it
 
-pub length-turned : (n : ℕ) (x : Step) (f : Frame) → length (turned_by n x f) ≡ coins_of x
-length-turned n (one g q) f = refl
-length-turned n (two g a b) f = refl
-length-turned n (controlled l k q) f = refl
-length-turned n (collapse l q recorded inverted resets) f = refl
-length-turned n (product factors inverted) f = refl
-length-turned n (detector ks) f = refl
-length-turned n (observable j ks) f = refl
+pub length-flipped : (n : ℕ) (x : Step) (f : Frame) → length (flipped_coins n x f) ≡ coins_of x
+length-flipped n (one g q) f = refl
+length-flipped n (two g a b) f = refl
+length-flipped n (controlled l k q) f = refl
+length-flipped n (collapse l q recorded inverted resets) f = refl
+length-flipped n (product factors inverted) f = refl
+length-flipped n (detector ks) f = refl
+length-flipped n (observable j ks) f = refl
 
 module _ (n : ℕ) (coins others : ℕ → Bool) where
-  first-turned : (from : ℕ) (a : Bool) (bits : List Bool) → Turns from (a ∷ bits) coins others → others from ≡ coins from ⊕ a
-  first-turned from a bits turns =
-      ap others (sym (add-zero from)) ∙ turns 0 ∙ ap (λ t. coins t ⊕ a) (add-zero from)
+  first-flipped : (from : ℕ) (a : Bool) (bits : List Bool) → FlipsCoins from (a ∷ bits) coins others → others from ≡ coins from ⊕ a
+  first-flipped from a bits flips =
+      ap others (sym (add-zero from)) ∙ flips 0 ∙ ap (λ t. coins t ⊕ a) (add-zero from)
 
-  turns-here : (x : Step) (f : Frame) (from : ℕ) (bits : List Bool) → Turns from (turned_by n x f ++ bits) coins others → TurnsCoin n x f from coins others
-  turns-here (one g q) f from bits turns = tt
-  turns-here (two g a b) f from bits turns = tt
-  turns-here (controlled l k q) f from bits turns = tt
-  turns-here (collapse l q recorded inverted resets) f from bits turns = first-turned from _ bits turns
-  turns-here (product factors inverted) f from bits turns = first-turned from _ bits turns
-  turns-here (detector ks) f from bits turns = tt
-  turns-here (observable j ks) f from bits turns = tt
+  flips-here : (x : Step) (f : Frame) (from : ℕ) (bits : List Bool) → FlipsCoins from (flipped_coins n x f ++ bits) coins others → FlipsCoin n x f from coins others
+  flips-here (one g q) f from bits flips = tt
+  flips-here (two g a b) f from bits flips = tt
+  flips-here (controlled l k q) f from bits flips = tt
+  flips-here (collapse l q recorded inverted resets) f from bits flips = first-flipped from _ bits flips
+  flips-here (product factors inverted) f from bits flips = first-flipped from _ bits flips
+  flips-here (detector ks) f from bits flips = tt
+  flips-here (observable j ks) f from bits flips = tt
 
-  turns-behind : (from : ℕ) (front bits : List Bool) → Turns from (front ++ bits) coins others → Turns (from + length front) bits coins others
-  turns-behind from front bits turns t =
-      ap others (omega arith) ∙ turns (length front + t)
+  flips-behind : (from : ℕ) (front bits : List Bool) → FlipsCoins from (front ++ bits) coins others → FlipsCoins (from + length front) bits coins others
+  flips-behind from front bits flips t =
+      ap others (omega arith) ∙ flips (length front + t)
       ∙ (λ i. coins (place i) ⊕ get_or-append-add front bits t false i)
     where
       place : from + (length front + t) ≡ (from + length front) + t
@@ -120,16 +114,16 @@ module _ (n : ℕ) (coins others : ℕ → Bool) where
 
   -- the bit that is asked for
   pub touched-bit : (asked : Step → List ℕ) (ks : List ℕ) (xs : List Step) (f : Frame) (p moved : Point) → All (StepFits n) xs → length f.string.letters ≡ n
-      → IsGood n p.trace → IsMoved n f p moved → Turns p.coin (all_turned_by n xs f) coins others
+      → IsGood n p.trace → IsMoved n f p moved → FlipsCoins p.coin (all_flipped_coins n xs f) coins others
       → bit_asked n others asked xs ks moved ≡ bit_asked n coins asked xs ks p ⊕ touches f (region_through n asked xs (region_of n ks))
-  touched-bit asked ks [] f p moved fits lf good is turns =
+  touched-bit asked ks [] f p moved fits lf good is flips =
       parity-flipped moved.records p.records f.flips is.records ks
       ∙ ap (λ b. parity p.records ks ⊕ (b ⊕ parity f.flips ks)) (sym (strings_anticommute-blank_right n f.string.letters))
-  touched-bit asked ks (x ∷ xs) f p moved fits lf good is turns =
+  touched-bit asked ks (x ∷ xs) f p moved fits lf good is flips =
       (λ i. parity-flipped moved.records p.records f.flips is.records (asked x) i
       ⊕ touched-bit asked ks xs (frame_after n x f) (next_point n coins x p) (next_point n others x moved) (All-tail (StepFits n) x xs fits) (size-after n x f lf)
       (good-next n coins x p here good)
-      (moved-next n coins others f lf p moved good is x here (turns-here x f p.coin (all_turned_by n xs (frame_after n x f)) turns)) later i)
+      (moved-next n coins others f lf p moved good is x here (flips-here x f p.coin (all_flipped_coins n xs (frame_after n x f)) flips)) later i)
       ∙ parity-mid (parity p.records (asked x)) (parity f.flips (asked x)) (bit_asked n coins asked xs ks (next_point n coins x p)) (touches (frame_after n x f) r)
       ∙ ap (λ b. (parity p.records (asked x) ⊕ bit_asked n coins asked xs ks (next_point n coins x p)) ⊕ b) whole
     where
@@ -139,10 +133,10 @@ module _ (n : ℕ) (coins others : ℕ → Bool) where
       here : StepFits n x
       here = All-head (StepFits n) x xs fits
 
-      later : Turns (p.coin + coins_of x) (all_turned_by n xs (frame_after n x f)) coins others
+      later : FlipsCoins (p.coin + coins_of x) (all_flipped_coins n xs (frame_after n x f)) coins others
       later =
-          subst (λ c. Turns (p.coin + c) (all_turned_by n xs (frame_after n x f)) coins others) (length-turned n x f)
-          (turns-behind p.coin (turned_by n x f) (all_turned_by n xs (frame_after n x f)) turns)
+          subst (λ c. FlipsCoins (p.coin + c) (all_flipped_coins n xs (frame_after n x f)) coins others) (length-flipped n x f)
+          (flips-behind p.coin (flipped_coins n x f) (all_flipped_coins n xs (frame_after n x f)) flips)
 
       around : (a c p : Bool) → a ⊕ (c ⊕ p) ≡ c ⊕ (a ⊕ p)
       around a c p = grind arith

@@ -1,33 +1,53 @@
 -- Laws of faults: what the pass backwards finds of detectors and observables is what runs show of their bits.
-use Rattle.std.specs.Prelude.{◌≡◌, ℕ, ◌<◌, ◌≤◌, Bool, true, false, List, [], ◌∷◌, ◌++◌, drop, length, All, ◌↔◌}
-use Rattle.stab_letters.specs.declared.letter.Letter.{Letter}
-use Rattle.stab_letters.specs.Letters.{◌⊕◌}
+use Rattle.std.specs.Prelude.{◌≡◌, ℕ, ◌+◌, ◌<◌, ◌≤◌, Bool, true, false, List, [], ◌∷◌, ◌++◌, drop, length, All, ◌↔◌}
+use Rattle.stab_gates.specs.declared.letter.Letter.{Letter}
+use Rattle.stab_gates.specs.Letters.{◌⊕◌}
 use Rattle.stab_circuit.specs.Items.{Items}
-use Rattle.stab_circuit.specs.Steps.{Step, unroll, observables_of, detectors_of}
+use Rattle.stab_circuit.specs.Steps.{Step, one, unroll, observables_of, detectors_of}
+use Rattle.stab_run.specs.Runs.{gate_of}
 use Rattle.stab_run.specs.ProgramStates.{StepFits}
-use Rattle.stab_regions.specs.Laws.{with_fault}
-use Rattle.stab_regions.specs.Parities.{parity_sure, parity_flips}
-use Rattle.stab_regions.specs.Faults.{FaultPlace, with_gates, bit, bits_in, IsSure, flips}
+use Rattle.stab_regions.specs.Frames.{flipped_with}
+use Rattle.stab_regions.specs.Parities.{parity_deterministic, parity_bit, parity_flips}
+use Rattle.stab_regions.specs.Faults.{FaultPlace, with_gates, bit, bits_in, IsDeterministic, flips}
 
--- the pass finds deterministic exactly the bits that are the same for all random bits
-abbrev pub SureParities : Type 0
-SureParities =
-    (n : ℕ) (items : Items) (i : ℕ) → All (StepFits n) (unroll items) → i < bits_in items →
-    (parity_sure n (detectors_of (unroll items)) i (unroll items) ≡ true) ↔ IsSure n items i
+-- of steps with this many observables the pass finds deterministic exactly the bits that are the same for all random bits
+abbrev pub DeterministicParities : Type 0
+DeterministicParities =
+    (n count : ℕ) (xs : List Step) (i : ℕ) → All (StepFits n) xs → i < detectors_of xs + count →
+    (parity_deterministic n (detectors_of xs) i xs ≡ true) ↔ ((coins others : ℕ → Bool) → bit n count others xs i ≡ bit n count coins xs i)
 
--- a letter that is inserted flips a bit that is found deterministic if and only if the pass says so, for all random bits
-abbrev pub FaultsFlipSureParities : Type 0
-FaultsFlipSureParities =
-    (n : ℕ) (items : Items) (i : ℕ) (front back : List Step) (l : Letter) (q : ℕ) → All (StepFits n) (unroll items) → i < bits_in items →
-    unroll items ≡ front ++ back → q < n → parity_sure n (detectors_of (unroll items)) i (unroll items) ≡ true → (coins : ℕ → Bool) →
-    bit n (observables_of items) coins (with_fault front l q back) i ⊕ bit n (observables_of items) coins (unroll items) i
-    ≡ parity_flips n (detectors_of (unroll items)) i l q back
+-- and they are the bits that it gives
+abbrev pub DeterministicParityBits : Type 0
+DeterministicParityBits =
+    (n count : ℕ) (xs : List Step) (i : ℕ) → All (StepFits n) xs → i < detectors_of xs + count →
+    parity_deterministic n (detectors_of xs) i xs ≡ true → (coins : ℕ → Bool) → bit n count coins xs i ≡ parity_bit n (detectors_of xs) i xs
 
--- so does the fault at a place
-abbrev pub PlacesFlipSureParities : Type 0
-PlacesFlipSureParities =
+-- a letter is inserted as a gate, between the steps of the front and those of the back
+abbrev pub with_fault : List Step → Letter → ℕ → List Step → List Step
+with_fault front l q back = front ++ one (gate_of l) q ∷ back
+
+-- with it and other coins a bit differs if and only if the pass says so
+abbrev pub DiffersAsFound : (n count : ℕ) → (front : List Step) → Letter → (qubit : ℕ) → (back : List Step) → ℕ → (coins others : ℕ → Bool) → Type 0
+DiffersAsFound n count front l q back i coins others =
+    bit n count others (with_fault front l q back) i ⊕ bit n count coins (front ++ back) i ≡ parity_flips n (detectors_of (front ++ back)) i l q back
+
+-- a bit that is found deterministic does, for all random bits of both runs; and any bit does with the coins that are flipped with the letter,
+-- which are the same for all bits
+pub record FlipsParity (n count : ℕ) (front : List Step) (l : Letter) (q : ℕ) (back : List Step) (i : ℕ) : Type 0 where
+  pub deterministic : parity_deterministic n (detectors_of (front ++ back)) i (front ++ back) ≡ true → (coins others : ℕ → Bool) →
+      DiffersAsFound n count front l q back i coins others
+  pub any : (coins : ℕ → Bool) → DiffersAsFound n count front l q back i coins (flipped_with n front l q back coins)
+
+abbrev pub FaultsFlipParities : Type 0
+FaultsFlipParities =
+    (n count : ℕ) (front : List Step) (l : Letter) (q : ℕ) (back : List Step) (i : ℕ) → q < n → All (StepFits n) (front ++ back) →
+    i < detectors_of (front ++ back) + count → FlipsParity n count front l q back i
+
+-- the fault at a place flips a bit that is found deterministic if and only if the pass says so, for all random bits
+abbrev pub PlacesFlipDeterministicParities : Type 0
+PlacesFlipDeterministicParities =
     (n : ℕ) (items : Items) (i : ℕ) (f : FaultPlace) → All (StepFits n) (unroll items) → i < bits_in items → f.qubit < n →
-    parity_sure n (detectors_of (unroll items)) i (unroll items) ≡ true → (coins : ℕ → Bool) →
+    parity_deterministic n (detectors_of (unroll items)) i (unroll items) ≡ true → (coins : ℕ → Bool) →
     flips n items coins f i ≡ parity_flips n (detectors_of (unroll items)) i f.letter f.qubit (drop f.before (unroll items))
 
 -- a fault is on one of n qubits, with no more steps in front of it than there are
@@ -44,6 +64,6 @@ flips_together flips (f ∷ fs) = flips f ⊕ flips_together flips fs
 abbrev pub FaultsAdd : Type 0
 FaultsAdd =
     (n : ℕ) (items : Items) (i : ℕ) (faults : List FaultPlace) → All (StepFits n) (unroll items) → i < bits_in items →
-    All (FaultFits n (unroll items)) faults → IsSure n items i → (coins : ℕ → Bool) →
+    All (FaultFits n (unroll items)) faults → IsDeterministic n items i → (coins : ℕ → Bool) →
     bit n (observables_of items) coins (with_gates faults (unroll items)) i ⊕ bit n (observables_of items) coins (unroll items) i
     ≡ flips_together (λ f. flips n items coins f i) faults

@@ -3,5 +3,5 @@ use Rattle.std.specs.Prelude.{ℕ, Bool, List}
 
 -- which bits are deterministic, and the rows: for each fault the numbers of the deterministic bits that it flips
 pub record FaultTableState : Type 0 where
-  pub sure : List Bool
+  pub deterministic : List Bool
   pub rows : List (List ℕ)

@@ -1,10 +1,10 @@
 -- Faults: one Pauli X or Z that goes wrong between two steps, where they are asked for, and which bits of a run each flips.
 use Rattle.std.specs.Prelude.{◌≡◌, ℕ, zero, suc, ◌+◌, ◌<◌, ◌==◌, Bool, true, false, List, [], ◌∷◌, ◌++◌, map, take, drop, length, All, ◌↔◌, slice_index_or, if◌then◌else◌, ◌&&◌}
 use Rattle.std.specs.List.{flat_map}
-use Rattle.stab_letters.specs.declared.letter.Letter.{Letter}
-use Rattle.stab_letters.specs.declared.letter.Letter.TheVariants as letter
-use Rattle.stab_letters.specs.Letters.{◌⊕◌}
-use Rattle.stab_letters.specs.declared.gate.Gate.TheVariants as gate
+use Rattle.stab_gates.specs.declared.letter.Letter.{Letter}
+use Rattle.stab_gates.specs.declared.letter.Letter.TheVariants as letter
+use Rattle.stab_gates.specs.Letters.{◌⊕◌}
+use Rattle.stab_gates.specs.declared.gate.Gate.TheVariants as gate
 use Rattle.stab_circuit.specs.Items.{Items}
 use Rattle.stab_circuit.specs.Steps.{Step, one, two, controlled, collapse, product, detector, observable, unroll, observables_of, detectors_of}
 use Rattle.stab_run.specs.Runs.{State, start, run, gate_of}
@@ -95,13 +95,13 @@ abbrev pub bits_in : Items → ℕ
 bits_in items = detectors_of (unroll items) + observables_of items
 
 -- a bit is the same for all random bits
-abbrev pub IsSure : (n : ℕ) → Items → ℕ → Type 0
-IsSure n items i = (coins others : ℕ → Bool) → bit n (observables_of items) others (unroll items) i ≡ bit n (observables_of items) coins (unroll items) i
+abbrev pub IsDeterministic : (n : ℕ) → Items → ℕ → Type 0
+IsDeterministic n items i = (coins others : ℕ → Bool) → bit n (observables_of items) others (unroll items) i ≡ bit n (observables_of items) coins (unroll items) i
 
 -- these bits say for each detector and then each observable whether it is deterministic
-pub record AreSure (n : ℕ) (items : Items) (sure : List Bool) : Type 0 where
-  pub count : length sure ≡ bits_in items
-  pub exact : (i : ℕ) → i < bits_in items → (slice_index_or sure i false ≡ true) ↔ IsSure n items i
+pub record AreDeterministic (n : ℕ) (items : Items) (deterministic : List Bool) : Type 0 where
+  pub count : length deterministic ≡ bits_in items
+  pub exact : (i : ℕ) → i < bits_in items → (slice_index_or deterministic i false ≡ true) ↔ IsDeterministic n items i
 
 -- a fault flips a bit if the runs with these coins with and without it differ
 abbrev pub flips : (n : ℕ) → Items → (ℕ → Bool) → FaultPlace → ℕ → Bool
@@ -113,13 +113,13 @@ numbers_where f i zero = []
 numbers_where f i (suc k) = if f i then i ∷ numbers_where f (i + 1) k else numbers_where f (i + 1) k
 
 -- the deterministic bits that a fault flips, by their numbers, ascending
-abbrev pub flipped : (n : ℕ) → Items → (sure : List Bool) → (ℕ → Bool) → FaultPlace → List ℕ
-flipped n items sure coins f = numbers_where (λ i. slice_index_or sure i false && flips n items coins f i) 0 (bits_in items)
+abbrev pub flipped : (n : ℕ) → Items → (deterministic : List Bool) → (ℕ → Bool) → FaultPlace → List ℕ
+flipped n items deterministic coins f = numbers_where (λ i. slice_index_or deterministic i false && flips n items coins f i) 0 (bits_in items)
 
 -- a table of faults: which bits are deterministic, and for each fault that is asked for, in order, which of these it flips, for all random bits
-pub record IsFaultTable (n : ℕ) (everywhere : Bool) (items : Items) (sure : List Bool) (rows : List (List ℕ)) : Type 0 where
-  pub are_sure : AreSure n items sure
-  pub are_flipped : (coins : ℕ → Bool) → rows ≡ map (flipped n items sure coins) (faults_of everywhere (unroll items))
+pub record IsFaultTable (n : ℕ) (everywhere : Bool) (items : Items) (deterministic : List Bool) (rows : List (List ℕ)) : Type 0 where
+  pub are_deterministic : AreDeterministic n items deterministic
+  pub are_flipped : (coins : ℕ → Bool) → rows ≡ map (flipped n items deterministic coins) (faults_of everywhere (unroll items))
 
 -- the fault of a number, of those that are asked for
 abbrev pub fault_at : (everywhere : Bool) → List Step → ℕ → FaultPlace
@@ -128,7 +128,7 @@ fault_at everywhere xs k = slice_index_or (faults_of everywhere xs) k (fault_on 
 -- the faults of these rows, in any order, flip a deterministic bit together if an odd number of the rows name it
 abbrev pub RowsAdd : (n : ℕ) (everywhere : Bool) → Items → (rows : List (List ℕ)) → Type 0
 RowsAdd n everywhere items rows =
-    (numbers : List ℕ) (i : ℕ) → All (λ k. k < length rows) numbers → i < bits_in items → IsSure n items i → (coins : ℕ → Bool) →
+    (numbers : List ℕ) (i : ℕ) → All (λ k. k < length rows) numbers → i < bits_in items → IsDeterministic n items i → (coins : ℕ → Bool) →
     bit n (observables_of items) coins (with_gates (map (fault_at everywhere (unroll items)) numbers) (unroll items)) i
     ⊕ bit n (observables_of items) coins (unroll items) i
     ≡ odd i (flat_map (row rows) numbers)

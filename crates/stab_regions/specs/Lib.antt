@@ -3,7 +3,6 @@ pub mod Rows
 pub mod Frames
 pub mod Laws
 pub mod Tables
-pub mod TableLaws
 pub mod Parities
 pub mod Faults
 pub mod FaultTables

@@ -2,7 +2,7 @@
 -- many observables, parity i below D is detector i, and parity D + j is observable j.
 -- Source: this project's own.
 use Rattle.std.specs.Prelude.{ℕ, ◌-◌, nat_lt, Bool, true, ◌&&◌, List, [], if◌then◌else◌}
-use Rattle.stab_letters.specs.declared.letter.Letter.{Letter}
+use Rattle.stab_gates.specs.declared.letter.Letter.{Letter}
 use Rattle.stab_pauli.specs.Paulis.{single, anticommute}
 use Rattle.stab_tableau.specs.Traces.{diagonal}
 use Rattle.stab_circuit.specs.Steps.{Step, detectors_of}
@@ -29,8 +29,12 @@ parity_kept n D i back =
     else keep_region n (asks_observable (i - D)) back (region_of n [])
 
 -- whether the pass over all steps finds parity i deterministic: all keep it, and at the start its letters are I and Z alone
-abbrev pub parity_sure : (n D i : ℕ) → (xs : List Step) → Bool
-parity_sure n D i xs = parity_kept n D i xs && diagonal (parity_region n D i xs).string.letters
+abbrev pub parity_deterministic : (n D i : ℕ) → (xs : List Step) → Bool
+parity_deterministic n D i xs = parity_kept n D i xs && diagonal (parity_region n D i xs).string.letters
+
+-- the bit that it then is, for all random bits: the sign of its string at the start
+abbrev pub parity_bit : (n D i : ℕ) → (xs : List Step) → Bool
+parity_bit n D i xs = (parity_region n D i xs).string.negative
 
 -- whether a letter that is put in before the last steps flips parity i
 abbrev pub parity_flips : (n D i : ℕ) → Letter → (qubit : ℕ) → (back : List Step) → Bool

@@ -1,18 +1,14 @@
 -- Rows: the parities that X and Z flip on each qubit, as lists of their numbers, and what they say of the parities' regions.
 -- Source: this project's own.
-use Rattle.std.specs.Prelude.{◌≡◌, ◌≢◌, ℕ, ◌==◌, ◌+◌, Bool, false, List, [], ◌∷◌, length, slice_index_or}
-use Rattle.stab_letters.specs.declared.letter.Letter.{Letter}
-use Rattle.stab_letters.specs.declared.letter.Letter.TheVariants.{I, X, Y, Z}
-use Rattle.stab_letters.specs.Letters.{◌⊕◌, letters_anticommute}
+use Rattle.std.specs.Prelude.{◌≡◌, ◌≢◌, ℕ, ◌==◌, ◌+◌, Bool, false, List, ◌∷◌, length}
+use Rattle.stab_gates.specs.declared.letter.Letter.{Letter}
+use Rattle.stab_gates.specs.declared.letter.Letter.TheVariants.{I, X, Y, Z}
+use Rattle.stab_gates.specs.Letters.{◌⊕◌, letters_anticommute}
 use Rattle.stab_pauli.specs.Paulis.{Signed, single}
 use Rattle.stab_tableau.specs.Gates.{letter_at}
 use Rattle.stab_circuit.specs.Steps.{Step}
-pub use Rattle.stab_distance.specs.Tables.{odd}
+pub use Rattle.stab_distance.specs.Tables.{odd, row}
 use Rattle.stab_regions.specs.Regions.{Region, times_where, region_before}
-
--- a row; rows that are not there are empty
-abbrev pub row : List (List ℕ) → ℕ → List ℕ
-row rows place = slice_index_or rows place []
 
 -- in one row these numbers are named once more, and the other rows stay
 pub record Toggles (old new : List (List ℕ)) (place : ℕ) (numbers : List ℕ) : Type 0 where

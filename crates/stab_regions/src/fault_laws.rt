@@ -1,22 +1,24 @@
 //! Laws of faults. Each function does nothing: its contract is the law, and the check proves it.
 
-ghost use Rattle.stab_regions.specs.FaultLaws.{SureParities, FaultsFlipSureParities, PlacesFlipSureParities, FaultsAdd};
+ghost use Rattle.stab_regions.specs.FaultLaws.{DeterministicParities, DeterministicParityBits, FaultsFlipParities, PlacesFlipDeterministicParities, FaultsAdd};
 
 use stab_run::laws::runs_are_points_with_outputs;
 
 /// The pass backwards finds deterministic exactly the detectors and observables whose bits are the same
-/// for all random bits.
-pub fn sure_parities()
-    ensures law { SureParities }
+/// for all random bits, and these are the bits that it gives.
+pub fn deterministic_parities()
+    ensures law { DeterministicParities }
+    ensures bits { DeterministicParityBits }
 {
     runs_are_points_with_outputs();
 }
 
-/// An inserted letter flips a deterministic bit if and only if the pass says so, for all random bits; and so
-/// does the fault at a place.
-pub fn faults_flip_sure_parities()
-    ensures law { FaultsFlipSureParities }
-    ensures places { PlacesFlipSureParities }
+/// An inserted letter flips a deterministic bit if and only if the pass says so, for all random bits of both
+/// runs, and so does the fault at a place. Any bit is flipped so once the coins of the outcomes that the
+/// letter flips are flipped with it; which coins these are is the same for all bits.
+pub fn faults_flip_parities()
+    ensures law { FaultsFlipParities }
+    ensures places { PlacesFlipDeterministicParities }
 {
     runs_are_points_with_outputs();
 }

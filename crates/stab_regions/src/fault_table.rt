@@ -1,13 +1,13 @@
 ghost use Rattle.std.specs.Prelude.{◌≡◌, ◌≤◌, None, IfOk, IfErr};
 ghost use Rattle.stab_io.specs.Refusals.{Refuses};
 ghost use Rattle.stab_io.specs.declared.refusal.Refusal.TheVariants.{OutOfMemory};
-ghost use Rattle.stab_letters.specs.Limits.{most_qubits};
+ghost use Rattle.stab_gates.specs.Limits.{most_qubits};
 ghost use Rattle.stab_circuit.specs.Steps.{Step, check_within};
 ghost use Rattle.stab_circuit.specs.Views.{circuit_items};
-ghost use Rattle.stab_regions.specs.Faults.{AreSure, IsFaultTable, RowsAdd, sites_at};
+ghost use Rattle.stab_regions.specs.Faults.{AreDeterministic, IsFaultTable, RowsAdd, sites_at};
 ghost use Rattle.stab_regions.specs.inner.Sites.{sites_asked};
 
-use crate::fault_laws::{faults_add, faults_flip_sure_parities, sure_parities};
+use crate::fault_laws::{deterministic_parities, faults_add, faults_flip_parities};
 use crate::fault_rows::FaultRows;
 use crate::sites::Asked;
 use crate::sweep::{Sweep, sweep_back};
@@ -23,7 +23,7 @@ use std::marker::Model;
 /// numbered from 0, and observables after them.
 #[derive(Drop)]
 pub struct FaultTable {
-    sure: Vec<bool>,
+    deterministic: Vec<bool>,
     // The last fault's row first.
     rows: FaultRows,
 }
@@ -34,17 +34,17 @@ impl Model for FaultTable {
 
     ghost Value = { FaultTableState };
 
-    ghost view = { λ t. record { sure = t.sure.items; rows = reverse t.rows } };
+    ghost view = { λ t. record { deterministic = t.deterministic.items; rows = reverse t.rows } };
 }
 
 impl FaultTable {
     ghost use Rattle.std.specs.Prelude.{◌≡◌, ◌<◌, [], length, slice_index_or};
 
     /// For each detector and then each observable, whether its bit is the same for all random bits.
-    pub fn sure(&self) -> &[bool]
-        ensures value { result.now ≡ self.now.sure }
+    pub fn deterministic(&self) -> &[bool]
+        ensures value { result.now ≡ self.now.deterministic }
     {
-        self.sure.as_slice()
+        self.deterministic.as_slice()
     }
 
     /// How many faults there are.
@@ -68,13 +68,13 @@ impl FaultTable {
 /// bit is the same for all random bits.
 ///
 /// Refused as `Circuit::check` refuses, else `OutOfMemory`, always with line 0.
-pub fn sure(alloc: Global, circuit: &Circuit, n: usize) -> Result<Vec<bool>, Fault>
+pub fn deterministic(alloc: Global, circuit: &Circuit, n: usize) -> Result<Vec<bool>, Fault>
     requires in_range { n ≤ most_qubits }
-    ensures sure { IfOk result (λ s. AreSure n (circuit_items circuit.now) s.items) }
+    ensures deterministic { IfOk result (λ s. AreDeterministic n (circuit_items circuit.now) s.items) }
     ensures refused { Refuses result (check_within n (circuit_items circuit.now)) }
 {
     circuit.check(n)?;
-    sure_of_checked(alloc, circuit, n).map_err(Fault::whole)
+    deterministic_of_checked(alloc, circuit, n).map_err(Fault::whole)
 }
 
 /// The table of the faults of a circuit on n qubits, at most 1,024: a letter X or Z between two steps,
@@ -92,7 +92,7 @@ pub fn faults(
     everywhere: bool,
 ) -> Result<FaultTable, Fault>
     requires in_range { n ≤ most_qubits }
-    ensures table { IfOk result (λ t. IsFaultTable n everywhere (circuit_items circuit.now) t.sure t.rows) }
+    ensures table { IfOk result (λ t. IsFaultTable n everywhere (circuit_items circuit.now) t.deterministic t.rows) }
     ensures adds { IfOk result (λ t. RowsAdd n everywhere (circuit_items circuit.now) t.rows) }
     ensures refused { Refuses result (check_within n (circuit_items circuit.now)) }
 {
@@ -101,14 +101,18 @@ pub fn faults(
 }
 
 /// Which bits of a circuit that was checked are deterministic.
-fn sure_of_checked(alloc: Global, circuit: &Circuit, n: usize) -> Result<Vec<bool>, Refusal>
+fn deterministic_of_checked(
+    alloc: Global,
+    circuit: &Circuit,
+    n: usize,
+) -> Result<Vec<bool>, Refusal>
     requires checked { check_within n (circuit_items circuit.now) ≡ None }
-    ensures sure { IfOk result (λ s. AreSure n (circuit_items circuit.now) s.items) }
+    ensures deterministic { IfOk result (λ s. AreDeterministic n (circuit_items circuit.now) s.items) }
     ensures err { IfErr result (λ r. r ≡ OutOfMemory) }
 {
     let Sweep { regions, .. } = sweep_back(alloc, circuit, n, Asked::Nowhere)?;
-    sure_parities();
-    Ok(regions.sure())
+    deterministic_parities();
+    Ok(regions.deterministic())
 }
 
 /// Where faults are asked for.
@@ -130,7 +134,7 @@ fn faults_of_checked(
     everywhere: bool,
 ) -> Result<FaultTable, Refusal>
     requires checked { check_within n (circuit_items circuit.now) ≡ None }
-    ensures table { IfOk result (λ t. IsFaultTable n everywhere (circuit_items circuit.now) t.sure t.rows) }
+    ensures table { IfOk result (λ t. IsFaultTable n everywhere (circuit_items circuit.now) t.deterministic t.rows) }
     ensures adds { IfOk result (λ t. RowsAdd n everywhere (circuit_items circuit.now) t.rows) }
     ensures err { IfErr result (λ r. r ≡ OutOfMemory) }
 {
@@ -139,10 +143,13 @@ fn faults_of_checked(
         mut rows,
         ..
     } = sweep_back(alloc, circuit, n, asked_for(everywhere))?;
-    sure_parities();
-    faults_flip_sure_parities();
+    deterministic_parities();
+    faults_flip_parities();
     faults_add();
-    let sure = regions.sure();
-    rows.keep(sure.as_slice());
-    Ok(FaultTable { sure, rows })
+    let deterministic = regions.deterministic();
+    rows.keep(deterministic.as_slice());
+    Ok(FaultTable {
+        deterministic,
+        rows,
+    })
 }

@@ -1,7 +1,7 @@
 //! Regions: which parities of records are the same for all random bits, and which inserted Paulis
 //! flip them, as one pass backwards through the steps finds it.
 //!
-//! - `laws`, `table_laws`, `fault_laws`: what regions say of the bits that runs give.
+//! - `laws`, `fault_laws`: what regions say of the bits that runs give.
 //! - `parities`: some parities by their numbers, and those that are in one of two lists alone.
 //! - `rows`: for each qubit the parities that X flips there, and those that Z does.
 //! - `looks`: for each lookback the parities whose regions have that record.
@@ -14,7 +14,7 @@
 //! time-dynamics (2023), for regions, and C. Gidney, Stim: a fast stabilizer circuit simulator (2021), for frames.
 //! Regions with signs, tables of them and their laws are this project's own.
 //!
-//! Proved: the laws; that `sure` says of each detector and observable whether its bit is the same
+//! Proved: the laws; that `deterministic` says of each detector and observable whether its bit is the same
 //! for all random bits, and that `faults` gives for each fault exactly the deterministic bits by which the runs
 //! with it and without it differ, for all random bits, and that faults which are put in together, in any
 //! order, flip the bits that an odd number of their rows name: `specs/Faults.antt`. Within: rows which show the
@@ -38,6 +38,5 @@ mod rows;
 mod sites;
 mod steps;
 mod sweep;
-pub mod table_laws;
 
-pub use fault_table::{FaultTable, faults, sure};
+pub use fault_table::{FaultTable, deterministic, faults};

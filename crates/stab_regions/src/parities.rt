@@ -21,7 +21,7 @@ impl Model for Parities {
 
 impl Parities {
     ghost use Rattle.std.specs.Prelude.{◌≡◌, ℕ, false, [], ◌∷◌, nat_eq, length, IfOk};
-    ghost use Rattle.stab_letters.specs.Letters.{◌⊕◌};
+    ghost use Rattle.stab_gates.specs.Letters.{◌⊕◌};
     ghost use Rattle.stab_distance.specs.Ascending.{IsAscending};
     ghost use Rattle.stab_regions.specs.Rows.{odd};
 

@@ -28,7 +28,7 @@ pub(crate) struct Regions {
     detectors: usize,
     before: usize,
     /// Which parities depend on a coin of the steps after the place.
-    unsure: Vec<bool>,
+    random: Vec<bool>,
 }
 
 /// This many rows of no parities.
@@ -54,12 +54,12 @@ fn mark_all(bits: &mut [bool], rows: &[Parities])
 
 impl Regions {
     ghost use Rattle.std.specs.Prelude.{◌≡◌, ◌≢◌, ◌+◌, ◌<◌, ◌^◌, Bool, false, [], All, length, IfOk, OnOk};
-    ghost use Rattle.stab_letters.specs.declared.letter.Letter.TheVariants.{X, Z};
+    ghost use Rattle.stab_gates.specs.declared.letter.Letter.TheVariants.{X, Z};
     ghost use Rattle.stab_lines.specs.Products.{names_twice};
     ghost use Rattle.stab_circuit.specs.Steps.{one, two, controlled, collapse, product, detector, observable};
     ghost use Rattle.stab_circuit.specs.Cursors.{step_shown, IsApart};
     ghost use Rattle.stab_run.specs.ProgramStates.{StepFits};
-    ghost use Rattle.stab_regions.specs.inner.RegionsAt.{IsRegionsAt, IsSized, HasParity, MovesBack, MovesTo, AreFlipped, TellSure};
+    ghost use Rattle.stab_regions.specs.inner.RegionsAt.{IsRegionsAt, IsSized, HasParity, MovesBack, MovesTo, AreFlipped, TellDeterministic};
 
     /// The regions after the last step, of this many detectors and observables on this many qubits.
     pub(crate) fn at_end(
@@ -77,7 +77,7 @@ impl Regions {
             records: VecDeque::new(alloc),
             detectors,
             before: detectors,
-            unsure: vec![in alloc; false; detectors + observables]?,
+            random: vec![in alloc; false; detectors + observables]?,
         })
     }
 
@@ -166,7 +166,7 @@ impl Regions {
             letter,
             qubit,
         )?;
-        mark(self.unsure.as_mut_slice(), flipped.numbers());
+        mark(self.random.as_mut_slice(), flipped.numbers());
         before_collapse(
             alloc,
             self.by_x.as_mut_slice(),
@@ -193,7 +193,7 @@ impl Regions {
             self.by_z.as_slice(),
             factors,
         )?;
-        mark(self.unsure.as_mut_slice(), flipped.numbers());
+        mark(self.random.as_mut_slice(), flipped.numbers());
         before_product(
             alloc,
             self.by_x.as_mut_slice(),
@@ -218,7 +218,7 @@ impl Regions {
     /// Asks for these records in the region of an observable.
     fn ask(&mut self, alloc: Global, number: u32, lookbacks: &[u32]) -> Result<(), AllocError>
         requires sized { IsSized self.old }
-        requires in_range { self.old.detectors + number < length self.old.unsure.items }
+        requires in_range { self.old.detectors + number < length self.old.random.items }
         ensures moved { OnOk result (MovesBack (length self.old.by_x.items) (observable number lookbacks.now) self.old self.new) }
     {
         let parity = self.detectors as u32 + number;
@@ -272,12 +272,12 @@ impl Regions {
 
     /// For each parity whether it is deterministic, if the place is the circuit's start: the steps after
     /// keep it, and it has no letter X or Y.
-    pub(crate) fn sure(self) -> Vec<bool>
-        ensures value { TellSure self result.items }
+    pub(crate) fn deterministic(self) -> Vec<bool>
+        ensures value { TellDeterministic self result.items }
     {
-        let mut unsure = self.unsure;
-        mark_all(unsure.as_mut_slice(), self.by_z.as_slice());
-        invert(unsure.as_mut_slice());
-        unsure
+        let mut random = self.random;
+        mark_all(random.as_mut_slice(), self.by_z.as_slice());
+        invert(random.as_mut_slice());
+        random
     }
 }

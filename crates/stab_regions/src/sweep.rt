@@ -1,7 +1,7 @@
 ghost use Rattle.std.specs.Prelude.{◌≡◌, ℕ, ◌+◌, ◌-◌, ◌*◌, ◌^◌, ◌<◌, ◌≤◌, true, [], ◌∷◌, ◌++◌, None, List, All, length, map, take, drop, reverse, slice_index, IfOk, IfErr, OnOk};
 ghost use Rattle.std.specs.List.{flat_map};
 ghost use Rattle.stab_io.specs.declared.refusal.Refusal.TheVariants.{OutOfMemory};
-ghost use Rattle.stab_letters.specs.Limits.{most_qubits};
+ghost use Rattle.stab_gates.specs.Limits.{most_qubits};
 ghost use Rattle.stab_circuit.specs.Cursors.{step_shown};
 ghost use Rattle.stab_circuit.specs.Steps.{Step, unroll, check_of, check_within, observables_of, detectors_of};
 ghost use Rattle.stab_circuit.specs.Views.{circuit_items};

@@ -1,4 +1,5 @@
+mod Names
 pub mod LookLemmas
 pub mod SameLemmas
-pub mod StretchLemmas
+pub mod AlikeLemmas
 mod SearchLemmas

@@ -1,14 +1,5 @@
 -- How far back steps look: the greatest of numbers, and steps one after another.
-use Rattle.std.proofs.Common.{◌≡◌, ℕ, ◌+◌, ◌<◌, ◌≤◌, suc, zero, refl, sym, ◌∙◌, ap, subst, false, nat_lt, List, [], ◌∷◌, ◌++◌, All, length, map, take, get_or, arith}
-use Rattle.std.specs.List.{list_any}
-use Rattle.std.proofs.lemmas.List.{map_more}
-use Rattle.std.proofs.lemmas.List.Elements.{All-nil, All-cons, All-head, All-tail, All-append}
-use Rattle.std.proofs.lemmas.Bool.{or_parts, or_from}
-use Rattle.stab_letters.specs.declared.gate.Gate.{Gate}
-use Rattle.stab_lines.specs.declared.operation.Measurement.{Measurement}
-use Rattle.stab_lines.specs.declared.range.MeasureTarget.{MeasureTarget}
-use Rattle.stab_circuit.specs.Steps.{Step, one, measured, makes, lookbacks, looks_too_far}
-use Rattle.stab_rounds.specs.Lookbacks.{LooksWithin}
+use Rattle.stab_rounds.proofs.Names.{◌≡◌, ℕ, ◌+◌, ◌<◌, ◌≤◌, suc, zero, refl, sym, ◌∙◌, ap, subst, false, nat_lt, List, [], ◌∷◌, ◌++◌, All, length, map, take, get_or, arith, list_any, map_more, All-nil, All-cons, All-head, All-tail, All-append, or_parts, or_from, Gate, Measurement, MeasureTarget, Step, one, measured, makes, lookbacks, looks_too_far, LooksWithin}
 
 pub near-more : (m k : ℕ) → m ≤ k → (ks : List ℕ) → list_any (nat_lt m) ks ≡ false → list_any (nat_lt k) ks ≡ false
 near-more m k le [] e = refl
@@ -43,13 +34,13 @@ within-target near far step xs i x lt is le front here =
     (All-cons (LooksWithin far) (step x) [] here (All-nil (LooksWithin far))))
 
 -- steps that look nowhere
-pub near-gates : (reach : ℕ) (g : Gate) (qubits : List ℕ) → All (LooksWithin reach) (map (one g) qubits)
-near-gates reach g [] = All-nil (LooksWithin reach)
-near-gates reach g (q ∷ qubits) = All-cons (LooksWithin reach) (one g q) (map (one g) qubits) refl (near-gates reach g qubits)
+pub near-gates : (window : ℕ) (g : Gate) (qubits : List ℕ) → All (LooksWithin window) (map (one g) qubits)
+near-gates window g [] = All-nil (LooksWithin window)
+near-gates window g (q ∷ qubits) = All-cons (LooksWithin window) (one g q) (map (one g) qubits) refl (near-gates window g qubits)
 
-pub near-targets : (reach : ℕ) (m : Measurement) (targets : List MeasureTarget) → All (LooksWithin reach) (map (measured m) targets)
-near-targets reach m [] = All-nil (LooksWithin reach)
-near-targets reach m (t ∷ targets) = All-cons (LooksWithin reach) (measured m t) (map (measured m) targets) refl (near-targets reach m targets)
+pub near-targets : (window : ℕ) (m : Measurement) (targets : List MeasureTarget) → All (LooksWithin window) (map (measured m) targets)
+near-targets window m [] = All-nil (LooksWithin window)
+near-targets window m (t ∷ targets) = All-cons (LooksWithin window) (measured m t) (map (measured m) targets) refl (near-targets window m targets)
 
 -- if no step looks further back than to this many records, none looks too far after as many
 pub looks-within : (m : ℕ) (xs : List Step) → All (LooksWithin m) xs → looks_too_far m xs ≡ false

@@ -1,12 +1,5 @@
 -- Steps that are compared as the elements that they stand for.
-use Rattle.std.proofs.Common.{◌≡◌, ap, ◌∙◌, ℕ, Bool, true, List, length, map, take, drop}
-use Rattle.std.specs.Bool.{OnTrue}
-use Rattle.std.specs.Cmp.Lexicographic.{pointwise}
-use Rattle.std.proofs.lemmas.List.{length-map, take-map, drop-map}
-use Rattle.stab_circuit.specs.Steps.{Step}
-use Rattle.stab_circuit.specs.declared.steps.Steps.{Steps}
-use Rattle.stab_circuit.specs.Cursors.{steps_shown}
-use Rattle.stab_circuit.proofs.SameLemmas.{same_mapped}
+use Rattle.stab_rounds.proofs.Names.{◌≡◌, ap, ◌∙◌, ℕ, Bool, true, List, length, map, take, drop, OnTrue, pointwise, length-map, take-map, drop-map, Step, Steps, steps_shown, same_mapped}
 pub use Rattle.stab_circuit.proofs.SameLemmas.{both_true, same_bool, same_list, tells_qubits, tells_pairs, tells_targets, same_measurement, tells_factors}
 
 -- steps of the same kind with the same list

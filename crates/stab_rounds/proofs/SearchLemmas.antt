@@ -1,8 +1,5 @@
 -- Repeats one after the other, up to a step.
-use Rattle.std.proofs.Common.{ℕ, zero, suc, ◌+◌, ◌*◌, ◌<◌, ◌≤◌, List, [], ◌∷◌, ◌++◌, arith}
-use Rattle.stab_circuit.specs.Steps.{Step}
-use Rattle.stab_circuit.specs.Repeats.{IsRepeat, AreRepeats}
-use Rattle.stab_circuit.specs.declared.circuit.repeats.Repeat.{Repeat}
+use Rattle.stab_rounds.proofs.Names.{ℕ, zero, suc, ◌+◌, ◌*◌, ◌<◌, ◌≤◌, List, [], ◌∷◌, ◌++◌, arith, Step, IsRepeat, AreRepeats, Repeat}
 
 -- repeats one after the other, the first no earlier than at a step, and the last no further than up to another
 abbrev pub AreRepeatsTo : (from end : ℕ) → List Step → List Repeat → Type 0

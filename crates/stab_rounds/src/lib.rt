@@ -1,8 +1,8 @@
 //! Rounds: where in a circuit the same steps come again, be it in a block or written out line by line.
 //!
 //! - `same`: whether steps that are given together are the same as others.
-//! - `stretch`: how many steps after two places are the same.
-//! - `reach`: how far back steps look.
+//! - `alike`: how many steps after two places are the same.
+//! - `window`: how far back steps look.
 //! - `search`: where rounds that are written out are.
 //!
 //! `stab_circuit` lists the blocks. Rounds that are written out are looked for only in circuits without
@@ -15,10 +15,10 @@
 //! `stab_circuit`); no step looks further back than is reported (`specs/Lookbacks.antt`).
 #![tactic(auto)]
 
-mod reach;
+mod alike;
 mod same;
 mod search;
-mod stretch;
+mod window;
 
-pub use reach::{furthest, furthest_detector, furthest_of};
 pub use search::find_rounds;
+pub use window::{furthest, furthest_detector, furthest_of};

@@ -7,7 +7,7 @@ ghost use Rattle.stab_circuit.specs.Cursors.{step_shown, steps_shown, lookbacks_
 use stab_circuit::{
     Axis, ControlledPair, Detectors, Factor, MeasureTarget, Measurement, Qubit, Step, Steps,
 };
-use stab_letters::{Gate, Letter, PairGate};
+use stab_gates::{Gate, Letter, PairGate};
 
 /// Whether these are the steps of a gate on qubits.
 fn are_gates(gate: Gate, qubits: &[Qubit], steps: Steps) -> bool

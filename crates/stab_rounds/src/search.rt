@@ -5,9 +5,9 @@ ghost use Rattle.stab_circuit.specs.Steps.{unroll, check_of};
 ghost use Rattle.stab_circuit.specs.Views.{circuit_items};
 ghost use Rattle.stab_circuit.specs.Repeats.{AreRepeats, IsRepeat};
 
-use crate::reach::reach_of;
+use crate::alike::count_rounds;
 use crate::same::are_same;
-use crate::stretch::count_rounds;
+use crate::window::window_of;
 use stab_circuit::{Circuit, Cursor, Repeat, Step, Steps};
 use stab_io::Refusal;
 use std::alloc::Global;
@@ -57,7 +57,7 @@ fn rounds_at(
         first,
         length: round,
         rounds,
-        reach: reach_of(&mut cursor, round),
+        window: window_of(&mut cursor, round),
     }))
 }
 

@@ -1,9 +1,16 @@
-mod ShotLemmas
-pub mod LedLemmas
-pub mod AgainLemmas
-mod NotedLemmas
-mod OverLemmas
-mod PeriodLemmas
-mod NotedAgainLemmas
-pub mod PeriodStartLemmas
-mod TogetherLemmas
+mod Names
+pub mod RecordLemmas
+pub mod ProductLemmas
+pub mod RunLemmas
+pub mod TargetLemmas
+pub mod StateLemmas
+pub mod FutureLemmas
+pub mod LookbackLemmas
+pub mod FutureBackLemmas
+pub mod FixedLemmas
+pub mod RoundLemmas
+pub mod PointLemmas
+pub mod FitLemmas
+pub mod SoundLemmas
+pub mod CoinLemmas
+pub mod StepsLeftLemmas

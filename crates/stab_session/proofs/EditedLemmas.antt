@@ -1,29 +1,6 @@
 -- Edited sessions: from an edit that was begun and run to the statement of the session, and to what the edit cost.
-use Rattle.std.proofs.Common.{◌≡◌, ◌≤◌, ℕ, ◌+◌, ◌-◌, ◌*◌, sym, ◌∙◌, ap, subst, arith, Bool, List, [], ◌∷◌, length, take, drop, All, None, Result, Ok}
-use Rattle.std.specs.Prelude.{slice_get}
-use Rattle.stab_io.specs.declared.refusal.Refusal.{Refusal}
-use Rattle.stab_io.specs.declared.refusal.Refusal.TheVariants.{OutOfMemory}
-use Rattle.stab_io.specs.declared.refusal.Fault.{Fault}
-use Rattle.stab_io.specs.Refusals.{whole, IsCallFault}
-use Rattle.stab_circuit.specs.Items.{OneItem, listed, entries}
-use Rattle.stab_circuit.specs.Steps.{Step, unroll, observables_of, check_within}
-use Rattle.stab_circuit.specs.Cursors.{IsApart}
-use Rattle.stab_circuit.specs.Edits.{edit_path, edited, verdict, put_item, first_changed, old_end, new_end}
-use Rattle.stab_circuit.proofs.EditLemmas.{entries-listed}
-use Rattle.stab_kept.specs.declared.kept.KeptRun.{KeptRun}
-use Rattle.stab_circuit.specs.declared.edit.Span.{Span}
-use Rattle.stab_circuit.specs.declared.edit.Edit.{Edit}
-use Rattle.stab_session.specs.declared.pending.Pending.{Pending}
-use Rattle.stab_run.specs.Points.{origin, point_after}
-use Rattle.stab_run.specs.Laws.{AgreeAt}
-use Rattle.stab_session.specs.Sessions.{SessionState}
-use Rattle.stab_session.specs.SessionEdits.{IsEditedBy}
-use Rattle.stab_session.specs.Bounds.{steps_of_item, steps_from_change, steps_behind, unless_refused, most_refused_asks, steps_put, steps_near_change, IsCountOf, AgreeBehind, AgreeBackBehind}
-use Rattle.stab_kept.specs.Counts.{IsCounted, AgreeAsFarAsLooked}
-use Rattle.stab_session.specs.inner.KeptSessions.{session_of, IsKept}
-use Rattle.stab_session.specs.inner.Pendings.{kept, IsBegun}
-use Rattle.stab_kept.specs.KeptRuns.{IsKeptRun, AgreeBehindSpan, AgreeBackBehindSpan}
-use Rattle.stab_session.proofs.SessionLemmas.{session-kept}
+use Rattle.stab_session.proofs.Names.{◌≡◌, ◌≤◌, ℕ, ◌+◌, ◌-◌, ◌*◌, sym, ◌∙◌, ap, subst, arith, Bool, List, [], ◌∷◌, length, take, drop, All, None, Result, Ok, slice_get, Refusal, OutOfMemory, Fault, whole, IsCallFault, OneItem, listed, entries, Step, unroll, observables_of, check_within, IsApart, edit_path, edited, verdict, put_item, first_changed, old_end, new_end, entries-listed, Recording, Span, Edit, Pending, run, start, origin, point_after, point_of, AgreeAt, SessionState, IsEditedBy, steps_of_item, steps_from_change, steps_behind, unless_refused, most_refused_asks, steps_put, steps_near_change, IsCountOf, AgreeBehind, AgreeBackBehind, IsCounted, AgreeAsFarAsLooked, session_of, IsRecorded, finished, IsBegun, IsRecording, AgreeBehindSpan, AgreeBackBehindSpan, run-state}
+use Rattle.stab_session.proofs.SessionLemmas.{session-recorded}
 use Rattle.stab_session.proofs.PendingLemmas.{verdict-checked}
 use Rattle.stab_session.proofs.SpanLemmas.{put-within}
 
@@ -38,6 +15,10 @@ session-verdict s e n items is qubits = λ i. verdict (sym qubits i) e (same i)
     same : items ≡ entries s.items
     same = sym (ap entries is ∙ entries-listed items)
 
+-- the run of steps ends at the point where they lead
+run-point : (n count : ℕ) (bits : ℕ → Bool) (xs : List Step) → point_of (run n bits xs (start count)) ≡ point_after n bits xs origin
+run-point n count bits xs = ap point_of (run-state n bits xs (start count))
+
 -- points after this many steps agree, whichever way these are said
 same_agree : (n m k : ℕ) (bits others : ℕ → Bool) (xs us ys vs : List Step) (i a j c : ℕ) → m ≡ n → k ≡ n → others ≡ bits → us ≡ xs → vs ≡ ys → a ≡ i → c ≡ j
     → AgreeAt k (point_after m bits (take a us) origin) (point_after k others (take c vs) origin) ≡ AgreeAt n (point_after n bits (take i xs) origin) (point_after n bits (take j ys) origin)
@@ -50,10 +31,10 @@ same_agree_back : (n m k : ℕ) (bits others : ℕ → Bool) (xs us ys vs : List
 same_agree_back n m k bits others xs us ys vs i a j c em ek eb ex ey ei ej =
     λ p. AgreeAsFarAsLooked (ek p) bits (drop (ej p) (ey p)) (point_after (em p) bits (take (ei p) (ex p)) origin) (point_after (ek p) (eb p) (take (ej p) (ey p)) origin)
 
--- a run that is kept, and an agreement, on the same number of qubits with the same coins
+-- a recording, and an agreement, on the same number of qubits with the same coins
 
-pub followed : (n m : ℕ) (bits others : ℕ → Bool) (K : ℕ) (xs : List Step) (count : ℕ) (r : KeptRun) → n ≡ m → bits ≡ others → IsKeptRun m bits K xs count r → IsKeptRun n others K xs count r
-followed n m bits others K xs count r e f is = subst (λ k. IsKeptRun k others K xs count r) (sym e) (subst (λ k. IsKeptRun m k K xs count r) f is)
+pub followed : (n m : ℕ) (bits others : ℕ → Bool) (K : ℕ) (xs : List Step) (count : ℕ) (r : Recording) → n ≡ m → bits ≡ others → IsRecording m bits K xs count r → IsRecording n others K xs count r
+followed n m bits others K xs count r e f is = subst (λ k. IsRecording k others K xs count r) (sym e) (subst (λ k. IsRecording m k K xs count r) f is)
 
 pub agreed : (n m : ℕ) (bits others : ℕ → Bool) (xs ys : List Step) (s : Span) (far : ℕ) → n ≡ m → bits ≡ others → AgreeBehindSpan n others xs ys s far → AgreeBehindSpan m bits xs ys s far
 agreed n m bits others xs ys s far e f is = subst (λ k. AgreeBehindSpan k bits xs ys s far) e (subst (λ k. AgreeBehindSpan n k xs ys s far) (sym f) is)
@@ -68,7 +49,7 @@ counted_same n m bits others xs ys s copies total applied e f h =
 abbrev steps_put_in : Edit → List OneItem → ℕ
 steps_put_in e new = steps_of_item (elim (edit_path e).blocks [ [] ↦ put_item e | b ∷ bs ↦ slice_get new b ])
 
--- an edit of a session that was begun, leads to other steps than its run is of, and was kept
+-- an edit of a session that was begun, leads to other steps than its run is of, and was finished
 module _ {C : Type 0} (sequence : C → ℕ → Bool) (e : Edit) (s : SessionState C) (n : ℕ) (old mid : List OneItem) (pending : Pending) (span : Span)
     (b : IsBegun n e old mid pending span) (items : s.items ≡ listed old) (qubits : s.qubits ≡ n) where
   accepted : verdict s.qubits e (entries s.items) ≡ None
@@ -89,8 +70,8 @@ module _ {C : Type 0} (sequence : C → ℕ → Bool) (e : Edit) (s : SessionSta
       ∙ ap (steps_behind (first_changed e old) s.stride) b.edited in
       omega (arith, asked, most, stride, b.span.first, ap length b.same_runs.steps)
 
-  module _ (new : List OneItem) (ahead : kept pending mid ≡ Ok new) (stride : ℕ) (coins : C) (run : KeptRun) (same_stride : stride ≡ s.stride) (same_coins : sequence coins ≡ sequence s.coins)
-      (is : IsKeptRun n (sequence s.coins) stride (unroll (listed mid)) (observables_of (listed mid)) run) where
+  module _ (new : List OneItem) (ahead : finished pending mid ≡ Ok new) (stride : ℕ) (coins : C) (run : Recording) (same_stride : stride ≡ s.stride) (same_coins : sequence coins ≡ sequence s.coins)
+      (is : IsRecording n (sequence s.coins) stride (unroll (listed mid)) (observables_of (listed mid)) run) where
     new-is : b.new ≡ new
     new-is = ok_same b.new new (sym b.ahead ∙ ahead)
 
@@ -100,14 +81,14 @@ module _ {C : Type 0} (sequence : C → ℕ → Bool) (e : Edit) (s : SessionSta
     new_observables : observables_of (listed mid) ≡ observables_of (listed new)
     new_observables = b.same_runs.observables ∙ ap (λ xs. observables_of (listed xs)) new-is
 
-    pub new-run : IsKeptRun n (sequence s.coins) stride (unroll (listed new)) (observables_of (listed new)) run
-    new-run = subst (λ k. IsKeptRun n (sequence s.coins) stride (unroll (listed new)) k run) new_observables
-        (subst (λ xs. IsKeptRun n (sequence s.coins) stride xs (observables_of (listed mid)) run) new_steps is)
+    pub new-run : IsRecording n (sequence s.coins) stride (unroll (listed new)) (observables_of (listed new)) run
+    new-run = subst (λ k. IsRecording n (sequence s.coins) stride (unroll (listed new)) k run) new_observables
+        (subst (λ xs. IsRecording n (sequence s.coins) stride xs (observables_of (listed mid)) run) new_steps is)
 
-    -- the session is kept again
-    pub edited-kept : All IsApart (unroll (listed mid)) → n ≤ 1024 → 1 ≤ stride → stride ≤ 65536 → IsKept sequence (session_of (listed new) stride coins run) run
-    edited-kept apart few above within =
-        session-kept sequence (listed new) stride coins run n (sequence s.coins) same_coins new-run
+    -- the session is recorded again
+    pub edited-recorded : All IsApart (unroll (listed mid)) → n ≤ 1024 → 1 ≤ stride → stride ≤ 65536 → IsRecorded sequence (session_of (listed new) stride coins run) run
+    edited-recorded apart few above within =
+        session-recorded sequence (listed new) stride coins run n (sequence s.coins) same_coins new-run
         (subst (λ xs. check_within n (listed xs) ≡ None) new-is (verdict-checked n e old b.new b.edited b.accepted)) (subst (All IsApart) new_steps apart) few above within
 
     -- it was edited by the edit
@@ -144,14 +125,19 @@ module _ {C : Type 0} (sequence : C → ℕ → Bool) (e : Edit) (s : SessionSta
     agreement : (far : ℕ) → AgreeBehind sequence e s (session_of (listed new) stride coins run) far
         ≡ AgreeBehindSpan n (sequence s.coins) (unroll (listed old)) (unroll (listed mid)) span far
     agreement far =
-        same_agree n s.qubits run.tableau.qubits (sequence s.coins) (sequence coins) (unroll (listed old)) (unroll s.items) (unroll (listed mid)) (unroll (listed new)) (span.old_end + far)
+        (λ i. AgreeAt run.tableau.qubits (run-point s.qubits (observables_of s.items) (sequence s.coins) (take (old_end e (entries s.items) + far) (unroll s.items)) i)
+        (run-point run.tableau.qubits (observables_of (listed new)) (sequence coins) (take (new_end e (entries (listed new)) + far) (unroll (listed new))) i))
+        ∙ same_agree n s.qubits run.tableau.qubits (sequence s.coins) (sequence coins) (unroll (listed old)) (unroll s.items) (unroll (listed mid)) (unroll (listed new)) (span.old_end + far)
         (old_end e (entries s.items) + far) (span.new_end + far) (new_end e (entries (listed new)) + far) qubits is.qubits same_coins (ap unroll items)
         (sym new_steps) (ap (λ k. k + far) (sym old_end_is)) (ap (λ k. k + far) (sym new_end_is))
 
     agreement-back : (far : ℕ) → AgreeBackBehind sequence e s (session_of (listed new) stride coins run) far
         ≡ AgreeBackBehindSpan n (sequence s.coins) (unroll (listed old)) (unroll (listed mid)) span far
     agreement-back far =
-        same_agree_back n s.qubits run.tableau.qubits (sequence s.coins) (sequence coins) (unroll (listed old)) (unroll s.items) (unroll (listed mid)) (unroll (listed new))
+        (λ i. AgreeAsFarAsLooked run.tableau.qubits (sequence s.coins) (drop (new_end e (entries (listed new)) + far) (unroll (listed new)))
+        (run-point s.qubits (observables_of s.items) (sequence s.coins) (take (old_end e (entries s.items) + far) (unroll s.items)) i)
+        (run-point run.tableau.qubits (observables_of (listed new)) (sequence coins) (take (new_end e (entries (listed new)) + far) (unroll (listed new))) i))
+        ∙ same_agree_back n s.qubits run.tableau.qubits (sequence s.coins) (sequence coins) (unroll (listed old)) (unroll s.items) (unroll (listed mid)) (unroll (listed new))
         (span.old_end + far) (old_end e (entries s.items) + far) (span.new_end + far) (new_end e (entries (listed new)) + far) qubits is.qubits same_coins (ap unroll items)
         (sym new_steps) (ap (λ k. k + far) (sym old_end_is)) (ap (λ k. k + far) (sym new_end_is))
 

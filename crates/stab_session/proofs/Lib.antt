@@ -1,3 +1,4 @@
+mod Names
 mod SessionLemmas
 mod SpanLemmas
 mod PendingLemmas

@@ -1,11 +1,5 @@
 -- Pauli items: the qubits of their gates are there.
-use Rattle.std.proofs.Common.{◌≡◌, ℕ, ◌≤◌, ◌<◌, List, [], ◌∷◌, All, None, arith}
-use Rattle.std.proofs.lemmas.List.Elements.{All-nil, All-cons}
-use Rattle.stab_letters.specs.declared.letter.Letter.{Letter}
-use Rattle.stab_circuit.specs.Items.{OneItem, listed}
-use Rattle.stab_circuit.specs.Steps.{past, qubits_of, check_within}
-use Rattle.stab_laws.proofs.FitLemmas.{check-qubits}
-use Rattle.stab_session.specs.inner.PauliItems.{ArePauliItems}
+use Rattle.stab_session.proofs.Names.{◌≡◌, ℕ, ◌≤◌, ◌<◌, List, [], ◌∷◌, All, None, arith, All-nil, All-cons, Letter, OneItem, listed, past, qubits_of, check_within, check-qubits, ArePauliItems}
 
 below-past : (n : ℕ) (qs : List ℕ) → past qs ≤ n → All (λ q. q < n) qs
 below-past n [] le = All-nil (λ q. q < n)

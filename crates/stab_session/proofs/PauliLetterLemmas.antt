@@ -1,13 +1,5 @@
 -- Letters at some qubits, multiplied onto a string one after another.
-use Rattle.std.proofs.Common.{◌≡◌, ℕ, ◌+◌, ◌≤◌, ◌<◌, sym, ◌∙◌, ap, subst, List, [], ◌∷◌, length, drop, replicate, get_or, set, All}
-use Rattle.std.proofs.lemmas.List.{length-replicate, length-set, set-get_or, at_drop_more, at_drop_all}
-use Rattle.stab_letters.specs.declared.letter.Letter.{Letter}
-use Rattle.stab_letters.specs.declared.letter.Letter.TheVariants.{I}
-use Rattle.stab_letters.specs.Letters.{letter_product}
-use Rattle.stab_pauli.specs.Paulis.{single, string_product}
-use Rattle.stab_pauli.proofs.StringLemmas.{string_product-blank, string_product-blank_right, string_product-assoc, string_product-comm, length-string_product}
-use Rattle.stab_tableau.proofs.PlaceLemmas.{string_product-set}
-use Rattle.stab_frames.specs.Starts.{letters_on}
+use Rattle.stab_session.proofs.Names.{◌≡◌, ℕ, ◌+◌, ◌≤◌, ◌<◌, sym, ◌∙◌, ap, subst, List, [], ◌∷◌, length, drop, replicate, get_or, set, All, length-replicate, length-set, set-get_or, at_drop_more, at_drop_all, Letter, I, letter_product, single, string_product, string_product-blank, string_product-blank_right, string_product-assoc, string_product-comm, length-string_product, string_product-set, letters_on}
 
 -- the qubit at a place of a list of them is there
 pub qubit-fits : (n : ℕ) (qs : List ℕ) (i q : ℕ) → i < length qs → q ≡ get_or qs i q → All (λ k. k < n) qs → q < n

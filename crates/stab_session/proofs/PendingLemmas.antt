@@ -1,21 +1,5 @@
 -- Pending edits: what each of the three ways to begin an edit gives.
-use Rattle.std.proofs.Common.{◌≡◌, ◌≤◌, refl, ap, sym, ◌∙◌, ℕ, Bool, true, false, List, length, nat_lt, if◌then◌else◌, arith, Option, Some, None, Ok}
-use Rattle.stab_io.specs.declared.refusal.Refusal.{Refusal}
-use Rattle.stab_io.specs.declared.refusal.Refusal.TheVariants.{TooDeep}
-use Rattle.stab_circuit.specs.Items.{OneItem, listed, depth}
-use Rattle.stab_circuit.specs.Steps.{unroll, check_within}
-use Rattle.stab_circuit.specs.Paths.{Path}
-use Rattle.stab_circuit.specs.Edits.{edited, list_refusal, list_verdict, verdict, taken}
-use Rattle.stab_circuit.specs.Editings.{IsSpanOf}
-use Rattle.stab_circuit.specs.Nothings.{IsNothing}
-use Rattle.stab_circuit.specs.declared.edit.Edit.{Edit}
-use Rattle.stab_circuit.specs.declared.edit.Edit.TheVariants.{Insert, Replace, Delete}
-use Rattle.stab_circuit.specs.declared.edit.Span.{Span}
-use Rattle.stab_circuit.proofs.UndoLemmas.{insert-undone, insert-retaken, replace-undone, replace-retaken}
-use Rattle.stab_circuit.proofs.ClearLemmas.{steps-cleared, observables-cleared, delete-instead, deleted-ok, verdict-instead}
-use Rattle.stab_session.specs.declared.pending.Pending.TheVariants.{Inserted, Replaced, Deleted}
-use Rattle.stab_session.specs.inner.Pendings.{IsSpanNow, IsBegun}
-use Rattle.stab_laws.proofs.FitLemmas.{check-whole, check-steps}
+use Rattle.stab_session.proofs.Names.{◌≡◌, ◌≤◌, refl, ap, sym, ◌∙◌, ℕ, Bool, true, false, List, length, nat_lt, if◌then◌else◌, arith, Option, Some, None, Ok, Refusal, TooDeep, OneItem, listed, depth, unroll, check_within, Path, edited, list_refusal, list_verdict, verdict, taken, IsSpanOf, IsNothing, Edit, Insert, Replace, Delete, Span, insert-undone, insert-retaken, replace-undone, replace-retaken, steps-cleared, observables-cleared, delete-instead, deleted-ok, verdict-instead, Inserted, Replaced, Deleted, IsSpanNow, IsBegun, check-whole, check-steps}
 use Rattle.stab_session.proofs.SpanLemmas.{span-told, span-deleted}
 
 -- what a verdict of none says

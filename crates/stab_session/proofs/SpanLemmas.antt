@@ -1,19 +1,5 @@
 -- Spans: which steps an edit changes, by what the edit says, and how many it puts in.
-use Rattle.std.proofs.Common.{◌≡◌, ◌≤◌, refl, ap, sym, ◌∙◌, subst, ℕ, ◌+◌, suc, List, [], ◌∷◌, ◌++◌, append_assoc, length, take, drop, arith, Some, Ok}
-use Rattle.std.proofs.lemmas.List.{length-append, length-drop, length-take-le, take_at}
-use Rattle.std.specs.Prelude.{slice_get}
-use Rattle.stab_circuit.specs.Items.{OneItem, repeat, listed}
-use Rattle.stab_circuit.specs.Steps.{unroll}
-use Rattle.stab_circuit.specs.Paths.{Path}
-use Rattle.stab_circuit.specs.Edits.{edit_path, edited_in, edited, inner, steps_in, behind_taken, behind_put, outermost, put_item, first_changed, old_end, new_end}
-use Rattle.stab_circuit.specs.Editings.{IsSpanOf}
-use Rattle.stab_circuit.specs.declared.edit.Edit.{Edit}
-use Rattle.stab_circuit.specs.declared.edit.Edit.TheVariants.{Insert, Replace, Delete}
-use Rattle.stab_circuit.specs.declared.edit.Span.{Span}
-use Rattle.stab_circuit.proofs.EditLemmas.{edits_leave, changed_split, rebuilds, steps-append, steps_split}
-use Rattle.stab_circuit.proofs.UndoLemmas.{new_parts, front_size}
-use Rattle.stab_session.specs.Bounds.{steps_of_item}
-use Rattle.stab_session.specs.inner.Pendings.{IsSpanNow}
+use Rattle.stab_session.proofs.Names.{◌≡◌, ◌≤◌, refl, ap, sym, ◌∙◌, subst, ℕ, ◌+◌, suc, List, [], ◌∷◌, ◌++◌, append_assoc, length, take, drop, arith, Some, Ok, length-append, length-drop, length-take-le, take_at, slice_get, OneItem, repeat, listed, unroll, Path, edit_path, edited_in, edited, inner, steps_in, behind_taken, behind_put, outermost, put_item, first_changed, old_end, new_end, IsSpanOf, Edit, Insert, Replace, Delete, Span, edits_leave, changed_split, rebuilds, steps-append, steps_split, new_parts, front_size, steps_of_item, IsSpanNow}
 
 pub ends-within : (k : ℕ) (xs : List OneItem) → length (unroll (listed (take k xs))) ≤ length (unroll (listed xs))
 ends-within k xs = omega (arith, ap length (steps_split k xs) ∙ length-append (unroll (listed (take k xs))) (unroll (listed (drop k xs))))

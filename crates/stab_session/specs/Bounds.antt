@@ -3,12 +3,13 @@
 use Rattle.std.specs.Prelude.{ℕ, ◌+◌, ◌-◌, ◌*◌, ◌/◌, Bool, List, [], ◌∷◌, Option, Some, None, Result, Ok, Err, length, take, drop, slice_get}
 use Rattle.stab_io.specs.declared.refusal.Refusal.{Refusal}
 use Rattle.stab_circuit.specs.Items.{OneItem, entries, listed}
-use Rattle.stab_circuit.specs.Steps.{unroll}
+use Rattle.stab_circuit.specs.Steps.{unroll, observables_of}
 use Rattle.stab_circuit.specs.Edits.{edit_path, edited, verdict, first_changed, old_end, new_end, put_item}
 use Rattle.stab_circuit.specs.declared.edit.Edit.{Edit}
-use Rattle.stab_run.specs.Points.{Point, origin, point_after}
+use Rattle.stab_run.specs.Runs.{run, start}
+use Rattle.stab_run.specs.Points.{Point, point_of}
 use Rattle.stab_run.specs.Laws.{AgreeAt}
-use Rattle.stab_kept.specs.Counts.{AgreeAsFarAsLooked, IsCounted}
+use Rattle.stab_recording.specs.Counts.{AgreeAsFarAsLooked, IsCounted}
 use Rattle.stab_session.specs.Sessions.{SessionState}
 
 -- how many steps a session's circuit has
@@ -55,9 +56,9 @@ steps_put e new = steps_of_item (elim (edit_path e).blocks [ [] ↦ put_item e |
 abbrev pub steps_near_change : {C : Type 0} → Edit → SessionState C → ℕ
 steps_near_change e new = steps_put e new + 2 * new.stride
 
--- where a session's run is after this many steps
+-- where the run of a session's first steps ends, this many
 abbrev pub point_at : {C : Type 0} → (C → ℕ → Bool) → SessionState C → ℕ → Point
-point_at sequence s k = point_after s.qubits (sequence s.coins) (take k (unroll s.items)) origin
+point_at sequence s k = point_of (run s.qubits (sequence s.coins) (take k (unroll s.items)) (start (observables_of s.items)))
 
 -- this many steps after what an edit took out and what it put in, the old run and the new one have the same group, number of the next
 -- coin and records

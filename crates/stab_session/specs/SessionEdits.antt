@@ -26,7 +26,6 @@ pub record IsAsBefore {C : Type 0} (sequence : C → ℕ → Bool) (old new : Se
   pub free : new.free ≡ old.free
   pub detectors : new.detectors ≡ old.detectors
   pub observables : new.observables ≡ old.observables
-  pub tableau : new.tableau ≡ old.tableau
   pub checkpoints : new.checkpoints ≡ old.checkpoints
 
 -- a round of a block was split off: all except the items is as before

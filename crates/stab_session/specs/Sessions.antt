@@ -2,12 +2,11 @@
 -- Source: this project's own.
 use Rattle.std.specs.Prelude.{◌≡◌, ◌↔◌, ℕ, Bool, true, List, Option, Some, None}
 use Rattle.stab_pauli.specs.Paulis.{Signed, with_sign}
-use Rattle.stab_tableau.specs.Tableaus.{TableauState}
 use Rattle.stab_tableau.specs.Rules.{is_free_by}
 use Rattle.stab_circuit.specs.Items.{Items}
 
--- the items, the number of qubits, the stride, the source of coins, the four lists, the state of the qubits, and the steps before
--- which copies of the state are kept
+-- the items, the number of qubits, the stride, the source of coins, the four lists, and the steps before which copies of the state of the
+-- qubits are kept
 pub record SessionState (C : Type 0) : Type 0 where
   pub items : Items
   pub qubits : ℕ
@@ -17,7 +16,6 @@ pub record SessionState (C : Type 0) : Type 0 where
   pub free : List Bool
   pub detectors : List Bool
   pub observables : List Bool
-  pub tableau : TableauState
   pub checkpoints : List ℕ
 
 -- the sign of a string in a group: the bit with which it is a member, 1 for -, or none if it is a member with neither

@@ -1,3 +1,3 @@
-pub mod KeptSessions
+pub mod SessionRecordings
 pub mod Pendings
 pub mod PauliItems

@@ -8,16 +8,15 @@
 //! - `session`: a circuit with what its run gives, to be read and edited; a round that is split off
 //!   leaves the run.
 //!
-//! The run that a session keeps, with copies of its state, and how it follows an edit, is
-//! `stab_kept`'s. Runs themselves, with their coins and laws, are `stab_run`'s, whose names are here
-//! too.
+//! The recording of a session's run, with copies of its state, and how it follows an edit, is
+//! `stab_recording`'s, whose names and those of runs are here too.
 //!
 //! Source: sessions, and how a run follows an edit, are this project's own.
 //!
 //! Proved: what a session shows is the run of its items from the first step on, whatever edits it
 //! took and whatever rounds were split off: `specs/Headline.antt` says so. How many steps an edit
 //! carries out, how many coins it may ask for if it is refused, and how many copies of the state a
-//! session keeps, is in `specs/Bounds.antt`, over `specs/Counts.antt` of `stab_kept`.
+//! session keeps, is in `specs/Bounds.antt`, over `specs/Counts.antt` of `stab_recording`.
 //! `specs/inner/` has what only private contracts cite.
 #![tactic(auto)]
 
@@ -27,4 +26,5 @@ mod session;
 
 pub use session::{OpenRefused, Report, Session};
 pub use stab_circuit::Edit;
-pub use stab_run::{Coins, ListCoins, Sampler, SeedCoins, Shot, laws, run_once};
+pub use stab_recording::{Sampler, Shot, run_once};
+pub use stab_run::{Coins, ListCoins, SeedCoins, laws};

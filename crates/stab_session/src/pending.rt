@@ -4,7 +4,7 @@ ghost use Rattle.stab_circuit.specs.declared.edit.Edit.TheVariants.{Insert as in
 ghost use Rattle.stab_circuit.specs.Steps.{check_within};
 ghost use Rattle.stab_circuit.specs.Views.{circuit_items};
 ghost use Rattle.stab_circuit.specs.Edits.{list_refusal, verdict, put_item};
-ghost use Rattle.stab_session.specs.inner.Pendings.{taken_back, item_back, kept, IsBegun};
+ghost use Rattle.stab_session.specs.inner.Pendings.{taken_back, item_back, finished, IsBegun};
 
 use stab_circuit::{Circuit, Edit, Item, Path, Refused, Span};
 use std::alloc::Global;
@@ -103,10 +103,10 @@ fn delete(
     }
 }
 
-/// Keeps an edit. It takes no memory.
+/// Finishes an edit. It takes no memory.
 pub fn finish(circuit: &mut Circuit, pending: Pending)
-    requires allowed { list_refusal (kept pending circuit.old) ≡ None }
-    ensures value { kept pending circuit.old ≡ Ok circuit.new }
+    requires allowed { list_refusal (finished pending circuit.old) ≡ None }
+    ensures value { finished pending circuit.old ≡ Ok circuit.new }
 {
     match pending {
         Pending::Inserted(_) => {}

@@ -4,8 +4,8 @@ mod splits;
 pub use edits::Report;
 use stab_circuit::Circuit;
 use stab_io::{Fault, Refusal};
-use stab_kept::{KeptRun, run_kept};
 use stab_pauli::Pauli;
+use stab_recording::{Recording, record_run};
 use stab_run::Coins;
 use stab_tableau::Tableau;
 use std::alloc::Global;
@@ -13,16 +13,16 @@ use std::marker::Model;
 
 /// A circuit with what its run gives, to be read and edited.
 ///
-/// Contracts see its items, its number of qubits, its stride, its coins, the four lists of bits, the
-/// state of its qubits, and the steps before which it keeps copies of that state. The
-/// statement of `specs/Headline.antt`, which each call that gives or takes a session repeats, holds for all of these:
-/// they are those of the run of the items from the first step on.
+/// Contracts see its items, its number of qubits, its stride, its coins, the four lists of bits, and the
+/// steps before which it keeps copies of the state of its qubits. The statement of `specs/Headline.antt`, which
+/// each call that gives or takes a session repeats, holds for all of these: they are those of the run of the
+/// items from the first step on.
 pub struct Session<C: Coins> {
     alloc: Global,
     circuit: Circuit,
     stride: usize,
     coins: C,
-    kept: KeptRun,
+    recording: Recording,
     // What the last edit left over, for the next one to go on in its memory.
     spare: Option<Tableau>,
 }
@@ -35,7 +35,7 @@ impl<C: Coins> Drop for Session<C> {
             circuit: _,
             stride: _,
             coins: _,
-            kept: _,
+            recording: _,
             spare: _,
         } = self;
     }
@@ -53,28 +53,27 @@ pub struct OpenRefused<C: Coins> {
 impl<C: Coins> Model for Session<C> {
     ghost use Rattle.stab_circuit.specs.Views.{circuit_items};
     ghost use Rattle.stab_session.specs.Sessions.{SessionState};
-    ghost use Rattle.stab_session.specs.inner.KeptSessions.{IsKept, session_of, session_code};
+    ghost use Rattle.stab_session.specs.inner.SessionRecordings.{IsRecorded, session_of, session_code};
 
     ghost Value = { SessionState C };
 
     ghost coded = { session_code C.code };
 
-    ghost view = { λ s. session_of (circuit_items s.circuit) s.stride s.coins s.kept };
+    ghost view = { λ s. session_of (circuit_items s.circuit) s.stride s.coins s.recording };
 
-    ghost invariant = { λ s. IsKept C.sequence (session_of (circuit_items s.circuit) s.stride s.coins s.kept) s.kept };
+    ghost invariant = { λ s. IsRecorded C.sequence (session_of (circuit_items s.circuit) s.stride s.coins s.recording) s.recording };
 }
 
 impl<C: Coins> Session<C> {
     ghost use Rattle.std.specs.Prelude.{◌≡◌, ℕ, ◌+◌, ◌≤◌, Bool, None, length, IfOk, IfErr, OnOk};
     ghost use Rattle.stab_io.specs.declared.refusal.Refusal.TheVariants.{OutOfMemory};
     ghost use Rattle.stab_io.specs.Refusals.{IsCallFault};
-    ghost use Rattle.stab_letters.specs.Limits.{most_qubits};
+    ghost use Rattle.stab_gates.specs.Limits.{most_qubits};
     ghost use Rattle.stab_tableau.specs.Traces.{member};
-    ghost use Rattle.stab_tableau.specs.Tableaus.{stabilises};
     ghost use Rattle.stab_tableau.specs.Reduced.{AreReduced};
     ghost use Rattle.stab_circuit.specs.Steps.{unroll, check_within};
     ghost use Rattle.stab_circuit.specs.Views.{circuit_items};
-    ghost use Rattle.stab_run.specs.Limits.{most_stride};
+    ghost use Rattle.stab_recording.specs.Limits.{most_stride};
     ghost use Rattle.stab_run.specs.Records.{ones};
     ghost use Rattle.stab_run.specs.Runs.{run_of};
     ghost use Rattle.stab_run.specs.Points.{all_coins_of};
@@ -113,13 +112,13 @@ impl<C: Coins> Session<C> {
         ensures refused_asks { IfErr result (λ r. C.asks r.coins ≤ C.asks coins + all_coins_of (unroll (circuit_items circuit))) }
     {
         let mut coins = coins;
-        match run_kept(alloc, &circuit, n, stride, &mut coins) {
-            Ok(kept) => Ok(Session {
+        match record_run(alloc, &circuit, n, stride, &mut coins) {
+            Ok(recording) => Ok(Session {
                 alloc,
                 circuit,
                 stride,
                 coins,
-                kept,
+                recording,
                 spare: None,
             }),
             Err(fault) => Err(OpenRefused {
@@ -135,7 +134,7 @@ impl<C: Coins> Session<C> {
         ensures value { result.now ≡ self.now.records }
         ensures statement { IsRunOfItems C.sequence self.now }
     {
-        self.kept.outputs.records.as_slice()
+        self.recording.outputs.records.as_slice()
     }
 
     /// For each coin number, whether the coin decided the outcome.
@@ -143,7 +142,7 @@ impl<C: Coins> Session<C> {
         ensures value { result.now ≡ self.now.free }
         ensures statement { IsRunOfItems C.sequence self.now }
     {
-        self.kept.outputs.free.as_slice()
+        self.recording.outputs.free.as_slice()
     }
 
     /// The parity of each detector's records.
@@ -151,7 +150,7 @@ impl<C: Coins> Session<C> {
         ensures value { result.now ≡ self.now.detectors }
         ensures statement { IsRunOfItems C.sequence self.now }
     {
-        self.kept.outputs.detectors.as_slice()
+        self.recording.outputs.detectors.as_slice()
     }
 
     /// The parity of each observable's records, in the order of their numbers.
@@ -159,7 +158,7 @@ impl<C: Coins> Session<C> {
         ensures value { result.now ≡ self.now.observables }
         ensures statement { IsRunOfItems C.sequence self.now }
     {
-        self.kept.observables.as_slice()
+        self.recording.observables.as_slice()
     }
 
     /// The circuit as it is now.
@@ -175,7 +174,7 @@ impl<C: Coins> Session<C> {
         ensures value { result ≡ self.now.qubits }
         ensures in_range { result ≤ most_qubits }
     {
-        self.kept.tableau.len()
+        self.recording.tableau.len()
     }
 
     /// The sign with which a string stabilises the state after the run, true for -, or `None` if
@@ -188,7 +187,7 @@ impl<C: Coins> Session<C> {
         ensures sign { IsSignIn (member (run_of self.old.qubits (C.sequence self.old.coins) self.old.items).trace) pauli.now result }
         ensures statement { IsRunOfItems C.sequence self.old }
     {
-        self.kept.tableau.sign_of(pauli)
+        self.recording.tableau.sign_of(pauli)
     }
 
     /// The reduced rows of the strings that stabilise the state after the run, in the order of
@@ -198,12 +197,11 @@ impl<C: Coins> Session<C> {
     pub fn reduced_rows(&mut self, alloc: Global) -> Result<Vec<Pauli>, Refusal>
         ensures unchanged { self.new ≡ self.old }
         ensures count { IfOk result (λ rows. length rows.items ≡ self.old.qubits) }
-        ensures reduced { IfOk result (λ rows. AreReduced self.old.qubits (stabilises self.old.tableau) rows.items) }
         ensures reduced_of_run { IfOk result (λ rows. AreReduced self.old.qubits (member (run_of self.old.qubits (C.sequence self.old.coins) self.old.items).trace) rows.items) }
         ensures statement { IsRunOfItems C.sequence self.old }
         ensures err { IfErr result (λ r. r ≡ OutOfMemory) }
     {
-        self.kept.tableau.reduced_rows(alloc)
+        self.recording.tableau.reduced_rows(alloc)
     }
 
     /// A law, and no work: for all random bits, the trace of the run fits the qubits and is sound.

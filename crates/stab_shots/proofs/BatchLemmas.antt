@@ -1,7 +1,5 @@
 -- Batches: the coins of the lanes of a batch.
-use Rattle.std.proofs.Common.{◌≡◌, ℕ, ◌+◌, ◌%◌, ◌∙◌, ap, Bool, arith}
-use Rattle.stab_run.specs.Coins.{seed_coin}
-use Rattle.stab_shots.specs.Seeds.{shot_coins}
+use Rattle.stab_shots.proofs.Names.{◌≡◌, ℕ, ◌+◌, ◌%◌, ◌∙◌, ap, Bool, arith, seed_coin, shot_coins}
 
 -- they are those of the shot so far after the first of all
 pub lane-coins : (seed first made shots l : ℕ) (coins : ℕ → Bool) → shots ≡ made

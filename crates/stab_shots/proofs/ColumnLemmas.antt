@@ -1,8 +1,5 @@
 -- Columns: a byte of each of some words, of which each has a bit for each of eight lanes.
-use Rattle.std.proofs.Common.{◌≡◌, ℕ, refl, ◌+◌, ◌*◌, ◌<◌, List, [], ◌∷◌}
-use Rattle.stab_shots.specs.Words.{word_bit}
-use Rattle.stab_shots.specs.Lanes.{lane_bits}
-use Rattle.stab_shots.specs.Bytes.{lane_bytes}
+use Rattle.stab_shots.proofs.Names.{◌≡◌, ℕ, refl, ◌+◌, ◌*◌, ◌<◌, List, [], ◌∷◌, word_bit, lane_bits, lane_bytes}
 use Rattle.stab_shots.proofs.MovedBitLemmas.{word_bit-byte}
 
 -- a lane of the bytes of words

@@ -1,11 +1,5 @@
 -- Numbers by their bits: the number of binary digits, and a byte of a word.
-use Rattle.std.proofs.Common.{◌≡◌, ℕ, zero, suc, refl, ◌+◌, ◌*◌, ◌/◌, ◌^◌, ◌<◌, ◌≤◌, ◌%◌, ap, sym, ◌∙◌, eqb, Bool, true, false, List, [], ◌∷◌, length, get_or, arith}
-use Rattle.std.specs.Prelude.{if◌then◌else◌}
-use Rattle.std.proofs.lemmas.Nat.{mod-pow-add}
-use Rattle.std.proofs.lemmas.Nat.Bits.{bit_at-suc, bit_at_lowest}
-use Rattle.stab_results.specs.Formats.{number}
-use Rattle.stab_shots.specs.Words.{word_bit}
-use Rattle.stab_shots.specs.Bytes.{byte_at}
+use Rattle.stab_shots.proofs.Names.{◌≡◌, ℕ, zero, suc, refl, ◌+◌, ◌*◌, ◌/◌, ◌^◌, ◌<◌, ◌≤◌, ◌%◌, ap, sym, ◌∙◌, eqb, Bool, true, false, List, [], ◌∷◌, length, get_or, arith, if◌then◌else◌, mod-pow-add, bit_at-suc, bit_at_lowest, number, word_bit, byte_at}
 use Rattle.stab_shots.proofs.MovedBitLemmas.{word_bit-down}
 
 -- the lowest bit of a number

@@ -1,9 +1,5 @@
 -- Exchanges: bits that the halves of 64 words exchange, each word with its partner.
-use Rattle.std.proofs.Common.{◌≡◌, ℕ, refl, ◌+◌, ◌-◌, ◌*◌, ◌/◌, ◌^◌, ◌<◌, ◌≤◌, ◌%◌, ap, sym, ◌∙◌, eqb, Bool, true, false, ◌&&◌, inl, inr, arith, List, get_or}
-use Rattle.std.specs.Prelude.{bit_xor, ◌⊎◌, if◌then◌else◌}
-use Rattle.stab_letters.specs.Letters.{◌⊕◌}
-use Rattle.stab_shots.specs.Words.{word_bit}
-use Rattle.stab_shots.specs.Blocks.{differing, first_exchanged, second_exchanged}
+use Rattle.stab_shots.proofs.Names.{◌≡◌, ℕ, refl, ◌+◌, ◌-◌, ◌*◌, ◌/◌, ◌^◌, ◌<◌, ◌≤◌, ◌%◌, ap, sym, ◌∙◌, eqb, Bool, true, false, ◌&&◌, inl, inr, arith, List, get_or, bit_xor, ◌⊎◌, if◌then◌else◌, ◌⊕◌, word_bit, differing, first_exchanged, second_exchanged}
 use Rattle.stab_shots.proofs.WordLemmas.{word_bit-xor}
 use Rattle.stab_shots.proofs.MovedBitLemmas.{word_bit-and, word_bit-down, word_bit-up, word_bit-up_below, word_bit-cut, word_bit-cut_off}
 

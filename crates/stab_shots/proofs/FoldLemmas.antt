@@ -1,21 +1,5 @@
 -- Folding: frames that steps can't tell apart flip the same, and so do lanes that are again as they were, if nothing is drawn.
-use Rattle.std.proofs.Common.{◌≡◌, ℕ, zero, suc, ◌+◌, ◌*◌, ◌<◌, ◌≤◌, refl, sym, ◌∙◌, ap, subst, true, false, ◌&&◌, List, [], ◌∷◌, ◌++◌, append-nil, append_assoc, length, nat_lt, arith}
-use Rattle.std.specs.Prelude.{None}
-use Rattle.std.specs.List.{list_any}
-use Rattle.std.proofs.lemmas.List.{length-append, length-replicate}
-use Rattle.stab_pauli.specs.Paulis.{Signed, single, strings_anticommute}
-use Rattle.stab_tableau.specs.Gates.{image, image_pair}
-use Rattle.stab_circuit.specs.Steps.{Step, rounds, one, two, controlled, collapse, product, detector, observable, makes, lookbacks, looks_too_far}
-use Rattle.stab_run.specs.Records.{looked_up}
-use Rattle.stab_run.specs.Runs.{when, flip_of, string_of}
-use Rattle.stab_run.specs.Points.{RunOutput, nothing, joined, coins_of, all_coins_of}
-use Rattle.stab_run.specs.RoundLaws.{copies}
-use Rattle.stab_steps.proofs.RunLemmas.{joined-nothing, joined-assoc}
-use Rattle.stab_laws.proofs.LookbackLemmas.{looked_up-more, parity-same, or-left, or-right}
-use Rattle.stab_frames.specs.Frames.{plus, Frame, times_where}
-use Rattle.stab_frames.specs.Notes.{Notes}
-use Rattle.stab_frames.specs.FrameSteps.{flipped_by, letters_by, flips_outcome, letters_measured, letters_after, flips_given, frame_after, frame_over, flips_over}
-use Rattle.stab_shots.specs.Differences.{Difference, frame_of_difference, next_coin, Follows}
+use Rattle.stab_shots.proofs.Names.{◌≡◌, ℕ, zero, suc, ◌+◌, ◌*◌, ◌<◌, ◌≤◌, refl, sym, ◌∙◌, ap, subst, true, false, ◌&&◌, List, [], ◌∷◌, ◌++◌, append-nil, append_assoc, length, nat_lt, arith, None, list_any, length-append, length-replicate, Signed, single, strings_anticommute, image, image_pair, Step, rounds, one, two, controlled, collapse, product, detector, observable, makes, lookbacks, looks_too_far, looked_up, when, flip_of, string_of, RunOutput, nothing, joined, coins_of, all_coins_of, copies, joined-nothing, joined-assoc, looked_up-more, parity-same, or-left, or-right, plus, Frame, times_where, RunPivots, flipped_by, letters_by, flips_outcome, letters_measured, letters_after, flips_given, frame_after, frame_over, flips_over, Difference, frame_of_difference, next_coin, Follows}
 use Rattle.stab_shots.proofs.FollowLemmas.{follows-none, follows-append}
 use Rattle.stab_shots.proofs.LaneRunLemmas.{still-over}
 
@@ -24,39 +8,39 @@ pub record AreAlike (m : ℕ) (f g : Frame) : Type 0 where
   pub letters : f.letters ≡ g.letters
   pub flips : (k : ℕ) → k ≤ m → looked_up f.flips k ≡ looked_up g.flips k
 
--- no string is noted of this many outcomes from a coin number on
-abbrev pub HasNone : Notes → (coin count : ℕ) → Type 0
-HasNone notes coin count = (t : ℕ) → t < count → notes.strings (coin + t) ≡ None
+-- no pivot is recorded of this many outcomes from a coin number on
+abbrev pub HasNone : RunPivots → (coin count : ℕ) → Type 0
+HasNone pivots coin count = (t : ℕ) → t < count → pivots.strings (coin + t) ≡ None
 
 -- what a step makes of such frames, whatever the numbers of its coins
 
-module _ (n m : ℕ) (notes : Notes) (c d : ℕ) (f g : Frame) (same : AreAlike m f g) where
-  outcome-alike : (s : Signed) → notes.strings (c + 0) ≡ None → notes.strings (d + 0) ≡ None
-      → flips_outcome notes c s f.letters ≡ flips_outcome notes d s g.letters
+module _ (n m : ℕ) (pivots : RunPivots) (c d : ℕ) (f g : Frame) (same : AreAlike m f g) where
+  outcome-alike : (s : Signed) → pivots.strings (c + 0) ≡ None → pivots.strings (d + 0) ≡ None
+      → flips_outcome pivots c s f.letters ≡ flips_outcome pivots d s g.letters
   outcome-alike s here there =
-      ap (λ t. flips_outcome notes t s f.letters) (more c)
-      ∙ ap (λ o. flipped_by o (notes.changes (c + 0)) s f.letters) here
+      ap (λ t. flips_outcome pivots t s f.letters) (more c)
+      ∙ ap (λ o. flipped_by o (pivots.changes (c + 0)) s f.letters) here
       ∙ ap (λ l. strings_anticommute l s.letters) same.letters
-      ∙ sym (ap (λ o. flipped_by o (notes.changes (d + 0)) s g.letters) there)
-      ∙ sym (ap (λ t. flips_outcome notes t s g.letters) (more d))
+      ∙ sym (ap (λ o. flipped_by o (pivots.changes (d + 0)) s g.letters) there)
+      ∙ sym (ap (λ t. flips_outcome pivots t s g.letters) (more d))
     where
       more : (t : ℕ) → t ≡ t + 0
       more t = omega arith
 
-  measured-alike : (s : Signed) → notes.strings (c + 0) ≡ None → notes.strings (d + 0) ≡ None
-      → letters_measured notes c s f.letters ≡ letters_measured notes d s g.letters
+  measured-alike : (s : Signed) → pivots.strings (c + 0) ≡ None → pivots.strings (d + 0) ≡ None
+      → letters_measured pivots c s f.letters ≡ letters_measured pivots d s g.letters
   measured-alike s here there =
-      ap (λ t. letters_measured notes t s f.letters) (more c)
-      ∙ ap (λ o. letters_by o (notes.changes (c + 0)) s f.letters) here
+      ap (λ t. letters_measured pivots t s f.letters) (more c)
+      ∙ ap (λ o. letters_by o (pivots.changes (c + 0)) s f.letters) here
       ∙ same.letters
-      ∙ sym (ap (λ o. letters_by o (notes.changes (d + 0)) s g.letters) there)
-      ∙ sym (ap (λ t. letters_measured notes t s g.letters) (more d))
+      ∙ sym (ap (λ o. letters_by o (pivots.changes (d + 0)) s g.letters) there)
+      ∙ sym (ap (λ t. letters_measured pivots t s g.letters) (more d))
     where
       more : (t : ℕ) → t ≡ t + 0
       more t = omega arith
 
-  letters-alike : (x : Step) → list_any (nat_lt m) (lookbacks x) ≡ false → HasNone notes c (coins_of x) → HasNone notes d (coins_of x)
-      → letters_after n notes x c f ≡ letters_after n notes x d g
+  letters-alike : (x : Step) → list_any (nat_lt m) (lookbacks x) ≡ false → HasNone pivots c (coins_of x) → HasNone pivots d (coins_of x)
+      → letters_after n pivots x c f ≡ letters_after n pivots x d g
   letters-alike (one h q) near here there = ap (λ l. (image h q (plus l)).letters) same.letters
   letters-alike (two h p q) near here there = ap (λ l. (image_pair h p q (plus l)).letters) same.letters
   letters-alike (controlled l k q) near here there =
@@ -72,8 +56,8 @@ module _ (n m : ℕ) (notes : Notes) (c d : ℕ) (f g : Frame) (same : AreAlike 
   letters-alike (detector ks) near here there = same.letters
   letters-alike (observable j ks) near here there = same.letters
 
-  given-alike : (x : Step) → list_any (nat_lt m) (lookbacks x) ≡ false → HasNone notes c (coins_of x) → HasNone notes d (coins_of x)
-      → flips_given n notes x c f ≡ flips_given n notes x d g
+  given-alike : (x : Step) → list_any (nat_lt m) (lookbacks x) ≡ false → HasNone pivots c (coins_of x) → HasNone pivots d (coins_of x)
+      → flips_given n pivots x c f ≡ flips_given n pivots x d g
   given-alike (one h q) near here there = refl
   given-alike (two h p q) near here there = refl
   given-alike (controlled l k q) near here there = refl
@@ -85,61 +69,61 @@ module _ (n m : ℕ) (notes : Notes) (c d : ℕ) (f g : Frame) (same : AreAlike 
   given-alike (observable j ks) near here there =
       ap (λ b. record nothing { additions = record { observable = j; bit = b } ∷ [] }) (parity-same m f.flips g.flips same.flips ks near)
 
-given-makes : (n : ℕ) (notes : Notes) (x : Step) (c : ℕ) (f : Frame) → length (flips_given n notes x c f).records ≡ makes x
-given-makes n notes (one g q) c f = refl
-given-makes n notes (two g p q) c f = refl
-given-makes n notes (controlled l k q) c f = refl
-given-makes n notes (collapse l q true inverted resets) c f = refl
-given-makes n notes (collapse l q false inverted resets) c f = refl
-given-makes n notes (product factors inverted) c f = refl
-given-makes n notes (detector ks) c f = refl
-given-makes n notes (observable j ks) c f = refl
+given-makes : (n : ℕ) (pivots : RunPivots) (x : Step) (c : ℕ) (f : Frame) → length (flips_given n pivots x c f).records ≡ makes x
+given-makes n pivots (one g q) c f = refl
+given-makes n pivots (two g p q) c f = refl
+given-makes n pivots (controlled l k q) c f = refl
+given-makes n pivots (collapse l q true inverted resets) c f = refl
+given-makes n pivots (collapse l q false inverted resets) c f = refl
+given-makes n pivots (product factors inverted) c f = refl
+given-makes n pivots (detector ks) c f = refl
+given-makes n pivots (observable j ks) c f = refl
 
 -- and steps
-pub over-alike : (n m : ℕ) (notes : Notes) (xs : List Step) (c d : ℕ) (f g : Frame) → looks_too_far m xs ≡ false → AreAlike m f g
-    → HasNone notes c (all_coins_of xs) → HasNone notes d (all_coins_of xs)
-    → (flips_over n notes xs c f ≡ flips_over n notes xs d g) × ((frame_over n notes xs c f).letters ≡ (frame_over n notes xs d g).letters)
-over-alike n m notes [] c d f g near same here there = (refl, same.letters)
-over-alike n m notes (x ∷ xs) c d f g near same here there =
+pub over-alike : (n m : ℕ) (pivots : RunPivots) (xs : List Step) (c d : ℕ) (f g : Frame) → looks_too_far m xs ≡ false → AreAlike m f g
+    → HasNone pivots c (all_coins_of xs) → HasNone pivots d (all_coins_of xs)
+    → (flips_over n pivots xs c f ≡ flips_over n pivots xs d g) × ((frame_over n pivots xs c f).letters ≡ (frame_over n pivots xs d g).letters)
+over-alike n m pivots [] c d f g near same here there = (refl, same.letters)
+over-alike n m pivots (x ∷ xs) c d f g near same here there =
     let later =
-    over-alike n (m + makes x) notes xs (c + coins_of x) (d + coins_of x) (frame_after n notes x c f) (frame_after n notes x d g)
+    over-alike n (m + makes x) pivots xs (c + coins_of x) (d + coins_of x) (frame_after n pivots x c f) (frame_after n pivots x d g)
     (or-right (list_any (nat_lt m) (lookbacks x)) (looks_too_far (m + makes x) xs) near) next (behind c here) (behind d there) in
     ((λ i. joined (given i) (later.0 i)), later.1)
   where
     first : list_any (nat_lt m) (lookbacks x) ≡ false
     first = or-left (list_any (nat_lt m) (lookbacks x)) (looks_too_far (m + makes x) xs) near
 
-    before : (b : ℕ) → HasNone notes b (coins_of x + all_coins_of xs) → HasNone notes b (coins_of x)
+    before : (b : ℕ) → HasNone pivots b (coins_of x + all_coins_of xs) → HasNone pivots b (coins_of x)
     before b none t lt = none t (omega (arith, lt))
 
-    behind : (b : ℕ) → HasNone notes b (coins_of x + all_coins_of xs) → HasNone notes (b + coins_of x) (all_coins_of xs)
-    behind b none t lt = ap notes.strings {x = (b + coins_of x) + t} {y = b + (coins_of x + t)} (omega arith) ∙ none (coins_of x + t) (omega (arith, lt))
+    behind : (b : ℕ) → HasNone pivots b (coins_of x + all_coins_of xs) → HasNone pivots (b + coins_of x) (all_coins_of xs)
+    behind b none t lt = ap pivots.strings {x = (b + coins_of x) + t} {y = b + (coins_of x + t)} (omega arith) ∙ none (coins_of x + t) (omega (arith, lt))
 
-    given : flips_given n notes x c f ≡ flips_given n notes x d g
-    given = given-alike n m notes c d f g same x first (before c here) (before d there)
+    given : flips_given n pivots x c f ≡ flips_given n pivots x d g
+    given = given-alike n m pivots c d f g same x first (before c here) (before d there)
 
-    next : AreAlike (m + makes x) (frame_after n notes x c f) (frame_after n notes x d g)
+    next : AreAlike (m + makes x) (frame_after n pivots x c f) (frame_after n pivots x d g)
     next = record {
-      letters = letters-alike n m notes c d f g same x first (before c here) (before d there);
+      letters = letters-alike n m pivots c d f g same x first (before c here) (before d there);
       flips = λ k le.
           ap (λ (o : RunOutput). looked_up (f.flips ++ o.records) k) given
-          ∙ looked_up-more m f.flips g.flips (flips_given n notes x d g).records same.flips k (subst (λ j. k ≤ m + j) (sym (given-makes n notes x d g)) le);
+          ∙ looked_up-more m f.flips g.flips (flips_given n pivots x d g).records same.flips k (subst (λ j. k ≤ m + j) (sym (given-makes n pivots x d g)) le);
     }
 
 -- the flips of a frame are put after those before
-frame-flips : (n : ℕ) (notes : Notes) (xs : List Step) (c : ℕ) (f : Frame) → (frame_over n notes xs c f).flips ≡ f.flips ++ (flips_over n notes xs c f).records
-frame-flips n notes [] c f = sym (append-nil f.flips)
-frame-flips n notes (x ∷ xs) c f =
-    frame-flips n notes xs (c + coins_of x) (frame_after n notes x c f)
-    ∙ append_assoc f.flips (flips_given n notes x c f).records (flips_over n notes xs (c + coins_of x) (frame_after n notes x c f)).records
+frame-flips : (n : ℕ) (pivots : RunPivots) (xs : List Step) (c : ℕ) (f : Frame) → (frame_over n pivots xs c f).flips ≡ f.flips ++ (flips_over n pivots xs c f).records
+frame-flips n pivots [] c f = sym (append-nil f.flips)
+frame-flips n pivots (x ∷ xs) c f =
+    frame-flips n pivots xs (c + coins_of x) (frame_after n pivots x c f)
+    ∙ append_assoc f.flips (flips_given n pivots x c f).records (flips_over n pivots xs (c + coins_of x) (frame_after n pivots x c f)).records
 
 -- a lane went over steps, and is again as it was before them, as far back as these look
 
-module _ (n m : ℕ) (notes : Notes) (xs : List Step) (a b : Difference) (near : looks_too_far m xs ≡ false) (led : Follows n notes xs a b)
+module _ (n m : ℕ) (pivots : RunPivots) (xs : List Step) (a b : Difference) (near : looks_too_far m xs ≡ false) (advanced : Follows n pivots xs a b)
     (same : a.letters ≡ b.letters) (back : (k : ℕ) → k ≤ m → looked_up a.flips.records k ≡ looked_up b.flips.records k)
-    (none : HasNone notes (next_coin a) (all_coins_of xs)) where
+    (none : HasNone pivots (next_coin a) (all_coins_of xs)) where
   abbrev flipped : RunOutput
-  flipped = flips_over n notes xs (next_coin a) (frame_of_difference a)
+  flipped = flips_over n pivots xs (next_coin a) (frame_of_difference a)
 
   -- what a lane that is as this one becomes, if it flips the same this often
   abbrev pub again : ℕ → Difference → Difference
@@ -151,21 +135,21 @@ module _ (n m : ℕ) (notes : Notes) (xs : List Step) (a b : Difference) (near :
   coins-once : (d : Difference) → next_coin (once d) ≡ next_coin d + all_coins_of xs
   coins-once d =
       length-append d.flips.free flipped.free
-      ∙ ap (λ k. next_coin d + k) (ap length (still-over n notes xs (next_coin a) (frame_of_difference a)) ∙ length-replicate (all_coins_of xs) false)
+      ∙ ap (λ k. next_coin d + k) (ap length (still-over n pivots xs (next_coin a) (frame_of_difference a)) ∙ length-replicate (all_coins_of xs) false)
 
   module _ (d : Difference) (alike : AreAlike m (frame_of_difference d) (frame_of_difference a)) where
-    over : HasNone notes (next_coin d) (all_coins_of xs)
-        → (flips_over n notes xs (next_coin d) (frame_of_difference d) ≡ flipped)
-        × ((frame_over n notes xs (next_coin d) (frame_of_difference d)).letters ≡ (frame_over n notes xs (next_coin a) (frame_of_difference a)).letters)
-    over here = over-alike n m notes xs (next_coin d) (next_coin a) (frame_of_difference d) (frame_of_difference a) near alike here none
+    over : HasNone pivots (next_coin d) (all_coins_of xs)
+        → (flips_over n pivots xs (next_coin d) (frame_of_difference d) ≡ flipped)
+        × ((frame_over n pivots xs (next_coin d) (frame_of_difference d)).letters ≡ (frame_over n pivots xs (next_coin a) (frame_of_difference a)).letters)
+    over here = over-alike n m pivots xs (next_coin d) (next_coin a) (frame_of_difference d) (frame_of_difference a) near alike here none
 
-    follows-once : HasNone notes (next_coin d) (all_coins_of xs) → Follows n notes xs d (once d)
+    follows-once : HasNone pivots (next_coin d) (all_coins_of xs) → Follows n pivots xs d (once d)
     follows-once here = record {
       frame = λ i. record {
-        letters = (alike.letters ∙ same ∙ ap (λ (f : Frame). f.letters) led.frame ∙ sym (over here).1) i;
+        letters = (alike.letters ∙ same ∙ ap (λ (f : Frame). f.letters) advanced.frame ∙ sym (over here).1) i;
         flips =
             (ap (λ (o : RunOutput). d.flips.records ++ o.records) (sym (over here).0)
-            ∙ sym (frame-flips n notes xs (next_coin d) (frame_of_difference d))) i;
+            ∙ sym (frame-flips n pivots xs (next_coin d) (frame_of_difference d))) i;
       };
       flips = ap (joined d.flips) (sym (over here).0);
       coin = coins-once d;
@@ -176,19 +160,19 @@ module _ (n m : ℕ) (notes : Notes) (xs : List Step) (a b : Difference) (near :
       letters = alike.letters;
       flips = λ k le.
           looked_up-more m d.flips.records a.flips.records flipped.records alike.flips k (omega (arith, le))
-          ∙ ap (λ (o : RunOutput). looked_up o.records k) (sym led.flips)
+          ∙ ap (λ (o : RunOutput). looked_up o.records k) (sym advanced.flips)
           ∙ sym (back k le);
     }
 
-  pub follows-again : (k : ℕ) (d : Difference) → AreAlike m (frame_of_difference d) (frame_of_difference a) → HasNone notes (next_coin d) (k * all_coins_of xs)
-      → Follows n notes (rounds k xs) d (again k d)
+  pub follows-again : (k : ℕ) (d : Difference) → AreAlike m (frame_of_difference d) (frame_of_difference a) → HasNone pivots (next_coin d) (k * all_coins_of xs)
+      → Follows n pivots (rounds k xs) d (again k d)
   follows-again zero d alike here =
-      subst (Follows n notes [] d) (λ i. record { letters = d.letters; flips = sym (joined-nothing d.flips) i }) (follows-none n notes d)
+      subst (Follows n pivots [] d) (λ i. record { letters = d.letters; flips = sym (joined-nothing d.flips) i }) (follows-none n pivots d)
   follows-again (suc k) d alike here =
-      subst (Follows n notes (xs ++ rounds k xs) d) (λ i. record { letters = d.letters; flips = joined-assoc d.flips flipped (copies k flipped) i })
-      (follows-append n notes xs (rounds k xs) d (once d) (again k (once d))
+      subst (Follows n pivots (xs ++ rounds k xs) d) (λ i. record { letters = d.letters; flips = joined-assoc d.flips flipped (copies k flipped) i })
+      (follows-append n pivots xs (rounds k xs) d (once d) (again k (once d))
       (follows-once d alike (λ t lt. here t (less t lt)))
-      (follows-again k (once d) (alike-once d alike) (λ t lt. ap notes.strings (place t) ∙ here (all_coins_of xs + t) (more t lt))))
+      (follows-again k (once d) (alike-once d alike) (λ t lt. ap pivots.strings (place t) ∙ here (all_coins_of xs + t) (more t lt))))
     where
       one-more : (k c : ℕ) → c + k * c ≡ suc k * c
       one-more k c = omega arith

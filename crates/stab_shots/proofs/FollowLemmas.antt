@@ -1,76 +1,58 @@
 -- Follows: how the difference of a lane goes over steps, one by one and one after another.
-use Rattle.std.proofs.Common.{◌≡◌, ℕ, ◌+◌, ◌<◌, ◌≤◌, refl, sym, ◌∙◌, ap, subst, Bool, false, ◌&&◌, List, [], ◌∷◌, ◌++◌, append-nil, length, map, take, get_or, arith}
-use Rattle.std.proofs.lemmas.List.{length-append, map_more, take_all}
-use Rattle.stab_letters.specs.declared.letter.Letter.{Letter}
-use Rattle.stab_letters.specs.declared.gate.Gate.{Gate}
-use Rattle.stab_letters.specs.declared.gate.PairGate.{PairGate}
-use Rattle.stab_pauli.specs.Paulis.{single}
-use Rattle.stab_tableau.specs.Gates.{image, image_pair}
-use Rattle.stab_lines.specs.declared.product.Factor.{Factor}
-use Rattle.stab_circuit.specs.Steps.{Step, one, two, controlled, collapse, product, detector, observable}
-use Rattle.stab_run.specs.Records.{looked_up, parity}
-use Rattle.stab_run.specs.Runs.{when, flip_of, string_of}
-use Rattle.stab_run.specs.Points.{RunOutput, nothing, joined, coins_of, all_coins_of}
-use Rattle.stab_steps.proofs.RunLemmas.{joined-nothing, joined-assoc}
-use Rattle.stab_laws.proofs.CoinLemmas.{coins-append}
-use Rattle.stab_frames.specs.Frames.{plus, times_where}
-use Rattle.stab_frames.specs.Notes.{Notes}
-use Rattle.stab_frames.specs.FrameSteps.{letters_after, flips_given, frame_over, flips_over}
-use Rattle.stab_frames.proofs.OverLemmas.{frame-append, flips-append}
-use Rattle.stab_shots.specs.Differences.{Difference, frame_of_difference, next_coin, Follows, IsMeasuredBy}
+use Rattle.stab_shots.proofs.Names.{◌≡◌, ℕ, ◌+◌, ◌<◌, ◌≤◌, refl, sym, ◌∙◌, ap, subst, Bool, false, ◌&&◌, List, [], ◌∷◌, ◌++◌, append-nil, length, map, take, get_or, arith, length-append, map_more, take_all, Letter, Gate, PairGate, single, image, image_pair, Factor, Step, one, two, controlled, collapse, product, detector, looked_up, parity, when, flip_of, string_of, RunOutput, nothing, joined, coins_of, all_coins_of, joined-nothing, joined-assoc, coins-append, plus, times_where, RunPivots, letters_after, flips_given, frame_over, flips_over, frame-append, flips-append, Difference, frame_of_difference, next_coin, Follows, IsMeasuredBy}
 
 -- steps one after another
 
-pub follows-none : (n : ℕ) (notes : Notes) (a : Difference) → Follows n notes [] a a
-follows-none n notes a = record { frame = refl; flips = sym (joined-nothing a.flips); coin = omega arith }
+pub follows-none : (n : ℕ) (pivots : RunPivots) (a : Difference) → Follows n pivots [] a a
+follows-none n pivots a = record { frame = refl; flips = sym (joined-nothing a.flips); coin = omega arith }
 
-pub follows-append : (n : ℕ) (notes : Notes) (xs ys : List Step) (a b c : Difference) → Follows n notes xs a b → Follows n notes ys b c → Follows n notes (xs ++ ys) a c
-follows-append n notes xs ys a b c first then = record {
+pub follows-append : (n : ℕ) (pivots : RunPivots) (xs ys : List Step) (a b c : Difference) → Follows n pivots xs a b → Follows n pivots ys b c → Follows n pivots (xs ++ ys) a c
+follows-append n pivots xs ys a b c first then = record {
   frame =
       then.frame
-      ∙ (λ i. frame_over n notes ys (first.coin i) (first.frame i))
-      ∙ sym (frame-append n notes xs ys (next_coin a) (frame_of_difference a));
+      ∙ (λ i. frame_over n pivots ys (first.coin i) (first.frame i))
+      ∙ sym (frame-append n pivots xs ys (next_coin a) (frame_of_difference a));
   flips =
       then.flips
-      ∙ (λ i. joined (first.flips i) (flips_over n notes ys (first.coin i) (first.frame i)))
-      ∙ joined-assoc a.flips (flips_over n notes xs (next_coin a) (frame_of_difference a))
-      (flips_over n notes ys (next_coin a + all_coins_of xs) (frame_over n notes xs (next_coin a) (frame_of_difference a)))
-      ∙ ap (joined a.flips) (sym (flips-append n notes xs ys (next_coin a) (frame_of_difference a)));
+      ∙ (λ i. joined (first.flips i) (flips_over n pivots ys (first.coin i) (first.frame i)))
+      ∙ joined-assoc a.flips (flips_over n pivots xs (next_coin a) (frame_of_difference a))
+      (flips_over n pivots ys (next_coin a + all_coins_of xs) (frame_over n pivots xs (next_coin a) (frame_of_difference a)))
+      ∙ ap (joined a.flips) (sym (flips-append n pivots xs ys (next_coin a) (frame_of_difference a)));
   coin = omega (arith, then.coin, first.coin, coins-append xs ys);
 }
 
 -- over the first of the steps that are left, and over the others
-pub follows-steps : (n : ℕ) (notes : Notes) (xs ys rest : List Step) (a b new : Difference) → xs ≡ ys ++ rest → Follows n notes ys a b → Follows n notes rest b new
-    → Follows n notes xs a new
-follows-steps n notes xs ys rest a b new e first then =
-    subst (λ zs. Follows n notes zs a new) (sym e) (follows-append n notes ys rest a b new first then)
+pub follows-steps : (n : ℕ) (pivots : RunPivots) (xs ys rest : List Step) (a b new : Difference) → xs ≡ ys ++ rest → Follows n pivots ys a b → Follows n pivots rest b new
+    → Follows n pivots xs a new
+follows-steps n pivots xs ys rest a b new e first then =
+    subst (λ zs. Follows n pivots zs a new) (sym e) (follows-append n pivots ys rest a b new first then)
 
 -- over the targets before a place, and over that at the place
-pub follows-target : {X : Type 0} (n : ℕ) (notes : Notes) (step : X → Step) (xs : List X) (i : ℕ) (x : X) (a b new : Difference) → i < length xs
-    → x ≡ get_or xs i x → Follows n notes (map step (take i xs)) a b → Follows n notes (step x ∷ []) b new → Follows n notes (map step (take (i + 1) xs)) a new
-follows-target n notes step xs i x a b new lt is first then =
-    subst (λ ys. Follows n notes ys a new) (sym more) (follows-append n notes (map step (take i xs)) (step x ∷ []) a b new first then)
+pub follows-target : {X : Type 0} (n : ℕ) (pivots : RunPivots) (step : X → Step) (xs : List X) (i : ℕ) (x : X) (a b new : Difference) → i < length xs
+    → x ≡ get_or xs i x → Follows n pivots (map step (take i xs)) a b → Follows n pivots (step x ∷ []) b new → Follows n pivots (map step (take (i + 1) xs)) a new
+follows-target n pivots step xs i x a b new lt is first then =
+    subst (λ ys. Follows n pivots ys a new) (sym more) (follows-append n pivots (map step (take i xs)) (step x ∷ []) a b new first then)
   where
     more : map step (take (i + 1) xs) ≡ map step (take i xs) ++ step x ∷ []
     more = map_more step xs i x lt ∙ ap (λ y. map step (take i xs) ++ step y ∷ []) (sym is)
 
 -- over no fewer targets than there are
-pub follows-targets : {X : Type 0} (n : ℕ) (notes : Notes) (step : X → Step) (xs : List X) (i : ℕ) (a b : Difference) → length xs ≤ i
-    → Follows n notes (map step (take i xs)) a b → Follows n notes (map step xs) a b
-follows-targets n notes step xs i a b all is = subst (λ ys. Follows n notes (map step ys) a b) (take_all i xs all) is
+pub follows-targets : {X : Type 0} (n : ℕ) (pivots : RunPivots) (step : X → Step) (xs : List X) (i : ℕ) (a b : Difference) → length xs ≤ i
+    → Follows n pivots (map step (take i xs)) a b → Follows n pivots (map step xs) a b
+follows-targets n pivots step xs i a b all is = subst (λ ys. Follows n pivots (map step ys) a b) (take_all i xs all) is
 
 -- one step
 
 -- as that which it is
-pub follows-as : (n : ℕ) (notes : Notes) (x y : Step) (old new : Difference) → x ≡ y → Follows n notes (y ∷ []) old new → Follows n notes (x ∷ []) old new
-follows-as n notes x y old new e is = subst (λ z. Follows n notes (z ∷ []) old new) (sym e) is
+pub follows-as : (n : ℕ) (pivots : RunPivots) (x y : Step) (old new : Difference) → x ≡ y → Follows n pivots (y ∷ []) old new → Follows n pivots (x ∷ []) old new
+follows-as n pivots x y old new e is = subst (λ z. Follows n pivots (z ∷ []) old new) (sym e) is
 
-module _ (n : ℕ) (notes : Notes) (old new : Difference) where
-  follows-step : (x : Step) → new.letters ≡ letters_after n notes x (next_coin old) (frame_of_difference old)
-      → new.flips ≡ joined old.flips (flips_given n notes x (next_coin old) (frame_of_difference old))
-      → length (flips_given n notes x (next_coin old) (frame_of_difference old)).free ≡ coins_of x → Follows n notes (x ∷ []) old new
+module _ (n : ℕ) (pivots : RunPivots) (old new : Difference) where
+  follows-step : (x : Step) → new.letters ≡ letters_after n pivots x (next_coin old) (frame_of_difference old)
+      → new.flips ≡ joined old.flips (flips_given n pivots x (next_coin old) (frame_of_difference old))
+      → length (flips_given n pivots x (next_coin old) (frame_of_difference old)).free ≡ coins_of x → Follows n pivots (x ∷ []) old new
   follows-step x letters flips coins =
-      let given = flips_given n notes x (next_coin old) (frame_of_difference old) in
+      let given = flips_given n pivots x (next_coin old) (frame_of_difference old) in
       let count = ap (λ (o : RunOutput). length o.free) flips ∙ length-append old.flips.free given.free in
       record {
         frame = λ i. record { letters = letters i; flips = (flips i).records };
@@ -80,22 +62,22 @@ module _ (n : ℕ) (notes : Notes) (old new : Difference) where
 
   -- gates, which flip nothing
 
-  pub follows-one : (g : Gate) (q : ℕ) → new.letters ≡ (image g q (plus old.letters)).letters → new.flips ≡ old.flips → Follows n notes (one g q ∷ []) old new
+  pub follows-one : (g : Gate) (q : ℕ) → new.letters ≡ (image g q (plus old.letters)).letters → new.flips ≡ old.flips → Follows n pivots (one g q ∷ []) old new
   follows-one g q letters flips = follows-step (one g q) letters (flips ∙ sym (joined-nothing old.flips)) refl
 
   pub follows-two : (g : PairGate) (a b : ℕ) → new.letters ≡ (image_pair g a b (plus old.letters)).letters → new.flips ≡ old.flips
-      → Follows n notes (two g a b ∷ []) old new
+      → Follows n pivots (two g a b ∷ []) old new
   follows-two g a b letters flips = follows-step (two g a b) letters (flips ∙ sym (joined-nothing old.flips)) refl
 
   pub follows-controlled : (l : Letter) (k q : ℕ) (bit : Bool) → bit ≡ looked_up old.flips.records k → new.letters ≡ times_where bit (single n q l).letters old.letters
-      → new.flips ≡ old.flips → Follows n notes (controlled l k q ∷ []) old new
+      → new.flips ≡ old.flips → Follows n pivots (controlled l k q ∷ []) old new
   follows-controlled l k q bit is letters flips =
       follows-step (controlled l k q) (letters ∙ ap (λ b. times_where b (single n q l).letters old.letters) is) (flips ∙ sym (joined-nothing old.flips)) refl
 
   -- parities of records
 
   pub follows-detector : (ks : List ℕ) → new.letters ≡ old.letters → new.flips ≡ record old.flips { detectors = old.flips.detectors ++ parity old.flips.records ks ∷ [] }
-      → Follows n notes (detector ks ∷ []) old new
+      → Follows n pivots (detector ks ∷ []) old new
   follows-detector ks letters flips =
       follows-step (detector ks) letters
       (flips
@@ -120,16 +102,16 @@ module _ (n : ℕ) (notes : Notes) (old new : Difference) where
         additions = sym (append-nil old.flips.additions) i;
       })
 
-  pub follows-collapse : (l : Letter) (q : ℕ) (recorded inverted resets flip : Bool) (mid : Difference) → IsMeasuredBy notes (single n q l) flip old mid
+  pub follows-collapse : (l : Letter) (q : ℕ) (recorded inverted resets flip : Bool) (mid : Difference) → IsMeasuredBy pivots (single n q l) flip old mid
       → new.letters ≡ times_where (resets && flip) (single n q (flip_of l)).letters mid.letters
-      → new.flips ≡ record mid.flips { records = mid.flips.records ++ when recorded flip } → Follows n notes (collapse l q recorded inverted resets ∷ []) old new
+      → new.flips ≡ record mid.flips { records = mid.flips.records ++ when recorded flip } → Follows n pivots (collapse l q recorded inverted resets ∷ []) old new
   follows-collapse l q recorded inverted resets flip mid is letters flips =
       follows-step (collapse l q recorded inverted resets)
       (letters ∙ (λ i. times_where (resets && is.outcome i) (single n q (flip_of l)).letters (is.letters i)))
       (measured-flips mid (when recorded flip) is.flips flips ∙ ap (λ b. joined old.flips (record nothing { records = when recorded b; free = false ∷ [] })) is.outcome) refl
 
-  pub follows-product : (factors : List Factor) (inverted flip : Bool) (mid : Difference) → IsMeasuredBy notes (string_of n factors) flip old mid
-      → new.letters ≡ mid.letters → new.flips ≡ record mid.flips { records = mid.flips.records ++ flip ∷ [] } → Follows n notes (product factors inverted ∷ []) old new
+  pub follows-product : (factors : List Factor) (inverted flip : Bool) (mid : Difference) → IsMeasuredBy pivots (string_of n factors) flip old mid
+      → new.letters ≡ mid.letters → new.flips ≡ record mid.flips { records = mid.flips.records ++ flip ∷ [] } → Follows n pivots (product factors inverted ∷ []) old new
   follows-product factors inverted flip mid is letters flips =
       follows-step (product factors inverted) (letters ∙ is.letters)
       (measured-flips mid (flip ∷ []) is.flips flips ∙ ap (λ b. joined old.flips (record nothing { records = b ∷ []; free = false ∷ [] })) is.outcome) refl

@@ -1,19 +1,5 @@
 -- Frames: the strings of lanes, whose letters are changed at one place.
-use Rattle.std.proofs.Common.{◌≡◌, ℕ, zero, suc, ◌+◌, ◌-◌, ◌<◌, ◌≤◌, refl, sym, ◌∙◌, ap, Bool, true, false, List, [], ◌∷◌, length, get_or, set, take, arith}
-use Rattle.std.proofs.lemmas.List.{map-set, get_or-map, set-get_or, length-replicate}
-use Rattle.stab_letters.specs.declared.letter.Letter.{Letter}
-use Rattle.stab_letters.specs.declared.letter.Letter.TheVariants.{I, X, Y, Z}
-use Rattle.stab_letters.specs.Letters.{letter_product}
-use Rattle.stab_pauli.specs.Paulis.{single, string_product}
-use Rattle.stab_pauli.proofs.StringLemmas.{string_product-empty, string_product-blank_right}
-use Rattle.stab_letters.specs.declared.gate.Gate.{Gate}
-use Rattle.stab_letters.specs.declared.gate.PairGate.{PairGate}
-use Rattle.stab_tableau.specs.Gates.{letter_image, letter_at, pair_letters, image, image_pair}
-use Rattle.stab_tableau.specs.inner.InverseRows.{blank}
-use Rattle.stab_tableau.proofs.PlaceLemmas.{string_product-set}
-use Rattle.stab_shots.specs.declared.letters.Letters.{Letters}
-use Rattle.stab_frames.specs.Frames.{plus, times_where}
-use Rattle.stab_shots.specs.Lanes.{letter_in, lane_letters, letter_times}
+use Rattle.stab_shots.proofs.Names.{◌≡◌, ℕ, zero, suc, ◌+◌, ◌-◌, ◌<◌, ◌≤◌, refl, sym, ◌∙◌, ap, Bool, true, false, List, [], ◌∷◌, length, get_or, set, take, arith, map-set, get_or-map, set-get_or, length-replicate, Letter, I, X, Y, Z, letter_product, single, string_product, string_product-empty, string_product-blank_right, Gate, PairGate, letter_image, letter_at, pair_letters, image, image_pair, blank, string_product-set, Letters, plus, times_where, letter_in, lane_letters, letter_times}
 
 -- strings one letter longer
 

@@ -1,13 +1,5 @@
 -- Lanes: the bits of a lane of words that are added up, and put after others.
-use Rattle.std.proofs.Common.{◌≡◌, ℕ, zero, suc, ◌+◌, ◌<◌, ◌≤◌, refl, sym, ◌∙◌, ap, Bool, true, false, List, [], ◌∷◌, ◌++◌, append-nil, length, get_or, set, take, drop, map, replicate, arith}
-use Rattle.std.specs.Prelude.{if◌then◌else◌}
-use Rattle.std.proofs.lemmas.List.{get_or-map, map-append, map-set, drop_more, take_all, drop_all}
-use Rattle.stab_letters.specs.Letters.{◌⊕◌}
-use Rattle.stab_run.specs.Runs.{when, added}
-use Rattle.stab_run.specs.Points.{with_additions}
-use Rattle.stab_frames.specs.Flips.{flipped}
-use Rattle.stab_shots.specs.declared.lanes.Sum.{Sum}
-use Rattle.stab_shots.specs.Lanes.{lane_bits, lane_additions}
+use Rattle.stab_shots.proofs.Names.{◌≡◌, ℕ, zero, suc, ◌+◌, ◌<◌, ◌≤◌, refl, sym, ◌∙◌, ap, Bool, true, false, List, [], ◌∷◌, ◌++◌, append-nil, length, get_or, set, take, drop, map, replicate, arith, if◌then◌else◌, get_or-map, map-append, map-set, drop_more, take_all, drop_all, ◌⊕◌, when, added, with_additions, flipped, Sum, lane_bits, lane_additions}
 
 pub map-replicate : {X Y : Type 0} (f : X → Y) (n : ℕ) (x : X) (y : Y) → f x ≡ y → map f (replicate n x) ≡ replicate n y
 map-replicate f zero x y e = refl

@@ -1,37 +1,9 @@
--- Runs of lanes: lanes that are led over the steps of a run with all coins 0, stretch by stretch, are runs.
-use Rattle.std.proofs.Common.{◌≡◌, ℕ, zero, suc, ◌+◌, refl, sym, ◌∙◌, ap, subst, Bool, false, List, [], ◌∷◌, ◌++◌, length, replicate, set, get_or, arith}
-use Rattle.std.specs.Prelude.{All, Option}
-use Rattle.std.proofs.lemmas.List.{length-replicate, length-set, replicate-append-replicate}
-use Rattle.stab_letters.specs.declared.letter.Letter.{Letter}
-use Rattle.stab_letters.specs.declared.letter.Letter.TheVariants.{I}
-use Rattle.stab_letters.specs.Letters.{◌⊕◌}
-use Rattle.stab_letters.proofs.ParityLemmas.{parity-false}
-use Rattle.stab_circuit.specs.Items.{Items}
-use Rattle.stab_circuit.specs.Steps.{Step, one, two, controlled, collapse, product, detector, observable, unroll, observables_of}
-use Rattle.stab_steps.specs.declared.records.Addition.{Addition}
-use Rattle.stab_run.specs.declared.run.Shot.{Shot}
-use Rattle.stab_run.specs.Runs.{State, start, run, run_of}
-use Rattle.stab_run.specs.Points.{RunOutput, nothing, origin, joined, point_after, outputs, all_coins_of, with_additions, state_at}
-use Rattle.stab_run.specs.ProgramStates.{StepFits}
-use Rattle.stab_laws.proofs.StateLemmas.{run-state}
-use Rattle.stab_laws.proofs.PointLemmas.{records-are-records}
-use Rattle.stab_frames.specs.Flips.{flipped}
-use Rattle.stab_frames.specs.Frames.{Frame}
-use Rattle.stab_frames.specs.Fronts.{AreFronts}
-use Rattle.stab_frames.specs.Notes.{Notes, notes_of, changed}
-use Rattle.stab_frames.specs.StepNotes.{AreRight, AreEnough}
-use Rattle.stab_frames.specs.FrameSteps.{frame_after, frame_over, flips_over}
-use Rattle.stab_frames.proofs.NoteLemmas.{right-enough}
-use Rattle.stab_laws.proofs.CoinLemmas.{coins-append, coins-are}
-use Rattle.stab_frames.proofs.StartLemmas.{framed-same}
-use Rattle.stab_frames.proofs.FrontLemmas.{fronts-outputs, fronts-matches, fronts-framed, records-flipped, flags-flipped, detectors-flipped, observables-flipped}
-use Rattle.stab_shots.specs.declared.shots.Shots.{Shots}
-use Rattle.stab_shots.specs.Shots.{AreRuns, IsShot}
-use Rattle.stab_shots.specs.Noted.{zero_coins}
-use Rattle.stab_shots.specs.Differences.{Difference, frame_of_difference, next_coin, Follows, IsLane, IsAsLong, AreFlipped}
+-- Runs of lanes: lanes that are propagated over the steps of a run with all coins 0, stretch by stretch, are runs.
+use Rattle.stab_shots.proofs.Names.{◌≡◌, ℕ, zero, suc, ◌+◌, refl, sym, ◌∙◌, ap, subst, Bool, false, List, [], ◌∷◌, ◌++◌, length, replicate, set, get_or, arith, Option, length-replicate, length-set, replicate-append-replicate, Letter, I, ◌⊕◌, parity-false, Items, Step, one, two, controlled, collapse, product, detector, observable, unroll, observables_of, Addition, Shot, State, start, run, run_of, RunOutput, nothing, origin, joined, point_after, outputs, all_coins_of, with_additions, state_at, StepFits, run-state, records-are-records, flipped, Frame, AreFronts, RunPivots, pivots_of, changed, AreRight, AreEnough, frame_after, frame_over, flips_over, right-enough, coins-append, coins-are, framed-same, fronts-outputs, fronts-matches, fronts-framed, records-flipped, flags-flipped, detectors-flipped, observables-flipped, Shots, AreRuns, IsShot, zero_coins, Difference, frame_of_difference, next_coin, Follows, IsLane, IsAsLong, AreFlipped}
+use Rattle.std.specs.Prelude.{All}
 use Rattle.stab_shots.proofs.RecordingLemmas.{run-items}
 
--- which outcomes are free is flipped nowhere
+-- which outcomes are random is flipped nowhere
 
 no-more : (k : ℕ) → replicate k false ≡ replicate (0 + k) false
 no-more k = ap (λ m. replicate m false) {x = k} {y = 0 + k} (omega arith)
@@ -39,17 +11,17 @@ no-more k = ap (λ m. replicate m false) {x = k} {y = 0 + k} (omega arith)
 one-more : (k : ℕ) → false ∷ replicate k false ≡ replicate (1 + k) false
 one-more k = ap (λ m. replicate m false) {x = suc k} {y = 1 + k} (omega arith)
 
-pub still-over : (n : ℕ) (notes : Notes) (xs : List Step) (c : ℕ) (f : Frame) → (flips_over n notes xs c f).free ≡ replicate (all_coins_of xs) false
-still-over n notes [] c f = refl
-still-over n notes (one g q ∷ xs) c f = still-over n notes xs (c + 0) (frame_after n notes (one g q) c f) ∙ no-more (all_coins_of xs)
-still-over n notes (two g p q ∷ xs) c f = still-over n notes xs (c + 0) (frame_after n notes (two g p q) c f) ∙ no-more (all_coins_of xs)
-still-over n notes (controlled l k q ∷ xs) c f = still-over n notes xs (c + 0) (frame_after n notes (controlled l k q) c f) ∙ no-more (all_coins_of xs)
-still-over n notes (collapse l q recorded inverted resets ∷ xs) c f =
-    ap (λ r. false ∷ r) (still-over n notes xs (c + 1) (frame_after n notes (collapse l q recorded inverted resets) c f)) ∙ one-more (all_coins_of xs)
-still-over n notes (product factors inverted ∷ xs) c f =
-    ap (λ r. false ∷ r) (still-over n notes xs (c + 1) (frame_after n notes (product factors inverted) c f)) ∙ one-more (all_coins_of xs)
-still-over n notes (detector ks ∷ xs) c f = still-over n notes xs (c + 0) (frame_after n notes (detector ks) c f) ∙ no-more (all_coins_of xs)
-still-over n notes (observable j ks ∷ xs) c f = still-over n notes xs (c + 0) (frame_after n notes (observable j ks) c f) ∙ no-more (all_coins_of xs)
+pub still-over : (n : ℕ) (pivots : RunPivots) (xs : List Step) (c : ℕ) (f : Frame) → (flips_over n pivots xs c f).free ≡ replicate (all_coins_of xs) false
+still-over n pivots [] c f = refl
+still-over n pivots (one g q ∷ xs) c f = still-over n pivots xs (c + 0) (frame_after n pivots (one g q) c f) ∙ no-more (all_coins_of xs)
+still-over n pivots (two g p q ∷ xs) c f = still-over n pivots xs (c + 0) (frame_after n pivots (two g p q) c f) ∙ no-more (all_coins_of xs)
+still-over n pivots (controlled l k q ∷ xs) c f = still-over n pivots xs (c + 0) (frame_after n pivots (controlled l k q) c f) ∙ no-more (all_coins_of xs)
+still-over n pivots (collapse l q recorded inverted resets ∷ xs) c f =
+    ap (λ r. false ∷ r) (still-over n pivots xs (c + 1) (frame_after n pivots (collapse l q recorded inverted resets) c f)) ∙ one-more (all_coins_of xs)
+still-over n pivots (product factors inverted ∷ xs) c f =
+    ap (λ r. false ∷ r) (still-over n pivots xs (c + 1) (frame_after n pivots (product factors inverted) c f)) ∙ one-more (all_coins_of xs)
+still-over n pivots (detector ks ∷ xs) c f = still-over n pivots xs (c + 0) (frame_after n pivots (detector ks) c f) ∙ no-more (all_coins_of xs)
+still-over n pivots (observable j ks ∷ xs) c f = still-over n pivots xs (c + 0) (frame_after n pivots (observable j ks) c f) ∙ no-more (all_coins_of xs)
 
 flipped-nowhere : (bits : List Bool) (k : ℕ) → flipped bits (replicate k false) ≡ bits
 flipped-nowhere [] k = refl
@@ -68,12 +40,12 @@ lane-first n coins d blank empty =
       still = refl;
     })
 
--- and after further steps, of which notes are right
+-- and after further steps, of which pivots are right
 module _ (n : ℕ) (coins : ℕ → Bool) (xs ys : List Step) (fits : All (StepFits n) xs) (later : All (StepFits n) ys) (strings : ℕ → Option (List Letter))
     (right : AreRight n zero_coins strings ys (point_after n zero_coins xs origin)) (a b : Difference) (lane : IsLane n coins xs a)
-    (led : Follows n (notes_of strings coins) ys a b) where
-  abbrev notes : Notes
-  notes = notes_of strings coins
+    (advanced : Follows n (pivots_of strings coins) ys a b) where
+  abbrev pivots : RunPivots
+  pivots = pivots_of strings coins
 
   abbrev f : Frame
   f = frame_of_difference a
@@ -81,8 +53,8 @@ module _ (n : ℕ) (coins : ℕ → Bool) (xs ys : List Step) (fits : All (StepF
   abbrev p : ℕ
   p = (point_after n zero_coins xs origin).coin
 
-  enough : AreEnough n zero_coins notes ys f (point_after n zero_coins xs origin)
-  enough = right-enough n zero_coins notes ys f (point_after n zero_coins xs origin) right
+  enough : AreEnough n zero_coins pivots ys f (point_after n zero_coins xs origin)
+  enough = right-enough n zero_coins pivots ys f (point_after n zero_coins xs origin) right
 
   coin : next_coin a ≡ p
   coin =
@@ -94,17 +66,17 @@ module _ (n : ℕ) (coins : ℕ → Bool) (xs ys : List Step) (fits : All (StepF
       before : (k : ℕ) → k ≡ 0 + k
       before k = omega arith
 
-  frame : frame_of_difference b ≡ frame_over n notes ys p f
-  frame = led.frame ∙ ap (λ c. frame_over n notes ys c f) coin
+  frame : frame_of_difference b ≡ frame_over n pivots ys p f
+  frame = advanced.frame ∙ ap (λ c. frame_over n pivots ys c f) coin
 
-  flips : b.flips ≡ joined a.flips (flips_over n notes ys p f)
-  flips = led.flips ∙ ap (λ c. joined a.flips (flips_over n notes ys c f)) coin
+  flips : b.flips ≡ joined a.flips (flips_over n pivots ys p f)
+  flips = advanced.flips ∙ ap (λ c. joined a.flips (flips_over n pivots ys c f)) coin
 
-  further : AreFronts n zero_coins (changed zero_coins coins) (xs ++ ys) (xs ++ ys) (frame_over n notes ys p f) (joined a.flips (flips_over n notes ys p f))
+  further : AreFronts n zero_coins (changed zero_coins coins) (xs ++ ys) (xs ++ ys) (frame_over n pivots ys p f) (joined a.flips (flips_over n pivots ys p f))
   further = record {
-    framed = fronts-framed n zero_coins notes xs xs ys f a.flips fits later lane.fronts enough;
-    given = fronts-outputs n zero_coins notes xs xs ys f a.flips fits later lane.fronts enough;
-    matches = fronts-matches n zero_coins notes xs xs ys f a.flips fits later lane.fronts enough;
+    framed = fronts-framed n zero_coins pivots xs xs ys f a.flips fits later lane.fronts enough;
+    given = fronts-outputs n zero_coins pivots xs xs ys f a.flips fits later lane.fronts enough;
+    matches = fronts-matches n zero_coins pivots xs xs ys f a.flips fits later lane.fronts enough;
   }
 
   pub lane-further : IsLane n coins (xs ++ ys) b
@@ -112,7 +84,7 @@ module _ (n : ℕ) (coins : ℕ → Bool) (xs ys : List Step) (fits : All (StepF
     fronts = subst (λ x. x) (λ i. AreFronts n zero_coins (changed zero_coins coins) (xs ++ ys) (xs ++ ys) (sym frame i) (sym flips i)) further;
     still =
         ap (λ (o : RunOutput). o.free) flips
-        ∙ (λ i. lane.still i ++ still-over n notes ys p f i)
+        ∙ (λ i. lane.still i ++ still-over n pivots ys p f i)
         ∙ replicate-append-replicate (all_coins_of xs) (all_coins_of ys) false
         ∙ ap (λ k. replicate k false) (sym (coins-append xs ys));
   }

@@ -1,3 +1,4 @@
+mod Names
 pub mod WordLemmas
 pub mod WideLemmas
 pub mod MovedBitLemmas
@@ -10,14 +11,13 @@ pub mod FrameLemmas
 pub mod LaneLemmas
 pub mod PlaceLemmas
 pub mod SeedLemmas
-pub mod SeedByteLemmas
 pub mod UnitLemmas
 pub mod BatchLemmas
 pub mod FollowLemmas
-pub mod NoteLemmas
-pub mod NotedLemmas
+pub mod PivotLemmas
+pub mod RecordedLemmas
 pub mod RecordingLemmas
 pub mod LaneRunLemmas
 pub mod FoldLemmas
-pub mod MarkLemmas
-pub mod LedLemmas
+pub mod CheckpointLemmas
+pub mod AdvancedLemmas

@@ -1,13 +1,6 @@
 -- Moved bits: the bits of words that are shifted, cut off and masked.
-use Rattle.std.proofs.Common.{◌≡◌, ℕ, ◌+◌, ◌-◌, ◌*◌, ◌/◌, ◌^◌, ◌<◌, ◌≤◌, ◌%◌, ap, sym, ◌∙◌, eqb, false, ◌&&◌, inl, inr, arith}
-use Rattle.std.specs.Prelude.{bit_and, ◌⊎◌, min}
-use Rattle.std.specs.Int.{bit_at}
-use Rattle.std.proofs.lemmas.Nat.Bits.{bit_at_and, bit_at-lt, bit_at_cat_low, bit_at_cat_high, bit_at_above}
-use Rattle.std.proofs.Math.Nat.{div-div-eq-div-mul}
-use Rattle.std.proofs.lemmas.Nat.{pow-add, pow_pos}
-use Rattle.stab_shots.specs.Words.{word_bit}
-use Rattle.stab_shots.specs.Bytes.{byte_at}
-use Rattle.stab_pauli.proofs.BitLemmas.{two_cases}
+use Rattle.stab_shots.proofs.Names.{◌≡◌, ℕ, ◌+◌, ◌-◌, ◌*◌, ◌/◌, ◌^◌, ◌<◌, ◌≤◌, ◌%◌, ap, sym, ◌∙◌, eqb, false, ◌&&◌, inl, inr, arith, bit_and, ◌⊎◌, bit_at, bit_at_and, bit_at-lt, bit_at_cat_low, bit_at_cat_high, bit_at_above, div-div-eq-div-mul, pow-add, pow_pos, word_bit, byte_at, two_cases}
+use Rattle.std.specs.Prelude.{min}
 use Rattle.stab_shots.proofs.WordLemmas.{word_bit-zero}
 
 both : (a b x : ℕ) → x ≡ min a b → a < 2 → b < 2 → eqb x 1 ≡ eqb a 1 && eqb b 1

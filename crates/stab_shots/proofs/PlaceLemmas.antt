@@ -1,5 +1,5 @@
 -- Places: what holds at each of some numbers that are named one by one.
-use Rattle.std.proofs.Common.{◌≡◌, ℕ, zero, suc, ◌+◌, ◌<◌, subst, arith}
+use Rattle.stab_shots.proofs.Names.{◌≡◌, ℕ, zero, suc, ◌+◌, ◌<◌, subst, arith}
 
 -- four numbers, and those after them
 pub four-and-more : (P : ℕ → Type 0) (i n : ℕ) → P i → P (i + 1) → P (i + 2) → P (i + 3) → ((k : ℕ) → k < n → P (i + 4 + k)) → (k : ℕ) → k < n + 4 → P (i + k)

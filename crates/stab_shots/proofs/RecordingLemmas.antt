@@ -1,38 +1,17 @@
--- Recordings: where a run goes over further steps, what it gives, and what is noted of them.
-use Rattle.std.proofs.Common.{◌≡◌, ℕ, zero, suc, ◌+◌, ◌≤◌, min, refl, sym, ◌∙◌, ap, subst, Bool, true, false, List, [], ◌++◌, append-nil, length, length-append, take, drop, replicate, arith}
-use Rattle.std.specs.Prelude.{Option, None, slice_get, if◌then◌else◌, slice_index_or}
-use Rattle.std.proofs.Math.Seq.{take-append_seam, drop-append_seam}
-use Rattle.std.proofs.lemmas.Option.{slice_get_past}
-use Rattle.stab_letters.specs.declared.letter.Letter.{Letter}
-use Rattle.stab_pauli.specs.Paulis.{Signed}
-use Rattle.stab_circuit.specs.Items.{Items}
-use Rattle.stab_circuit.specs.Steps.{Step, unroll, observables_of}
-use Rattle.stab_run.specs.declared.run.Shot.{Shot}
-use Rattle.stab_run.specs.Records.{ones}
-use Rattle.stab_run.specs.Runs.{State, start, run, run_of}
-use Rattle.stab_run.specs.Points.{Point, RunOutput, joined, origin, point_after, outputs, all_coins_of, with_additions, state_at}
-use Rattle.stab_run.specs.ProgramStates.{ProgramState, IsAt, Leads, IsRun}
-use Rattle.stab_steps.proofs.RunLemmas.{after-append, outputs-append}
-use Rattle.stab_steps.proofs.RecordLemmas.{ones-append}
-use Rattle.stab_laws.proofs.StateLemmas.{run-state}
-use Rattle.stab_laws.proofs.PointLemmas.{records-are-records}
-use Rattle.stab_laws.proofs.CoinLemmas.{coins-steps, coins-are}
-use Rattle.stab_frames.specs.KeptStrings.{StringsState, note_at, IsNumbered, AreTrue, KeepsTrue}
-use Rattle.stab_frames.specs.StepNotes.{AreRight}
-use Rattle.stab_frames.proofs.TrueLemmas.{true-none, true-rest}
-use Rattle.stab_frames.proofs.WalkLemmas.{ones-few}
-use Rattle.stab_shots.specs.Noted.{zero_coins}
-use Rattle.stab_shots.specs.Shots.{IsShot}
-use Rattle.stab_shots.proofs.NoteLemmas.{right-from}
+-- Recordings: where a run goes over further steps, what it gives, and what is recorded of them.
+use Rattle.stab_shots.proofs.Names.{◌≡◌, ℕ, zero, suc, ◌+◌, ◌≤◌, min, refl, sym, ◌∙◌, ap, subst, Bool, true, false, List, [], ◌++◌, append-nil, length, take, drop, replicate, arith, Option, None, slice_get, if◌then◌else◌, take-append_seam, drop-append_seam, slice_get_past, Letter, Signed, Items, Step, unroll, observables_of, Shot, ones, State, start, run, run_of, Point, RunOutput, joined, origin, point_after, outputs, all_coins_of, with_additions, state_at, ProgramState, IsAt, Leads, IsRun, after-append, outputs-append, ones-append, run-state, records-are-records, coins-steps, coins-are, PivotsState, pivot_at, IsNumbered, AreTrue, KeepsTrue, AreRight, true-none, true-rest, ones-few, zero_coins, IsShot}
+use Rattle.std.proofs.Common.{length-append}
+use Rattle.std.specs.Prelude.{slice_index_or}
+use Rattle.stab_shots.proofs.PivotLemmas.{right-from}
 
--- if no string is kept there is no note
+-- if no string is kept there is no pivot
 
 if-none : (b : Bool) (o : Option (List Letter)) → o ≡ None → (if b then o else None) ≡ None
 if-none true o e = e
 if-none false o e = refl
 
-no-note : (free : List Bool) (t : ℕ) → note_at [] free t ≡ None
-no-note free t = if-none (slice_index_or free t false) (slice_get [] (ones (take t free))) (slice_get_past [] (ones (take t free)) (omega arith))
+no-pivot : (free : List Bool) (t : ℕ) → pivot_at [] free t ≡ None
+no-pivot free t = if-none (slice_index_or free t false) (slice_get [] (ones (take t free))) (slice_get_past [] (ones (take t free)) (omega arith))
 
 -- flags that are 0
 pub ones-zeros : (k : ℕ) → ones (replicate k false) ≡ 0
@@ -56,25 +35,25 @@ module _ (n : ℕ) (xs ys : List Step) (u : Signed → Bool) (o : RunOutput) (ze
   begun : IsAt n mid p
   begun = record { group = here.group; coin = count ∙ here.coin; records = here.records }
 
-  led : Leads n zero_coins ys mid new p
-  led = is p begun
+  advanced : Leads n zero_coins ys mid new p
+  advanced = is p begun
 
   coin : length zeros ≡ all_coins_of xs
   coin = let none_before : 0 + all_coins_of xs ≡ all_coins_of xs = omega arith in begun.coin ∙ coins-are n zero_coins xs origin ∙ none_before
 
   flags-new : new.output.free ≡ zeros ++ more.free
-  flags-new = ap (λ (o : RunOutput). o.free) led.output
+  flags-new = ap (λ (o : RunOutput). o.free) advanced.output
 
   told-behind : drop (length zeros) new.output.free ≡ more.free
   told-behind = ap (drop (length zeros)) flags-new ∙ drop-append_seam zeros more.free
 
   pub arrives : IsAt n new (point_after n zero_coins (xs ++ ys) origin)
-  arrives = subst (IsAt n new) (sym (after-append n zero_coins xs ys origin)) led.shows
+  arrives = subst (IsAt n new) (sym (after-append n zero_coins xs ys origin)) advanced.shows
 
   pub gives : (told : List Bool) → told ≡ flags ++ drop (length zeros) new.output.free → record o { free = flags } ≡ outputs n zero_coins xs origin
       → record new.output { free = told } ≡ outputs n zero_coins (xs ++ ys) origin
   gives told is_told gave =
-      (λ i. record (led.output i) { free = (is_told ∙ ap (λ bits. flags ++ bits) told-behind) i })
+      (λ i. record (advanced.output i) { free = (is_told ∙ ap (λ bits. flags ++ bits) told-behind) i })
       ∙ ap (λ (o : RunOutput). joined o more) gave
       ∙ sym (outputs-append n zero_coins xs ys origin)
 
@@ -91,27 +70,27 @@ module _ (n : ℕ) (xs ys : List Step) (u : Signed → Bool) (o : RunOutput) (ze
   free-few =
       let parts = ap ones flags-new ∙ ones-append zeros more.free in
       let long = ap length flags-new ∙ length-append zeros more.free in
-      omega (arith, parts, none, ones-few more.free, long, led.shows.coin, coins-are n zero_coins ys p, begun.coin, coins-steps ys)
+      omega (arith, parts, none, ones-few more.free, long, advanced.shows.coin, coins-are n zero_coins ys p, begun.coin, coins-steps ys)
 
   -- if the strings of other steps were let go
 
-  module _ (kept behind : StringsState) (empty : kept.strings ≡ []) (noted : KeepsTrue n zero_coins ys kept behind mid new) where
+  module _ (kept behind : PivotsState) (empty : kept.strings ≡ []) (recorded_pivots : KeepsTrue n zero_coins ys kept behind mid new) where
     numbered : IsNumbered kept zeros
     numbered = let zero = ap length empty in omega (arith, zero, none)
 
-    nothing-noted : AreTrue n zero_coins (note_at kept.strings zeros) xs origin
-    nothing-noted = true-none n zero_coins (note_at kept.strings zeros) xs origin (λ t le. ap (λ s. note_at s zeros t) empty ∙ no-note zeros t)
+    nothing-recorded_pivots : AreTrue n zero_coins (pivot_at kept.strings zeros) xs origin
+    nothing-recorded_pivots = true-none n zero_coins (pivot_at kept.strings zeros) xs origin (λ t le. ap (λ s. pivot_at s zeros t) empty ∙ no-pivot zeros t)
 
-    true-behind : IsNumbered behind new.output.free × AreTrue n zero_coins (note_at behind.strings new.output.free) (xs ++ ys) origin
-    true-behind = noted xs begun numbered nothing-noted
+    true-behind : IsNumbered behind new.output.free × AreTrue n zero_coins (pivot_at behind.strings new.output.free) (xs ++ ys) origin
+    true-behind = recorded_pivots xs begun numbered nothing-recorded_pivots
 
     pub strings-numbered : length behind.strings ≡ min (ones new.output.free) behind.most
     strings-numbered = true-behind.0
 
-    pub strings-right : length behind.strings ≡ ones new.output.free → AreRight n zero_coins (note_at behind.strings new.output.free) ys p
+    pub strings-right : length behind.strings ≡ ones new.output.free → AreRight n zero_coins (pivot_at behind.strings new.output.free) ys p
     strings-right all =
         right-from n zero_coins behind.strings new.output.free all ys p
-        (true-rest n zero_coins (note_at behind.strings new.output.free) xs ys origin true-behind.1) []
+        (true-rest n zero_coins (pivot_at behind.strings new.output.free) xs ys origin true-behind.1) []
         (ap (λ k. drop k new.output.free) (sym begun.coin) ∙ told-behind ∙ sym (append-nil more.free))
 
 -- the run of all steps of items is the run of the items

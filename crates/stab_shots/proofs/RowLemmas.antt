@@ -1,13 +1,6 @@
 -- Rows: the bytes of a lane of blocks begin with those of its bits in b8.
-use Rattle.std.proofs.Common.{◌≡◌, ℕ, zero, suc, refl, ◌+◌, ◌-◌, ◌*◌, ◌<◌, ◌%◌, ap, sym, subst, ◌∙◌, Bool, false, List, [], ◌∷◌, ◌++◌, append_assoc, length, get_or, take, drop, min, replicate, arith}
-use Rattle.std.specs.Int.{w64, to_le_bytes, div_ceil}
-use Rattle.std.proofs.lemmas.List.{length-take, length-drop, length-append, length-map, take-append-drop, get_or-take, get_or-drop, drop-drop, take_at, drop_at, take_min, drop_min, take-map, drop-map, flat_map_more, append-nil}
-use Rattle.stab_results.specs.Formats.{number, b8_bytes}
-use Rattle.stab_results.proofs.GroupLemmas.{next_group}
-use Rattle.stab_shots.specs.Words.{word_bit}
-use Rattle.stab_shots.specs.Lanes.{lane_bits}
-use Rattle.stab_shots.specs.Bytes.{byte_at}
-use Rattle.stab_shots.specs.Blocks.{row_bytes}
+use Rattle.stab_shots.proofs.Names.{◌≡◌, ℕ, zero, suc, refl, ◌+◌, ◌-◌, ◌*◌, ◌<◌, ◌%◌, ap, sym, subst, ◌∙◌, Bool, false, List, [], ◌∷◌, ◌++◌, append_assoc, length, get_or, take, drop, min, replicate, arith, w64, to_le_bytes, div_ceil, length-take, length-drop, length-append, length-map, take-append-drop, get_or-take, get_or-drop, drop-drop, take_at, drop_at, take_min, drop_min, take-map, drop-map, flat_map_more, number, b8_bytes, next_group, word_bit, lane_bits, byte_at, row_bytes}
+use Rattle.std.proofs.lemmas.List.{append-nil}
 use Rattle.stab_shots.proofs.WordLemmas.{word_bit-zero}
 use Rattle.stab_shots.proofs.DigitLemmas.{byte-of_bits}
 

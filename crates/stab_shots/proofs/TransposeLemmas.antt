@@ -1,7 +1,6 @@
 -- Transposition: six exchanges between halves take bit k of word q from bit q of word k.
-use Rattle.std.proofs.Common.{◌≡◌, ℕ, zero, suc, refl, ◌+◌, ◌-◌, ◌*◌, ◌/◌, ◌^◌, ◌<◌, ◌%◌, ap, ◌∙◌, eqb, Bool, true, false, ◌&&◌, inl, inr, arith, List, get_or}
-use Rattle.std.specs.Prelude.{◌⊎◌, nat_lt}
-use Rattle.stab_shots.specs.Words.{word_bit}
+use Rattle.stab_shots.proofs.Names.{◌≡◌, ℕ, zero, suc, refl, ◌+◌, ◌-◌, ◌*◌, ◌/◌, ◌^◌, ◌<◌, ◌%◌, ap, ◌∙◌, eqb, Bool, true, false, ◌&&◌, inl, inr, arith, List, get_or, ◌⊎◌, word_bit}
+use Rattle.std.specs.Prelude.{nat_lt}
 use Rattle.stab_shots.proofs.ExchangeLemmas.{FirstExchanged, SecondExchanged, exchanged-at, source_word, source_place}
 
 -- a test of all numbers below one

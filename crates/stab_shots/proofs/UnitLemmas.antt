@@ -1,16 +1,7 @@
 -- Units: words of which one bit is 1, and the lane that a search among ascending numbers finds.
-use Rattle.std.proofs.Common.{◌≡◌, ℕ, ◌*◌, ◌^◌, ◌<◌, ◌≤◌, ◌/◌, ◌%◌, ◌==◌, refl, sym, ◌∙◌, ap, ◌&&◌, nat_lt, eqb, true, false, List, length, get_or, set, replicate, Ok, Err, arith, inl, inr}
-use Rattle.std.specs.Prelude.{◌⊎◌}
-use Rattle.std.specs.List.Sorted.{IsBinarySearchResult}
-use Rattle.std.specs.Ordering.{nat_cmp}
-use Rattle.std.proofs.lemmas.List.Sorted.{searched}
-use Rattle.std.proofs.lemmas.Bool.{cases_eq, cases_lt}
-use Rattle.std.proofs.lemmas.Bool.Decides.{nat_tests}
-use Rattle.std.proofs.lemmas.List.{length-replicate, get_or-replicate, get_or-set_same, get_or-set_other}
-use Rattle.std.proofs.lemmas.Nat.Bits.{bit_at-pow_same, bit_at-pow_other}
-use Rattle.stab_shots.specs.Words.{word_bit, wide_bit}
-use Rattle.stab_shots.specs.Units.{AreAscending, unit_coin}
+use Rattle.stab_shots.proofs.Names.{◌≡◌, ℕ, ◌*◌, ◌^◌, ◌<◌, ◌≤◌, ◌/◌, ◌%◌, ◌==◌, refl, sym, ◌∙◌, ap, ◌&&◌, eqb, true, false, List, length, get_or, set, replicate, Ok, Err, arith, inl, inr, ◌⊎◌, IsBinarySearchResult, nat_cmp, searched, cases_eq, cases_lt, length-replicate, get_or-replicate, get_or-set_same, get_or-set_other, bit_at-pow_same, bit_at-pow_other, word_bit, wide_bit, AreAscending, unit_coin}
 use Rattle.stab_shots.proofs.WordLemmas.{word_bit-zero}
+use Rattle.stab_shots.proofs.SeedLemmas.{is_less, is_beyond}
 use Rattle.stab_shots.proofs.WideLemmas.{wide_bit-all}
 use Rattle.stab_shots.proofs.MovedBitLemmas.{word_bit-cut}
 
@@ -73,21 +64,15 @@ module _ (numbers : List ℕ) (up : AreAscending numbers) (t : ℕ) where
       by_cases (inl e) = omega (arith, ap (λ k. get_or numbers k 0) e)
       by_cases (inr ne) = let h = up i j (omega (arith, le, ne)) within in omega (arith, h)
 
-  is_less : (l : ℕ) → l < length numbers → nat_lt l (length numbers) ≡ true
-  is_less l lt = grind (arith, nat_tests, lt)
-
-  is_beyond : (l : ℕ) → length numbers ≤ l → nat_lt l (length numbers) ≡ false
-  is_beyond l le = grind (arith, nat_tests, le)
-
   always : (l : ℕ) → l < length numbers → get_or numbers l 0 ≡ t → unit_coin numbers l t ≡ true
-  always l lt e = λ i. is_less l lt i && alike (get_or numbers l 0) t e i
+  always l lt e = λ i. is_less l (length numbers) lt i && alike (get_or numbers l 0) t e i
 
   never : (l : ℕ) → (l < length numbers → get_or numbers l 0 ≡ t → ⊥) → unit_coin numbers l t ≡ false
   never l none = by_cases (cases_lt l (length numbers))
     where
       by_cases : (l < length numbers) ⊎ (length numbers ≤ l) → unit_coin numbers l t ≡ false
-      by_cases (inl lt) = λ i. is_less l lt i && apart (get_or numbers l 0) t (none lt) i
-      by_cases (inr le) = ap (λ b. b && (get_or numbers l 0 == t)) (is_beyond l le)
+      by_cases (inl lt) = λ i. is_less l (length numbers) lt i && apart (get_or numbers l 0) t (none lt) i
+      by_cases (inr le) = ap (λ b. b && (get_or numbers l 0 == t)) (is_beyond l (length numbers) le)
 
   pub unit-found : (k l : ℕ) → k < length numbers → get_or numbers k 0 ≡ t → (l == k) ≡ unit_coin numbers l t
   unit-found k l within here = by_cases (cases_eq l k)

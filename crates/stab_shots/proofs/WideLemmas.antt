@@ -1,9 +1,5 @@
 -- Wide words: the bits of words that lie one after another.
-use Rattle.std.proofs.Common.{◌≡◌, ℕ, ◌*◌, ◌<◌, ◌/◌, ◌%◌, ap, ◌∙◌, Bool, List, arith, get_or, replicate}
-use Rattle.std.specs.Prelude.{bit_xor}
-use Rattle.std.proofs.lemmas.List.{get_or-replicate}
-use Rattle.stab_letters.specs.Letters.{◌⊕◌}
-use Rattle.stab_shots.specs.Words.{word_bit, wide_bit}
+use Rattle.stab_shots.proofs.Names.{◌≡◌, ℕ, ◌*◌, ◌<◌, ◌/◌, ◌%◌, ap, ◌∙◌, Bool, List, arith, get_or, replicate, bit_xor, get_or-replicate, ◌⊕◌, word_bit, wide_bit}
 use Rattle.stab_shots.proofs.WordLemmas.{word_bit-xor}
 
 -- each word has the same bit

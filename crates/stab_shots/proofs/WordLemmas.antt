@@ -1,11 +1,5 @@
 -- Words: the bits of what is computed of words.
-use Rattle.std.proofs.Common.{◌≡◌, ℕ, ◌+◌, ◌<◌, ◌%◌, ap, eqb, true, false, inl, inr}
-use Rattle.std.specs.Prelude.{bit_xor, ◌⊎◌}
-use Rattle.std.specs.Int.{bit_at}
-use Rattle.std.proofs.lemmas.Nat.Bits.{bit_at_xor, bit_at_ones, bit_at-zero, bit_at-lt}
-use Rattle.stab_letters.specs.Letters.{◌⊕◌}
-use Rattle.stab_pauli.proofs.BitLemmas.{two_cases}
-use Rattle.stab_shots.specs.Words.{word_bit}
+use Rattle.stab_shots.proofs.Names.{◌≡◌, ℕ, ◌+◌, ◌<◌, ◌%◌, ap, eqb, true, false, inl, inr, bit_xor, ◌⊎◌, bit_at, bit_at_xor, bit_at_ones, bit_at-zero, bit_at-lt, ◌⊕◌, two_cases, word_bit}
 
 differ : (a b x : ℕ) → x ≡ (a + b) % 2 → a < 2 → b < 2 → eqb x 1 ≡ eqb a 1 ⊕ eqb b 1
 differ a b x e ha hb = by_cases (two_cases a ha) (two_cases b hb)

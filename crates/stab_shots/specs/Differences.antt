@@ -1,20 +1,20 @@
 -- Differences: how a lane differs from the run with all coins 0, and what steps make of that.
 -- Source: this project's own.
 use Rattle.std.specs.Prelude.{◌≡◌, ℕ, ◌+◌, Bool, false, List, [], ◌∷◌, ◌++◌, length, replicate}
-use Rattle.stab_letters.specs.declared.letter.Letter.{Letter}
+use Rattle.stab_gates.specs.declared.letter.Letter.{Letter}
 use Rattle.stab_pauli.specs.Paulis.{Signed}
 use Rattle.stab_circuit.specs.Steps.{Step}
 use Rattle.stab_run.specs.Points.{RunOutput, joined, all_coins_of, with_additions}
-use Rattle.stab_run.specs.declared.run.Shot.{Shot}
+use Rattle.stab_recording.specs.declared.run.Shot.{Shot}
 use Rattle.stab_frames.specs.Flips.{flipped}
 use Rattle.stab_frames.specs.Frames.{Frame}
-use Rattle.stab_frames.specs.Notes.{Notes, changed}
+use Rattle.stab_frames.specs.RunPivots.{RunPivots, changed}
 use Rattle.stab_frames.specs.Fronts.{AreFronts}
 use Rattle.stab_frames.specs.FrameSteps.{flips_outcome, letters_measured, frame_over, flips_over}
 use Rattle.stab_shots.specs.declared.lanes.Lanes.{Lanes}
 use Rattle.stab_shots.specs.declared.shots.Shots.{Shots}
 use Rattle.stab_shots.specs.Lanes.{lane_bits, lane_letters, lane_output}
-use Rattle.stab_shots.specs.Noted.{zero_coins}
+use Rattle.stab_shots.specs.RecordedPivots.{zero_coins}
 
 -- the letters of a Pauli string, and which bits of what was given so far are flipped
 pub record Difference : Type 0 where
@@ -33,20 +33,20 @@ frame_of_difference d = record { letters = d.letters; flips = d.flips.records }
 abbrev pub next_coin : Difference → ℕ
 next_coin d = length d.flips.free
 
--- with these notes a difference went over steps, as frames do
-pub record Follows (n : ℕ) (notes : Notes) (xs : List Step) (old new : Difference) : Type 0 where
-  pub frame : frame_of_difference new ≡ frame_over n notes xs (next_coin old) (frame_of_difference old)
-  pub flips : new.flips ≡ joined old.flips (flips_over n notes xs (next_coin old) (frame_of_difference old))
+-- with these pivots a difference went over steps, as frames do
+pub record Follows (n : ℕ) (pivots : RunPivots) (xs : List Step) (old new : Difference) : Type 0 where
+  pub frame : frame_of_difference new ≡ frame_over n pivots xs (next_coin old) (frame_of_difference old)
+  pub flips : new.flips ≡ joined old.flips (flips_over n pivots xs (next_coin old) (frame_of_difference old))
   pub coin : next_coin new ≡ next_coin old + all_coins_of xs
 
 -- it went over a measurement, whose outcome is flipped or not
-pub record IsMeasuredBy (notes : Notes) (measured : Signed) (flip : Bool) (old new : Difference) : Type 0 where
-  pub outcome : flip ≡ flips_outcome notes (next_coin old) measured old.letters
-  pub letters : new.letters ≡ letters_measured notes (next_coin old) measured old.letters
+pub record IsMeasuredBy (pivots : RunPivots) (measured : Signed) (flip : Bool) (old new : Difference) : Type 0 where
+  pub outcome : flip ≡ flips_outcome pivots (next_coin old) measured old.letters
+  pub letters : new.letters ≡ letters_measured pivots (next_coin old) measured old.letters
   pub flips : new.flips ≡ record old.flips { free = old.flips.free ++ false ∷ [] }
 
 -- after these steps from the first on: they give with the coins of a lane what they give with coins 0, flipped, and lead to points that
--- differ by its frame; which outcomes are free is flipped nowhere
+-- differ by its frame; which outcomes are random is flipped nowhere
 pub record IsLane (n : ℕ) (coins : ℕ → Bool) (xs : List Step) (d : Difference) : Type 0 where
   pub fronts : AreFronts n zero_coins (changed zero_coins coins) xs xs (frame_of_difference d) d.flips
   pub still : d.flips.free ≡ replicate (all_coins_of xs) false
@@ -57,7 +57,7 @@ pub record IsAsLong (count : ℕ) (shot : Shot) (flips : RunOutput) : Type 0 whe
   pub detectors : length flips.detectors ≡ length shot.detectors.items
   pub observables : count ≡ length shot.observables.items
 
--- what lane l gives is what a shot gives, flipped, with this many observables; which outcomes are free is the same
+-- what lane l gives is what a shot gives, flipped, with this many observables; which outcomes are random is the same
 pub record AreFlipped {W : Type 0} (at : W → ℕ → Bool) (l count : ℕ) (shot : Shot) (flips : RunOutput) (shots : Shots W) : Type 0 where
   pub records : lane_bits at l shots.records.items ≡ flipped shot.records.items flips.records
   pub free : shots.free.items ≡ shot.free.items

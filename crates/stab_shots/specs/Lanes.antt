@@ -1,10 +1,10 @@
 -- Lanes: what a lane of words stands for.
 -- Source: the shots of C. Gidney, Stim (2021), which lie side by side in words.
 use Rattle.std.specs.Prelude.{ℕ, Bool, true, false, List, map}
-use Rattle.stab_letters.specs.declared.letter.Letter.{Letter}
-use Rattle.stab_letters.specs.Letters.{letter_product}
+use Rattle.stab_gates.specs.declared.letter.Letter.{Letter}
+use Rattle.stab_gates.specs.Letters.{letter_product}
 use Rattle.stab_pauli.specs.inner.Words.{letter_of_bits}
-use Rattle.stab_steps.specs.declared.records.Addition.{Addition}
+use Rattle.stab_run.specs.declared.records.Addition.{Addition}
 use Rattle.stab_run.specs.Points.{RunOutput}
 use Rattle.stab_shots.specs.declared.letters.Letters.{Letters}
 use Rattle.stab_shots.specs.declared.lanes.Sum.{Sum}

@@ -5,8 +5,8 @@ pub mod Seeds
 pub mod Units
 pub mod Bytes
 pub mod Blocks
-pub mod Noted
-pub mod Recordings
+pub mod RecordedPivots
+pub mod PartRecordings
 pub mod References
 pub mod Differences
-pub mod Marks
+pub mod LaneCheckpoints

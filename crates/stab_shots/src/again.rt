@@ -1,10 +1,10 @@
 //! What lanes flipped in some rounds, appended again.
 ghost use Rattle.std.specs.Prelude.{◌≡◌, ℕ, ◌++◌, drop, OnOk};
 ghost use Rattle.stab_run.specs.Points.{joined};
-ghost use Rattle.stab_laws.specs.RoundLaws.{copies};
+ghost use Rattle.stab_run.specs.RoundLaws.{copies};
 ghost use Rattle.stab_run.specs.Cuts.{rest_of};
 ghost use Rattle.stab_shots.specs.Lanes.{lane_output};
-ghost use Rattle.stab_shots.specs.Marks.{times};
+ghost use Rattle.stab_shots.specs.LaneCheckpoints.{times};
 
 use crate::lanes::Lanes;
 use crate::word::Word;

@@ -2,7 +2,7 @@
 ghost use Rattle.std.specs.Prelude.{◌≡◌, ℕ, ◌+◌, ◌<◌, ◌≤◌, Bool, None, length, IfOk, IfSome, OnOk, IfErr};
 ghost use Rattle.stab_io.specs.declared.refusal.Refusal.TheVariants.{OutOfMemory};
 ghost use Rattle.stab_io.specs.Refusals.{Refuses};
-ghost use Rattle.stab_letters.specs.Limits.{most_qubits};
+ghost use Rattle.stab_gates.specs.Limits.{most_qubits};
 ghost use Rattle.stab_circuit.specs.Items.{Items};
 ghost use Rattle.stab_circuit.specs.Steps.{check_within};
 ghost use Rattle.stab_circuit.specs.Views.{circuit_items};
@@ -11,18 +11,16 @@ ghost use Rattle.stab_shots.specs.References.{IsReference};
 ghost use Rattle.stab_shots.specs.Seeds.{shot_coins};
 ghost use Rattle.stab_shots.specs.Shots.{AreRuns, IsShot, AreShots};
 
-use crate::coins::LaneCoins;
+use crate::coins::{LaneCoins, SeedLanes};
 use crate::lanes::write_lane;
 use crate::reference::Reference;
 use crate::run::run_checked_batch;
-use crate::seeds::SeedLanes;
 use crate::shots::Shots;
 use crate::wide::Wide;
-use crate::wide_seeds::WideSeedLanes;
 use crate::word::Word;
 use stab_circuit::Circuit;
 use stab_io::{Fault, Refusal};
-use stab_run::Shot;
+use stab_recording::Shot;
 use std::alloc::{AllocError, Global};
 
 /// The bits of a lane, in a list of their own.
@@ -93,7 +91,7 @@ fn run_batches<W: Word, C: LaneCoins<W>>(
     let mut made = 0;
     while made < number {
         let batch = (number - made).min(lanes);
-        let mut coins = C::of_seed(seed, first.wrapping_add(made as u64));
+        let mut coins = C::of_seed(seed, first.wrapping_add(made as u64), batch);
         run_checked_batch(alloc, circuit, n, reference, &mut coins, &mut lists)?;
         push_lanes(alloc, &lists, batch, &mut shots)?;
         made += batch;
@@ -117,16 +115,16 @@ fn run_by_number(
     ensures err { IfErr result (λ r. r ≡ OutOfMemory) }
 {
     if number <= 64 {
-        run_batches::<u64, SeedLanes>(alloc, circuit, n, seed, first, number, 64)
+        run_batches::<Wide<1>, SeedLanes<1>>(alloc, circuit, n, seed, first, number, 64)
     } else {
-        run_batches::<Wide<4>, WideSeedLanes<4>>(alloc, circuit, n, seed, first, number, 256)
+        run_batches::<Wide<4>, SeedLanes<4>>(alloc, circuit, n, seed, first, number, 256)
     }
 }
 
 /// Runs this many shots of a seed from a first one on, on n qubits, at most 1,024. Numbers of shots go on from 2^64 - 1 with 0.
 ///
-/// Each shot is the run that `stab_run::run_once` makes with `SeedCoins` of its number. The tableau goes through the circuit
-/// once, except for rounds that come again; if more of its outcomes are free than a `Reference` notes, it goes through it once
+/// Each shot is the run that `stab_recording::run_once` makes with `SeedCoins` of its number. The tableau goes through the circuit
+/// once, except for rounds that come again; if more of its outcomes are random than a `Reference` keeps, it goes through it once
 /// more for each 256 shots. Refused as `Circuit::check` refuses, else `OutOfMemory`, always with line 0.
 pub fn run_shots(
     alloc: Global,

@@ -2,10 +2,35 @@ ghost use Rattle.std.specs.Prelude.{◌≡◌, ℕ, ◌+◌, ◌*◌, ◌<◌, �
 ghost use Rattle.std.specs.Int.{div_ceil};
 ghost use Rattle.stab_shots.specs.Words.{word_bit};
 ghost use Rattle.stab_shots.specs.Lanes.{lane_bits};
+ghost use Rattle.stab_shots.specs.Bytes.{lane_bytes};
 ghost use Rattle.stab_results.specs.Formats.{b8_bytes};
 ghost use Rattle.stab_shots.specs.Blocks.{first_exchanged, second_exchanged, row_bytes};
 
+use crate::word::{Word, byte};
 use std::alloc::AllocError;
+
+/// Writes the bits of the 64 lanes from 64 * place on, of words of more.
+pub fn write_part<W: Word>(words: &[W], place: usize, part: &mut [u64])
+    requires in_range { 64 * place + 64 ≤ W.lanes }
+    requires as_many { length part.old ≡ length words.now }
+    ensures size { length part.new ≡ length part.old }
+    ensures value { (l : ℕ) → l < 64 → lane_bits word_bit l part.new ≡ lane_bits W.at (64 * place + l) words.now }
+{
+    for k in 0..words.len() {
+        part[k] = words[k].part(place);
+    }
+}
+
+/// Writes the byte at a place of each word, counted from the lowest: a bit of each of eight lanes.
+pub fn write_bytes(words: &[u64], place: usize, bytes: &mut [u8])
+    requires in_range { place < 8 }
+    requires as_many { length bytes.old ≡ length words.now }
+    ensures value { bytes.new ≡ lane_bytes place words.now }
+{
+    for i in 0..words.len() {
+        bytes[i] = byte(words[i], place);
+    }
+}
 
 /// Two words that have exchanged bits: the second's at the places of a mask, and the first's this many places higher.
 fn exchanged(first: u64, second: u64, mask: u64, places: u32) -> (u64, u64)

@@ -1,6 +1,6 @@
 //! The bits of all lanes, by those of the run with all coins 0 and what each lane flips.
 ghost use Rattle.std.specs.Prelude.{◌≡◌, ℕ, ◌<◌, false, length, slice_index_or, slice_set, IfOk};
-ghost use Rattle.stab_letters.specs.Letters.{◌⊕◌};
+ghost use Rattle.stab_gates.specs.Letters.{◌⊕◌};
 ghost use Rattle.stab_frames.specs.Flips.{flipped};
 ghost use Rattle.stab_shots.specs.Lanes.{lane_bits, lane_output};
 ghost use Rattle.stab_shots.specs.Differences.{IsAsLong, AreFlipped};
@@ -8,7 +8,7 @@ ghost use Rattle.stab_shots.specs.Differences.{IsAsLong, AreFlipped};
 use crate::lanes::{Lanes, observables};
 use crate::shots::Shots;
 use crate::word::Word;
-use stab_run::Shot;
+use stab_recording::Shot;
 use std::alloc::{AllocError, Global};
 
 /// Flips the bits of all lanes at a place, if the bit of the reference is 1. Else no word is fetched.

@@ -1,5 +1,5 @@
 ghost use Rattle.std.specs.Prelude.{◌≡◌, ◌≢◌, ℕ, ◌+◌, ◌<◌, false, All, length, replicate, IfOk};
-ghost use Rattle.stab_letters.specs.declared.letter.Letter.TheVariants;
+ghost use Rattle.stab_gates.specs.declared.letter.Letter.TheVariants;
 ghost use Rattle.stab_pauli.specs.Paulis.{single, strings_anticommute};
 ghost use Rattle.stab_tableau.specs.Gates.{image, image_pair};
 ghost use Rattle.stab_lines.specs.Products.{names_twice};
@@ -8,12 +8,22 @@ ghost use Rattle.stab_frames.specs.Frames.{plus, times_where};
 ghost use Rattle.stab_shots.specs.Lanes.{lane_letters};
 
 use crate::letters::{Letters, PairLetters};
-use crate::repeated::repeated;
 use crate::word::Word;
 use stab_circuit::Factor;
 use stab_pauli::{Letter, Pauli};
 use stab_tableau::{Gate, PairGate};
 use std::alloc::{AllocError, Global};
+
+/// The same value, this many times.
+pub fn repeated<T: Copy>(alloc: Global, value: T, count: usize) -> Result<Vec<T>, AllocError>
+    ensures value { IfOk result (λ v. v.items ≡ replicate count value) }
+{
+    let mut items = Vec::with_capacity(alloc, count)?;
+    for made in 0..count {
+        items.push(value)?;
+    }
+    Ok(items)
+}
 
 /// A Pauli string for each lane, whose sign does not matter: the letters of all lanes at each qubit.
 #[derive(Drop)]

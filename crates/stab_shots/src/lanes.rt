@@ -1,12 +1,10 @@
 ghost use Rattle.std.specs.Prelude.{◌≡◌, ℕ, ◌+◌, ◌<◌, Bool, false, [], length, replicate, IfOk, OnOk};
-ghost use Rattle.stab_letters.specs.declared.letter.Letter.TheVariants;
-ghost use Rattle.stab_run.specs.Points.{nothing, with_additions};
+ghost use Rattle.stab_run.specs.Points.{with_additions};
 ghost use Rattle.stab_run.specs.Runs.{added};
 ghost use Rattle.stab_run.specs.Records.{looked_up as looked_up_of, parity as parity_of};
-ghost use Rattle.stab_shots.specs.Lanes.{lane_bits, lane_additions, lane_letters, lane_output};
+ghost use Rattle.stab_shots.specs.Lanes.{lane_bits, lane_additions};
 
-use crate::frames::Frames;
-use crate::repeated::repeated;
+use crate::frames::{Frames, repeated};
 use crate::word::Word;
 use std::alloc::{AllocError, Global};
 
@@ -18,7 +16,7 @@ pub struct Sum<W> {
 }
 
 /// Shots that go through the same steps, one in each lane: the Pauli string by which each differs
-/// from the run that leads them, and what each has flipped so far. Which coins decided is flipped in none.
+/// from the run that they are propagated over, and what each has flipped so far. Which coins decided is flipped in none.
 #[derive(Drop)]
 pub struct Lanes<W> {
     pub frames: Frames<W>,
@@ -26,33 +24,6 @@ pub struct Lanes<W> {
     pub free: Vec<bool>,
     pub detectors: Vec<W>,
     pub sums: Vec<Sum<W>>,
-}
-
-impl<W: Word> Lanes<W> {
-    /// Lanes that are all as a run on n qubits and have flipped nothing, with the memory of lists for what they flip.
-    pub fn new(
-        alloc: Global,
-        n: usize,
-        mut records: Vec<W>,
-        mut free: Vec<bool>,
-        mut detectors: Vec<W>,
-    ) -> Result<Lanes<W>, AllocError>
-        ensures qubits { IfOk result (λ s. length s.frames.letters.items ≡ n) }
-        ensures letters { IfOk result (λ s. (l : ℕ) → l < W.lanes → lane_letters W.at l s.frames.letters.items ≡ replicate n Rattle.stab_letters.specs.declared.letter.Letter.TheVariants.I) }
-        ensures free { IfOk result (λ s. s.free.items ≡ []) }
-        ensures output { IfOk result (λ s. (l : ℕ) → l < W.lanes → lane_output W.at l s ≡ nothing) }
-    {
-        records.clear();
-        free.clear();
-        detectors.clear();
-        Ok(Lanes {
-            frames: Frames::blank(alloc, n)?,
-            records,
-            free,
-            detectors,
-            sums: Vec::new(alloc),
-        })
-    }
 }
 
 /// The records `rec[-k]`, or 0 if there are fewer than k.

@@ -1,6 +1,6 @@
 ghost use Rattle.std.specs.Prelude.{◌≡◌, ℕ, ◌<◌, IsTrue};
-ghost use Rattle.stab_letters.specs.declared.letter.Letter.TheVariants;
-ghost use Rattle.stab_letters.specs.Letters.{letters_anticommute};
+ghost use Rattle.stab_gates.specs.declared.letter.Letter.TheVariants;
+ghost use Rattle.stab_gates.specs.Letters.{letters_anticommute};
 ghost use Rattle.stab_tableau.specs.Gates.{letter_image, pair_letters, letter_at};
 ghost use Rattle.stab_shots.specs.Lanes.{letter_in, letter_times};
 

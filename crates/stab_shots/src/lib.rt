@@ -2,78 +2,69 @@
 //!
 //! All shots of a circuit go through the same gates and measure the same strings; their states differ
 //! only by signs, and so by a Pauli string each. One run, with all coins 0, goes through the circuit on a tableau and is
-//! noted: which outcomes were free, and by which strings they are exchanged. A word has a bit for each lane, and each lane
-//! is a shot: all lanes are led over a step of that run by some operations on words.
+//! recorded: which outcomes were random, and by which strings they are exchanged. A word has a bit for each lane, and each lane
+//! is a shot: all lanes are propagated over a step of that run by some operations on words.
 //!
 //! In the order in which data flows; each module uses only those before it:
 //!
 //! - `word`, `wide`: this many bits, one for each lane; those of 64 lanes, and of 64 N.
 //! - `letters`: the letters of all lanes at a qubit, and what gates make of them.
-//! - `repeated`: lists of this many times the same value.
 //! - `frames`: a Pauli string for each lane.
 //! - `lanes`: what each lane has flipped so far.
 //! - `streams`: the words of a shot's stream, whose lowest bits are its coins.
-//! - `coins`, `seeds`, `wide_seeds`: what is drawn in all lanes; the coins of 64 or 64 N shots of a seed.
+//! - `coins`: what is drawn in all lanes, and the coins of shots of a seed.
 //! - `units`: words of which one lane is 1, and coins of which each lane has one that is 1.
-//! - `columns`: the words of 64 lanes, and the bytes of eight, out of wider ones.
-//! - `blocks`: the bits of 64 lanes as bytes, one lane after another.
+//! - `blocks`: the words of 64 lanes and the bytes of eight, out of wider ones; the bits of 64 lanes as bytes, one lane after another.
 //! - `measure`: one measurement, on all lanes: the rule by which they differ from the run.
 //! - `step`, `steps`: one step of the run, and those of one instruction, on all lanes.
 //! - `part`: some steps of a circuit on all lanes.
-//! - `recording`: a run with all coins 0, and what is noted of the last steps that it went over.
-//! - `reference`: such a run and what is noted of all of it, to lead all batches of lanes. It carries out no round that comes again.
-//! - `marks`: what is kept of lanes after a round, and whether lanes are as they were then.
+//! - `part_recording`: a run with all coins 0, and what is recorded of the last steps that it went over.
+//! - `reference`: such a run and what is recorded of all of it, over which all batches of lanes are propagated. It carries out no round that comes again.
+//! - `checkpoints`: what is kept of lanes after a round, and whether lanes are as they were then.
 //! - `again`: what lanes flipped in some rounds, appended again.
 //! - `rounds`: the rounds of a block on all lanes, which flip again what they flipped once they are as they were before.
 //! - `shots`, `flips`: what this many shots give, by the run and what the lanes flip.
-//! - `run`: all steps of a circuit, noted and led over by turns; or led over by a reference.
+//! - `run`: all steps of a circuit, recorded and propagated over by turns; or propagated over by a reference.
 //! - `batches`: shots of a seed, each with lists of its own.
 //!
 //! Sources: C. Gidney, Stim: a fast stabilizer circuit simulator (2021), for shots as lanes of frames beside a
 //! reference. It differs in that each shot has numbered coins of its own, and so is exactly the run with these.
 //!
-//! Proved: each lane, and each shot that is made of one, is the run that the group rules of `stab_steps` give for the
+//! Proved: each lane, and each shot that is made of one, is the run that the group rules of `stab_run` give for the
 //! circuit and the coins of its shot.
 #![tactic(auto)]
 
 mod again;
 mod batches;
 mod blocks;
+mod checkpoints;
 mod coins;
-mod columns;
 mod flips;
 mod frames;
 mod lanes;
 mod letters;
-mod marks;
 mod measure;
 mod part;
-mod recording;
+mod part_recording;
 mod reference;
-mod repeated;
 mod rounds;
 mod run;
-mod seeds;
 mod shots;
 mod step;
 mod steps;
 mod streams;
 mod units;
 mod wide;
-mod wide_seeds;
 mod word;
 
 pub use batches::run_shots;
-pub use blocks::{write_blocks, write_row};
-pub use coins::{Draw, LaneCoins};
-pub use columns::{write_bytes, write_part};
+pub use blocks::{write_blocks, write_bytes, write_part, write_row};
+pub use coins::{Draw, LaneCoins, SeedLanes};
 pub use flips::flip_bits;
 pub use lanes::write_lane;
 pub use reference::Reference;
 pub use run::run_lanes;
-pub use seeds::SeedLanes;
 pub use shots::Shots;
 pub use units::{UnitLanes, UnitWord};
 pub use wide::Wide;
-pub use wide_seeds::WideSeedLanes;
 pub use word::Word;

@@ -1,32 +1,34 @@
-ghost use Rattle.std.specs.Prelude.{◌≡◌, ◌≤◌, ◌<◌, ◌^◌, None, min, nat_le, is_some, length, IfOk, IfSome, IfErr};
+ghost use Rattle.std.specs.Prelude.{◌≡◌, ◌≤◌, ◌<◌, ◌^◌, None, true, min, is_some, length, IfOk, IfSome, IfErr};
 ghost use Rattle.stab_io.specs.declared.refusal.Refusal.TheVariants.{OutOfMemory};
 ghost use Rattle.stab_io.specs.Refusals.{Refuses};
-ghost use Rattle.stab_letters.specs.Limits.{most_qubits};
+ghost use Rattle.stab_gates.specs.Limits.{most_qubits};
 ghost use Rattle.stab_circuit.specs.Steps.{check_within};
 ghost use Rattle.stab_circuit.specs.Views.{circuit_items};
 ghost use Rattle.stab_run.specs.Records.{ones};
 ghost use Rattle.stab_run.specs.Runs.{run_of};
 ghost use Rattle.stab_frames.specs.Limits.{most_strings};
-ghost use Rattle.stab_shots.specs.Noted.{zero_coins, most_noted as most_of};
+ghost use Rattle.stab_frames.specs.Pivots.{own_strings};
+ghost use Rattle.stab_shots.specs.RecordedPivots.{zero_coins, most_pivots as most_of};
 ghost use Rattle.stab_shots.specs.References.{IsReference};
 
-use crate::measure::Noted;
+use crate::measure::RecordedPivots;
 use stab_circuit::Circuit;
-use stab_frames::KeptStrings;
+use stab_frames::Pivots;
 use stab_io::{Fault, Refusal};
-use stab_run::{ListCoins, Recorded, Shot, run_recorded};
+use stab_recording::{RunWithPivots, Shot, run_with_pivots};
+use stab_run::ListCoins;
 use std::alloc::Global;
 
-/// The run of a circuit with all coins 0, and a string for each of its free outcomes that exchanges it for the other: by
-/// these, shots with other coins are led without a tableau.
+/// The run of a circuit with all coins 0, and a string for each of its random outcomes that exchanges it for the other: by
+/// these, shots with other coins are propagated without a tableau.
 #[derive(Drop)]
 pub struct Reference {
     shot: Shot,
-    strings: KeptStrings,
+    strings: Pivots,
 }
 
-/// How many strings of n letters are noted at once at most: those of 4 MiB, each counted as two bits a letter and 128 bytes.
-pub fn most_noted(n: usize) -> usize
+/// How many strings of n letters are recorded at once at most: those of 4 MiB, each counted as two bits a letter and 128 bytes.
+pub fn most_pivots(n: usize) -> usize
     ensures value { result ≡ most_of n }
 {
     4_194_304 / (n / 4 + 128)
@@ -40,14 +42,16 @@ pub fn all_steps() -> usize
 }
 
 impl Reference {
-    /// The reference of a circuit on n qubits, at most 1,024; `None` if more of its outcomes are free than strings may be
-    /// kept, which take 4 MiB at most. On its way it takes up to 16 MiB for them.
+    /// The reference of a circuit on n qubits, at most 1,024; `None` if it would need more strings of its own than 4 MiB hold.
+    /// There is one if no more outcomes are random, and where rounds have the strings of earlier ones again, for more. On its way it
+    /// takes up to 16 MiB for them.
     ///
     /// Refused as `Circuit::check` refuses, else `OutOfMemory`, always with line 0.
     pub fn of(alloc: Global, circuit: &Circuit, n: usize) -> Result<Option<Reference>, Fault>
         requires in_range { n ≤ most_qubits }
         ensures reference { IfOk result (λ found. IfSome found (λ r. IsReference n (circuit_items circuit.now) r)) }
-        ensures kept { IfOk result (λ found. is_some found ≡ nat_le (ones (run_of n zero_coins (circuit_items circuit.now)).free) (most_of n)) }
+        ensures kept { IfOk result (λ found. ones (run_of n zero_coins (circuit_items circuit.now)).free ≤ most_of n → is_some found ≡ true) }
+        ensures few { IfOk result (λ found. IfSome found (λ r. own_strings r.strings ≤ most_of n)) }
         ensures refused { Refuses result (check_within n (circuit_items circuit.now)) }
     {
         circuit.check(n)?;
@@ -63,28 +67,31 @@ impl Reference {
         requires in_range { n ≤ most_qubits }
         requires checked { check_within n (circuit_items circuit.now) ≡ None }
         ensures reference { IfOk result (λ found. IfSome found (λ r. IsReference n (circuit_items circuit.now) r)) }
-        ensures kept { IfOk result (λ found. is_some found ≡ nat_le (ones (run_of n zero_coins (circuit_items circuit.now)).free) (most_of n)) }
+        ensures kept { IfOk result (λ found. ones (run_of n zero_coins (circuit_items circuit.now)).free ≤ most_of n → is_some found ≡ true) }
+        ensures few { IfOk result (λ found. IfSome found (λ r. own_strings r.strings ≤ most_of n)) }
         ensures err { IfErr result (λ r. r ≡ OutOfMemory) }
     {
         let run = Reference::run(alloc, circuit, n)?;
-        if run.strings.len() > most_noted(n) {
+        if run.strings.own() > most_pivots(n) {
             return Ok(None);
         }
         Ok(Some(run))
     }
 
-    /// Runs a circuit that nothing refuses with all coins 0, and keeps the strings of its free outcomes, as far as a run may
+    /// Runs a circuit that nothing refuses with all coins 0, and keeps the strings of its random outcomes, as far as a run may
     /// keep any. Rounds that come again are given again.
     fn run(alloc: Global, circuit: &Circuit, n: usize) -> Result<Reference, Refusal>
         requires in_range { n ≤ most_qubits }
         requires checked { check_within n (circuit_items circuit.now) ≡ None }
-        ensures number { IfOk result (λ r. length r.strings.strings ≡ min (ones (run_of n zero_coins (circuit_items circuit.now)).free) (most_strings n)) }
+        ensures most { IfOk result (λ r. most_strings n ≤ r.strings.most) }
+        ensures qubits { IfOk result (λ r. r.strings.qubits ≡ n) }
+        ensures number { IfOk result (λ r. length r.strings.strings ≡ min (ones (run_of n zero_coins (circuit_items circuit.now)).free) r.strings.most) }
         ensures reference { IfOk result (λ r. length r.strings.strings ≡ ones (run_of n zero_coins (circuit_items circuit.now)).free → IsReference n (circuit_items circuit.now) r) }
         ensures err { IfErr result (λ r. r ≡ OutOfMemory) }
     {
         let mut coins = ListCoins::new(&[]);
-        let recorded = run_recorded(alloc, circuit, n, &mut coins)?;
-        let Recorded { shot, strings } = recorded;
+        let recorded = run_with_pivots(alloc, circuit, n, &mut coins)?;
+        let RunWithPivots { shot, strings } = recorded;
         Ok(Reference { shot, strings })
     }
 
@@ -95,12 +102,12 @@ impl Reference {
         &self.shot
     }
 
-    /// What is noted of its outcomes.
-    pub(crate) fn noted(&self) -> Noted<'_>
+    /// What is recorded of its outcomes.
+    pub(crate) fn recorded_pivots(&self) -> RecordedPivots<'_>
         ensures strings { result.strings.now ≡ self.now.strings }
         ensures free { result.free.now ≡ self.now.shot.free.items }
     {
-        Noted {
+        RecordedPivots {
             strings: &self.strings,
             free: self.shot.free.as_slice(),
         }

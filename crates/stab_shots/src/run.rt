@@ -1,26 +1,26 @@
-//! All steps of a circuit, on lanes that are led by what is noted of the run with all coins 0.
+//! All steps of a circuit, on lanes that are propagated over what is recorded of the run with all coins 0.
 ghost use Rattle.std.specs.Prelude.{◌≡◌, ℕ, ◌+◌, ◌<◌, ◌≤◌, None, [], All, length, take, drop, IfSome, OnOk, IfErr};
 ghost use Rattle.stab_io.specs.declared.refusal.Refusal.TheVariants.{OutOfMemory};
 ghost use Rattle.stab_io.specs.Refusals.{Refuses};
-ghost use Rattle.stab_letters.specs.Limits.{most_qubits};
+ghost use Rattle.stab_gates.specs.Limits.{most_qubits};
 ghost use Rattle.stab_circuit.specs.Steps.{unroll, check_within};
 ghost use Rattle.stab_circuit.specs.Views.{circuit_items};
 ghost use Rattle.stab_run.specs.Points.{all_coins_of};
 ghost use Rattle.stab_run.specs.ProgramStates.{StepFits};
 ghost use Rattle.stab_shots.specs.Shots.{AreRuns};
-ghost use Rattle.stab_shots.specs.Noted.{HasAll, IsCounted, lane_notes};
+ghost use Rattle.stab_shots.specs.RecordedPivots.{HasAll, IsCounted, lane_pivots};
 ghost use Rattle.stab_shots.specs.References.{IsReference};
-ghost use Rattle.stab_shots.specs.Recordings.{IsSized, IsRecording};
+ghost use Rattle.stab_shots.specs.PartRecordings.{IsSized, IsPartRecording};
 ghost use Rattle.stab_shots.specs.Differences.{lane_difference, Follows, IsLane};
 ghost use Rattle.stab_frames.specs.Limits.{most_strings};
 
 use crate::coins::Draw;
 use crate::flips::shots_of;
 use crate::lanes::Lanes;
-use crate::part::pass_part;
-use crate::recording::{Recording, shot_of};
-use crate::reference::{Reference, most_noted};
-use crate::rounds::pass_all;
+use crate::part::propagate_part;
+use crate::part_recording::{PartRecording, shot_of};
+use crate::reference::{Reference, most_pivots};
+use crate::rounds::propagate_all;
 use crate::shots::Shots;
 use crate::word::Word;
 use stab_circuit::Circuit;
@@ -28,7 +28,7 @@ use stab_io::{Fault, Refusal};
 use std::alloc::Global;
 
 /// Runs a circuit once in each lane by a reference of it, and puts what the shots give in place of what the lists had.
-fn run_noted<W: Word, C: Draw<W>>(
+fn run_by_reference<W: Word, C: Draw<W>>(
     alloc: Global,
     circuit: &Circuit,
     n: usize,
@@ -42,33 +42,40 @@ fn run_noted<W: Word, C: Draw<W>>(
     ensures same_coins { C.sequences coins.new ≡ C.sequences coins.old }
     ensures err { IfErr result (λ r. r ≡ OutOfMemory) }
 {
-    let noted = reference.noted();
+    let recorded_pivots = reference.recorded_pivots();
     let mut lanes = shots.lanes(alloc, n)?;
     let mut number = 0;
-    pass_all(alloc, circuit, noted, &mut number, coins, &mut lanes)?;
+    propagate_all(
+        alloc,
+        circuit,
+        recorded_pivots,
+        &mut number,
+        coins,
+        &mut lanes,
+    )?;
     *shots = shots_of(alloc, reference.shot(), lanes, circuit.observables())?;
     Ok(())
 }
 
-/// Goes over the steps of a circuit that nothing refuses, this many at once: a run with all coins 0 notes them, and leads all lanes
-/// over them.
-fn pass_recorded<W: Word, D: Draw<W>>(
+/// Goes over the steps of a circuit that nothing refuses, this many at once: a run with all coins 0 records them, and
+/// all lanes are propagated over them.
+fn propagate_by_parts<W: Word, D: Draw<W>>(
     alloc: Global,
     circuit: &Circuit,
-    recording: &mut Recording,
+    recording: &mut PartRecording,
     draw: &mut D,
     lanes: &mut Lanes<W>,
     most: usize,
 ) -> Result<(), Refusal>
     requires checked { check_within recording.old.tableau.qubits (circuit_items circuit.now) ≡ None }
     requires sized { IsSized recording.old.tableau.qubits recording.old }
-    requires begins { IsRecording recording.old.tableau.qubits [] recording.old }
+    requires begins { IsPartRecording recording.old.tableau.qubits [] recording.old }
     requires blank { (l : ℕ) → l < W.lanes → IsLane recording.old.tableau.qubits (D.sequences draw.old l) [] (lane_difference W.at l lanes.old) }
     requires first { length lanes.old.free.items ≡ 0 }
     requires frames { length lanes.old.frames.letters.items ≡ recording.old.tableau.qubits }
     requires some { 0 < most }
     requires few { most < most_strings recording.old.tableau.qubits }
-    ensures recorded { OnOk result (IsRecording recording.old.tableau.qubits (unroll (circuit_items circuit.now)) recording.new) }
+    ensures recorded { OnOk result (IsPartRecording recording.old.tableau.qubits (unroll (circuit_items circuit.now)) recording.new) }
     ensures same_coins { D.sequences draw.new ≡ D.sequences draw.old }
     ensures lanes { OnOk result ((l : ℕ) → l < W.lanes → IsLane recording.old.tableau.qubits (D.sequences draw.old l) (unroll (circuit_items circuit.now)) (lane_difference W.at l lanes.new)) }
     ensures err { IfErr result (λ r. r ≡ OutOfMemory) }
@@ -77,12 +84,12 @@ fn pass_recorded<W: Word, D: Draw<W>>(
     let mut from = 0;
     while from < steps {
         let count = most.min(steps - from);
-        recording.note(alloc, circuit, from, count)?;
+        recording.advance(alloc, circuit, from, count)?;
         let mut number = 0;
-        pass_part(
+        propagate_part(
             alloc,
             circuit,
-            recording.noted(),
+            recording.recorded_pivots(),
             &mut number,
             draw,
             lanes,
@@ -94,8 +101,8 @@ fn pass_recorded<W: Word, D: Draw<W>>(
     Ok(())
 }
 
-/// Runs a circuit that nothing refuses once in each lane, led by a run of its own of which at most 4 MiB are noted at once.
-fn run_recorded<W: Word, C: Draw<W>>(
+/// Runs a circuit that nothing refuses once in each lane, propagated over a run of its own of which at most 4 MiB are recorded at once.
+fn run_by_parts<W: Word, C: Draw<W>>(
     alloc: Global,
     circuit: &Circuit,
     n: usize,
@@ -108,15 +115,15 @@ fn run_recorded<W: Word, C: Draw<W>>(
     ensures same_coins { C.sequences coins.new ≡ C.sequences coins.old }
     ensures err { IfErr result (λ r. r ≡ OutOfMemory) }
 {
-    let mut recording = Recording::new(alloc, n, circuit.records())?;
+    let mut recording = PartRecording::new(alloc, n, circuit.records())?;
     let mut lanes = shots.lanes(alloc, n)?;
-    let most = most_noted(n);
-    pass_recorded(alloc, circuit, &mut recording, coins, &mut lanes, most)?;
-    let Recording {
+    let most = most_pivots(n);
+    propagate_by_parts(alloc, circuit, &mut recording, coins, &mut lanes, most)?;
+    let PartRecording {
         tableau: _,
         string: _,
         outputs,
-        notes: _,
+        pivots: _,
         free,
     } = recording;
     let shot = shot_of(alloc, circuit, outputs, free)?;
@@ -141,16 +148,16 @@ pub(crate) fn run_checked_batch<W: Word, C: Draw<W>>(
     ensures err { IfErr result (λ r. r ≡ OutOfMemory) }
 {
     match reference {
-        Some(reference) => run_noted(alloc, circuit, n, reference, coins, shots),
-        None => run_recorded(alloc, circuit, n, coins, shots),
+        Some(reference) => run_by_reference(alloc, circuit, n, reference, coins, shots),
+        None => run_by_parts(alloc, circuit, n, coins, shots),
     }
 }
 
 /// Runs a circuit on n qubits, at most 1,024, once in each lane, with the coins of the lane, and puts what the shots give in
 /// place of what the lists had. Their memory serves again, so that many such runs need little that is fresh.
 ///
-/// Each lane is the run that `stab_run::run_once` makes with these coins. By a reference of the circuit no tableau goes through
-/// it; without one a tableau does so once, however many lanes there are, and is noted on its way. Refused as `Circuit::check` refuses, else
+/// Each lane is the run that `stab_recording::run_once` makes with these coins. By a reference of the circuit no tableau goes through
+/// it; without one a tableau does so once, however many lanes there are, and is recorded on its way. Refused as `Circuit::check` refuses, else
 /// `OutOfMemory`, always with line 0; nothing is said of the lists then.
 pub fn run_lanes<W: Word, C: Draw<W>>(
     alloc: Global,

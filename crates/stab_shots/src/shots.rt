@@ -1,8 +1,9 @@
 ghost use Rattle.std.specs.Prelude.{◌≡◌, ℕ, ◌<◌, [], length, replicate, IfOk};
-ghost use Rattle.stab_letters.specs.declared.letter.Letter.TheVariants;
+ghost use Rattle.stab_gates.specs.declared.letter.Letter.TheVariants;
 ghost use Rattle.stab_run.specs.Points.{nothing};
 ghost use Rattle.stab_shots.specs.Lanes.{lane_letters, lane_output};
 
+use crate::frames::Frames;
 use crate::lanes::Lanes;
 use crate::word::Word;
 use std::alloc::{AllocError, Global};
@@ -37,17 +38,25 @@ impl<W: Word> Shots<W> {
         })
     }
 
-    /// Lanes that are all as a run on n qubits and have flipped nothing, with the memory of these lists, which are
-    /// empty then.
+    /// Lanes that are all as a run on n qubits and have flipped nothing. They take the memory of these lists, which are empty then.
     pub(crate) fn lanes(&mut self, alloc: Global, n: usize) -> Result<Lanes<W>, AllocError>
         ensures qubits { IfOk result (λ s. length s.frames.letters.items ≡ n) }
         ensures letters { IfOk result (λ s. (l : ℕ) → l < W.lanes → lane_letters W.at l s.frames.letters.items ≡ replicate n TheVariants.I) }
         ensures free { IfOk result (λ s. s.free.items ≡ []) }
         ensures output { IfOk result (λ s. (l : ℕ) → l < W.lanes → lane_output W.at l s ≡ nothing) }
     {
-        let records = mem::replace(&mut self.records, Vec::new(alloc));
-        let free = mem::replace(&mut self.free, Vec::new(alloc));
-        let detectors = mem::replace(&mut self.detectors, Vec::new(alloc));
-        Lanes::new(alloc, n, records, free, detectors)
+        let mut records = mem::replace(&mut self.records, Vec::new(alloc));
+        let mut free = mem::replace(&mut self.free, Vec::new(alloc));
+        let mut detectors = mem::replace(&mut self.detectors, Vec::new(alloc));
+        records.clear();
+        free.clear();
+        detectors.clear();
+        Ok(Lanes {
+            frames: Frames::blank(alloc, n)?,
+            records,
+            free,
+            detectors,
+            sums: Vec::new(alloc),
+        })
     }
 }

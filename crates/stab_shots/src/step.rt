@@ -1,4 +1,4 @@
-//! One step of a run, on the lanes that are led by what is noted of it. Lanes keep flips in place of bits.
+//! One step of a run, on the lanes that are propagated over what is recorded of it. Lanes keep flips in place of bits.
 ghost use Rattle.std.specs.Prelude.{◌≡◌, ℕ, ◌+◌, ◌<◌, ◌∷◌, [], ◌++◌, ◌&&◌, if◌then◌else◌, length, OnOk};
 ghost use Rattle.stab_pauli.specs.Paulis.{single};
 ghost use Rattle.stab_frames.specs.Frames.{times_where};
@@ -7,13 +7,13 @@ ghost use Rattle.stab_run.specs.Runs.{flip_of};
 ghost use Rattle.stab_run.specs.Points.{coins_of};
 ghost use Rattle.stab_run.specs.ProgramStates.{StepFits};
 ghost use Rattle.stab_shots.specs.Lanes.{lane_letters};
-ghost use Rattle.stab_shots.specs.Noted.{HasAll, IsCounted, lane_notes};
+ghost use Rattle.stab_shots.specs.RecordedPivots.{HasAll, IsCounted, lane_pivots};
 ghost use Rattle.stab_shots.specs.Differences.{lane_difference, Follows};
 
 use crate::coins::Draw;
 use crate::frames::Frames;
 use crate::lanes::{Lanes, Sum, looked_up, parity};
-use crate::measure::{Noted, measure_letter, measure_product};
+use crate::measure::{RecordedPivots, measure_letter, measure_product};
 use crate::word::Word;
 use stab_circuit::Step;
 use stab_pauli::Letter;
@@ -41,24 +41,24 @@ fn push_when<W: Word>(words: &mut Vec<W>, test: bool, word: W) -> Result<(), All
     Ok(())
 }
 
-/// Leads all lanes over one step. The number is that of the next noted string.
-pub fn pass_step<W: Word, D: Draw<W>>(
-    noted: Noted,
+/// Propagates all lanes over one step. The number is that of the next pivot.
+pub fn propagate_step<W: Word, D: Draw<W>>(
+    recorded_pivots: RecordedPivots,
     number: &mut usize,
     draw: &mut D,
     lanes: &mut Lanes<W>,
     step: Step,
 ) -> Result<(), AllocError>
-    requires all { HasAll noted }
-    requires counted { IsCounted noted number.old (length lanes.old.free.items) }
-    requires frames { length lanes.old.frames.letters.items ≡ noted.strings.now.qubits }
-    requires fits { StepFits noted.strings.now.qubits (step_shown step) }
+    requires all { HasAll recorded_pivots }
+    requires counted { IsCounted recorded_pivots number.old (length lanes.old.free.items) }
+    requires frames { length lanes.old.frames.letters.items ≡ recorded_pivots.strings.now.qubits }
+    requires fits { StepFits recorded_pivots.strings.now.qubits (step_shown step) }
     requires apart { IsApart (step_shown step) }
-    ensures counted { OnOk result (IsCounted noted.entry number.new (length lanes.new.free.items)) }
+    ensures counted { OnOk result (IsCounted recorded_pivots.entry number.new (length lanes.new.free.items)) }
     ensures coin { OnOk result (length lanes.new.free.items ≡ length lanes.old.free.items + coins_of (step_shown step.entry)) }
     ensures frames { length lanes.new.frames.letters.items ≡ length lanes.old.frames.letters.items }
     ensures same_coins { D.sequences draw.new ≡ D.sequences draw.old }
-    ensures follows { OnOk result ((l : ℕ) → l < W.lanes → Follows noted.entry.strings.now.qubits (lane_notes noted.entry (D.sequences draw.old l)) (step_shown step.entry ∷ []) (lane_difference W.at l lanes.old) (lane_difference W.at l lanes.new)) }
+    ensures follows { OnOk result ((l : ℕ) → l < W.lanes → Follows recorded_pivots.entry.strings.now.qubits (lane_pivots recorded_pivots.entry (D.sequences draw.old l)) (step_shown step.entry ∷ []) (lane_difference W.at l lanes.old) (lane_difference W.at l lanes.new)) }
 {
     match step {
         Step::One(gate, qubit) => lanes.frames.apply(gate, qubit),
@@ -74,7 +74,7 @@ pub fn pass_step<W: Word, D: Draw<W>>(
             inverted: _,
             reset,
         } => {
-            let flips = measure_letter(noted, number, draw, lanes, letter, qubit)?;
+            let flips = measure_letter(recorded_pivots, number, draw, lanes, letter, qubit)?;
             reset_if(&mut lanes.frames, letter, qubit, reset, flips);
             push_when(&mut lanes.records, recorded, flips)?;
         }
@@ -82,7 +82,7 @@ pub fn pass_step<W: Word, D: Draw<W>>(
             factors,
             inverted: _,
         } => {
-            let flips = measure_product(noted, number, draw, lanes, factors)?;
+            let flips = measure_product(recorded_pivots, number, draw, lanes, factors)?;
             lanes.records.push(flips)?;
         }
         Step::Detector(lookbacks) => {

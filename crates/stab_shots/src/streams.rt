@@ -1,6 +1,6 @@
 ghost use Rattle.std.specs.Prelude.{◌≡◌, ℕ, ◌+◌, ◌*◌, ◌<◌, ◌^◌, [], slice_index_or};
 ghost use Rattle.rand_chacha.specs.ChaCha.{word_at};
-ghost use Rattle.stab_steps.specs.Coins.{key_bytes};
+ghost use Rattle.stab_run.specs.Coins.{key_bytes};
 ghost use Rattle.stab_shots.specs.Seeds.{shot_word};
 
 use rand_chacha::ChaCha8Rng;
@@ -24,7 +24,7 @@ pub fn words_of_shot(seed: u64, shot: u64, group: u64) -> [[u32; 16]; 4]
 }
 
 /// The key of a seed.
-#[tactic(auto, unfolding(stab_steps::specs::Coins::key_bytes))]
+#[tactic(auto, unfolding(stab_run::specs::Coins::key_bytes))]
 fn key_bytes(seed: u64) -> [u8; 32]
     ensures value { result ≡ key_bytes seed }
 {

@@ -1,5 +1,5 @@
 ghost use Rattle.std.specs.Prelude.{◌≡◌, refl, ℕ, ◌+◌, ◌*◌, ◌/◌, ◌%◌, ◌<◌, ◌≤◌, Bool, IsTrue};
-ghost use Rattle.stab_letters.specs.Letters.{◌⊕◌};
+ghost use Rattle.stab_gates.specs.Letters.{◌⊕◌};
 ghost use Rattle.stab_shots.specs.Words.{word_bit};
 ghost use Rattle.stab_shots.specs.Bytes.{byte_at};
 

@@ -1,20 +1,5 @@
 -- The stabilisers of a state generate its group and are independent.
-use Rattle.std.specs.Prelude.{if◌then◌else◌}
-use Rattle.std.proofs.lemmas.Bool.{eq-eqb}
-use Rattle.std.proofs.lemmas.Bool.Decides.{eqb_tells}
-use Rattle.std.proofs.Common.{◌≡◌, ◌≢◌, ℕ, zero, suc, eqb, ◌<◌, ◌≤◌, Bool, true, false, not, ◌&&◌, inl, inr, refl, sym, ◌∙◌, ap, List, length, arith}
-use Rattle.std.proofs.lemmas.List.{length-replicate}
-use Rattle.stab_letters.specs.declared.letter.Letter.{Letter}
-use Rattle.stab_letters.specs.declared.letter.Letter.TheVariants.{I}
-use Rattle.stab_letters.specs.Letters.{◌⊕◌}
-use Rattle.stab_pauli.specs.Paulis.{Signed, anticommute, strings_anticommute, product, string_product}
-use Rattle.stab_pauli.specs.Rows.{Rows, row_at}
-use Rattle.stab_letters.proofs.ParityLemmas.{parity-self, parity-false, parity-mid}
-use Rattle.stab_pauli.proofs.StringLemmas.{strings_anticommute-comm, strings_anticommute-product, string_product-self}
-use Rattle.stab_tableau.specs.inner.InverseRows.{blank, IsTable, IsOnto}
-use Rattle.stab_tableau.specs.Tableaus.{TableauState, stabilises}
-use Rattle.stab_tableau.specs.Columns.{stabiliser_of, destabiliser_of, chosen_product, IsGenerated}
-use Rattle.stab_tableau.specs.inner.Eliminations.{IsLinear, IsBasis}
+use Rattle.stab_tableau.proofs.Names.{if◌then◌else◌, eq-eqb, eqb_tells, ◌≡◌, ◌≢◌, ℕ, zero, suc, eqb, ◌<◌, ◌≤◌, Bool, true, false, not, ◌&&◌, inl, inr, refl, sym, ◌∙◌, ap, List, length, arith, length-replicate, Letter, I, ◌⊕◌, Signed, anticommute, strings_anticommute, product, string_product, Rows, row_at, parity-self, parity-false, parity-mid, strings_anticommute-comm, strings_anticommute-product, string_product-self, blank, IsTable, IsOnto, TableauState, stabilises, stabiliser_of, destabiliser_of, chosen_product, IsGenerated, IsLinear, IsBasis}
 use Rattle.stab_tableau.proofs.GeneratedLemmas.{stabiliser-length, stabiliser-member, are-dual, is-generated}
 use Rattle.stab_tableau.proofs.GroupTestLemmas.{group-stabilises}
 use Rattle.stab_tableau.proofs.EliminationStepLemmas.{and-true, and-false, and-parity}

@@ -1,19 +1,6 @@
 -- Bits of strings: those of a product, and that they determine a string.
-use Rattle.std.proofs.lemmas.Bool.{lt-ltb, ltb-true, ltb-false}
-use Rattle.std.proofs.lemmas.Bool.Decides.{eqb_tells}
-use Rattle.std.proofs.Common.{◌≡◌, ◌≢◌, subst, ℕ, zero, suc, ◌+◌, ◌-◌, ◌<◌, ◌≤◌, Bool, true, false, nat_lt, ◌⊎◌, inl, inr, refl, sym, ◌∙◌, ap, List, length, arith}
-use Rattle.std.specs.Prelude.{if◌then◌else◌}
-use Rattle.std.proofs.lemmas.List.{ext_get_or, length-replicate}
-use Rattle.stab_letters.specs.declared.letter.Letter.{Letter}
-use Rattle.stab_letters.specs.declared.letter.Letter.TheVariants.{I, X, Z}
-use Rattle.stab_letters.specs.Letters.{◌⊕◌, letter_product, letters_anticommute}
-use Rattle.stab_pauli.specs.Paulis.{identity, string_product}
-use Rattle.stab_letters.proofs.ParityLemmas.{parity-self}
-use Rattle.stab_letters.proofs.LetterLemmas.{letters_anticommute-comm, letters_anticommute-product, letters_anticommute-tells}
-use Rattle.stab_pauli.proofs.StringLemmas.{get_or-string_product, string_product-self}
-use Rattle.stab_pauli.proofs.MaskLemmas.{clash}
-use Rattle.stab_tableau.specs.Gates.{letter_at}
-use Rattle.stab_tableau.specs.Reduced.{bit_at, IsFirst}
+use Rattle.stab_tableau.proofs.Names.{lt-ltb, ltb-true, ltb-false, eqb_tells, ◌≡◌, ◌≢◌, subst, ℕ, zero, suc, ◌+◌, ◌-◌, ◌<◌, ◌≤◌, Bool, true, false, nat_lt, inl, inr, refl, sym, ◌∙◌, ap, List, length, arith, if◌then◌else◌, ext_get_or, length-replicate, Letter, I, X, Z, ◌⊕◌, letter_product, letters_anticommute, identity, string_product, parity-self, letters_anticommute-comm, letters_anticommute-product, letters_anticommute-tells, get_or-string_product, string_product-self, clash, letter_at, bit_at, IsFirst}
+use Rattle.std.proofs.Common.{◌⊎◌}
 
 pub bit-x : (n : ℕ) (p : List Letter) (k : ℕ) → k < n → bit_at n p k ≡ letters_anticommute Z (letter_at p k)
 bit-x n p k lt = ap (λ b. if b then letters_anticommute Z (letter_at p k) else letters_anticommute X (letter_at p (k - n))) (lt-ltb k n lt)

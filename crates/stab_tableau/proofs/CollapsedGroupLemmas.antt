@@ -1,24 +1,5 @@
--- Collapsed groups: the rows of 32 qubits after a measurement, by the masks that say which are multiplied and which turned.
-use Rattle.std.proofs.Common.{◌≡◌, ℕ, ◌+◌, ◌-◌, ◌<◌, ◌≤◌, true, false, inl, inr, refl, sym, ◌∙◌, ap, subst, List, length, arith}
-use Rattle.std.specs.Prelude.{◌⊎◌, bit_xor}
-use Rattle.std.proofs.lemmas.Bool.{cases_lt}
-use Rattle.std.proofs.lemmas.List.{get_or_past}
-use Rattle.stab_letters.specs.declared.letter.Letter.{Letter}
-use Rattle.stab_letters.specs.declared.letter.Letter.TheVariants.{I, Z}
-use Rattle.stab_letters.specs.Letters.{◌⊕◌, letters_anticommute}
-use Rattle.stab_letters.specs.XParts.{has_x}
-use Rattle.stab_pauli.specs.Masks.{chooses}
-use Rattle.stab_pauli.specs.Paulis.{Signed, anticommute, with_sign}
-use Rattle.stab_pauli.specs.Phaseds.{phased}
-use Rattle.stab_pauli.specs.Rows.{product_times_i_if}
-use Rattle.stab_pauli.proofs.MaskLemmas.{clash, chooses-xor}
-use Rattle.stab_pauli.proofs.SignedLemmas.{phased-with_sign}
-use Rattle.stab_tableau.specs.declared.table.InverseRow.{InverseRow}
-use Rattle.stab_tableau.specs.declared.table.InverseRow.TheVariants.{OfX, OfZ}
-use Rattle.stab_tableau.specs.Gates.{letter_at}
-use Rattle.stab_tableau.specs.inner.InverseRows.{InverseRows, rows_at}
-use Rattle.stab_tableau.specs.inner.Pairs.{row_place, row_letter, row_string, ArePairsChosen}
-use Rattle.stab_tableau.specs.inner.Collapses.{collapsed_row, CollapsedRow, IsTold}
+-- Collapsed groups: the rows of 32 qubits after a measurement, by the masks that say which are multiplied and whose signs are flipped.
+use Rattle.stab_tableau.proofs.Names.{◌≡◌, ℕ, ◌+◌, ◌-◌, ◌<◌, ◌≤◌, true, false, inl, inr, refl, sym, ◌∙◌, ap, subst, List, length, arith, ◌⊎◌, bit_xor, cases_lt, get_or_past, Letter, I, Z, ◌⊕◌, letters_anticommute, has_x, chooses, Signed, anticommute, with_sign, phased, product_times_i_if, clash, chooses-xor, phased-with_sign, InverseRow, OfX, OfZ, letter_at, InverseRows, rows_at, row_place, row_letter, row_string, ArePairsChosen, collapsed_row, CollapsedRow, IsTold}
 use Rattle.stab_tableau.proofs.CollapsedStringLemmas.{collapsed-bit}
 use Rattle.stab_tableau.proofs.RowsApartLemmas.{apart-I}
 use Rattle.stab_tableau.proofs.DiagonalLemmas.{x-with_Z}
@@ -71,14 +52,14 @@ module _ (place : ℕ) (j : Signed) (letters : List Letter) (first with_w with_r
   multiplied-apart w k lk one = told-both w k lk (multiplied-in w k lk one) ∙ one
 
   module _ (mid new : List InverseRows) (multiplied : ArePairsChosen first (bit_xor with_w with_r) (λ b p. product_times_i_if b p j) old mid)
-      (turned : ArePairsChosen first with_r with_sign mid new) where
+      (conjugated : ArePairsChosen first with_r with_sign mid new) where
     string-collapsed : (w : InverseRow) (k : ℕ) → k < 32 → first + k < length old
         → phased (row_string w (rows_at new (first + k)))
         ≡ collapsed_row (letters_anticommute Z (letter_at (row_string w (rows_at old (first + k))).letters place)) (anticommute (row_string w (rows_at old (first + k))) j) (phased j) (phased (row_string w (rows_at old (first + k))))
     string-collapsed w k lk lt =
         let s = row_string w (rows_at old (first + k)) in
         let r = chooses with_r (row_place w k) in
-        ap phased (turned.within w k lk ∙ ap (with_sign r) (multiplied.within w k lk ∙ ap (λ b. product_times_i_if b s j) (sym (told-both w k lk lt))))
+        ap phased (conjugated.within w k lk ∙ ap (with_sign r) (multiplied.within w k lk ∙ ap (λ b. product_times_i_if b s j) (sym (told-both w k lk lt))))
         ∙ phased-with_sign r (product_times_i_if (anticommute s j) s j)
         ∙ collapsed-bit s j (anticommute s j) (chooses with_w (row_place w k)) r refl (told-row w k lk lt)
         ∙ ap (λ b. collapsed_row b (anticommute s j) (phased j) (phased s)) (with_w_is w k lk ∙ sym (x-with_Z (letter_at s.letters place)))

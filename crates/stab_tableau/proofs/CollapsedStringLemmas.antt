@@ -1,12 +1,5 @@
--- One string of a table after a measurement, by whether it was multiplied and whether its sign was turned.
-use Rattle.std.proofs.Common.{◌≡◌, Bool, true, false, not, ◌∙◌, ap, arith}
-use Rattle.stab_letters.specs.Phases.{phase_of_sign}
-use Rattle.stab_letters.specs.Letters.{◌⊕◌}
-use Rattle.stab_pauli.specs.Paulis.{Signed, anticommute}
-use Rattle.stab_pauli.specs.Phaseds.{phased, times_phase}
-use Rattle.stab_pauli.specs.Rows.{product_times_i, product_times_i_if}
-use Rattle.stab_pauli.proofs.SeenLemmas.{phased_product-times_phase}
-use Rattle.stab_tableau.specs.inner.Collapses.{collapsed_row}
+-- One string of a table after a measurement, by whether it was multiplied and whether its sign was flipped.
+use Rattle.stab_tableau.proofs.Names.{◌≡◌, Bool, true, false, not, ◌∙◌, ap, arith, phase_of_sign, ◌⊕◌, Signed, anticommute, phased, times_phase, product_times_i, product_times_i_if, phased_product-times_phase, collapsed_row}
 
 same_bit : (x y : Bool) → false ≡ x ⊕ y → y ≡ x
 same_bit x y e = grind arith

@@ -1,15 +1,6 @@
 -- The end of an elimination: rows that have come to the last place are the reduced rows of their group.
-use Rattle.std.proofs.lemmas.Bool.Decides.{eqb_tells}
-use Rattle.std.proofs.Common.{◌≡◌, ◌≢◌, ℕ, zero, suc, ◌+◌, ◌<◌, ◌≤◌, Bool, true, false, ◌&&◌, ◌⊎◌, inl, inr, refl, sym, ◌∙◌, ap, subst, List, [], ◌∷◌, length, arith}
-use Rattle.stab_letters.specs.declared.letter.Letter.{Letter}
-use Rattle.stab_letters.specs.Letters.{◌⊕◌}
-use Rattle.stab_pauli.specs.Paulis.{Signed, string_product}
-use Rattle.stab_pauli.specs.Rows.{Rows}
-use Rattle.stab_letters.proofs.ParityLemmas.{parity-self, parity-mid}
-use Rattle.stab_pauli.proofs.StringLemmas.{length-string_product}
-use Rattle.stab_pauli.proofs.MaskLemmas.{clash}
-use Rattle.stab_tableau.specs.Reduced.{bit_at, IsLead, IsRowAt, AreRowsFrom, AreReduced}
-use Rattle.stab_tableau.specs.inner.Eliminations.{IsLinear, HasCome}
+use Rattle.stab_tableau.proofs.Names.{eqb_tells, ◌≡◌, ◌≢◌, ℕ, zero, suc, ◌+◌, ◌<◌, ◌≤◌, Bool, true, false, ◌&&◌, inl, inr, refl, sym, ◌∙◌, ap, subst, List, [], ◌∷◌, length, arith, Letter, ◌⊕◌, Signed, string_product, Rows, parity-self, parity-mid, length-string_product, clash, bit_at, IsLead, IsRowAt, AreRowsFrom, AreReduced, IsLinear, HasCome}
+use Rattle.std.proofs.Common.{◌⊎◌}
 use Rattle.stab_tableau.proofs.BitLemmas.{bit-product, bits-tell, nat-apart, up-to}
 use Rattle.stab_tableau.proofs.EliminationStepLemmas.{rows_of, at, and-false, and-true, and-parity}
 

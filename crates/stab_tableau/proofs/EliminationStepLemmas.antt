@@ -1,27 +1,15 @@
 -- Steps of an elimination: what each keeps of rows that generate a group.
-use Rattle.std.specs.Prelude.{if◌then◌else◌}
-use Rattle.std.proofs.lemmas.Bool.{eq-eqb}
-use Rattle.std.proofs.lemmas.Bool.Decides.{eqb_tells}
-use Rattle.std.proofs.Common.{◌≡◌, ◌≢◌, eqb, ℕ, ◌+◌, ◌<◌, ◌≤◌, Bool, true, false, ◌&&◌, inl, inr, refl, sym, ◌∙◌, ap, subst, List, length, get_or, arith}
-use Rattle.stab_letters.specs.declared.letter.Letter.{Letter}
-use Rattle.stab_letters.specs.Letters.{◌⊕◌}
-use Rattle.stab_pauli.specs.Paulis.{Signed, identity, product}
-use Rattle.stab_pauli.specs.Rows.{Rows, row_at}
-use Rattle.stab_letters.proofs.ParityLemmas.{parity-self, parity-false, parity-assoc}
-use Rattle.stab_pauli.proofs.SignedLemmas.{length-product}
-use Rattle.stab_tableau.specs.Groups.{IsStabiliserGroup}
-use Rattle.stab_tableau.specs.Reduced.{bit_at, IsFirst}
-use Rattle.stab_tableau.specs.inner.Eliminations.{IsLinear, IsBasis, HasCome, ComesTo, exchanged, AreExchanged, cleared_with, AreCleared, HasStepped}
+use Rattle.stab_tableau.proofs.Names.{if◌then◌else◌, eq-eqb, eqb_tells, ◌≡◌, ◌≢◌, eqb, ℕ, ◌+◌, ◌<◌, ◌≤◌, Bool, true, false, ◌&&◌, inl, inr, refl, sym, ◌∙◌, ap, subst, List, length, get_or, arith, Letter, ◌⊕◌, Signed, identity, product, Rows, row_at, parity-self, parity-false, parity-assoc, length-product, IsStabiliserGroup, bit_at, IsFirst, IsLinear, IsBasis, HasCome, ComesTo, exchanged, AreExchanged, cleared_with, AreCleared, HasStepped}
 use Rattle.stab_tableau.proofs.BitLemmas.{bit-product, up-to}
 use Rattle.stab_tableau.proofs.ExchangeLemmas.{exchanged-first, exchanged-twice, exchanged-below, exchanged-high, exchanged-low}
 
--- clearing a string by a pivot adds the pivot's answer to a test if the string has 1
-cleared-test : (n k : ℕ) (f : List Letter → Bool) → IsLinear f → (pivot p : Signed)
-    → f (cleared_with n k pivot p).letters ≡ f p.letters ⊕ (bit_at n p.letters k && f pivot.letters)
-cleared-test n k f linear pivot p = by_bit (bit_at n p.letters k)
+-- clearing a string by a leading adds the leading's answer to a test if the string has 1
+cleared-test : (n k : ℕ) (f : List Letter → Bool) → IsLinear f → (leading p : Signed)
+    → f (cleared_with n k leading p).letters ≡ f p.letters ⊕ (bit_at n p.letters k && f leading.letters)
+cleared-test n k f linear leading p = by_bit (bit_at n p.letters k)
   where
-    by_bit : (b : Bool) → f (if b then product p pivot else p).letters ≡ f p.letters ⊕ (b && f pivot.letters)
-    by_bit true = linear p.letters pivot.letters
+    by_bit : (b : Bool) → f (if b then product p leading else p).letters ≡ f p.letters ⊕ (b && f leading.letters)
+    by_bit true = linear p.letters leading.letters
     by_bit false = sym (parity-false (f p.letters))
 
 pub and-false : (a b : Bool) → b ≡ false → (a && b) ≡ false
@@ -77,46 +65,46 @@ module _ (member : Signed → Bool) (n k used : ℕ) (xs ys : List Signed) (h : 
           ∙ h.zeros (exchanged used p b) (exchanged-high used used p b (omega arith) le lb) (there b ly) j lj;
     }
 
-  -- a pivot by which all others are cleared
+  -- a leading by which all others are cleared
   module _ (g : IsStabiliserGroup n member) (in_range : k < n + n) (lu : used < length xs) (one : bit_at n (at n xs used).letters k ≡ true)
       (c : AreCleared used k (rows_of n xs) (rows_of n ys)) where
-    abbrev pivot : Signed
-    pivot = at n xs used
+    abbrev leading : Signed
+    leading = at n xs used
 
-    size : length pivot.letters ≡ n
+    size : length leading.letters ≡ n
     size = h.basis.over used lu
 
-    still : (j : ℕ) → j < k → bit_at n pivot.letters j ≡ false
+    still : (j : ℕ) → j < k → bit_at n leading.letters j ≡ false
     still j lj = h.zeros used (omega arith) lu j lj
 
-    cleared-bit : (p : Signed) (j : ℕ) → j < k → bit_at n (cleared_with n k pivot p).letters j ≡ bit_at n p.letters j
+    cleared-bit : (p : Signed) (j : ℕ) → j < k → bit_at n (cleared_with n k leading p).letters j ≡ bit_at n p.letters j
     cleared-bit p j lt =
-        cleared-test n k (λ p. bit_at n p j) (λ p q. bit-product n p q j) pivot p
-        ∙ ap (λ b. bit_at n p.letters j ⊕ b) (and-false (bit_at n p.letters k) (bit_at n pivot.letters j) (still j lt))
+        cleared-test n k (λ p. bit_at n p j) (λ p q. bit-product n p q j) leading p
+        ∙ ap (λ b. bit_at n p.letters j ⊕ b) (and-false (bit_at n p.letters k) (bit_at n leading.letters j) (still j lt))
         ∙ parity-false (bit_at n p.letters j)
 
-    cleared-zero : (p : Signed) → bit_at n (cleared_with n k pivot p).letters k ≡ false
+    cleared-zero : (p : Signed) → bit_at n (cleared_with n k leading p).letters k ≡ false
     cleared-zero p =
-        cleared-test n k (λ p. bit_at n p k) (λ p q. bit-product n p q k) pivot p
-        ∙ ap (λ b. bit_at n p.letters k ⊕ b) (and-true (bit_at n p.letters k) (bit_at n pivot.letters k) one)
+        cleared-test n k (λ p. bit_at n p k) (λ p q. bit-product n p q k) leading p
+        ∙ ap (λ b. bit_at n p.letters k ⊕ b) (and-true (bit_at n p.letters k) (bit_at n leading.letters k) one)
         ∙ parity-self (bit_at n p.letters k)
 
-    cleared-size : (p : Signed) → length p.letters ≡ n → length (cleared_with n k pivot p).letters ≡ n
+    cleared-size : (p : Signed) → length p.letters ≡ n → length (cleared_with n k leading p).letters ≡ n
     cleared-size p lp = by_bit (bit_at n p.letters k)
       where
-        by_bit : (b : Bool) → length (if b then product p pivot else p).letters ≡ n
-        by_bit true = length-product n p pivot lp size
+        by_bit : (b : Bool) → length (if b then product p leading else p).letters ≡ n
+        by_bit true = length-product n p leading lp size
         by_bit false = lp
 
-    cleared-passes : (p : Signed) → length p.letters ≡ n → member p ≡ true → member (cleared_with n k pivot p) ≡ true
+    cleared-passes : (p : Signed) → length p.letters ≡ n → member p ≡ true → member (cleared_with n k leading p) ≡ true
     cleared-passes p lp mp = by_bit (bit_at n p.letters k)
       where
-        by_bit : (b : Bool) → member (if b then product p pivot else p) ≡ true
-        by_bit true = g.closed p pivot lp size mp (h.basis.passes used lu)
+        by_bit : (b : Bool) → member (if b then product p leading else p) ≡ true
+        by_bit true = g.closed p leading lp size mp (h.basis.passes used lu)
         by_bit false = mp
 
-    -- a fact of the pivot and of each row that is cleared holds of each row
-    by-row : (P : ℕ → Signed → Type 0) → P used pivot → ((a : ℕ) → a < length xs → a ≢ used → P a (cleared_with n k pivot (at n xs a)))
+    -- a fact of the leading and of each row that is cleared holds of each row
+    by-row : (P : ℕ → Signed → Type 0) → P used leading → ((a : ℕ) → a < length xs → a ≢ used → P a (cleared_with n k leading (at n xs a)))
         → (a : ℕ) → a < length ys → P a (at n ys a)
     by-row P here there a la = elim (eqb_tells a used) [
       | inl same ↦ subst (λ b. P b (at n ys b)) (sym same.1) (subst (P used) (sym c.kept) here)
@@ -124,14 +112,14 @@ module _ (member : Signed → Bool) (n k used : ℕ) (xs ys : List Signed) (h : 
           subst (P a) (sym (c.others a lx other.1)) (there a lx other.1)
     ]
 
-    row-other : (a : ℕ) → a < used → at n ys a ≡ cleared_with n k pivot (at n xs a)
+    row-other : (a : ℕ) → a < used → at n ys a ≡ cleared_with n k leading (at n xs a)
     row-other a la = c.others a (omega arith) (λ e. absurd (omega (arith, e)))
 
     abbrev wanted : (ℕ → Bool) → ℕ → Bool
     wanted v a = if eqb a used then v used else v a ⊕ (bit_at n (at n xs a).letters k && v used)
 
     wanted-used : (v : ℕ → Bool) → wanted v used ≡ v used
-    wanted-used v = ap (λ t. if t then v used else v used ⊕ (bit_at n pivot.letters k && v used)) (eq-eqb used used refl)
+    wanted-used v = ap (λ t. if t then v used else v used ⊕ (bit_at n leading.letters k && v used)) (eq-eqb used used refl)
 
     wanted-other : (v : ℕ → Bool) (a : ℕ) → a ≢ used → wanted v a ≡ v a ⊕ (bit_at n (at n xs a).letters k && v used)
     wanted-other v a ne = elim (eqb_tells a used) [
@@ -153,25 +141,25 @@ module _ (member : Signed → Bool) (n k used : ℕ) (xs ys : List Signed) (h : 
         back f linear zeros a la = elim (eqb_tells a used) [
           | inl same ↦ ap (λ a. f (at n xs a).letters) same.1 ∙ quiet
           | inr other ↦ sym (parity-false (f (at n xs a).letters))
-              ∙ ap (λ b. f (at n xs a).letters ⊕ b) (sym (and-false (bit_at n (at n xs a).letters k) (f pivot.letters) quiet))
-              ∙ sym (cleared-test n k f linear pivot (at n xs a))
+              ∙ ap (λ b. f (at n xs a).letters ⊕ b) (sym (and-false (bit_at n (at n xs a).letters k) (f leading.letters) quiet))
+              ∙ sym (cleared-test n k f linear leading (at n xs a))
               ∙ ap (λ (s : Signed). f s.letters) (sym (c.others a la other.1))
               ∙ zeros a (let e = c.count in omega arith)
         ]
           where
-            quiet : f pivot.letters ≡ false
+            quiet : f leading.letters ≡ false
             quiet = ap (λ (s : Signed). f s.letters) (sym c.kept) ∙ zeros used (let e = c.count in omega arith)
 
         bits : (v : ℕ → Bool) (f : List Letter → Bool) → IsLinear f → ((a : ℕ) → a < length xs → f (at n xs a).letters ≡ wanted v a)
             → (a : ℕ) → a < length ys → f (at n ys a).letters ≡ v a
         bits v f linear on = by-row (λ a s. f s.letters ≡ v a) own
-            (λ a la ne. cleared-test n k f linear pivot (at n xs a)
+            (λ a la ne. cleared-test n k f linear leading (at n xs a)
             ∙ (λ i. (on a la ∙ wanted-other v a ne) i ⊕ (bit_at n (at n xs a).letters k && own i))
             ∙ parity-assoc (v a) (bit_at n (at n xs a).letters k && v used) (bit_at n (at n xs a).letters k && v used)
             ∙ ap (λ b. v a ⊕ b) (parity-self (bit_at n (at n xs a).letters k && v used))
             ∙ parity-false (v a))
           where
-            own : f pivot.letters ≡ v used
+            own : f leading.letters ≡ v used
             own = on used lu ∙ wanted-used v
 
     abbrev lead : ℕ → ℕ
@@ -192,18 +180,18 @@ module _ (member : Signed → Bool) (n k used : ℕ) (xs ys : List Signed) (h : 
     bit-of : (s t : Signed) (l m : ℕ) → s ≡ t → l ≡ m → bit_at n t.letters m ≡ false → bit_at n s.letters l ≡ false
     bit-of s t l m e f w = (λ i. bit_at n (e i).letters (f i)) ∙ w
 
-    pivot-core : HasCome member (k + 1) (used + 1) (rows_of n ys)
-    pivot-core = record {
+    leading-core : HasCome member (k + 1) (used + 1) (rows_of n ys)
+    leading-core = record {
       basis = cleared-basis;
       few = let e = c.count in omega arith;
       lead = lead;
       first = λ a la. up-to (λ a. IsFirst n (at n ys a).letters (lead a)) used
-          (λ a la. let f = h.first a la in first-at (at n ys a) (cleared_with n k pivot (at n xs a)) (lead a) (h.lead a) (row-other a la) (lead-low a la) (
+          (λ a la. let f = h.first a la in first-at (at n ys a) (cleared_with n k leading (at n xs a)) (lead a) (h.lead a) (row-other a la) (lead-low a la) (
             f.0,
             cleared-bit (at n xs a) (h.lead a) (h.before a la) ∙ f.1,
             λ j lj. cleared-bit (at n xs a) j (let b = h.before a la in omega arith) ∙ f.2 j lj,
           ))
-          (first-at (at n ys used) pivot (lead used) k c.kept lead-used (in_range, one, still)) a (omega arith);
+          (first-at (at n ys used) leading (lead used) k c.kept lead-used (in_range, one, still)) a (omega arith);
       before = λ a la. up-to (λ a. lead a < k + 1) used
           (λ a la. let b = h.before a la in let e = lead-low a la in omega arith) (let e = lead-used in omega arith) a (omega arith);
       ascend = λ a b ab lb. up-to (λ b. a < b → lead a < lead b) used
@@ -211,14 +199,14 @@ module _ (member : Signed → Bool) (n k used : ℕ) (xs ys : List Signed) (h : 
           (λ ab. let l = h.before a ab in let e = lead-low a ab in let f = lead-used in omega arith) b (omega arith) ab;
       clear = λ a b la lb. up-to (λ a. b ≢ a → bit_at n (at n ys b).letters (lead a) ≡ false) used
           (λ a la ne. up-to (λ b. b ≢ a → bit_at n (at n ys b).letters (lead a) ≡ false) used
-          (λ b lb ne. bit-of (at n ys b) (cleared_with n k pivot (at n xs b)) (lead a) (h.lead a) (row-other b lb) (lead-low a la)
+          (λ b lb ne. bit-of (at n ys b) (cleared_with n k leading (at n xs b)) (lead a) (h.lead a) (row-other b lb) (lead-low a la)
           (cleared-bit (at n xs b) (h.lead a) (h.before a la) ∙ h.clear a b la lb ne))
-          (λ _. bit-of (at n ys used) pivot (lead a) (h.lead a) c.kept (lead-low a la) (still (h.lead a) (h.before a la))) b (omega arith) ne)
+          (λ _. bit-of (at n ys used) leading (lead a) (h.lead a) c.kept (lead-low a la) (still (h.lead a) (h.before a la))) b (omega arith) ne)
           (λ ne. let low : b < used = (omega (arith, ne)) in
-          bit-of (at n ys b) (cleared_with n k pivot (at n xs b)) (lead used) k (row-other b low) lead-used (cleared-zero (at n xs b))) a (omega arith);
+          bit-of (at n ys b) (cleared_with n k leading (at n xs b)) (lead used) k (row-other b low) lead-used (cleared-zero (at n xs b))) a (omega arith);
       zeros = λ b lb ly j lj. ap (λ (s : Signed). bit_at n s.letters j)
           (c.others b (let e = c.count in omega arith) (λ e. absurd (omega (arith, e))))
-          ∙ up-to (λ j. bit_at n (cleared_with n k pivot (at n xs b)).letters j ≡ false) k
+          ∙ up-to (λ j. bit_at n (cleared_with n k leading (at n xs b)).letters j ≡ false) k
           (λ j lj. cleared-bit (at n xs b) j lj ∙ h.zeros b (omega arith) (let e = c.count in omega arith) j lj)
           (cleared-zero (at n xs b)) j (omega arith);
     }
@@ -232,7 +220,7 @@ some-core n k used p xs ys zs le lt in_range one x c = record {
   qubits = refl;
   count = c.count ∙ x.count;
   comes = λ member g h.
-      pivot-core member n k used ys zs (exchanged-core member n k used xs ys h p le lt x) g in_range (let e = x.count in omega arith)
+      leading-core member n k used ys zs (exchanged-core member n k used xs ys h p le lt x) g in_range (let e = x.count in omega arith)
       (ap (λ (s : Signed). bit_at n s.letters k) (x.rows used (omega arith) ∙ ap (at n xs) (exchanged-first used p)) ∙ one) c;
 }
 

@@ -1,9 +1,6 @@
 -- Exchanges: the number of the row at a place after two have changed places.
-use Rattle.std.proofs.lemmas.Bool.{eq-eqb}
-use Rattle.std.proofs.lemmas.Bool.Decides.{eqb_tells}
-use Rattle.std.specs.Prelude.{if◌then◌else◌}
-use Rattle.std.proofs.Common.{◌≡◌, ℕ, eqb, ◌<◌, ◌≤◌, false, ◌⊎◌, inl, inr, refl, sym, ◌∙◌, ap, arith}
-use Rattle.stab_tableau.specs.inner.Eliminations.{exchanged}
+use Rattle.stab_tableau.proofs.Names.{eq-eqb, eqb_tells, if◌then◌else◌, ◌≡◌, ℕ, eqb, ◌<◌, ◌≤◌, false, inl, inr, refl, sym, ◌∙◌, ap, arith, exchanged}
+use Rattle.std.proofs.Common.{◌⊎◌}
 
 pub exchanged-first : (a b : ℕ) → exchanged a b a ≡ b
 exchanged-first a b = ap (λ t. if t then b else (if eqb a b then a else a)) (eq-eqb a a refl)

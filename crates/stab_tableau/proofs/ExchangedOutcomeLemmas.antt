@@ -1,18 +1,5 @@
 -- Exchanged outcomes: the stabiliser at a place where the preimage of what is measured has X or Y.
-use Rattle.std.proofs.Common.{◌≡◌, ℕ, ◌<◌, true, false, sym, ◌∙◌, ap, subst, List, length}
-use Rattle.stab_letters.specs.declared.letter.Letter.{Letter}
-use Rattle.stab_letters.specs.declared.letter.Letter.TheVariants.{Z}
-use Rattle.stab_letters.specs.Letters.{letters_anticommute}
-use Rattle.stab_letters.specs.XParts.{has_x}
-use Rattle.stab_pauli.specs.Paulis.{Signed, single, strings_anticommute}
-use Rattle.stab_pauli.specs.Phaseds.{Phased, phased}
-use Rattle.stab_tableau.specs.Gates.{letter_at}
-use Rattle.stab_tableau.specs.Columns.{stabiliser_of}
-use Rattle.stab_tableau.specs.Exchanges.{Exchanges}
-use Rattle.stab_tableau.specs.Tableaus.{TableauState, stabilises}
-use Rattle.stab_tableau.specs.inner.ColumnLetters.{column}
-use Rattle.stab_tableau.specs.inner.InverseRows.{InverseRows, string_preimage, extend, IsTable, IsOnto}
-use Rattle.stab_tableau.specs.inner.Tables.{IsTableau}
+use Rattle.stab_tableau.proofs.Names.{◌≡◌, ℕ, ◌<◌, true, false, sym, ◌∙◌, ap, subst, List, length, Letter, Z, letters_anticommute, has_x, Signed, single, strings_anticommute, Phased, phased, letter_at, stabiliser_of, IsPivot, TableauState, stabilises, column, InverseRows, string_preimage, extend, IsTable, IsOnto, IsTableau}
 use Rattle.stab_tableau.proofs.HomomorphismLemmas.{kept-anticommute}
 use Rattle.stab_tableau.proofs.OneLetterLemmas.{one_letter-anticommute}
 use Rattle.stab_tableau.proofs.ColumnLemmas.{column-preimage}
@@ -24,7 +11,7 @@ use Rattle.stab_tableau.proofs.MeasureLemmas.{place-in}
 pub column-exchanges : (t : TableauState) → IsTable t.qubits t.rows → IsOnto t.qubits t.rows
     → (measured : Signed) → length measured.letters ≡ t.qubits → (k : ℕ) → k < t.qubits
     → letters_anticommute Z (letter_at (string_preimage t.qubits t.rows measured.letters).letters k) ≡ true
-    → Exchanges t.qubits (stabilises t) measured (column Z k t.rows)
+    → IsPivot t.qubits (stabilises t) measured (column Z k t.rows)
 column-exchanges t is onto q lq k lt e = record {
   size = stabiliser-length t is onto k lt;
   negative = (stabiliser_of t k).negative;
@@ -40,19 +27,19 @@ column-exchanges t is onto q lq k lt e = record {
 pub place-exchanges : (n : ℕ) (rows : List InverseRows) (scratch : InverseRows) → IsTableau n rows scratch
     → (p : Signed) → length p.letters ≡ n → phased scratch.x ≡ extend (string_preimage n rows) (phased p)
     → (k : ℕ) → k < length scratch.x.letters → has_x (letter_at scratch.x.letters k) ≡ true
-    → Exchanges n (stabilises (record { qubits = n; rows = rows })) p (column Z k rows)
+    → IsPivot n (stabilises (record { qubits = n; rows = rows })) p (column Z k rows)
 place-exchanges n rows scratch is p lp sent k lt here =
     column-exchanges (record { qubits = n; rows = rows }) is.table is.onto p lp k (place-in n scratch.x is.size.x k lt here false)
     (ap (λ (a : Phased). letters_anticommute Z (letter_at a.letters k)) (sym sent) ∙ x-with_Z (letter_at scratch.x.letters k) ∙ here)
 
 -- as contracts see the tableau
 pub exchanges-seen : (rows : List InverseRows) (t : TableauState) → record { qubits = length rows; rows = rows } ≡ t → (p : Signed) (s : List Letter)
-    → Exchanges (length rows) (stabilises (record { qubits = length rows; rows = rows })) p s → Exchanges t.qubits (stabilises t) p s
-exchanges-seen rows t view p s is = let P : TableauState → Type 0 = λ t. Exchanges t.qubits (stabilises t) p s in subst P view is
+    → IsPivot (length rows) (stabilises (record { qubits = length rows; rows = rows })) p s → IsPivot t.qubits (stabilises t) p s
+exchanges-seen rows t view p s is = let P : TableauState → Type 0 = λ t. IsPivot t.qubits (stabilises t) p s in subst P view is
 
 -- of one letter on a qubit
 pub letter-exchanges_seen : (rows : List InverseRows) (t : TableauState) → record { qubits = length rows; rows = rows } ≡ t → (q : ℕ) (l : Letter) (s : List Letter)
-    → Exchanges (length rows) (stabilises (record { qubits = length rows; rows = rows })) (single (length rows) q l) s
-    → Exchanges t.qubits (stabilises t) (single t.qubits q l) s
+    → IsPivot (length rows) (stabilises (record { qubits = length rows; rows = rows })) (single (length rows) q l) s
+    → IsPivot t.qubits (stabilises t) (single t.qubits q l) s
 letter-exchanges_seen rows t view q l s is =
-    let P : TableauState → Type 0 = λ t. Exchanges t.qubits (stabilises t) (single t.qubits q l) s in subst P view is
+    let P : TableauState → Type 0 = λ t. IsPivot t.qubits (stabilises t) (single t.qubits q l) s in subst P view is

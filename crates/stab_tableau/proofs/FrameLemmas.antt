@@ -1,24 +1,5 @@
 -- From what the program compares and writes to the frame of two tables.
-use Rattle.std.specs.Bool.{beq}
-use Rattle.std.specs.List.{list_any}
-use Rattle.std.proofs.Common.{◌≡◌, ℕ, zero, suc, ◌<◌, ◌≤◌, ◌+◌, ◌*◌, Bool, true, false, not, refl, sym, ◌∙◌, ap, List, [], ◌∷◌, length, map, get_or, set, drop, arith, below_more}
-use Rattle.std.proofs.lemmas.List.{get_or-set_other, get_or-set_same, ext_get_or}
-use Rattle.stab_letters.specs.declared.letter.Letter.{Letter}
-use Rattle.stab_letters.specs.declared.letter.Letter.TheVariants.{I, Z}
-use Rattle.stab_letters.specs.Letters.{◌⊕◌, letters_anticommute}
-use Rattle.stab_letters.specs.XParts.{has_x}
-use Rattle.stab_pauli.specs.Paulis.{Signed}
-use Rattle.stab_pauli.specs.Phaseds.{Phased, phased}
-use Rattle.stab_pauli.specs.Rows.{Rows, unsigned_rows}
-use Rattle.stab_pauli.proofs.MaskLemmas.{clash}
-use Rattle.stab_tableau.specs.Gates.{letter_at}
-use Rattle.stab_tableau.specs.Traces.{diagonal}
-use Rattle.stab_tableau.specs.Groups.{SameGroup}
-use Rattle.stab_tableau.specs.Tableaus.{stabilises}
-use Rattle.stab_tableau.specs.inner.InverseRows.{InverseRows, rows_at, string_preimage, extend}
-use Rattle.stab_tableau.specs.inner.Pairs.{paired, IsPaired}
-use Rattle.stab_tableau.specs.inner.Tables.{IsTableau}
-use Rattle.stab_tableau.specs.inner.Frames.{SameLetters, frame_letter, sign_frame}
+use Rattle.stab_tableau.proofs.Names.{beq, list_any, ◌≡◌, ℕ, zero, suc, ◌<◌, ◌≤◌, ◌+◌, ◌*◌, Bool, true, false, not, refl, sym, ◌∙◌, ap, List, [], ◌∷◌, length, map, get_or, set, drop, arith, below_more, get_or-set_other, get_or-set_same, ext_get_or, Letter, I, Z, ◌⊕◌, letters_anticommute, has_x, Signed, Phased, phased, Rows, unsigned_rows, clash, letter_at, diagonal, SameGroup, stabilises, InverseRows, rows_at, string_preimage, extend, paired, IsPaired, IsTableau, SameLetters, frame_letter, sign_frame}
 use Rattle.stab_tableau.proofs.StabiliseLemmas.{diagonal-at}
 use Rattle.stab_tableau.proofs.MeasureLemmas.{diagonal-none}
 use Rattle.stab_tableau.proofs.DiagonalLemmas.{x-with_Z}

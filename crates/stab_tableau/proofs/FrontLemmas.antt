@@ -1,9 +1,5 @@
 -- The first letters of a string, and letters I after them.
-use Rattle.std.proofs.Common.{◌≡◌, ℕ, zero, suc, ◌<◌, ◌≤◌, true, refl, ap, List, [], ◌∷◌, length, get_or, set, arith}
-use Rattle.stab_letters.specs.declared.letter.Letter.{Letter}
-use Rattle.stab_letters.specs.declared.letter.Letter.TheVariants.{I, X, Y, Z}
-use Rattle.stab_tableau.specs.Traces.{diagonal}
-use Rattle.stab_tableau.specs.inner.InverseRows.{blank}
+use Rattle.stab_tableau.proofs.Names.{◌≡◌, ℕ, zero, suc, ◌<◌, ◌≤◌, true, refl, ap, List, [], ◌∷◌, length, get_or, set, arith, Letter, I, X, Y, Z, diagonal, blank}
 
 -- the first k letters of a string, and letters I after them
 abbrev pub front : ℕ → List Letter → List Letter

@@ -1,22 +1,6 @@
 -- Rows after a gate on one qubit: i times Z times X is the preimage of -Y.
-use Rattle.std.proofs.Common.{◌≡◌, ℕ, ◌<◌, true, refl, sym, ◌∙◌, ap, subst, List, length, set}
-use Rattle.std.proofs.lemmas.List.{set-get_or}
-use Rattle.stab_letters.specs.declared.letter.Letter.TheVariants.{Y}
-use Rattle.stab_letters.specs.declared.phase.Phase.TheVariants.{Quarter, Half}
-use Rattle.stab_letters.specs.Phases.{phase_of_sign}
-use Rattle.stab_pauli.specs.Paulis.{Signed, anticommute, minus, with_sign}
-use Rattle.stab_pauli.specs.Rows.{product_times_i}
-use Rattle.stab_pauli.specs.Phaseds.{Phased, phased, times_phase, phased_product}
-use Rattle.stab_pauli.proofs.PhasedLemmas.{times_phase-times_phase, times_phase-comm, phased_product-swap}
-use Rattle.stab_pauli.proofs.SignedLemmas.{phased-minus, phased-with_sign, anticommute-comm}
-use Rattle.stab_pauli.proofs.SeenLemmas.{phased_product-times_phase}
-use Rattle.stab_letters.specs.declared.gate.Gate.{Gate}
-use Rattle.stab_letters.specs.declared.gate.Gate.TheVariants as on
-use Rattle.stab_tableau.specs.declared.table.InverseRow.{InverseRow}
-use Rattle.stab_tableau.specs.declared.table.InverseRow.TheVariants.{OfX, OfZ}
-use Rattle.stab_tableau.specs.Gates.{positive, negated}
-use Rattle.stab_tableau.specs.inner.InverseRows.{InverseRows, rows_at, letter_preimage, IsRow, GateRow, signed_preimage}
-use Rattle.stab_tableau.specs.inner.Pairs.{row_string, with_string, put, rows_exchanged, IsGated}
+use Rattle.stab_tableau.proofs.Names.{◌≡◌, ℕ, ◌<◌, true, refl, sym, ◌∙◌, ap, subst, List, length, set, set-get_or, Y, Quarter, Half, phase_of_sign, Signed, anticommute, minus, with_sign, product_times_i, Phased, phased, times_phase, phased_product, times_phase-times_phase, times_phase-comm, phased_product-swap, phased-minus, phased-with_sign, anticommute-comm, phased_product-times_phase, Gate, InverseRow, OfX, OfZ, positive, negated, InverseRows, rows_at, letter_preimage, IsRow, GateRow, signed_preimage, row_string, with_string, put, rows_exchanged, IsGated}
+use Rattle.stab_gates.specs.declared.gate.Gate.TheVariants as on
 use Rattle.stab_tableau.proofs.PairedRowsLemmas.{row-put, put-again}
 
 module _ (n : ℕ) (r : InverseRows) (is : IsRow n r) where

@@ -1,14 +1,5 @@
 -- The strings that stabilise a state are a stabiliser group.
-use Rattle.std.proofs.Common.{◌≡◌, true, false, sym, ◌∙◌, ap, length}
-use Rattle.stab_letters.specs.Phases.{phase_add}
-use Rattle.stab_letters.specs.declared.phase.Phase.{Phase}
-use Rattle.stab_letters.specs.declared.phase.Phase.TheVariants.{Zero, Quarter, Half, ThreeQuarters}
-use Rattle.stab_pauli.specs.Paulis.{Signed, minus, anticommute}
-use Rattle.stab_pauli.specs.Phaseds.{Phased, phased}
-use Rattle.stab_pauli.proofs.SignedLemmas.{phased-product, phased-minus}
-use Rattle.stab_tableau.specs.Tableaus.{TableauState, stabilises_zeros, stabilises}
-use Rattle.stab_tableau.specs.Groups.{IsStabiliserGroup}
-use Rattle.stab_tableau.specs.inner.InverseRows.{string_preimage, extend, IsTable}
+use Rattle.stab_tableau.proofs.Names.{◌≡◌, true, false, sym, ◌∙◌, ap, length, phase_add, Phase, Zero, Quarter, Half, ThreeQuarters, Signed, minus, anticommute, Phased, phased, phased-product, phased-minus, TableauState, stabilises_zeros, stabilises, IsStabiliserGroup, string_preimage, extend, IsTable}
 use Rattle.stab_tableau.proofs.TestLemmas.{not-true}
 use Rattle.stab_tableau.proofs.DiagonalLemmas.{diagonal-blank, diagonal-commute}
 use Rattle.stab_tableau.proofs.HomomorphismLemmas.{extend-product, extend-times_phase, kept-anticommute}

@@ -1,3 +1,4 @@
+mod Names
 pub mod PairedRowsLemmas
 pub mod GateTables
 pub mod PlaceLemmas
@@ -46,7 +47,7 @@ pub mod SignTableLemmas
 pub mod BasisLemmas
 pub mod FrameLemmas
 pub mod SameStateLemmas
-pub mod TurnedRowLemmas
+pub mod ConjugatedRowLemmas
 pub mod ExchangedOutcomeLemmas
 pub mod PairsChosenLemmas
 pub mod RowsApartLemmas

@@ -1,15 +1,6 @@
 -- Halves of masks: what one half of the mask of 64 letters chooses among the 32 letters of a group.
-use Rattle.std.proofs.Common.{◌≡◌, ℕ, ◌+◌, ◌-◌, ◌*◌, ◌/◌, ◌%◌, ◌^◌, ◌<◌, ◌≤◌, true, false, inl, inr, sym, ◌∙◌, ap, List, length, arith, eqb}
-use Rattle.std.specs.Prelude.{◌⊎◌, bit_and}
+use Rattle.stab_tableau.proofs.Names.{◌≡◌, ℕ, ◌+◌, ◌-◌, ◌*◌, ◌/◌, ◌%◌, ◌^◌, ◌<◌, ◌≤◌, true, false, inl, inr, sym, ◌∙◌, ap, List, length, arith, eqb, ◌⊎◌, bit_and, cases_lt, bit_at_and, bit_at_ones, bit_at_ones_above, bit_at-lt, Letter, I, chooses, spared, clash, bit_behind, letter_at}
 use Rattle.std.specs.Int.{bit_at}
-use Rattle.std.proofs.lemmas.Bool.{cases_lt}
-use Rattle.std.proofs.lemmas.Nat.Bits.{bit_at_and, bit_at_ones, bit_at_ones_above, bit_at-lt}
-use Rattle.stab_letters.specs.declared.letter.Letter.{Letter}
-use Rattle.stab_letters.specs.declared.letter.Letter.TheVariants.{I}
-use Rattle.stab_pauli.specs.Masks.{chooses}
-use Rattle.stab_pauli.proofs.MaskLemmas.{spared, clash}
-use Rattle.stab_pauli.proofs.NextLetterLemmas.{bit_behind}
-use Rattle.stab_tableau.specs.Gates.{letter_at}
 
 -- the 32 bits of a mask after the first s
 abbrev pub half : ℕ → ℕ → ℕ

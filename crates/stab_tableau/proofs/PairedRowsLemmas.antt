@@ -1,15 +1,5 @@
 -- Strings that lie two by two: how those of one qubit are read and written there.
-use Rattle.std.proofs.Common.{◌≡◌, ◌≢◌, ℕ, zero, suc, ◌*◌, ◌+◌, ◌<◌, ◌≤◌, inl, inr, refl, sym, ◌∙◌, ap, subst, List, [], ◌∷◌, length, replicate, get_or, set, arith}
-use Rattle.std.specs.Prelude.{◌⊎◌}
-use Rattle.std.proofs.lemmas.List.{length-replicate, get_or-replicate, length-set, get_or-set_same, set-set}
-use Rattle.stab_letters.specs.declared.letter.Letter.{Letter}
-use Rattle.stab_letters.specs.declared.letter.Letter.TheVariants.{I}
-use Rattle.stab_pauli.specs.Paulis.{Signed, identity, single}
-use Rattle.stab_pauli.specs.Rows.{Rows, row_at as string_at, with_row, with_letter, swapped_rows}
-use Rattle.stab_tableau.specs.declared.table.InverseRow.{InverseRow}
-use Rattle.stab_tableau.specs.declared.table.InverseRow.TheVariants.{OfX, OfZ}
-use Rattle.stab_tableau.specs.inner.InverseRows.{InverseRows, rows_at, IsOver}
-use Rattle.stab_tableau.specs.inner.Pairs.{paired, row_place, row_string, with_string, put, rows_exchanged, IsPaired}
+use Rattle.stab_tableau.proofs.Names.{◌≡◌, ◌≢◌, ℕ, zero, suc, ◌*◌, ◌+◌, ◌<◌, ◌≤◌, inl, inr, refl, sym, ◌∙◌, ap, subst, List, [], ◌∷◌, length, replicate, get_or, set, arith, ◌⊎◌, length-replicate, get_or-replicate, length-set, get_or-set_same, set-set, Letter, I, Signed, identity, single, Rows, string_at, with_row, with_letter, swapped_rows, InverseRow, OfX, OfZ, InverseRows, rows_at, IsOver, paired, row_place, row_string, with_string, put, rows_exchanged, IsPaired}
 
 -- lists
 

@@ -1,20 +1,5 @@
 -- Pairs that a mask chooses: each bit is for one row of one of 32 qubits.
-use Rattle.std.proofs.Common.{◌≡◌, ℕ, ◌*◌, ◌+◌, ◌/◌, ◌%◌, ◌<◌, ◌≤◌, Bool, true, false, inl, inr, refl, sym, ◌∙◌, ap, subst, List, length, get_or, arith}
-use Rattle.std.specs.Prelude.{◌⊎◌}
-use Rattle.std.proofs.lemmas.Bool.{cases_lt}
-use Rattle.std.proofs.lemmas.List.{get_or_past}
-use Rattle.stab_letters.specs.declared.letter.Letter.TheVariants.{I}
-use Rattle.stab_letters.specs.XParts.{has_x}
-use Rattle.stab_pauli.specs.Paulis.{Signed, identity}
-use Rattle.stab_pauli.specs.Rows.{Rows, row_at as string_at}
-use Rattle.stab_pauli.specs.Masks.{chooses, AreChosen}
-use Rattle.stab_pauli.proofs.BitLemmas.{two_cases, below_two}
-use Rattle.stab_pauli.proofs.ChosenLemmas.{past-rows}
-use Rattle.stab_tableau.specs.declared.table.InverseRow.{InverseRow}
-use Rattle.stab_tableau.specs.declared.table.InverseRow.TheVariants.{OfX, OfZ}
-use Rattle.stab_tableau.specs.Gates.{letter_at}
-use Rattle.stab_tableau.specs.inner.InverseRows.{InverseRows, rows_at}
-use Rattle.stab_tableau.specs.inner.Pairs.{paired, row_place, row_string, IsPaired, ArePairsChosen}
+use Rattle.stab_tableau.proofs.Names.{◌≡◌, ℕ, ◌*◌, ◌+◌, ◌/◌, ◌%◌, ◌<◌, ◌≤◌, Bool, true, false, inl, inr, refl, sym, ◌∙◌, ap, subst, List, length, get_or, arith, ◌⊎◌, cases_lt, get_or_past, I, has_x, Signed, identity, Rows, string_at, chooses, AreChosen, two_cases, below_two, past-rows, InverseRow, OfX, OfZ, letter_at, InverseRows, rows_at, paired, row_place, row_string, IsPaired, ArePairsChosen}
 use Rattle.stab_tableau.proofs.TestLemmas.{not-true}
 use Rattle.stab_tableau.proofs.PairedRowsLemmas.{pairs-are, pair-in, pair-read}
 

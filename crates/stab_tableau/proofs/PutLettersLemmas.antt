@@ -1,18 +1,5 @@
 -- Letters that are put where a mask chooses rows: what a walk from qubit to qubit has done.
-use Rattle.std.proofs.Common.{◌≡◌, ◌≢◌, ℕ, ◌+◌, ◌*◌, ◌/◌, ◌<◌, ◌≤◌, true, false, inl, inr, sym, ◌∙◌, ap, subst, List, length, set, arith}
-use Rattle.std.specs.Prelude.{◌⊎◌}
-use Rattle.std.proofs.lemmas.Bool.{cases_order}
-use Rattle.std.proofs.lemmas.List.{length-set, get_or-set_same, get_or-set_other}
-use Rattle.stab_letters.specs.declared.letter.Letter.{Letter}
-use Rattle.stab_letters.specs.declared.letter.Letter.TheVariants.{I}
-use Rattle.stab_pauli.specs.Masks.{chooses}
-use Rattle.stab_pauli.specs.Paulis.{Signed}
-use Rattle.stab_pauli.proofs.MaskLemmas.{clash, none-chosen}
-use Rattle.stab_tableau.specs.declared.table.InverseRow.{InverseRow}
-use Rattle.stab_tableau.specs.declared.table.InverseRow.TheVariants.{OfX, OfZ}
-use Rattle.stab_tableau.specs.Gates.{letter_at}
-use Rattle.stab_tableau.specs.inner.ColumnLetters.{letter_anticommuting}
-use Rattle.stab_tableau.specs.inner.Pairs.{row_place}
+use Rattle.stab_tableau.proofs.Names.{◌≡◌, ◌≢◌, ℕ, ◌+◌, ◌*◌, ◌/◌, ◌<◌, ◌≤◌, true, false, inl, inr, sym, ◌∙◌, ap, subst, List, length, set, arith, ◌⊎◌, cases_order, length-set, get_or-set_same, get_or-set_other, Letter, I, chooses, Signed, clash, none-chosen, InverseRow, OfX, OfZ, letter_at, letter_anticommuting, row_place}
 use Rattle.stab_tableau.proofs.PairsChosenLemmas.{IsPlace, place-of}
 
 -- a qubit whose rows are still in the rest of the mask, and which has I

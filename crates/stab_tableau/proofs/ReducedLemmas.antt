@@ -1,12 +1,6 @@
 -- Reduced rows: a group has at most one list of them.
-use Rattle.std.proofs.lemmas.Bool.Decides.{eqb_tells}
-use Rattle.std.proofs.Common.{◌≡◌, ◌≢◌, eqb, subst, ℕ, suc, ◌+◌, ◌<◌, Bool, true, false, not, ◌⊎◌, inl, inr, refl, sym, ◌∙◌, ap, List, [], ◌∷◌, length, arith}
-use Rattle.stab_letters.specs.Letters.{◌⊕◌}
-use Rattle.stab_pauli.specs.Paulis.{Signed, minus, product}
-use Rattle.stab_pauli.proofs.SignedLemmas.{signed_path, length-product}
-use Rattle.stab_pauli.proofs.MaskLemmas.{clash}
-use Rattle.stab_tableau.specs.Groups.{IsStabiliserGroup, SameGroup}
-use Rattle.stab_tableau.specs.Reduced.{bit_at, IsLead, IsRowAt, AreRowsFrom, AreReduced}
+use Rattle.stab_tableau.proofs.Names.{eqb_tells, ◌≡◌, ◌≢◌, eqb, subst, ℕ, suc, ◌+◌, ◌<◌, Bool, true, false, not, inl, inr, refl, sym, ◌∙◌, ap, List, [], ◌∷◌, length, arith, ◌⊕◌, Signed, minus, product, signed_path, length-product, clash, IsStabiliserGroup, SameGroup, bit_at, IsLead, IsRowAt, AreRowsFrom, AreReduced}
+use Rattle.std.proofs.Common.{◌⊎◌}
 use Rattle.stab_tableau.proofs.BitLemmas.{bit-product, bits-tell, HasFirst, find-first}
 
 -- two members with the same letters are one

@@ -1,17 +1,6 @@
 -- Rows apart in a group of 32 qubits: a walk over the letters that are not I, which makes the mask of the rows whose letters
 -- anticommute with them.
-use Rattle.std.proofs.Common.{◌≡◌, ◌≢◌, ℕ, ◌+◌, ◌<◌, true, false, inl, inr, sym, ◌∙◌, ap, subst, List, length, arith}
-use Rattle.std.specs.Prelude.{◌⊎◌}
-use Rattle.std.proofs.lemmas.Bool.{cases_order}
-use Rattle.stab_letters.specs.declared.letter.Letter.{Letter}
-use Rattle.stab_letters.specs.declared.letter.Letter.TheVariants.{I}
-use Rattle.stab_letters.specs.Letters.{letters_anticommute}
-use Rattle.stab_letters.proofs.LetterLemmas.{letters_anticommute-I}
-use Rattle.stab_pauli.specs.Masks.{chooses}
-use Rattle.stab_pauli.proofs.MaskLemmas.{clash}
-use Rattle.stab_tableau.specs.declared.table.InverseRow.{InverseRow}
-use Rattle.stab_tableau.specs.Gates.{letter_at}
-use Rattle.stab_tableau.specs.inner.Pairs.{row_place, row_letter}
+use Rattle.stab_tableau.proofs.Names.{◌≡◌, ◌≢◌, ℕ, ◌+◌, ◌<◌, true, false, inl, inr, sym, ◌∙◌, ap, subst, List, length, arith, ◌⊎◌, cases_order, Letter, I, letters_anticommute, letters_anticommute-I, chooses, clash, InverseRow, letter_at, row_place, row_letter}
 
 -- what the mask says of qubit k of a group: the rows apart from its letter
 abbrev pub TellsApart : ℕ → ℕ → ℕ → List Letter → Type 0

@@ -1,14 +1,7 @@
 -- Reduced rows: a group has a list of them. They are found from the last place down: if a place is a lead, a member with its
 -- first 1 there is cleared by the rows that are there already.
-use Rattle.std.proofs.lemmas.Bool.Decides.{eqb_tells}
-use Rattle.std.proofs.Common.{◌≡◌, ◌≢◌, eqb, subst, ℕ, zero, suc, ◌+◌, ◌<◌, ◌≤◌, Bool, true, false, ◌⊎◌, inl, inr, refl, ◌∙◌, ap, List, [], ◌∷◌, length, arith}
-use Rattle.stab_letters.specs.declared.letter.Letter.{Letter}
-use Rattle.stab_letters.specs.Letters.{◌⊕◌}
-use Rattle.stab_pauli.specs.Paulis.{Signed, product}
-use Rattle.stab_pauli.proofs.SignedLemmas.{length-product}
-use Rattle.stab_pauli.proofs.MaskLemmas.{clash}
-use Rattle.stab_tableau.specs.Groups.{IsStabiliserGroup}
-use Rattle.stab_tableau.specs.Reduced.{bit_at, IsFirst, IsLead, IsRowAt, AreRowsFrom, AreReduced}
+use Rattle.stab_tableau.proofs.Names.{eqb_tells, ◌≡◌, ◌≢◌, eqb, subst, ℕ, zero, suc, ◌+◌, ◌<◌, ◌≤◌, Bool, true, false, inl, inr, refl, ◌∙◌, ap, List, [], ◌∷◌, length, arith, Letter, ◌⊕◌, Signed, product, length-product, clash, IsStabiliserGroup, bit_at, IsFirst, IsLead, IsRowAt, AreRowsFrom, AreReduced}
+use Rattle.std.proofs.Common.{◌⊎◌}
 use Rattle.stab_tableau.proofs.BitLemmas.{bit-product, nat-apart, find-first, first-one}
 use Rattle.stab_tableau.proofs.SearchLemmas.{Decides, HasNone, HasSome, search}
 

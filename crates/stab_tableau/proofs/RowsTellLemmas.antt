@@ -1,13 +1,5 @@
 -- Reduced rows determine their group: each member is a product of rows.
-use Rattle.std.proofs.Common.{◌≡◌, ℕ, suc, ◌+◌, ◌<◌, ◌≤◌, Bool, true, false, inl, inr, refl, sym, ◌∙◌, ap, subst, List, [], ◌∷◌, length, arith}
-use Rattle.std.proofs.lemmas.List.{length-replicate}
-use Rattle.stab_letters.specs.declared.letter.Letter.TheVariants.{I}
-use Rattle.stab_letters.specs.Letters.{◌⊕◌}
-use Rattle.stab_pauli.specs.Paulis.{Signed, identity, anticommute, product}
-use Rattle.stab_pauli.proofs.SignedLemmas.{length-product, product-twice}
-use Rattle.stab_pauli.proofs.MaskLemmas.{clash}
-use Rattle.stab_tableau.specs.Groups.{IsStabiliserGroup, SameGroup}
-use Rattle.stab_tableau.specs.Reduced.{bit_at, IsLead, AreRowsFrom, AreReduced}
+use Rattle.stab_tableau.proofs.Names.{◌≡◌, ℕ, suc, ◌+◌, ◌<◌, ◌≤◌, Bool, true, false, inl, inr, refl, sym, ◌∙◌, ap, subst, List, [], ◌∷◌, length, arith, length-replicate, I, ◌⊕◌, Signed, identity, anticommute, product, length-product, product-twice, clash, IsStabiliserGroup, SameGroup, bit_at, IsLead, AreRowsFrom, AreReduced}
 use Rattle.stab_tableau.proofs.TestLemmas.{same_test}
 use Rattle.stab_tableau.proofs.BitLemmas.{bit-product, bits-tell, bit-identity, up-to, find-first, first-one}
 use Rattle.stab_tableau.proofs.ReducedLemmas.{same-letters}

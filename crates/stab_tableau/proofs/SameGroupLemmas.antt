@@ -1,14 +1,5 @@
 -- A group that has the stabilisers of a state is the group of all strings that stabilise it.
-use Rattle.std.proofs.Common.{◌≡◌, ℕ, zero, suc, ◌<◌, ◌≤◌, Bool, true, false, not, sym, ◌∙◌, ap, length, arith}
-use Rattle.std.specs.Prelude.{if◌then◌else◌}
-use Rattle.std.proofs.lemmas.List.{length-replicate}
-use Rattle.stab_letters.specs.declared.letter.Letter.TheVariants.{I}
-use Rattle.stab_pauli.specs.Paulis.{Signed, anticommute, product}
-use Rattle.stab_pauli.proofs.SignedLemmas.{length-product}
-use Rattle.stab_tableau.specs.inner.InverseRows.{IsTable, IsOnto}
-use Rattle.stab_tableau.specs.Tableaus.{TableauState, stabilises}
-use Rattle.stab_tableau.specs.Columns.{stabiliser_of, destabiliser_of, chosen_product, IsGenerated}
-use Rattle.stab_tableau.specs.Groups.{IsStabiliserGroup, SameGroup}
+use Rattle.stab_tableau.proofs.Names.{◌≡◌, ℕ, zero, suc, ◌<◌, ◌≤◌, Bool, true, false, not, sym, ◌∙◌, ap, length, arith, if◌then◌else◌, length-replicate, I, Signed, anticommute, product, length-product, IsTable, IsOnto, TableauState, stabilises, stabiliser_of, destabiliser_of, chosen_product, IsGenerated, IsStabiliserGroup, SameGroup}
 use Rattle.stab_tableau.proofs.TestLemmas.{same_test}
 use Rattle.stab_tableau.proofs.GeneratedLemmas.{stabiliser-length, is-generated}
 use Rattle.stab_tableau.proofs.GroupTestLemmas.{group-stabilises}

@@ -1,17 +1,5 @@
 -- From what the program writes and asks of rows to the groups of two states.
-use Rattle.std.proofs.Common.{◌≡◌, ◌↔◌, ℕ, ◌<◌, ◌≤◌, Bool, true, false, refl, sym, ◌∙◌, arith, ap, subst, List, length}
-use Rattle.stab_letters.specs.declared.letter.Letter.TheVariants.{Z}
-use Rattle.stab_pauli.specs.Paulis.{Signed, with_sign}
-use Rattle.stab_pauli.specs.Phaseds.{Phased, phased}
-use Rattle.stab_tableau.specs.inner.InverseRows.{InverseRows, string_preimage, extend}
-use Rattle.stab_tableau.specs.inner.Tables.{IsTableau}
-use Rattle.stab_tableau.specs.inner.ColumnLetters.{column}
-use Rattle.stab_tableau.specs.Tableaus.{TableauState, stabilises}
-use Rattle.stab_tableau.specs.Columns.{stabiliser_of}
-use Rattle.stab_tableau.specs.Groups.{IsStabiliserGroup, SameGroup}
-use Rattle.stab_pauli.specs.Rows.{Rows, row_at}
-use Rattle.stab_tableau.specs.Reduced.{AreReduced}
-use Rattle.stab_tableau.specs.inner.Eliminations.{IsBasis}
+use Rattle.stab_tableau.proofs.Names.{◌≡◌, ◌↔◌, ℕ, ◌<◌, ◌≤◌, Bool, true, false, refl, sym, ◌∙◌, arith, ap, subst, List, length, Z, Signed, with_sign, Phased, phased, InverseRows, string_preimage, extend, IsTableau, column, TableauState, stabilises, stabiliser_of, IsStabiliserGroup, SameGroup, Rows, row_at, AreReduced, IsBasis}
 use Rattle.stab_tableau.proofs.BasisLemmas.{stabilisers-basis}
 use Rattle.stab_tableau.proofs.TableauColumnLemmas.{stabiliser-size, stabiliser-is}
 use Rattle.stab_tableau.proofs.GeneratedLemmas.{stabiliser-length, stabiliser-member}

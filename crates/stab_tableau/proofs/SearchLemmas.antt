@@ -1,7 +1,6 @@
 -- Searching strings: if a property can be decided, some string of n letters has it or none has.
-use Rattle.std.proofs.Common.{◌≡◌, ℕ, zero, suc, ◌⊎◌, inl, inr, refl, ap, List, [], ◌∷◌, length, arith}
-use Rattle.stab_letters.specs.declared.letter.Letter.{Letter}
-use Rattle.stab_letters.specs.declared.letter.Letter.TheVariants.{I, X, Y, Z}
+use Rattle.stab_tableau.proofs.Names.{◌≡◌, ℕ, zero, suc, inl, inr, refl, ap, List, [], ◌∷◌, length, arith, Letter, I, X, Y, Z}
+use Rattle.std.proofs.Common.{◌⊎◌}
 
 -- it is so or not
 abbrev pub Decides : Type 0 → Type 0

@@ -1,24 +1,5 @@
 -- Tables whose rows differ in their signs alone: which strings stabilise, and when both have one group.
-use Rattle.std.proofs.Common.{◌≡◌, ℕ, suc, ◌<◌, Bool, true, false, refl, sym, ◌∙◌, ap, List, [], ◌∷◌, length, get_or, arith}
-use Rattle.stab_letters.specs.declared.letter.Letter.{Letter}
-use Rattle.stab_letters.specs.declared.letter.Letter.TheVariants.{I, X, Y, Z}
-use Rattle.stab_letters.specs.declared.phase.Phase.TheVariants.{Quarter}
-use Rattle.stab_letters.specs.Phases.{phase_of_sign}
-use Rattle.stab_letters.specs.Letters.{◌⊕◌, letters_anticommute}
-use Rattle.stab_pauli.specs.Paulis.{Signed, minus, with_sign, strings_anticommute}
-use Rattle.stab_pauli.specs.Phaseds.{Phased, plain, phased, times_phase, phased_product}
-use Rattle.stab_letters.proofs.PhaseLemmas.{phase_of_sign-parity}
-use Rattle.stab_pauli.proofs.StringLemmas.{strings_anticommute-comm}
-use Rattle.stab_pauli.proofs.PhasedLemmas.{times_phase-times_phase, times_phase-comm, phased_product-times_phase_left, phased_product-times_phase_right}
-use Rattle.stab_pauli.proofs.SignedLemmas.{signed_path, phased-with_sign}
-use Rattle.stab_pauli.proofs.MaskLemmas.{clash}
-use Rattle.stab_tableau.specs.Traces.{diagonal}
-use Rattle.stab_tableau.specs.inner.InverseRows.{InverseRows, blank, letter_preimage, string_preimage, extend, IsTable, IsOnto}
-use Rattle.stab_tableau.specs.Tableaus.{stabilises_zeros, stabilises}
-use Rattle.stab_tableau.specs.inner.ColumnLetters.{letter_anticommuting, column}
-use Rattle.stab_tableau.specs.Columns.{stabiliser_of}
-use Rattle.stab_tableau.specs.Groups.{SameGroup}
-use Rattle.stab_tableau.specs.inner.Frames.{SameLetters, sign_frame}
+use Rattle.stab_tableau.proofs.Names.{◌≡◌, ℕ, suc, ◌<◌, Bool, true, false, refl, sym, ◌∙◌, ap, List, [], ◌∷◌, length, get_or, arith, Letter, I, X, Y, Z, Quarter, phase_of_sign, ◌⊕◌, letters_anticommute, Signed, minus, with_sign, strings_anticommute, Phased, plain, phased, times_phase, phased_product, phase_of_sign-parity, strings_anticommute-comm, times_phase-times_phase, times_phase-comm, phased_product-times_phase_left, phased_product-times_phase_right, signed_path, phased-with_sign, clash, diagonal, InverseRows, blank, letter_preimage, string_preimage, extend, IsTable, IsOnto, stabilises_zeros, stabilises, letter_anticommuting, column, stabiliser_of, SameGroup, SameLetters, sign_frame}
 use Rattle.stab_tableau.proofs.HomomorphismLemmas.{extend-times_phase, kept-anticommute}
 use Rattle.stab_tableau.proofs.OneLetterLemmas.{one_letter-anticommute}
 use Rattle.stab_tableau.proofs.DiagonalLemmas.{diagonal-commute}
@@ -42,7 +23,7 @@ by-Y a b = grind arith
 by-I : (a b : Bool) → letters_anticommute (letter_anticommuting a b) I ≡ false
 by-I a b = grind arith
 
--- a string with the same letters is that one with the sign turned if the signs differ
+-- a string with the same letters is that one with the sign flipped if the signs differ
 other-sign : (p q : Signed) → p.letters ≡ q.letters → phased q ≡ times_phase (phase_of_sign (p.negative ⊕ q.negative)) (phased p)
 other-sign p q e =
     ap phased (signed_path q (with_sign (p.negative ⊕ q.negative) p) (back p.negative q.negative) (sym e))

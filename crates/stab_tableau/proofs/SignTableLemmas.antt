@@ -1,24 +1,14 @@
 -- Rows that differ in their signs alone from those of a table are a table too.
-use Rattle.std.proofs.Common.{◌≡◌, ℕ, zero, suc, Bool, refl, sym, ◌∙◌, ap, List, [], ◌∷◌, length}
-use Rattle.stab_letters.specs.declared.letter.Letter.{Letter}
-use Rattle.stab_letters.specs.Phases.{phase_of_sign}
-use Rattle.stab_pauli.specs.Paulis.{strings_anticommute, string_product}
-use Rattle.stab_pauli.specs.Phaseds.{Phased, plain, times_phase, phased_product}
-use Rattle.stab_letters.proofs.ParityLemmas.{parity-self}
-use Rattle.stab_letters.proofs.PhaseLemmas.{phase_of_sign-parity}
-use Rattle.stab_pauli.proofs.StringLemmas.{strings_anticommute-blank_right, strings_anticommute-product_right}
-use Rattle.stab_pauli.proofs.PhasedLemmas.{times_phase-times_phase, times_phase-comm, times_phase-plain}
-use Rattle.stab_tableau.specs.inner.InverseRows.{InverseRows, IsOver, IsHomomorphism, IsTable, IsOnto, blank, rows_at, string_preimage, extend}
-use Rattle.stab_tableau.specs.inner.Frames.{SameLetters, sign_frame}
+use Rattle.stab_tableau.proofs.Names.{◌≡◌, ℕ, zero, suc, Bool, refl, sym, ◌∙◌, ap, List, [], ◌∷◌, length, Letter, phase_of_sign, strings_anticommute, string_product, Phased, plain, times_phase, phased_product, parity-self, phase_of_sign-parity, strings_anticommute-blank_right, strings_anticommute-product_right, times_phase-times_phase, times_phase-comm, times_phase-plain, InverseRows, IsOver, IsHomomorphism, IsTable, IsOnto, blank, rows_at, string_preimage, extend, SameLetters, sign_frame}
 use Rattle.stab_tableau.proofs.HomomorphismLemmas.{extend-times_phase, after-homomorphism, same-homomorphism}
 use Rattle.stab_tableau.proofs.SignFrameLemmas.{frame-preimage, times_phase_both}
 
--- a string with its sign turned if it anticommutes with another
-abbrev turned : List Letter → List Letter → Phased
-turned f p = times_phase (phase_of_sign (strings_anticommute f p)) (plain p)
+-- a string with its sign flipped if it anticommutes with another
+abbrev conjugated : List Letter → List Letter → Phased
+conjugated f p = times_phase (phase_of_sign (strings_anticommute f p)) (plain p)
 
-turned-homomorphism : (n : ℕ) (f : List Letter) → IsHomomorphism n n (turned f)
-turned-homomorphism n f = record {
+conjugated-homomorphism : (n : ℕ) (f : List Letter) → IsHomomorphism n n (conjugated f)
+conjugated-homomorphism n f = record {
   unit = ap (λ b. times_phase (phase_of_sign b) (plain (blank n))) (strings_anticommute-blank_right n f);
   product = λ p q lp lq.
       times_phase-comm (phased_product (plain p) (plain q)).phase (phase_of_sign (strings_anticommute f (string_product p q))) (plain (string_product p q))
@@ -42,9 +32,9 @@ same-count (r ∷ rows) [] s = absurd s
 same-count (r ∷ rows) (t ∷ others) s = ap suc (same-count rows others s.2)
 
 module _ (n : ℕ) (rows others : List InverseRows) (s : SameLetters rows others) where
-  -- the preimage of a string, by the rows, of the string with its sign turned
-  turned-preimage : (p : List Letter) → extend (string_preimage n rows) (turned (sign_frame rows others) p) ≡ string_preimage n others p
-  turned-preimage p =
+  -- the preimage of a string, by the rows, of the string with its sign flipped
+  conjugated-preimage : (p : List Letter) → extend (string_preimage n rows) (conjugated (sign_frame rows others) p) ≡ string_preimage n others p
+  conjugated-preimage p =
       extend-times_phase (string_preimage n rows) (phase_of_sign (strings_anticommute (sign_frame rows others) p)) (plain p)
       ∙ sym (frame-preimage n rows others s p)
 
@@ -53,9 +43,9 @@ module _ (n : ℕ) (rows others : List InverseRows) (s : SameLetters rows others
     count = same-count rows others s ∙ is.count;
     sizes = λ q lt. same-over n rows others s q (is.sizes q lt);
     keeps =
-        same-homomorphism n n (λ p. extend (string_preimage n rows) (turned (sign_frame rows others) p)) (string_preimage n others)
-        (after-homomorphism n n n (turned (sign_frame rows others)) (string_preimage n rows) (turned-homomorphism n (sign_frame rows others)) is.keeps)
-        (λ p lp. sym (turned-preimage p));
+        same-homomorphism n n (λ p. extend (string_preimage n rows) (conjugated (sign_frame rows others) p)) (string_preimage n others)
+        (after-homomorphism n n n (conjugated (sign_frame rows others)) (string_preimage n rows) (conjugated-homomorphism n (sign_frame rows others)) is.keeps)
+        (λ p lp. sym (conjugated-preimage p));
   }
 
   twice : (b : Bool) (p : Phased) → times_phase (phase_of_sign b) (times_phase (phase_of_sign b) p) ≡ p

@@ -1,18 +1,5 @@
 -- Supports: what covers rows after some of them have changed.
-use Rattle.std.proofs.Common.{◌≡◌, ◌≢◌, ℕ, ◌*◌, ◌+◌, ◌-◌, ◌<◌, ◌≤◌, Bool, true, false, inl, inr, refl, sym, ◌∙◌, ap, subst, List, length, get_or, set, arith}
-use Rattle.std.specs.Prelude.{◌⊎◌, bit_or}
-use Rattle.std.proofs.lemmas.Bool.{cases_lt, cases_order}
-use Rattle.std.proofs.lemmas.List.{length-set, get_or-set_same, get_or-set_other, get_or_default}
-use Rattle.stab_letters.specs.declared.letter.Letter.{Letter}
-use Rattle.stab_letters.specs.declared.letter.Letter.TheVariants.{I, X, Y, Z}
-use Rattle.stab_letters.specs.Letters.{letter_product}
-use Rattle.stab_letters.specs.XParts.{has_x}
-use Rattle.stab_pauli.specs.Masks.{chooses, AreChosen}
-use Rattle.stab_pauli.specs.Paulis.{Signed, identity, with_sign}
-use Rattle.stab_pauli.specs.Rows.{Rows, row_at, with_row, product_times_i_if}
-use Rattle.stab_pauli.proofs.MaskLemmas.{chosen-first, chosen-second}
-use Rattle.stab_pauli.proofs.StringLemmas.{get_or-string_product}
-use Rattle.stab_tableau.specs.inner.Supports.{Supports, Covers, OthersStay, is_known, has_place}
+use Rattle.stab_tableau.proofs.Names.{◌≡◌, ◌≢◌, ℕ, ◌*◌, ◌+◌, ◌-◌, ◌<◌, ◌≤◌, Bool, true, false, inl, inr, refl, sym, ◌∙◌, ap, subst, List, length, get_or, set, arith, ◌⊎◌, bit_or, cases_lt, cases_order, length-set, get_or-set_same, get_or-set_other, get_or_default, Letter, I, X, Y, Z, letter_product, has_x, chooses, AreChosen, Signed, identity, with_sign, Rows, row_at, with_row, product_times_i_if, chosen-first, chosen-second, get_or-string_product, Supports, Covers, OthersStay, is_known, has_place}
 
 -- one row changed
 
@@ -38,8 +25,8 @@ letters-covered s old new size same covers = record {
       covers.holds g k w p lk lw lp (ap (λ t. has_x (get_or t (64 * w + p) I)) (sym (same (64 * g + k))) ∙ x) known;
 }
 
-pub turned-covered : (s : Supports) (r new : Rows) (a : ℕ) (b : Bool) → a < length r.rows → new ≡ with_row r a (with_sign b (row_at r a)) → Covers s r → Covers s new
-turned-covered s r new a b lt e =
+pub conjugated-covered : (s : Supports) (r new : Rows) (a : ℕ) (b : Bool) → a < length r.rows → new ≡ with_row r a (with_sign b (row_at r a)) → Covers s r → Covers s new
+conjugated-covered s r new a b lt e =
     letters-covered s r new (ap (λ (t : Rows). length t.rows) e ∙ length-set r.rows a (with_sign b (row_at r a))) (λ c. by_place c (cases_order c a))
   where
     by_place : (c : ℕ) → (c ≡ a) ⊎ ((c < a) ⊎ (a < c)) → (row_at new c).letters ≡ (row_at r c).letters

@@ -1,6 +1,6 @@
 -- Tests: what the answers of tests that are joined say of each.
-use Rattle.std.proofs.Common.{◌≡◌, refl, sym, arith, Bool, true, false, not, ◌&&◌, ◌||◌, ◌⊎◌, inl, inr}
-use Rattle.std.proofs.lemmas.Bool.{or_cases}
+use Rattle.stab_tableau.proofs.Names.{◌≡◌, refl, sym, arith, Bool, true, false, not, ◌&&◌, ◌||◌, inl, inr, or_cases}
+use Rattle.std.proofs.Common.{◌⊎◌}
 
 pub and-left : (a b : Bool) → (a && b) ≡ true → a ≡ true
 and-left true b e = refl

@@ -4,8 +4,8 @@ pub mod Rules
 pub mod Traces
 pub mod Groups
 pub mod Reduced
-pub mod Exchanges
-pub mod Turns
+pub mod Pivots
+pub mod Conjugations
 pub mod Laws
 pub mod Tableaus
 pub mod Columns

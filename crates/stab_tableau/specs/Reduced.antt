@@ -2,9 +2,9 @@
 -- Source: Gottesman 1997 brings generators to a standard form by elimination, and exchanges qubits on the way; here none are,
 -- so that a group has one list of rows.
 use Rattle.std.specs.Prelude.{◌≡◌, ◌≢◌, ℕ, suc, ◌+◌, ◌-◌, ◌<◌, ◌≤◌, Bool, true, false, nat_lt, List, [], ◌∷◌, length, ◌↔◌, if◌then◌else◌}
-use Rattle.stab_letters.specs.declared.letter.Letter.{Letter}
-use Rattle.stab_letters.specs.declared.letter.Letter.TheVariants.{X, Z}
-use Rattle.stab_letters.specs.Letters.{letters_anticommute}
+use Rattle.stab_gates.specs.declared.letter.Letter.{Letter}
+use Rattle.stab_gates.specs.declared.letter.Letter.TheVariants.{X, Z}
+use Rattle.stab_gates.specs.Letters.{letters_anticommute}
 use Rattle.stab_pauli.specs.Paulis.{Signed}
 use Rattle.stab_tableau.specs.Gates.{letter_at}
 use Rattle.stab_tableau.specs.Traces.{Event, member, Fits, IsSound}

@@ -11,7 +11,7 @@ use stab_pauli::{Letter, PauliRows};
 
 /// Makes rows that generate a stabiliser group its reduced rows.
 ///
-/// At each place in turn the first row with a 1 there that is not yet used is the pivot: it is moved up after the rows
+/// At each place in turn the first row with a 1 there that is not yet used is the leading: it is moved up after the rows
 /// that are used, and all other rows with a 1 there are multiplied by it.
 pub fn eliminate(rows: &mut PauliRows)
     requires short { rows.old.qubits ≤ 2 ^ 24 }
@@ -26,7 +26,7 @@ pub fn eliminate(rows: &mut PauliRows)
     }
 }
 
-/// Takes one place: chooses a pivot and clears the other rows by it, if a row that is left has a 1 there. Answers the
+/// Takes one place: chooses a leading and clears the other rows by it, if a row that is left has a 1 there. Answers the
 /// number of rows that are used.
 fn step(rows: &mut PauliRows, used: usize, place: usize) -> usize
     requires in_range { place < rows.old.qubits + rows.old.qubits }
@@ -36,10 +36,10 @@ fn step(rows: &mut PauliRows, used: usize, place: usize) -> usize
     if used == rows.len() {
         return used;
     }
-    match find_pivot(rows, used, place) {
+    match find_leading(rows, used, place) {
         None => used,
-        Some(pivot) => {
-            exchange(rows, used, pivot);
+        Some(leading) => {
+            exchange(rows, used, leading);
             clear_others(rows, used, place);
             used + 1
         }
@@ -47,7 +47,7 @@ fn step(rows: &mut PauliRows, used: usize, place: usize) -> usize
 }
 
 /// The first row from a number on that has a 1 at a place.
-fn find_pivot(rows: &PauliRows, from: usize, place: usize) -> Option<usize>
+fn find_leading(rows: &PauliRows, from: usize, place: usize) -> Option<usize>
     requires in_range { place < rows.now.qubits + rows.now.qubits }
     ensures none { IfNone result ((a : ℕ) → from ≤ a → a < length rows.now.rows → bit_at rows.now.qubits (row_at rows.now a).letters place ≡ false) }
     ensures from { IfSome result (λ a. from ≤ a) }
@@ -62,7 +62,7 @@ fn find_pivot(rows: &PauliRows, from: usize, place: usize) -> Option<usize>
     None
 }
 
-/// Exchanges two rows, which may be the same.
+/// IsPivot two rows, which may be the same.
 fn exchange(rows: &mut PauliRows, first: usize, second: usize)
     requires first_in_range { first < length rows.old.rows }
     requires second_in_range { second < length rows.old.rows }
@@ -73,31 +73,31 @@ fn exchange(rows: &mut PauliRows, first: usize, second: usize)
     }
 }
 
-/// Clears all rows except the pivot by it.
-fn clear_others(rows: &mut PauliRows, pivot: usize, place: usize)
+/// Clears all rows except the leading by it.
+fn clear_others(rows: &mut PauliRows, leading: usize, place: usize)
     requires in_range { place < rows.old.qubits + rows.old.qubits }
-    requires pivot_in_range { pivot < length rows.old.rows }
-    requires commuting { (a : ℕ) → a < length rows.old.rows → anticommute (row_at rows.old a) (row_at rows.old pivot) ≡ false }
-    ensures rows { AreCleared pivot place rows.old rows.new }
+    requires leading_in_range { leading < length rows.old.rows }
+    requires commuting { (a : ℕ) → a < length rows.old.rows → anticommute (row_at rows.old a) (row_at rows.old leading) ≡ false }
+    ensures rows { AreCleared leading place rows.old rows.new }
 {
     for row in 0..rows.len() {
-        if row != pivot {
-            clear(rows, row, pivot, place);
+        if row != leading {
+            clear(rows, row, leading, place);
         }
     }
 }
 
-/// Clears a row by a pivot: multiplies it if it has a 1 at the place.
-fn clear(rows: &mut PauliRows, row: usize, pivot: usize, place: usize)
+/// Clears a row by a leading: multiplies it if it has a 1 at the place.
+fn clear(rows: &mut PauliRows, row: usize, leading: usize, place: usize)
     requires in_range { place < rows.old.qubits + rows.old.qubits }
     requires row_in_range { row < length rows.old.rows }
-    requires pivot_in_range { pivot < length rows.old.rows }
-    requires apart { row ≢ pivot }
-    requires commuting { anticommute (row_at rows.old row) (row_at rows.old pivot) ≡ false }
-    ensures value { rows.new ≡ with_row rows.old row (cleared_with rows.old.qubits place (row_at rows.old pivot) (row_at rows.old row)) }
+    requires leading_in_range { leading < length rows.old.rows }
+    requires apart { row ≢ leading }
+    requires commuting { anticommute (row_at rows.old row) (row_at rows.old leading) ≡ false }
+    ensures value { rows.new ≡ with_row rows.old row (cleared_with rows.old.qubits place (row_at rows.old leading) (row_at rows.old row)) }
 {
     if bit(rows, row, place) {
-        rows.multiply(row, pivot);
+        rows.multiply(row, leading);
     }
 }
 

@@ -1,5 +1,5 @@
 ghost use Rattle.std.specs.Prelude.{◌≡◌, ◌≢◌, ◌<◌, false, length};
-ghost use Rattle.stab_letters.specs.Letters.{letters_anticommute};
+ghost use Rattle.stab_gates.specs.Letters.{letters_anticommute};
 ghost use Rattle.stab_pauli.specs.Paulis.{anticommute};
 ghost use Rattle.stab_pauli.specs.Phaseds.{phased, phased_product};
 ghost use Rattle.stab_tableau.specs.Gates.{letter_at};
@@ -8,7 +8,7 @@ ghost use Rattle.stab_tableau.specs.inner.ColumnLetters.{letter_anticommuting};
 ghost use Rattle.stab_tableau.specs.inner.Pairs.{IsGated, IsPairGated};
 
 use super::table::{InverseRow, Table};
-use stab_letters::{Gate, PairGate};
+use stab_gates::{Gate, PairGate};
 use stab_pauli::{Letter, Pauli};
 
 /// Makes the rows of the inverse those after a gate on a qubit.

@@ -13,7 +13,7 @@
 //! - `laws`: the members of a sound trace are a group, outcomes keep it sound, and what is free; a group has one
 //!   list of reduced rows and no other, which identifies it.
 //!
-//! The names of gates are those of `stab_letters`, passed on.
+//! The names of gates are those of `stab_gates`, passed on.
 //!
 //! `specs/` says by the stabiliser rules which signed Pauli strings stabilise a state; `specs/inner/` has what only private
 //! contracts cite.
@@ -41,5 +41,5 @@ mod table;
 mod tableau;
 
 pub use collapse::Collapse;
-pub use stab_letters::{Gate, PairGate};
+pub use stab_gates::{Gate, PairGate};
 pub use tableau::{CompactTableau, Tableau};

@@ -47,9 +47,9 @@ impl Model for XSupports {
 impl XSupports {
     ghost use Rattle.std.specs.Prelude.{◌≡◌, ◌≢◌, ℕ, ◌+◌, ◌*◌, ◌/◌, ◌<◌, ◌≤◌, true, false, length, IfOk, IfErr, slice_index_or};
     ghost use Rattle.stab_io.specs.declared.refusal.Refusal.TheVariants.{OutOfMemory};
-    ghost use Rattle.stab_letters.specs.declared.letter.Letter.TheVariants.{I};
-    ghost use Rattle.stab_letters.specs.Limits.{most_qubits};
-    ghost use Rattle.stab_letters.specs.XParts.{has_x};
+    ghost use Rattle.stab_gates.specs.declared.letter.Letter.TheVariants.{I};
+    ghost use Rattle.stab_gates.specs.Limits.{most_qubits};
+    ghost use Rattle.stab_gates.specs.XParts.{has_x};
     ghost use Rattle.stab_pauli.specs.Masks.{chooses, AreChosen};
     ghost use Rattle.stab_pauli.specs.Rows.{Rows, row_at, swapped_rows, product_times_i_if};
     ghost use Rattle.stab_tableau.specs.inner.Supports.{Covers, OthersStay, is_known, has_place};

@@ -19,7 +19,7 @@ pub enum InverseRow {
 
 impl InverseRow {
     ghost use Rattle.std.specs.Prelude.{◌≡◌, ◌≤◌};
-    ghost use Rattle.stab_letters.specs.Limits.{most_qubits};
+    ghost use Rattle.stab_gates.specs.Limits.{most_qubits};
     ghost use Rattle.stab_tableau.specs.inner.Pairs.{row_place};
 
     /// Where the string lies among those of all qubits.
@@ -62,11 +62,11 @@ impl Table {
     ghost use Rattle.std.specs.Prelude.{◌≡◌, ◌≢◌, ℕ, ◌<◌, ◌≤◌, ◌⊎◌, true, false, length, slice_set, ◌↔◌, IsTrue, IfOk, IfErr, IfSome, IfNone};
     ghost use Rattle.std.specs.List.{list_any};
     ghost use Rattle.stab_io.specs.declared.refusal.Refusal.TheVariants.{OutOfMemory};
-    ghost use Rattle.stab_letters.specs.XParts.{has_x};
-    ghost use Rattle.stab_letters.specs.Letters.{letters_anticommute};
+    ghost use Rattle.stab_gates.specs.XParts.{has_x};
+    ghost use Rattle.stab_gates.specs.Letters.{letters_anticommute};
     ghost use Rattle.stab_pauli.specs.Paulis.{single, anticommute, product, with_sign};
     ghost use Rattle.stab_pauli.specs.Rows.{product_times_i};
-    ghost use Rattle.stab_letters.specs.Limits.{most_qubits};
+    ghost use Rattle.stab_gates.specs.Limits.{most_qubits};
     ghost use Rattle.stab_tableau.specs.Gates.{letter_at};
     ghost use Rattle.stab_tableau.specs.inner.InverseRows.{rows_at, zeros_row, IsOver};
     ghost use Rattle.stab_tableau.specs.inner.Frames.{SameLetters};
@@ -138,7 +138,7 @@ impl Table {
         self.supports.forget(row.place(qubit));
     }
 
-    /// Turns the sign of a row if the bit is 1.
+    /// Flips the sign of a row if the bit is 1.
     #[inline(always)]
     pub fn negate_if(&mut self, row: InverseRow, qubit: usize, bit: bool)
         requires in_range { qubit < length self.old }
@@ -147,7 +147,7 @@ impl Table {
         self.rows.negate_if(row.place(qubit), bit);
     }
 
-    /// Exchanges two rows.
+    /// IsPivot two rows.
     #[inline(always)]
     pub fn exchange(&mut self, row: InverseRow, qubit: usize, other: InverseRow, other_qubit: usize)
         requires in_range { qubit < length self.old }

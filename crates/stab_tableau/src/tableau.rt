@@ -1,5 +1,5 @@
 mod compact;
-mod exchange;
+mod pivot;
 
 ghost use Rattle.std.specs.Prelude.{◌≡◌, IfOk, IfErr};
 ghost use Rattle.stab_io.specs.declared.refusal.Refusal.TheVariants.{OutOfMemory};
@@ -10,8 +10,8 @@ use super::observable::Observable;
 use super::table::{InverseRow, Table};
 use super::{group, inverse_rows, rows};
 pub use compact::CompactTableau;
+use stab_gates::{Gate, PairGate};
 use stab_io::Refusal;
-use stab_letters::{Gate, PairGate};
 use stab_pauli::{Letter, Pauli, PauliRows};
 use std::alloc::Global;
 use std::marker::Model;
@@ -56,7 +56,7 @@ impl Tableau {
     ghost use Rattle.std.specs.Prelude.{◌≡◌, ◌≢◌, ℕ, ◌<◌, ◌≤◌, ◌↔◌, Bool, true, false, [], length, IsTrue, IfOk, IfErr, IfSome};
     ghost use Rattle.stab_pauli.specs.Paulis.{Signed, single, with_sign};
     ghost use Rattle.stab_io.specs.declared.refusal.Refusal.TheVariants.{OutOfMemory};
-    ghost use Rattle.stab_letters.specs.Limits.{most_qubits};
+    ghost use Rattle.stab_gates.specs.Limits.{most_qubits};
     ghost use Rattle.stab_tableau.specs.Gates.{back, back_pair};
     ghost use Rattle.stab_tableau.specs.Traces.{member};
     ghost use Rattle.stab_tableau.specs.Tableaus.{stabilises};

@@ -55,7 +55,7 @@ fn item_of(alloc: Global, text: &str) -> ((u8, u64), usize) {
 
 const ITEMS: &[(&str, u8, u64, usize)] = &[
     ("CX 0 1 2 3", 0, 0, 2),
-    ("\nREPEAT 3 {\nX 0\n\nM 0\n}\n# note\n", 0, 0, 6),
+    ("\nREPEAT 3 {\nX 0\n\nM 0\n}\n# pivot\n", 0, 0, 6),
     ("DETECTOR rec[-7]", 0, 0, 1),
     ("REPEAT 9 {\nTICK\n}", 0, 0, 0),
     ("H 0\nH 1", 11, 2, 0),
@@ -65,7 +65,7 @@ const ITEMS: &[(&str, u8, u64, usize)] = &[
     ("NOPE", 1, 1, 0),
     ("REPEAT 2 {\nX 0", 5, 1, 0),
     ("", 11, 0, 0),
-    (" \n# note", 11, 0, 0),
+    (" \n# pivot", 11, 0, 0),
 ];
 
 /// The texts of a circuit's items, one after another.

@@ -3,11 +3,11 @@
 //! They are proved, and never run: if a clause came to say less than it does, the proof of its
 //! caller here would fail.
 
-ghost use Rattle.std.specs.Prelude.{◌≡◌, ℕ, ◌+◌, ◌<◌, ◌≤◌, [], length, take, min, slice_get, nat_le, is_some, Some, None, Ok, true, IfOk, IfSome, IfErr, OnOk, OnErr};
-ghost use Rattle.stab_letters.specs.Letters.{letter_phase};
+ghost use Rattle.std.specs.Prelude.{◌≡◌, ℕ, ◌+◌, ◌<◌, ◌≤◌, [], length, take, min, slice_get, is_some, Some, None, Ok, true, IfOk, IfSome, IfErr, OnOk, OnErr};
+ghost use Rattle.stab_gates.specs.Letters.{letter_phase};
 ghost use Rattle.stab_pauli.specs.Paulis.{commute};
 ghost use Rattle.stab_io.specs.MemoryDevices.{GivesWhatFits, GivesAPiece, TakesWhatFits, FlushesAsSet};
-ghost use Rattle.stab_letters.specs.Limits.{most_qubits};
+ghost use Rattle.stab_gates.specs.Limits.{most_qubits};
 ghost use Rattle.stab_tableau.specs.Tableaus.{stabilises};
 ghost use Rattle.stab_tableau.specs.Columns.{destabiliser_of};
 ghost use Rattle.stab_tableau.specs.Traces.{member};
@@ -18,13 +18,13 @@ ghost use Rattle.stab_circuit.specs.Repeats.{repeated_blocks};
 ghost use Rattle.stab_circuit.specs.Steps.{unroll, records_of, steps_cap, check_of, check_within};
 ghost use Rattle.stab_circuit.specs.StepPaths.{item_steps_left};
 ghost use Rattle.stab_circuit.specs.Views.{circuit_items};
-ghost use Rattle.stab_run.specs.Limits.{most_stride};
+ghost use Rattle.stab_recording.specs.Limits.{most_stride};
 ghost use Rattle.stab_run.specs.Records.{ones};
 ghost use Rattle.stab_run.specs.Runs.{run_of};
 ghost use Rattle.stab_io.specs.Refusals.{Refuses};
 ghost use Rattle.stab_shots.specs.Seeds.{shot_coins};
 ghost use Rattle.stab_shots.specs.Shots.{AreShots};
-ghost use Rattle.stab_shots.specs.References.{zero_coins, most_noted, IsReference};
+ghost use Rattle.stab_shots.specs.References.{zero_coins, most_pivots, IsReference};
 ghost use Rattle.stab_session.specs.Sessions.{IsSignIn};
 ghost use Rattle.stab_session.specs.Bounds.{steps_from_change, steps_near_change, most_refused_asks, most_checkpoints, AgreeBehind, IsCountOf};
 
@@ -201,15 +201,15 @@ fn runs_at_once(
     run_shots(alloc, circuit, n, seed, first, number)
 }
 
-/// A reference is the run with all coins 0, and there is one if and only if no more outcomes are free than may be noted.
-fn noted_reference(
+/// A reference is the run with all coins 0, and there is one if no more outcomes are free than may be noted.
+fn recorded_reference(
     alloc: Global,
     circuit: &Circuit,
     n: usize,
 ) -> Result<Option<Reference>, stab_pauli::Fault>
     requires in_range { n ≤ most_qubits }
     ensures reference { IfOk result (λ found. IfSome found (λ r. IsReference n (circuit_items circuit.now) r)) }
-    ensures kept { IfOk result (λ found. is_some found ≡ nat_le (ones (run_of n zero_coins (circuit_items circuit.now)).free) (most_noted n)) }
+    ensures kept { IfOk result (λ found. ones (run_of n zero_coins (circuit_items circuit.now)).free ≤ most_pivots n → is_some found ≡ true) }
     ensures refused { Refuses result (check_within n (circuit_items circuit.now)) }
 {
     Reference::of(alloc, circuit, n)

@@ -1,11 +1,11 @@
 //! Blocks whose rounds come again: what runs, shots and sessions give of them, and where they are in the steps.
 ghost use Rattle.std.specs.Prelude.{◌≤◌};
-ghost use Rattle.stab_run.specs.Limits.{most_stride};
+ghost use Rattle.stab_recording.specs.Limits.{most_stride};
 
 use stab_circuit::{Repeat, read_circuit};
 use stab_pauli::MemoryInput;
 use stab_session::{SeedCoins, Session, Shot, run_once};
-use stab_shots::run_shots;
+use stab_shots::{Reference, run_shots};
 use std::alloc::Global;
 use std::test::Fail;
 
@@ -372,16 +372,26 @@ fn blocks_with_rounds_stand_in_the_steps(rt: HostRuntime) -> Result<(), Fail> {
             first: 1,
             length: 2,
             rounds: 3,
-            reach: 0,
+            window: 0,
         },
         Repeat {
             first: 9,
             length: 3,
             rounds: 2,
-            reach: 3,
+            window: 3,
         },
     ];
     let repeats = circuit.repeats(rt.alloc())?;
     assert!(rt; repeats.as_slice() == wanted.as_slice());
+    Ok(())
+}
+
+#[test]
+fn a_pivot_that_rounds_have_again_counts_once(rt: HostRuntime) -> Result<(), Fail> {
+    // More outcomes are random than pivots may be kept.
+    let text = "REPEAT 200000 {\nH 0\nM 0\n}\n";
+    let circuit = read_circuit(rt.alloc(), &mut MemoryInput::new(text.as_bytes()))?;
+    let reference = Reference::of(rt.alloc(), &circuit, 1)?;
+    assert!(rt; reference.is_some());
     Ok(())
 }

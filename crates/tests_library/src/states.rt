@@ -193,7 +193,7 @@ fn letter_i_is_fixed(tableau: &mut Tableau, coin: bool, string: &mut Pauli) -> b
     }
     tableau.fixed_letter(Letter::I, 0) == Some(false)
         && tableau.collapse_letter(Letter::I, n - 1, coin) == ZERO_AND_FIXED
-        && tableau.collapse_letter_with_exchange(Letter::I, n - 1, coin, string) == ZERO_AND_FIXED
+        && tableau.collapse_letter_with_pivot(Letter::I, n - 1, coin, string) == ZERO_AND_FIXED
         && is_first_x(string)
 }
 
@@ -209,7 +209,7 @@ fn identity_is_fixed(
         return false;
     }
     tableau.collapse(identity, coin) == ZERO_AND_FIXED
-        && tableau.collapse_with_exchange(identity, coin, string) == ZERO_AND_FIXED
+        && tableau.collapse_with_pivot(identity, coin, string) == ZERO_AND_FIXED
         && is_first_x(string)
 }
 

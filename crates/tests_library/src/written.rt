@@ -1,7 +1,7 @@
 //! Rounds that are written out: where they are found, and what runs and sessions give of them. If a circuit has a block, none are
 //! looked for, so each line is carried out.
 ghost use Rattle.std.specs.Prelude.{◌≤◌};
-ghost use Rattle.stab_run.specs.Limits.{most_stride};
+ghost use Rattle.stab_recording.specs.Limits.{most_stride};
 
 use crate::rounds::{are_same, session_gives, shot_of};
 use stab_circuit::{Repeat, read_circuit};
@@ -132,7 +132,7 @@ fn written_rounds_stand_in_the_steps(rt: HostRuntime) -> Result<(), Fail> {
         first: 6,
         length: 3,
         rounds: 2999,
-        reach: 2,
+        window: 2,
     }];
     let found = find_rounds(alloc, &circuit)?;
     assert!(rt; found.as_slice() == wanted.as_slice());

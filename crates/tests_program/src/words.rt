@@ -193,27 +193,27 @@ const JOBS: &[(&str, &str)] = &[
     ),
     (
         "stabsim faults",
-        "Faults { layout: Lines, everywhere: false, sure_only: false } Seed(0) None None",
+        "Faults { layout: Lines, everywhere: false, deterministic_only: false } Seed(0) None None",
     ),
     (
         "stabsim faults --everywhere --out=b.txt",
-        "Faults { layout: Lines, everywhere: true, sure_only: false } Seed(0) None Some(\"b.txt\")",
+        "Faults { layout: Lines, everywhere: true, deterministic_only: false } Seed(0) None Some(\"b.txt\")",
     ),
     (
         "stabsim faults --sure_only --out_format 01",
-        "Faults { layout: Shots(F01), everywhere: false, sure_only: true } Seed(0) None None",
+        "Faults { layout: Shots(F01), everywhere: false, deterministic_only: true } Seed(0) None None",
     ),
     (
         "stabsim faults --out_format r8",
-        "Faults { layout: Shots(R8), everywhere: false, sure_only: false } Seed(0) None None",
+        "Faults { layout: Shots(R8), everywhere: false, deterministic_only: false } Seed(0) None None",
     ),
     (
         "stabsim faults --out_format=dets --sure_only --everywhere",
-        "Faults { layout: Shots(Dets), everywhere: true, sure_only: true } Seed(0) None None",
+        "Faults { layout: Shots(Dets), everywhere: true, deterministic_only: true } Seed(0) None None",
     ),
     (
         "stabsim faults --deterministic_only",
-        "Faults { layout: Lines, everywhere: false, sure_only: true } Seed(0) None None",
+        "Faults { layout: Lines, everywhere: false, deterministic_only: true } Seed(0) None None",
     ),
     (
         "stabsim deterministic --explain --out_format=b8 --out=b.txt",
@@ -229,19 +229,19 @@ const JOBS: &[(&str, &str)] = &[
     ),
     (
         "stabsim distance",
-        "Distance(DistanceOptions { everywhere: false, letters: All, graphlike: false, most: None, sure_only: false, progress: false }) Seed(0) None None",
+        "Distance(DistanceOptions { everywhere: false, letters: All, graphlike: false, most: None, deterministic_only: false, progress: false }) Seed(0) None None",
     ),
     (
         "stabsim distance --everywhere --letters=XZ --most 1000000000 --in=a.stim",
-        "Distance(DistanceOptions { everywhere: true, letters: XAndZ, graphlike: false, most: Some(1000000000), sure_only: false, progress: false }) Seed(0) Some(\"a.stim\") None",
+        "Distance(DistanceOptions { everywhere: true, letters: XAndZ, graphlike: false, most: Some(1000000000), deterministic_only: false, progress: false }) Seed(0) Some(\"a.stim\") None",
     ),
     (
         "stabsim distance --most=0 --graphlike --progress --deterministic_only --letters all",
-        "Distance(DistanceOptions { everywhere: false, letters: All, graphlike: true, most: Some(0), sure_only: true, progress: true }) Seed(0) None None",
+        "Distance(DistanceOptions { everywhere: false, letters: All, graphlike: true, most: Some(0), deterministic_only: true, progress: true }) Seed(0) None None",
     ),
     (
         "stabsim distance --sure_only",
-        "Distance(DistanceOptions { everywhere: false, letters: All, graphlike: false, most: None, sure_only: true, progress: false }) Seed(0) None None",
+        "Distance(DistanceOptions { everywhere: false, letters: All, graphlike: false, most: None, deterministic_only: true, progress: false }) Seed(0) None None",
     ),
 ];
 

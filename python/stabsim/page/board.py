@@ -261,7 +261,8 @@ def line_of(bits: NDArray[np.bool_]) -> str:
 
 def lists_of(places: NDArray[np.float64]) -> list[list[float]]:
     """Coordinates, a list for each row, without what is nan."""
-    return [[number for number in row if number == number] for row in places.tolist()]
+    rows: list[list[float]] = places.tolist()
+    return [[number for number in row if number == number] for row in rows] if np.isnan(places).any() else rows
 
 
 def names_of(changed: stabsim.Changed) -> list[str]:

@@ -1,47 +1,67 @@
-"""What the table of faults of a circuit says, once it is there."""
+"""The table of faults of the circuit: a process of its own makes and reads it, so that no edit and no picture waits for that."""
 
 import asyncio
-from dataclasses import dataclass
+import contextlib
+import json
+import os
+import sys
+from asyncio.subprocess import PIPE, Process
 
-import stabsim
+from stabsim import program
 from stabsim.page.board import Message
-from stabsim.page.moment_faults import MomentFaults
-from stabsim.page.ways import way_of
 
 # Why there is no table of faults, once an edit was made.
 NOT_YET = "the table of faults is being made"
 # What is asked of the table.
 QUESTIONS = ("faults", "way", "region", "slice")
+# The longest answer, in bytes.
+MOST_BYTES = 1 << 28
 
 
-@dataclass
 class Known:
-    """The table of faults, or why there is none."""
+    """The table in its process (table_process.py), and why it says nothing of the circuit as it is, or an empty text."""
 
-    faults: MomentFaults | str = NOT_YET
+    def __init__(self) -> None:
+        self.why = NOT_YET
+        self.process: Process | None = None
+        self.asking = asyncio.Lock()
 
-    async def answer_to(self, question: Message) -> Message:
-        """What Paulis flip, the way of one, the region of a bit, or all regions at the end of a moment; or why that is not known."""
-        asked, faults = question["ask"], self.faults
-        if isinstance(faults, str):
-            return {"why": faults}
-        if asked == "region":
-            return {"region": await asyncio.to_thread(faults.region, str(question["bit"]))}
-        moment = int(question["moment"])
-        if asked == "slice":
-            return {"slice": await asyncio.to_thread(faults.slice, moment)}
-        qubit = int(question["qubit"])
-        if asked == "faults":
-            return {"flips": faults.flips(moment, qubit)}
-        letter = str(question["letter"])
-        if letter not in ("X", "Y", "Z") or not 0 <= qubit < faults.qubits or not 0 <= moment < faults.moments:
-            raise ValueError("there is no such place for a Pauli")
-        return {"way": await asyncio.to_thread(way_of, faults, moment, qubit, letter)}
+    async def make(self, text: str) -> str:
+        """Has the table of a circuit made; answers why there is none, or with an empty text."""
+        return str(json.loads(await self.ask({"ask": "table"}, program.bytes_of(text)))["why"])
 
+    async def answer_to(self, question: Message) -> str:
+        """What Paulis flip, the way of one, the region of a bit, or all regions at the end of a moment, as the tab is told it; or why that
+        is not known."""
+        with contextlib.suppress(ConnectionError):
+            if not self.why:
+                return await self.ask(question)
+        return self.nothing(question)
 
-def faults_or_why(text: str) -> MomentFaults | str:
-    """The table of faults of a circuit, or why there is none."""
-    try:
-        return MomentFaults.of_circuit(text)
-    except stabsim.Refused as refused:
-        return f"there is no table of faults: it was refused as {refused.number} {refused.name}"
+    def nothing(self, question: Message) -> str:
+        """Why nothing is known, as an answer."""
+        return json.dumps({"why": self.why, "id": question["id"]})
+
+    async def ask(self, question: Message, text: bytes = b"") -> str:
+        """Asks the process, with a text that follows the question, and answers what it says."""
+        async with self.asking:
+            if self.process is None or self.process.returncode is not None:
+                self.process = await asyncio.create_subprocess_exec(
+                    sys.executable, "-m", "stabsim.page.table_process", stdin=PIPE, stdout=PIPE, limit=MOST_BYTES,
+                    env={**os.environ, "PYTHONPATH": os.pathsep.join(sys.path)})
+            assert self.process.stdin and self.process.stdout
+            self.process.stdin.write(json.dumps({**question, "bytes": len(text)}).encode() + b"\n" + text)
+            # If the process has ended there is no more to read.
+            with contextlib.suppress(ConnectionError):
+                await self.process.stdin.drain()
+            answer = await self.process.stdout.readline()
+        if not answer.endswith(b"\n"):
+            self.why = "the process with the table of faults has ended"
+            raise ConnectionError(self.why)
+        return answer.decode()
+
+    async def close(self) -> None:
+        """Ends the process, whatever it does."""
+        if self.process is not None and self.process.returncode is None:
+            self.process.kill()
+            await self.process.wait()

@@ -8,8 +8,10 @@ import numpy as np
 from numpy.typing import NDArray
 
 import stabsim
+from stabsim import program
 from stabsim.page import moments
-from stabsim.reading import Instruction, lines_of
+from stabsim.reading import Instruction, Line, lines_of
+from stabsim.table_lines import flips_of
 
 # Letters X, Y and Z on qubits.
 Letters = dict[int, str]
@@ -36,8 +38,8 @@ class MomentFaults:
         if not numbers.qubits:
             return cls(0, numbers.detectors, np.zeros(1, dtype=np.int64), np.zeros(0, dtype=np.int64), text)
         mark = "I " + " ".join(map(str, range(numbers.qubits)))
-        table = stabsim.Circuit(marked_text(text, mark)).faults(sure_only=True)
-        return cls(numbers.qubits, numbers.detectors, table.indptr, table.indices, text)
+        lines = program.run(["faults", "--sure_only"], marked_text(text, mark))
+        return cls(numbers.qubits, numbers.detectors, *flips_of(lines, {"D": 0, "L": numbers.detectors}), text)
 
     @functools.cached_property
     def acting(self) -> list[list[Instruction]]:
@@ -102,4 +104,9 @@ def marked_text(text: str, mark: str) -> str:
     """A circuit with a mark at the end of each moment, and no other: an `I` of its own does nothing, and would have rows too. It
     cuts moments all the same, as each gate does."""
     lines = lines_of(moments.marked(text, PLACE))
-    return "\n".join(line.text for line in lines if line.parts is None or line.parts.name != "I").replace(PLACE, mark)
+    return "\n".join(line.text for line in lines if not is_idle(line)).replace(PLACE, mark)
+
+
+def is_idle(line: Line) -> bool:
+    """Whether a line is an `I`; most aren't by their first letter."""
+    return line.content.startswith(("I", "i")) and line.parts is not None and line.parts.name == "I"

@@ -5,6 +5,7 @@ error does that is put on a gate. If a block would meet what is before it, it is
 other, each is cut in front of its first item that acts.
 """
 
+import functools
 import re
 from collections.abc import Iterable
 from dataclasses import dataclass, field
@@ -88,15 +89,25 @@ def body_of(items: Iterable[Item]) -> Body:
 
 def qubits_of(item: Instruction) -> list[int]:
     """The qubits on which an instruction acts, without records that control it."""
-    if item.name not in ACTING:
-        return []
-    return [int(number) for target in item.targets if not target.startswith("rec[") for number in QUBIT.findall(target)]
+    return qubits_in(item.targets) if item.name in ACTING else []
+
+
+# The same targets come again in each round, also where rounds are written out.
+@functools.lru_cache(maxsize=4096)
+def qubits_in(targets: tuple[str, ...]) -> list[int]:
+    return [int(number) for target in targets if not target.startswith("rec[") for number in QUBIT.findall(target)]
+
+
+@functools.lru_cache(maxsize=1)
+def cut_items(text: str) -> tuple[tuple[Item, ...], frozenset[int]]:
+    """The items of a text that act or are TICKs, with their blocks, and the lines in front of which they are cut."""
+    items = items_of(text, ("TICK", *ACTING))
+    return items, frozenset(body_of(items).cuts)
 
 
 def acting(text: str) -> list[list[Instruction]]:
     """What acts in each moment, with the rounds of blocks written out."""
-    items = items_of(text)
-    cuts = set(body_of(items).cuts)
+    items, cuts = cut_items(text)
     found: list[list[Instruction]] = [[]]
 
     def take(items: Iterable[Item]) -> None:
@@ -116,8 +127,7 @@ def acting(text: str) -> list[list[Instruction]]:
 def marked(text: str, mark: str) -> str:
     """A text with a line put in at the end of each moment. It has a line for each item, as a session writes it."""
     lines = text.rstrip("\n").split("\n")
-    items = items_of(text)
-    cuts = set(body_of(items).cuts)
+    items, cuts = cut_items(text)
     ticks = {item.line for item in walk(items) if item.name == "TICK"}
     found = [f"{mark}\n{line}" if number in cuts or number in ticks else line for number, line in enumerate(lines, start=1)]
     return "\n".join(found) + f"\n{mark}\n"

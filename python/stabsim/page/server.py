@@ -16,8 +16,7 @@ from stabsim.page.board import Board, Message, sure_line
 from stabsim.page.distances import DistanceSearch
 from stabsim.page.edits import Edit
 from stabsim.page.files import file_response, guard, page_response
-from stabsim.page.known import NOT_YET, QUESTIONS, Known, faults_or_why
-from stabsim.page.moment_faults import MomentFaults
+from stabsim.page.known import NOT_YET, QUESTIONS, Known
 from stabsim.page.tabs import Tab
 
 HOST = "127.0.0.1"
@@ -110,6 +109,7 @@ class Server:
             await asyncio.wait([tab.end() for tab in self.tabs], timeout=LAST_SECONDS)
         for tab in self.tabs:
             tab.abandon()
+        await self.known.close()
 
     async def prepare(self) -> None:
         """Finds out what the first tab asks for, while the browser loads the page."""
@@ -132,6 +132,9 @@ class Server:
         question: Any = None
         try:
             question = json.loads(data)
+            if question["ask"] in QUESTIONS and "id" in question:
+                self.start(self.look_up(tab, question))
+                return
             answer = await self.answer_to(tab, question)
         except stabsim.Refused as refused:
             answer = {"refused": f"refused {refused.number} {refused.name}", "explanation": refused.explanation}
@@ -140,12 +143,15 @@ class Server:
         if isinstance(question, dict) and "id" in question:
             tab.tell({**answer, "id": question["id"]})
 
+    async def look_up(self, tab: Tab, question: Message) -> None:
+        """Answers a question to the table of faults, for which no edit waits; if the circuit was changed meanwhile, nothing is known."""
+        age, answer = self.board.age, await self.known.answer_to(question)
+        tab.tell_text(answer if age == self.board.age else self.known.nothing(question))
+
     async def answer_to(self, tab: Tab, question: Message) -> Message:
         asked = question["ask"]
         if asked in ("edit", "split", "open", "go"):
             return await self.changed_by(question)
-        if asked in QUESTIONS:
-            return await self.known.answer_to(question)
         if asked == "mark":
             async with self.telling:
                 self.tell(await self.call(self.board.mark))
@@ -186,7 +192,7 @@ class Server:
     async def change(self, function: Any, *values: Any) -> Message:
         async with self.telling:
             event = await self.call(function, *values)
-            self.known.faults = NOT_YET
+            self.known.why = NOT_YET
             self.tell(event)
             self.distances.changed(self.board.age)
         self.later()
@@ -212,9 +218,9 @@ class Server:
             text = await self.call(self.board.text)
             if self.board.sure is None:
                 await self.found_sure(age, await self.in_background(sure_line, text))
-            if self.known.faults == NOT_YET and age == self.board.age:
-                await self.found_faults(age, await self.in_background(faults_or_why, text))
-        except stabsim.StabsimError:
+            if self.known.why == NOT_YET and age == self.board.age:
+                await self.found_faults(age, await self.known.make(text))
+        except (stabsim.StabsimError, ConnectionError):
             # Nothing is said of it; if the session has ended, the next question says so.
             return
 
@@ -224,10 +230,10 @@ class Server:
                 self.board.sure = sure
                 self.tell({"event": "sure", "age": age, "sure": sure})
 
-    async def found_faults(self, age: int, faults: MomentFaults | str) -> None:
+    async def found_faults(self, age: int, why: str) -> None:
         async with self.telling:
             if age == self.board.age:
-                self.known.faults = faults
+                self.known.why = why
                 self.tell({"event": "faults", "age": age})
 
     async def in_background(self, function: Any, value: Any) -> Any:

@@ -5,6 +5,7 @@ qubits and letters that stay are taken; so what flips nothing any more has gone.
 """
 
 import dataclasses
+import functools
 import itertools
 import re
 from dataclasses import dataclass
@@ -69,13 +70,10 @@ class Walk:
         self.letters = dict(letters)
         self.count = 0
         self.flipped: set[int] = set()
-        self.known: dict[int, Parts] = {}
 
     def meet(self, item: Instruction, moment: int) -> None:
         """Goes over an instruction of a moment."""
-        if item.line not in self.known:
-            self.known[item.line] = parts_of(item)
-        parts = self.known[item.line]
+        parts = parts_of(item.name, item.targets)
         for record in {record for qubit in self.letters for record in parts.records.get(qubit, [])}:
             if sum(self.letters.get(qubit, letter) != letter for letter, qubit in parts.measured[record]) % 2:
                 self.flipped.add(self.count + record)
@@ -113,18 +111,20 @@ def times(one: str, other: str) -> str:
     return "I" if one == other else PRODUCTS["".join(sorted(one + other))]
 
 
-def parts_of(item: Instruction) -> Parts:
+# The same lines come again in each round, also where rounds are written out.
+@functools.lru_cache(maxsize=4096)
+def parts_of(name: str, targets: tuple[str, ...]) -> Parts:
     """An instruction, taken apart; of a Pauli there is nothing to know, since it leaves others as they are."""
     parts = Parts()
-    if item.name == "MPP":
-        for target in item.targets:
+    if name == "MPP":
+        for target in targets:
             parts.add_record([(letter, int(qubit)) for letter, qubit in FACTOR.findall(target.upper())])
-    elif item.name in PAIRS:
-        for pair in zip(item.targets[::2], item.targets[1::2]):
+    elif name in PAIRS:
+        for pair in zip(targets[::2], targets[1::2]):
             parts.add_group(pair)
-    elif item.name not in STILL:
-        for target in item.targets:
+    elif name not in STILL:
+        for target in targets:
             parts.add_group((target,))
-            if item.name in BASES:
-                parts.add_record([(BASES[item.name], int(target.strip("!")))])
+            if name in BASES:
+                parts.add_record([(BASES[name], int(target.strip("!")))])
     return parts

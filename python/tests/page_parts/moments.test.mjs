@@ -4,6 +4,7 @@ import assert from "node:assert/strict";
 import test from "node:test";
 
 import { applyEdit, parseCircuit, textOf } from "../../stabsim/page/static/circuit.js";
+import { before } from "../../stabsim/page/static/counts.js";
 import { endOf, momentAt, momentOf, momentsOf, momentsOfDetectors, nameOf } from "../../stabsim/page/static/moments.js";
 
 const BLOCK = "R 0\nREPEAT 3 {\n    TICK\n    H 0\n    TICK\n    M 0\n    DETECTOR rec[-1]\n}\nM 0\n";
@@ -57,6 +58,8 @@ test("after edits items, cuts and counts are those of the text that they make", 
     applyEdit(items, edit);
     const fresh = parseCircuit(items.map((item) => textOf(item)).join("\n"));
     assert.deepEqual(momentsOf(items), momentsOf(fresh));
+    assert.deepEqual(before(items), before(fresh), JSON.stringify(edit));
+    assert.deepEqual(momentsOfDetectors(items), momentsOfDetectors(fresh), JSON.stringify(edit));
     for (let moment = 0; moment < momentsOf(fresh); moment += 1) assert.deepEqual(names(items, moment), names(fresh, moment), JSON.stringify(edit));
     assert.deepEqual([...momentsOfDetectors(items)], [...momentsOfDetectors(fresh)]);
   }

@@ -4,7 +4,7 @@ use Rattle.std.specs.Prelude.{ℕ, ◌+◌, ◌*◌, ◌&&◌, nat_lt, nat_eq, i
 use Rattle.stab_circuit.specs.declared.circuit.repeats.Repeat.{Repeat}
 use Rattle.stab_items.specs.Items.{Items, OneItem, operation, repeat, done, next, block, before}
 use Rattle.stab_items.specs.Steps.{Step, unroll}
-use Rattle.stab_items.specs.inner.Summaries.{reach}
+use Rattle.stab_items.specs.inner.Summaries.{window}
 
 -- the first block of a list that has a step, if there is one: how many rounds it has, and its items
 abbrev pub first_with_steps : Items → Option (ℕ × Items)
@@ -22,7 +22,7 @@ finer count body = finer_by count (unroll body) (first_with_steps body)
 
 -- this many rounds of steps, after this many others
 abbrev pub repeat_as : ℕ → ℕ × List Step → Repeat
-repeat_as first r = record { first = first; length = length r.1; rounds = r.0; reach = reach r.1 }
+repeat_as first r = record { first = first; length = length r.1; rounds = r.0; window = window r.1 }
 
 -- the repeat that an item is, after this many steps: one or none
 abbrev pub repeat_in : ℕ → OneItem → List Repeat

@@ -23,7 +23,7 @@ pub struct Repeat {
     /// How many rounds there are, at least 2.
     pub rounds: usize,
     /// How many records before a round its steps may look back to.
-    pub reach: u32,
+    pub window: u32,
 }
 
 /// How many rounds the first block of a list has that has a step, and the summary of one of them, if there is such a block.
@@ -53,7 +53,7 @@ fn repeat_of(first: usize, rounds: usize, kept: Summary, items: &[Item]) -> Repe
         first,
         length: kept.steps as usize,
         rounds,
-        reach: kept.reach,
+        window: kept.window,
     };
     let Some((count, inner)) = first_block(items) else {
         return whole;
@@ -65,7 +65,7 @@ fn repeat_of(first: usize, rounds: usize, kept: Summary, items: &[Item]) -> Repe
         first,
         length: inner.steps as usize,
         rounds: rounds.saturating_mul(count as usize),
-        reach: inner.reach,
+        window: inner.window,
     }
 }
 

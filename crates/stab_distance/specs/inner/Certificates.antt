@@ -1,6 +1,6 @@
 -- Certificates: an observable and detectors of which each row names an even number, so that errors that flip no detector do not flip it.
 use Rattle.std.specs.Prelude.{◌≡◌, ℕ, ◌<◌, ◌≤◌, Bool, true, false, List, [], ◌∷◌, length, slice_index_or, All}
-use Rattle.stab_letters.specs.Letters.{◌⊕◌}
+use Rattle.stab_gates.specs.Letters.{◌⊕◌}
 use Rattle.stab_distance.specs.Tables.{ErrorTable, row, flips}
 
 -- whether an odd number of a list are members

@@ -1,6 +1,6 @@
 -- Ends: errors that complete those chosen so far to a logical error.
 use Rattle.std.specs.Prelude.{◌≡◌, ℕ, ◌<◌, ◌≤◌, true, List, [], ◌∷◌, length}
-use Rattle.stab_letters.specs.Letters.{◌⊕◌}
+use Rattle.stab_gates.specs.Letters.{◌⊕◌}
 use Rattle.stab_distance.specs.Tables.{ErrorTable, odd, flips}
 use Rattle.stab_distance.specs.inner.Lists.{Each, has}
 

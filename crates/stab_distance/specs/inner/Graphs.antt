@@ -1,6 +1,6 @@
 -- Graphs: each row that flips at most two detectors is an edge. The nodes are the detectors, and the boundary, whose number is that of the detectors.
 use Rattle.std.specs.Prelude.{◌≡◌, ℕ, ◌<◌, ◌≤◌, ◌==◌, Bool, true, false, List, length, slice_index_or, All}
-use Rattle.stab_letters.specs.Letters.{◌⊕◌}
+use Rattle.stab_gates.specs.Letters.{◌⊕◌}
 use Rattle.stab_distance.specs.declared.edges.Edge.{Edge}
 use Rattle.stab_distance.specs.Tables.{ErrorTable, odd, row, flips}
 use Rattle.stab_distance.specs.LogicalErrors.{IsLogicalError}

@@ -1,7 +1,7 @@
 -- Labels: for each node and each parity no more than the number of edges that lead there from a source, of which an odd number flip the
 -- observable if the parity is true. What makes them so is that they differ by at most 1 along each edge.
 use Rattle.std.specs.Prelude.{◌≡◌, ℕ, ◌+◌, ◌<◌, ◌≤◌, ◌⊎◌, Bool, true, false, List, length, slice_index, slice_index_or}
-use Rattle.stab_letters.specs.Letters.{◌⊕◌}
+use Rattle.stab_gates.specs.Letters.{◌⊕◌}
 use Rattle.stab_distance.specs.declared.edges.Edge.{Edge}
 use Rattle.stab_distance.specs.declared.labels.Labels.{Labels}
 use Rattle.stab_distance.specs.inner.Graphs.{edge}

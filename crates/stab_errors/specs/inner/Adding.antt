@@ -1,7 +1,7 @@
 -- Adding errors: where the rows of values are in a table of faults, and errors put after others.
 -- Source: this project's own.
 use Rattle.std.specs.Prelude.{◌≡◌, ℕ, List, ◌∷◌, ◌++◌, map, drop, All, Some, None}
-use Rattle.stab_letters.specs.declared.letter.Letter.TheVariants as letter
+use Rattle.stab_gates.specs.declared.letter.Letter.TheVariants as letter
 use Rattle.stab_regions.specs.Faults.{FaultPlace}
 use Rattle.stab_errors.specs.Errors.{Error}
 use Rattle.stab_errors.specs.Placed.{letter_at, error_shown}

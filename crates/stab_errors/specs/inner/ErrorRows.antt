@@ -2,7 +2,7 @@
 -- Source: this project's own.
 use Rattle.std.specs.Prelude.{◌≡◌, ℕ, ◌+◌, Bool, List, Some, None}
 use Rattle.std.specs.List.{AllZip}
-use Rattle.stab_letters.specs.Letters.{◌⊕◌}
+use Rattle.stab_gates.specs.Letters.{◌⊕◌}
 use Rattle.stab_regions.specs.Rows.{bits_at, row}
 use Rattle.stab_distance.specs.Ascending.{IsAscending}
 use Rattle.stab_distance.specs.Tables.{odd}

@@ -1,10 +1,10 @@
 -- Draws: which coins of another run differ from those of the run that a frame comes from.
 -- Source: this project's own.
 use Rattle.std.specs.Prelude.{◌≡◌, ℕ, ◌+◌, ◌-◌, ◌<◌, ◌≤◌, Bool, true, false, List, [], ◌∷◌, take, slice_index_or}
-use Rattle.stab_letters.specs.Letters.{◌⊕◌}
+use Rattle.stab_gates.specs.Letters.{◌⊕◌}
 use Rattle.stab_circuit.specs.Steps.{Step, one, two, controlled, collapse, product, detector, observable}
-use Rattle.stab_steps.specs.Records.{ones}
-use Rattle.stab_steps.specs.Points.{coins_of}
+use Rattle.stab_run.specs.Records.{ones}
+use Rattle.stab_run.specs.Points.{coins_of}
 
 -- whether the outcome of what a step measures is inverted in its record
 abbrev pub is_inverted : Step → Bool

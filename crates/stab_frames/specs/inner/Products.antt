@@ -1,9 +1,9 @@
 -- Products: letters that are multiplied by those of a string, 64 at a time.
 -- Source: this project's own.
 use Rattle.std.specs.Prelude.{◌≡◌, ℕ, ◌+◌, ◌<◌, ◌≤◌, ◌⊎◌, List, length, slice_index_or}
-use Rattle.stab_letters.specs.declared.letter.Letter.{Letter}
-use Rattle.stab_letters.specs.declared.letter.Letter.TheVariants.{I}
-use Rattle.stab_letters.specs.Letters.{letter_product}
+use Rattle.stab_gates.specs.declared.letter.Letter.{Letter}
+use Rattle.stab_gates.specs.declared.letter.Letter.TheVariants.{I}
+use Rattle.stab_gates.specs.Letters.{letter_product}
 
 -- the 64 letters from one on are multiplied by those of a string, and all others stay
 pub record AreMultiplied (first : ℕ) (string old new : List Letter) : Type 0 where

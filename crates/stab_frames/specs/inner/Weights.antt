@@ -1,8 +1,8 @@
 -- Weights: on how many qubits a string acts.
 -- Source: Gottesman 1997: the weight of a Pauli string.
 use Rattle.std.specs.Prelude.{ℕ, ◌+◌, List, [], ◌∷◌}
-use Rattle.stab_letters.specs.declared.letter.Letter.{Letter}
-use Rattle.stab_letters.specs.declared.letter.Letter.TheVariants.{I, X, Y, Z}
+use Rattle.stab_gates.specs.declared.letter.Letter.{Letter}
+use Rattle.stab_gates.specs.declared.letter.Letter.TheVariants.{I, X, Y, Z}
 
 -- 1 for a letter that is not I
 abbrev pub letter_weight : Letter → ℕ

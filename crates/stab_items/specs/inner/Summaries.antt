@@ -3,7 +3,7 @@
 use Rattle.std.specs.Prelude.{◌≡◌, ◌≢◌, false, ℕ, ◌+◌, ◌*◌, ◌-◌, ◌≤◌, max, min, nat_lt, List, [], ◌∷◌, All, length, if◌then◌else◌, Option, Some, None}
 use Rattle.stab_io.specs.declared.refusal.Refusal.{Refusal}
 use Rattle.stab_io.specs.declared.refusal.Refusal.TheVariants.{LookbackTooFar, TooManySteps}
-use Rattle.stab_letters.specs.Limits.{most_qubits}
+use Rattle.stab_gates.specs.Limits.{most_qubits}
 use Rattle.stab_items.specs.declared.summary.Summary.{Summary}
 use Rattle.stab_lines.specs.declared.control.ControlledPair.{ControlledPair}
 use Rattle.stab_lines.specs.declared.control.ControlledPair.TheVariants as pair
@@ -30,9 +30,9 @@ furthest [] = 0
 furthest (p ∷ ps) = max (looks_back p) (furthest ps)
 
 -- how many records have to be before the steps
-abbrev pub reach : List Step → ℕ
-reach [] = 0
-reach (s ∷ ss) = max (greatest (lookbacks s)) (reach ss - makes s)
+abbrev pub window : List Step → ℕ
+window [] = 0
+window (s ∷ ss) = max (greatest (lookbacks s)) (window ss - makes s)
 
 -- the summary of steps that name this many qubits and observables, in this many blocks: up to 1,048,577 steps, 16,777,215 records and as many
 -- detectors, and 17 blocks
@@ -41,7 +41,7 @@ steps_summary steps qubits observables deep = record {
   steps = min (length steps) steps_cap;
   records = min (records_of steps) most_lookback;
   detectors = min (detectors_of steps) most_lookback;
-  reach = reach steps;
+  window = window steps;
   qubits = qubits;
   observables = observables;
   depth = min deep 17;
@@ -73,7 +73,7 @@ pub record IsSummary (s : Summary) : Type 0 where
   pub steps : s.steps ≤ steps_cap
   pub records : s.records ≤ most_lookback
   pub detectors : s.detectors ≤ most_lookback
-  pub reach : s.reach ≤ most_lookback
+  pub window : s.window ≤ most_lookback
   pub qubits : s.qubits ≤ most_qubits
   pub depth : s.depth ≤ 17
 
@@ -89,7 +89,7 @@ followed_by s t = record {
   steps = min (s.steps + t.steps) steps_cap;
   records = min (s.records + t.records) most_lookback;
   detectors = min (s.detectors + t.detectors) most_lookback;
-  reach = max s.reach (t.reach - s.records);
+  window = max s.window (t.window - s.records);
   qubits = max s.qubits t.qubits;
   observables = max s.observables t.observables;
   depth = max s.depth t.depth;
@@ -101,4 +101,4 @@ repeated count s = record s { steps = min (count * s.steps) steps_cap; records =
 
 -- what refuses a whole circuit of this summary
 abbrev pub judged : Summary → Option Refusal
-judged s = if nat_lt 0 s.reach then Some LookbackTooFar else if nat_lt most_steps s.steps then Some TooManySteps else None
+judged s = if nat_lt 0 s.window then Some LookbackTooFar else if nat_lt most_steps s.steps then Some TooManySteps else None

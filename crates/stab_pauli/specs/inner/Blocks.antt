@@ -4,11 +4,11 @@ use Rattle.std.specs.Int.{bit_at}
 use Rattle.std.specs.List.{All}
 use Rattle.std.specs.Simd.Lanes.{zip2, chunk, put_chunk}
 use Rattle.std.specs.Prelude.{◌≡◌, ◌≢◌, ℕ, zero, suc, ◌+◌, ◌*◌, ◌-◌, ◌/◌, ◌^◌, ◌≤◌, length, List, [], ◌∷◌, ◌++◌, take, drop, replicate, slice_index_or, ◌<◌, true, false}
-use Rattle.stab_letters.specs.declared.letter.Letter.{Letter}
-use Rattle.stab_letters.specs.declared.letter.Letter.TheVariants.{I}
-use Rattle.stab_letters.specs.declared.phase.Phase.{Phase}
-use Rattle.stab_letters.specs.Phases.{sign_of_phase}
-use Rattle.stab_letters.specs.XParts.{has_x}
+use Rattle.stab_gates.specs.declared.letter.Letter.{Letter}
+use Rattle.stab_gates.specs.declared.letter.Letter.TheVariants.{I}
+use Rattle.stab_gates.specs.declared.phase.Phase.{Phase}
+use Rattle.stab_gates.specs.Phases.{sign_of_phase}
+use Rattle.stab_gates.specs.XParts.{has_x}
 use Rattle.stab_pauli.specs.Paulis.{Signed}
 use Rattle.stab_pauli.specs.Rows.{Rows}
 use Rattle.stab_pauli.specs.Masks.{chooses}

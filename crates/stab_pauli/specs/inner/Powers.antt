@@ -2,12 +2,12 @@
 -- Source: this project's own. Aaronson and Gottesman 2004, section III, keep a sign bit, and count the powers of i of a product
 -- letter by letter.
 use Rattle.std.specs.Prelude.{◌≡◌, Bool, true, false, List, [], ◌∷◌}
-use Rattle.stab_letters.specs.declared.letter.Letter.{Letter}
-use Rattle.stab_letters.specs.declared.letter.Letter.TheVariants.{I, X, Y, Z}
-use Rattle.stab_letters.specs.declared.phase.Phase.{Phase}
-use Rattle.stab_letters.specs.declared.phase.Phase.TheVariants.{Zero}
-use Rattle.stab_letters.specs.Phases.{phase_add, phase_inverse, phase_of_sign, is_even}
-use Rattle.stab_letters.specs.Letters.{◌⊕◌, letter_power}
+use Rattle.stab_gates.specs.declared.letter.Letter.{Letter}
+use Rattle.stab_gates.specs.declared.letter.Letter.TheVariants.{I, X, Y, Z}
+use Rattle.stab_gates.specs.declared.phase.Phase.{Phase}
+use Rattle.stab_gates.specs.declared.phase.Phase.TheVariants.{Zero}
+use Rattle.stab_gates.specs.Phases.{phase_add, phase_inverse, phase_of_sign, is_even}
+use Rattle.stab_gates.specs.Letters.{◌⊕◌, letter_power}
 use Rattle.stab_pauli.specs.Paulis.{Signed}
 
 -- the power of i of all letters of a string before its X bits and then its Z bits

@@ -1,7 +1,7 @@
 -- Words of which most are 0.
 -- Source: this project's own.
 use Rattle.std.specs.Prelude.{ℕ, ◌≡◌, ◌+◌, List, [], ◌∷◌, ◌++◌, length, drop, replicate}
-use Rattle.stab_letters.specs.declared.phase.Phase.{Phase}
+use Rattle.stab_gates.specs.declared.phase.Phase.{Phase}
 use Rattle.stab_pauli.specs.inner.Blocks.{IsTable}
 
 -- words, each after this many that are 0, and after the last this many more

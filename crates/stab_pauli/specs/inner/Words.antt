@@ -2,9 +2,9 @@
 -- Source: the bits x and z of Aaronson and Gottesman 2004, section III; there, too, Y has both.
 use Rattle.std.specs.Prelude.{ℕ, zero, suc, ◌+◌, ◌/◌, ◌%◌, ◌^◌, ◌<◌, slice_index, Bool, true, false, eqb, bit_xor, List, [], ◌∷◌, ◌++◌}
 use Rattle.std.specs.Simd.Lanes.{zip2, chunk, put_chunk}
-use Rattle.stab_letters.specs.declared.letter.Letter.{Letter}
-use Rattle.stab_letters.specs.declared.letter.Letter.TheVariants.{I, X, Y, Z}
-use Rattle.stab_letters.specs.Letters.{◌⊕◌}
+use Rattle.stab_gates.specs.declared.letter.Letter.{Letter}
+use Rattle.stab_gates.specs.declared.letter.Letter.TheVariants.{I, X, Y, Z}
+use Rattle.stab_gates.specs.Letters.{◌⊕◌}
 
 -- the lowest bit
 abbrev pub lowest : ℕ → Bool

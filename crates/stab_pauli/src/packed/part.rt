@@ -3,8 +3,8 @@
 
 ghost use Rattle.std.specs.Prelude.{◌≡◌, ℕ, ◌+◌, ◌*◌, ◌/◌, ◌^◌, ◌<◌, true, length, slice_index_or};
 ghost use Rattle.std.specs.Simd.Lanes.{chunk};
-ghost use Rattle.stab_letters.specs.declared.letter.Letter.TheVariants.{I};
-ghost use Rattle.stab_letters.specs.XParts.{has_x};
+ghost use Rattle.stab_gates.specs.declared.letter.Letter.TheVariants.{I};
+ghost use Rattle.stab_gates.specs.XParts.{has_x};
 ghost use Rattle.stab_pauli.specs.Masks.{chooses};
 ghost use Rattle.stab_pauli.specs.inner.Blocks.{row_letters};
 

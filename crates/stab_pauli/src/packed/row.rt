@@ -2,18 +2,18 @@
 
 ghost use Rattle.std.specs.Prelude.{◌≡◌, ◌≢◌, ℕ, ◌+◌, ◌*◌, ◌/◌, ◌%◌, ◌^◌, ◌<◌, ◌≤◌, length, slice_index_or, slice_set, eqb, IfSome, IfNone, true, false};
 ghost use Rattle.std.specs.Int.{bit_at};
-ghost use Rattle.stab_letters.specs.declared.letter.Letter.TheVariants.{I};
-ghost use Rattle.stab_letters.specs.Phases.{phase_add, phase_of_sign, sign_of_phase, phase_inverse};
-ghost use Rattle.stab_letters.specs.XParts.{has_x};
+ghost use Rattle.stab_gates.specs.declared.letter.Letter.TheVariants.{I};
+ghost use Rattle.stab_gates.specs.Phases.{phase_add, phase_of_sign, sign_of_phase, phase_inverse};
+ghost use Rattle.stab_gates.specs.XParts.{has_x};
 ghost use Rattle.stab_pauli.specs.Paulis.{strings_anticommute};
 ghost use Rattle.stab_pauli.specs.Masks.{chooses};
 ghost use Rattle.stab_pauli.specs.inner.Words.{xor_words, letter_of_bits};
 ghost use Rattle.stab_pauli.specs.inner.Powers.{string_power, strings_meet, sign_power};
-ghost use Rattle.stab_letters.specs.Letters.{letter_power};
+ghost use Rattle.stab_gates.specs.Letters.{letter_power};
 ghost use Rattle.stab_pauli.specs.inner.Blocks.{row_letters, AreBlocks, HasNoXBefore, IsFirstX, IsBlankFrom, IsNextBit, IsNextLetter};
 
 use crate::packed::ones;
-use stab_letters::{Letter, Phase};
+use stab_gates::{Letter, Phase};
 use std::simd::u64x4;
 
 /// How many blocks n letters take.

@@ -4,13 +4,13 @@ use super::PauliRows;
 use crate::masks;
 use crate::packed::{flat, part, row, sparse, support};
 use crate::pauli::Pauli;
-use stab_letters::Phase;
+use stab_gates::Phase;
 use std::simd::u64x4;
 
 impl PauliRows {
     ghost use Rattle.std.specs.Prelude.{◌≡◌, ℕ, ◌+◌, ◌-◌, ◌*◌, ◌/◌, ◌^◌, ◌<◌, ◌≤◌, ◌++◌, true, false, length, slice_index_or};
-    ghost use Rattle.stab_letters.specs.declared.letter.Letter.TheVariants.{I};
-    ghost use Rattle.stab_letters.specs.XParts.{has_x};
+    ghost use Rattle.stab_gates.specs.declared.letter.Letter.TheVariants.{I};
+    ghost use Rattle.stab_gates.specs.XParts.{has_x};
     ghost use Rattle.stab_pauli.specs.Paulis.{with_sign, anticommute};
     ghost use Rattle.stab_pauli.specs.Rows.{row_at, with_row, product_times_i, product_times_i_if};
     ghost use Rattle.stab_pauli.specs.inner.Blocks.{blocks_of, row_letters, signed_row, IsSignedRow, CoversLetters};
@@ -252,7 +252,7 @@ impl PauliRows {
         self.powers[a] = row::product_power(self.powers[a], power, meet).times_i();
     }
 
-    /// Turns the signs of the chosen ones of the 64 rows from one on.
+    /// Flips the signs of the chosen ones of the 64 rows from one on.
     #[inline(always)]
     pub fn negate_rows(&mut self, first: usize, mask: u64)
         requires in_range { (k : ℕ) → k < 64 → chooses mask k ≡ true → first + k < length self.old.rows }

@@ -3,8 +3,8 @@ ghost use Rattle.stab_pauli.specs.inner.Sparse.{IsSparse};
 
 use super::PauliRows;
 use crate::packed::sparse::{SparseWords, are_short};
+use stab_gates::Phase;
 use stab_io::Refusal;
-use stab_letters::Phase;
 use std::alloc::{AllocError, Global};
 use std::marker::Model;
 use std::rc::Rc;
@@ -80,7 +80,7 @@ impl PauliRows {
 
 impl CompactRows {
     ghost use Rattle.std.specs.Prelude.{◌≡◌, ◌<◌, ◌↔◌, IsTrue, IfOk, IfErr, length};
-    ghost use Rattle.stab_letters.specs.Letters.{◌⊕◌};
+    ghost use Rattle.stab_gates.specs.Letters.{◌⊕◌};
     ghost use Rattle.stab_pauli.specs.Paulis.{with_sign};
     ghost use Rattle.stab_pauli.specs.Rows.{row_at, with_row, unsigned_rows};
     ghost use Rattle.stab_io.specs.declared.refusal.Refusal.TheVariants.{OutOfMemory};
@@ -200,7 +200,7 @@ impl CompactRows {
         self.powers[a].inverse().times(rows.powers[a]).sign()
     }
 
-    /// Turns the sign of row a if the bit is 1.
+    /// Flips the sign of row a if the bit is 1.
     #[inline(always)]
     pub fn negate_if(&mut self, a: usize, bit: bool)
         requires in_range { a < length self.old.rows }

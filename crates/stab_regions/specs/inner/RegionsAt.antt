@@ -1,11 +1,11 @@
 -- Regions at a place: what the pass backwards holds between two steps, and how one step changes it.
 use Rattle.std.specs.Prelude.{◌≡◌, ℕ, ◌+◌, ◌-◌, ◌==◌, ◌<◌, ◌≤◌, ◌^◌, nat_lt, Bool, false, not, ◌&&◌, ◌||◌, List, [], ◌∷◌, length, slice_index_or, if◌then◌else◌}
-use Rattle.stab_letters.specs.declared.letter.Letter.{Letter}
-use Rattle.stab_circuit.specs.Steps.{Step, one, two, controlled, collapse, product, detector, observable, is_detector}
+use Rattle.stab_gates.specs.declared.letter.Letter.{Letter}
+use Rattle.stab_circuit.specs.Steps.{Step, detector, observable, is_detector}
 use Rattle.stab_regions.specs.declared.regions.Regions.{Regions}
 use Rattle.stab_regions.specs.Regions.{Region, region_of, region_before, keeps_region, with_looks, asks_observable}
 use Rattle.stab_regions.specs.Tables.{named}
-use Rattle.stab_regions.specs.Parities.{detectors_before, parity_region, parity_kept, parity_flips, parity_sure}
+use Rattle.stab_regions.specs.Parities.{detectors_before, parity_region, parity_kept, parity_flips, parity_deterministic}
 use Rattle.stab_distance.specs.Ascending.{IsAscending}
 use Rattle.stab_regions.specs.Rows.{odd, ShowsRegion}
 
@@ -17,8 +17,8 @@ Shows r i region = ShowsRegion i r.by_x.items r.by_z.items r.records.items regio
 pub record IsSized (r : Regions) : Type 0 where
   pub rows : length r.by_z.items ≡ length r.by_x.items
   pub before : r.before ≤ r.detectors
-  pub detectors : r.detectors ≤ length r.unsure.items
-  pub few : length r.unsure.items < 2 ^ 32
+  pub detectors : r.detectors ≤ length r.random.items
+  pub few : length r.random.items < 2 ^ 32
 
 -- the regions, before the last steps, of D detectors and this many observables: each parity's is shown and marked if it is not
 -- kept, and no other number is in any row
@@ -27,20 +27,16 @@ pub record IsRegionsAt (n D count : ℕ) (back : List Step) (r : Regions) : Type
   pub qubits : length r.by_x.items ≡ n
   pub detectors : r.detectors ≡ D
   pub before : r.before ≡ detectors_before D back
-  pub marks : length r.unsure.items ≡ D + count
+  pub marks : length r.random.items ≡ D + count
   pub regions : (i : ℕ) → i < D + count → Shows r i (parity_region n D i back)
   pub others : (i : ℕ) → D + count ≤ i → Shows r i (region_of n [])
-  pub unsure : (i : ℕ) → i < D + count → slice_index_or r.unsure.items i false ≡ not (parity_kept n D i back)
+  pub random : (i : ℕ) → i < D + count → slice_index_or r.random.items i false ≡ not (parity_kept n D i back)
 
 -- a step's own parity is there: a detector in front of the place, or the observable
 abbrev pub HasParity : Regions → Step → Type 0
-HasParity r (one g q) = Unit {0}
-HasParity r (two g a b) = Unit {0}
-HasParity r (controlled l k q) = Unit {0}
-HasParity r (collapse l q recorded inverted resets) = Unit {0}
-HasParity r (product factors inverted) = Unit {0}
 HasParity r (detector ks) = 0 < r.before
-HasParity r (observable j ks) = r.detectors + j < length r.unsure.items
+HasParity r (observable j ks) = r.detectors + j < length r.random.items
+HasParity r x = Unit {0}
 
 -- what a step asks for about parity i, of D detectors, this many of which are before the steps after it
 abbrev pub asked_of : (D before i : ℕ) → Step → List ℕ
@@ -56,11 +52,11 @@ pub record MovesBack (n : ℕ) (x : Step) (old new : Regions) : Type 0 where
   pub qubits : length new.by_x.items ≡ length old.by_x.items
   pub detectors : new.detectors ≡ old.detectors
   pub before : new.before ≡ in_front_of x old.before
-  pub marks : length new.unsure.items ≡ length old.unsure.items
+  pub marks : length new.random.items ≡ length old.random.items
   pub regions : (i : ℕ) (r : Region) → length r.string.letters ≡ n → Shows old i r
       → Shows new i (with_looks (asked_of old.detectors old.before i x) (region_before n x r))
-  pub unsure : (i : ℕ) (r : Region) → length r.string.letters ≡ n → Shows old i r → i < length old.unsure.items
-      → slice_index_or new.unsure.items i false ≡ (not (keeps_region n x r) || slice_index_or old.unsure.items i false)
+  pub random : (i : ℕ) (r : Region) → length r.string.letters ≡ n → Shows old i r → i < length old.random.items
+      → slice_index_or new.random.items i false ≡ (not (keeps_region n x r) || slice_index_or old.random.items i false)
 
 -- wherever the regions are those before some last steps, they come to those before one step more
 abbrev pub MovesTo : Step → (old new : Regions) → Type 0
@@ -73,7 +69,7 @@ pub record AreFlipped (r : Regions) (l : Letter) (q : ℕ) (numbers : List ℕ) 
   pub others : (n D count : ℕ) (back : List Step) → IsRegionsAt n D count back r → (i : ℕ) → D + count ≤ i → odd i numbers ≡ false
 
 -- these bits say for each parity whether it is deterministic, if the place is the circuit's start
-pub record TellSure (r : Regions) (sure : List Bool) : Type 0 where
-  pub count : length sure ≡ length r.unsure.items
+pub record TellDeterministic (r : Regions) (deterministic : List Bool) : Type 0 where
+  pub count : length deterministic ≡ length r.random.items
   pub value : (n D count : ℕ) (back : List Step) → IsRegionsAt n D count back r → (i : ℕ) → i < D + count
-      → slice_index_or sure i false ≡ parity_sure n D i back
+      → slice_index_or deterministic i false ≡ parity_deterministic n D i back

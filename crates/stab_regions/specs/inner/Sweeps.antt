@@ -1,9 +1,9 @@
 -- Sweeps: the rows of faults after a place, as the pass backwards leaves them there.
 use Rattle.std.specs.Prelude.{◌≡◌, ℕ, ◌+◌, ◌<◌, ◌≤◌, false, List, [], ◌∷◌, ◌++◌, All, reverse, if◌then◌else◌}
 use Rattle.std.specs.List.{flat_map}
-use Rattle.stab_letters.specs.declared.letter.Letter.{Letter}
-use Rattle.stab_letters.specs.declared.letter.Letter.TheVariants as letter
-use Rattle.stab_circuit.specs.Steps.{Step, one, two, controlled, collapse, product, detector, observable, detectors_of}
+use Rattle.stab_gates.specs.declared.letter.Letter.{Letter}
+use Rattle.stab_gates.specs.declared.letter.Letter.TheVariants as letter
+use Rattle.stab_circuit.specs.Steps.{Step, observable, detectors_of}
 use Rattle.stab_circuit.specs.Cursors.{IsApart}
 use Rattle.stab_run.specs.ProgramStates.{StepFits}
 use Rattle.stab_distance.specs.Ascending.{IsAscending}
@@ -63,13 +63,8 @@ pub record IsSwept (n D count : ℕ) (asked : Asked) (back : List Step) (s : Swe
 
 -- an observable is one of this many
 abbrev pub NamesBelow : ℕ → Step → Type 0
-NamesBelow count (one g q) = Unit {0}
-NamesBelow count (two g a b) = Unit {0}
-NamesBelow count (controlled l k q) = Unit {0}
-NamesBelow count (collapse l q recorded inverted resets) = Unit {0}
-NamesBelow count (product factors inverted) = Unit {0}
-NamesBelow count (detector ks) = Unit {0}
 NamesBelow count (observable j ks) = j < count
+NamesBelow count x = Unit {0}
 
 -- steps are on n qubits, and their detectors and observables are among this many
 pub record MayPass (n D count : ℕ) (xs back : List Step) : Type 0 where

@@ -2,9 +2,9 @@
 -- Source: this project's own.
 use Rattle.std.specs.Prelude.{◌≡◌, ◌⊎◌, ℕ, ◌≤◌, Bool, true, false, ◌+◌, List, [], ◌∷◌, length, map, None, Ok}
 use Rattle.std.specs.List.{AllByRecursion}
-use Rattle.stab_letters.specs.declared.letter.Letter.{Letter}
-use Rattle.stab_letters.specs.declared.gate.Gate.{Gate}
-use Rattle.stab_letters.specs.declared.gate.Gate.TheVariants as gate
+use Rattle.stab_gates.specs.declared.letter.Letter.{Letter}
+use Rattle.stab_gates.specs.declared.gate.Gate.{Gate}
+use Rattle.stab_gates.specs.declared.gate.Gate.TheVariants as gate
 use Rattle.stab_lines.specs.declared.operation.Kind.{Kind}
 use Rattle.stab_lines.specs.declared.operation.Kind.TheVariants as kind
 use Rattle.stab_circuit.specs.Items.{OneItem, operation, repeat, listed}
@@ -40,29 +40,12 @@ is_pauli_gate gate.I = true
 is_pauli_gate gate.X = true
 is_pauli_gate gate.Y = true
 is_pauli_gate gate.Z = true
-is_pauli_gate gate.H = false
-is_pauli_gate gate.S = false
-is_pauli_gate gate.SDag = false
-is_pauli_gate gate.CXyz = false
-is_pauli_gate gate.CZyx = false
-is_pauli_gate gate.SqrtX = false
-is_pauli_gate gate.SqrtXDag = false
-is_pauli_gate gate.SqrtY = false
-is_pauli_gate gate.SqrtYDag = false
+is_pauli_gate g = false
 
 -- whether an instruction is of Pauli gates
 abbrev pub is_pauli_kind : Kind → Bool
 is_pauli_kind (kind.Gate g qubits) = is_pauli_gate g
-is_pauli_kind (kind.Controlled axis pairs) = false
-is_pauli_kind (kind.Swap pairs) = false
-is_pauli_kind (kind.Measure m targets) = false
-is_pauli_kind (kind.Reset axis qubits) = false
-is_pauli_kind (kind.MeasureProducts products) = false
-is_pauli_kind (kind.Detector located) = false
-is_pauli_kind (kind.ObservableInclude j ks) = false
-is_pauli_kind kind.Tick = false
-is_pauli_kind (kind.QubitCoords located) = false
-is_pauli_kind (kind.ShiftCoords coordinates) = false
+is_pauli_kind k = false
 
 -- whether an item is an instruction of Pauli gates
 abbrev pub is_pauli_item : OneItem → Bool

@@ -11,7 +11,7 @@ use Rattle.stab_circuit.specs.declared.edit.Span.{Span}
 use Rattle.stab_circuit.specs.declared.edit.Edit.TheVariants.{Insert, Replace, Delete}
 use Rattle.stab_session.specs.declared.pending.Pending.{Pending}
 use Rattle.stab_session.specs.declared.pending.Pending.TheVariants.{Inserted, Replaced, Deleted}
-use Rattle.stab_kept.specs.KeptRuns.{IsSpan}
+use Rattle.stab_recording.specs.Recordings.{IsSpan}
 
 -- where the edit was made
 abbrev pub pending_path : Pending → Path
@@ -37,11 +37,11 @@ item_back (Inserted path) items = taken (Delete path) items
 item_back (Replaced path old) items = taken (Replace path old) items
 item_back (Deleted path old) items = None
 
--- the items after the edit is kept: an item that is to be deleted has another in its place until then, which is for nothing
-abbrev pub kept : Pending → List OneItem → Result (List OneItem) Refusal
-kept (Inserted path) items = Ok items
-kept (Replaced path old) items = Ok items
-kept (Deleted path old) items = edited (Delete path) items
+-- the items after the edit is finished: an item that is to be deleted has another in its place until then, which is for nothing
+abbrev pub finished : Pending → List OneItem → Result (List OneItem) Refusal
+finished (Inserted path) items = Ok items
+finished (Replaced path old) items = Ok items
+finished (Deleted path old) items = edited (Delete path) items
 
 -- two lists of items have the same runs
 pub record HaveSameRuns (xs ys : List OneItem) : Type 0 where
@@ -63,8 +63,8 @@ pub record IsBegun (n : ℕ) (edit : Edit) (old now : List OneItem) (p : Pending
   pub new : List OneItem
   pub edited : edited edit old ≡ Ok new
   pub accepted : verdict n edit old ≡ None
-  pub ahead : kept p now ≡ Ok new
-  pub ahead_allowed : list_refusal (kept p now) ≡ None
+  pub ahead : finished p now ≡ Ok new
+  pub ahead_allowed : list_refusal (finished p now) ≡ None
   pub back : taken_back p now ≡ Ok old
   pub back_allowed : list_refusal (taken_back p now) ≡ None
   pub item : item_back p now ≡ put_item edit

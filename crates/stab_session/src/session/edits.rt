@@ -10,8 +10,8 @@ use stab_run::Coins;
 pub struct Report {
     /// Steps that were carried out on a state. A step that a Pauli frame passes, and for which it asks a coin, is one of them.
     pub applied: usize,
-    /// All other steps: those that a frame passed without a coin, those of rounds that were given again, and those of a run
-    /// that was turned in place.
+    /// All other steps: those that a frame was propagated over without a coin, those of rounds that were given again, and those of a run
+    /// that was conjugated in place.
     pub framed: usize,
     /// Copies of the state that are kept afterwards.
     pub checkpoints: usize,
@@ -47,7 +47,7 @@ impl<C: Coins> Session<C> {
         ensures checkpoints { IfOk result (λ r. r.checkpoints ≡ length self.new.checkpoints) }
         ensures few_checkpoints { OnOk result (length self.new.checkpoints ≤ most_checkpoints self.new) }
     {
-        let n = self.kept.tableau.len();
+        let n = self.recording.tableau.len();
         let (pending, span) = match begin(self.alloc, &mut self.circuit, n, edit) {
             Ok(begun) => begun,
             Err(refused) => return Err(refused),
@@ -62,7 +62,7 @@ impl<C: Coins> Session<C> {
                 });
             }
         };
-        match self.kept.follow(
+        match self.recording.follow(
             self.alloc,
             &self.circuit,
             span,
@@ -76,7 +76,7 @@ impl<C: Coins> Session<C> {
                 Ok(Report {
                     applied: followed.applied as usize,
                     framed: followed.framed as usize,
-                    checkpoints: self.kept.checkpoints.len(),
+                    checkpoints: self.recording.checkpoints.len(),
                 })
             }
             Err(refusal) => Err(Refused {

@@ -1,9 +1,9 @@
 -- Column letters: the letters of the strings that are in the columns of the preimages.
 -- Source: this project's own.
 use Rattle.std.specs.Prelude.{ℕ, Bool, true, false, List, [], ◌∷◌}
-use Rattle.stab_letters.specs.declared.letter.Letter.{Letter}
-use Rattle.stab_letters.specs.declared.letter.Letter.TheVariants.{I, X, Y, Z}
-use Rattle.stab_letters.specs.Letters.{letters_anticommute}
+use Rattle.stab_gates.specs.declared.letter.Letter.{Letter}
+use Rattle.stab_gates.specs.declared.letter.Letter.TheVariants.{I, X, Y, Z}
+use Rattle.stab_gates.specs.Letters.{letters_anticommute}
 use Rattle.stab_tableau.specs.inner.InverseRows.{InverseRows}
 use Rattle.stab_tableau.specs.Gates.{letter_at}
 

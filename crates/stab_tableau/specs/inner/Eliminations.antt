@@ -1,8 +1,8 @@
 -- Eliminations: rows that generate a group, and how far an elimination of them has come.
 -- Source: this project's own; the elimination is Gauss's, of the bits x and then z.
 use Rattle.std.specs.Prelude.{◌≡◌, ◌≢◌, ℕ, ◌+◌, ◌<◌, ◌≤◌, Bool, true, false, List, length, eqb, if◌then◌else◌}
-use Rattle.stab_letters.specs.declared.letter.Letter.{Letter}
-use Rattle.stab_letters.specs.Letters.{◌⊕◌}
+use Rattle.stab_gates.specs.declared.letter.Letter.{Letter}
+use Rattle.stab_gates.specs.Letters.{◌⊕◌}
 use Rattle.stab_pauli.specs.Paulis.{Signed, product, string_product}
 use Rattle.stab_pauli.specs.Rows.{Rows, row_at, AreOver}
 use Rattle.stab_tableau.specs.Groups.{IsStabiliserGroup}
@@ -47,16 +47,16 @@ pub record AreExchanged (a b : ℕ) (old new : Rows) : Type 0 where
   pub count : length new.rows ≡ length old.rows
   pub rows : (c : ℕ) → c < length old.rows → row_at new c ≡ row_at old (exchanged a b c)
 
--- a string without its 1 at a place: if it has one, its product with a pivot
+-- a string without its 1 at a place: if it has one, its product with a leading
 abbrev pub cleared_with : ℕ → ℕ → Signed → Signed → Signed
-cleared_with n k pivot p = if bit_at n p.letters k then product p pivot else p
+cleared_with n k leading p = if bit_at n p.letters k then product p leading else p
 
--- all rows but a pivot are cleared by it at a place
-pub record AreCleared (pivot k : ℕ) (old new : Rows) : Type 0 where
+-- all rows but a leading are cleared by it at a place
+pub record AreCleared (leading k : ℕ) (old new : Rows) : Type 0 where
   pub qubits : new.qubits ≡ old.qubits
   pub count : length new.rows ≡ length old.rows
-  pub kept : row_at new pivot ≡ row_at old pivot
-  pub others : (c : ℕ) → c < length old.rows → c ≢ pivot → row_at new c ≡ cleared_with old.qubits k (row_at old pivot) (row_at old c)
+  pub kept : row_at new leading ≡ row_at old leading
+  pub others : (c : ℕ) → c < length old.rows → c ≢ leading → row_at new c ≡ cleared_with old.qubits k (row_at old leading) (row_at old c)
 
 -- a step of an elimination from place k on
 pub record HasStepped (k used now : ℕ) (old new : Rows) : Type 0 where

@@ -1,9 +1,9 @@
 -- Frames: where the signs of the rows of two tables with the same letters differ.
 -- Source: this project's own.
 use Rattle.std.specs.Prelude.{◌≡◌, List, [], ◌∷◌}
-use Rattle.stab_letters.specs.declared.letter.Letter.{Letter}
-use Rattle.stab_letters.specs.declared.letter.Letter.TheVariants.{X, Z}
-use Rattle.stab_letters.specs.Letters.{◌⊕◌, letters_anticommute}
+use Rattle.stab_gates.specs.declared.letter.Letter.{Letter}
+use Rattle.stab_gates.specs.declared.letter.Letter.TheVariants.{X, Z}
+use Rattle.stab_gates.specs.Letters.{◌⊕◌, letters_anticommute}
 use Rattle.stab_pauli.specs.Paulis.{with_sign}
 use Rattle.stab_tableau.specs.inner.InverseRows.{InverseRows}
 use Rattle.stab_tableau.specs.inner.ColumnLetters.{letter_anticommuting}
@@ -15,9 +15,9 @@ SameLetters [] (s ∷ others) = ⊥
 SameLetters (r ∷ rows) [] = ⊥
 SameLetters (r ∷ rows) (s ∷ others) = (r.x.letters ≡ s.x.letters) × (r.z.letters ≡ s.z.letters) × SameLetters rows others
 
--- a qubit's rows with the signs of those turned that a letter on it anticommutes with
-abbrev pub turned_row : Letter → InverseRows → InverseRows
-turned_row l r = record { x = with_sign (letters_anticommute l X) r.x; z = with_sign (letters_anticommute l Z) r.z }
+-- a qubit's rows with the signs of those flipped that a letter on it anticommutes with
+abbrev pub conjugated_row : Letter → InverseRows → InverseRows
+conjugated_row l r = record { x = with_sign (letters_anticommute l X) r.x; z = with_sign (letters_anticommute l Z) r.z }
 
 -- the letter that anticommutes with X if the signs of the preimages of X differ, and with Z if those of Z do
 abbrev pub frame_letter : InverseRows → InverseRows → Letter

@@ -2,14 +2,14 @@
 -- or the preimages of both; and those that it made into any string by way of them.
 -- Source: Gottesman, The Heisenberg representation of quantum computers, of the circuit backwards.
 use Rattle.std.specs.Prelude.{◌≡◌, ℕ, ◌<◌, true, false, List, [], ◌∷◌, length, replicate, slice_index_or, slice_set}
-use Rattle.stab_letters.specs.declared.letter.Letter.{Letter}
-use Rattle.stab_letters.specs.declared.letter.Letter.TheVariants.{I, X, Y, Z}
-use Rattle.stab_letters.specs.declared.phase.Phase.TheVariants.{Quarter}
-use Rattle.stab_letters.specs.Phases.{phase_of_sign}
+use Rattle.stab_gates.specs.declared.letter.Letter.{Letter}
+use Rattle.stab_gates.specs.declared.letter.Letter.TheVariants.{I, X, Y, Z}
+use Rattle.stab_gates.specs.declared.phase.Phase.TheVariants.{Quarter}
+use Rattle.stab_gates.specs.Phases.{phase_of_sign}
 use Rattle.stab_pauli.specs.Paulis.{Signed, identity, single, anticommute}
 use Rattle.stab_pauli.specs.Phaseds.{Phased, plain, phased, times_phase, phased_product}
-use Rattle.stab_letters.specs.declared.gate.Gate.{Gate}
-use Rattle.stab_letters.specs.declared.gate.PairGate.{PairGate}
+use Rattle.stab_gates.specs.declared.gate.Gate.{Gate}
+use Rattle.stab_gates.specs.declared.gate.PairGate.{PairGate}
 use Rattle.stab_tableau.specs.Gates.{SignedLetter, letter_image, inverse, letter_at, pair_letters}
 
 -- what was made into X and what into Z on one qubit by all that happened

@@ -2,15 +2,15 @@
 -- Source: this project's own.
 use Rattle.std.specs.Prelude.{◌≡◌, ℕ, Bool, ◌*◌, ◌+◌, ◌<◌, ◌≤◌, ◌⊎◌, List, [], ◌∷◌, length, slice_set}
 use Rattle.stab_pauli.specs.Paulis.{Signed}
-use Rattle.stab_letters.specs.declared.letter.Letter.{Letter}
-use Rattle.stab_letters.specs.declared.letter.Letter.TheVariants.{X, Z}
+use Rattle.stab_gates.specs.declared.letter.Letter.{Letter}
+use Rattle.stab_gates.specs.declared.letter.Letter.TheVariants.{X, Z}
 use Rattle.stab_pauli.specs.Rows.{Rows}
 use Rattle.stab_pauli.specs.Masks.{chooses}
 use Rattle.stab_tableau.specs.declared.table.InverseRow.{InverseRow}
 use Rattle.stab_tableau.specs.declared.table.InverseRow.TheVariants.{OfX, OfZ}
-use Rattle.stab_letters.specs.declared.gate.Gate.{Gate}
-use Rattle.stab_letters.specs.declared.gate.PairGate.{PairGate}
-use Rattle.stab_letters.specs.Limits.{most_qubits}
+use Rattle.stab_gates.specs.declared.gate.Gate.{Gate}
+use Rattle.stab_gates.specs.declared.gate.PairGate.{PairGate}
+use Rattle.stab_gates.specs.Limits.{most_qubits}
 use Rattle.stab_tableau.specs.inner.InverseRows.{InverseRows, rows_at, GateRow, PairRows}
 
 -- strings taken two by two; a last one alone is left out

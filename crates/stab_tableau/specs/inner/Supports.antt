@@ -1,8 +1,8 @@
 -- Supports: at which places rows may have X or Y, kept for 64 rows together, by words of 64 places.
 -- Source: this project's own.
 use Rattle.std.specs.Prelude.{◌≡◌, ◌≢◌, ℕ, ◌+◌, ◌*◌, ◌<◌, ◌≤◌, Bool, true, List, length, slice_index_or}
-use Rattle.stab_letters.specs.declared.letter.Letter.TheVariants.{I}
-use Rattle.stab_letters.specs.XParts.{has_x}
+use Rattle.stab_gates.specs.declared.letter.Letter.TheVariants.{I}
+use Rattle.stab_gates.specs.XParts.{has_x}
 use Rattle.stab_pauli.specs.Masks.{chooses}
 use Rattle.stab_pauli.specs.Rows.{Rows, row_at}
 

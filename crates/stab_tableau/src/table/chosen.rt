@@ -5,7 +5,7 @@ use stab_pauli::Pauli;
 
 impl Table {
     ghost use Rattle.std.specs.Prelude.{◌≡◌, ℕ, ◌+◌, ◌*◌, ◌/◌, ◌<◌, ◌≤◌, true, length};
-    ghost use Rattle.stab_letters.specs.XParts.{has_x};
+    ghost use Rattle.stab_gates.specs.XParts.{has_x};
     ghost use Rattle.stab_pauli.specs.Masks.{chooses, CoversSupport};
     ghost use Rattle.stab_pauli.specs.Paulis.{anticommute, with_sign};
     ghost use Rattle.stab_pauli.specs.Rows.{product_times_i_if};
@@ -44,7 +44,7 @@ impl Table {
         self.supports.widen(first / 32, mask, other);
     }
 
-    /// Turns the signs of the chosen rows of the 32 qubits from one on.
+    /// Flips the signs of the chosen rows of the 32 qubits from one on.
     #[inline(always)]
     pub fn negate_rows(&mut self, first: usize, mask: u64)
         requires first_in_range { first ≤ length self.old }

@@ -42,9 +42,9 @@ impl Table {
 impl CompactTable {
     ghost use Rattle.std.specs.Prelude.{◌≡◌, ◌<◌, ◌↔◌, IsTrue, IfOk, IfErr, length, slice_set};
     ghost use Rattle.stab_io.specs.declared.refusal.Refusal.TheVariants.{OutOfMemory};
-    ghost use Rattle.stab_letters.specs.Letters.{◌⊕◌};
+    ghost use Rattle.stab_gates.specs.Letters.{◌⊕◌};
     ghost use Rattle.stab_pauli.specs.Paulis.{with_sign};
-    ghost use Rattle.stab_tableau.specs.inner.Frames.{SameLetters, turned_row};
+    ghost use Rattle.stab_tableau.specs.inner.Frames.{SameLetters, conjugated_row};
     ghost use Rattle.stab_tableau.specs.inner.InverseRows.{rows_at};
     ghost use Rattle.stab_tableau.specs.inner.Pairs.{row_string, put};
 
@@ -114,16 +114,16 @@ impl CompactTable {
         self.rows.signs_differ(&table.rows, row.place(qubit))
     }
 
-    /// Turns the signs of those rows of a qubit that a letter on it anticommutes with.
-    pub fn turn(&mut self, letter: Letter, qubit: usize)
+    /// Flips the signs of those rows of a qubit that a letter on it anticommutes with.
+    pub fn conjugate(&mut self, letter: Letter, qubit: usize)
         requires in_range { qubit < length self.old }
-        ensures value { self.new ≡ slice_set self.old qubit (turned_row letter (rows_at self.old qubit)) }
+        ensures value { self.new ≡ slice_set self.old qubit (conjugated_row letter (rows_at self.old qubit)) }
     {
         self.negate_if(InverseRow::OfX, qubit, letter.anticommutes(Letter::X));
         self.negate_if(InverseRow::OfZ, qubit, letter.anticommutes(Letter::Z));
     }
 
-    // Turns the sign of a row if the bit is 1.
+    // Flips the sign of a row if the bit is 1.
     #[inline(always)]
     fn negate_if(&mut self, row: InverseRow, qubit: usize, bit: bool)
         requires in_range { qubit < length self.old }

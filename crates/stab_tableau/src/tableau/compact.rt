@@ -54,7 +54,7 @@ impl CompactTableau {
     ghost use Rattle.stab_io.specs.declared.refusal.Refusal.TheVariants.{OutOfMemory};
     ghost use Rattle.stab_pauli.specs.Paulis.{single};
     ghost use Rattle.stab_tableau.specs.Tableaus.{stabilises};
-    ghost use Rattle.stab_tableau.specs.Turns.{IsTurned};
+    ghost use Rattle.stab_tableau.specs.Conjugations.{IsConjugated};
     ghost use Rattle.stab_tableau.specs.inner.Frames.{SameLetters};
 
     /// The number of qubits.
@@ -114,28 +114,28 @@ impl CompactTableau {
         self.table.write_into(&mut tableau.table);
     }
 
-    /// Applies a Pauli gate to a qubit of the kept state, in place: at most two signs are turned. It takes no memory.
+    /// Applies a Pauli gate to a qubit of the kept state, in place: at most two signs are flipped. It takes no memory.
     ///
-    /// A string stabilises the new state if and only if it stabilised the old one, with its sign turned if it anticommutes with
+    /// A string stabilises the new state if and only if it stabilised the old one, with its sign flipped if it anticommutes with
     /// the letter.
-    pub fn turn_letter(&mut self, letter: Letter, qubit: usize)
+    pub fn conjugate_letter(&mut self, letter: Letter, qubit: usize)
         requires in_range { qubit < self.old.qubits }
         ensures qubits { self.new.qubits ≡ self.old.qubits }
-        ensures turned { IsTurned self.old.qubits (single self.old.qubits qubit letter).letters (stabilises self.old) (stabilises self.new) }
+        ensures conjugated { IsConjugated self.old.qubits (single self.old.qubits qubit letter).letters (stabilises self.old) (stabilises self.new) }
     {
-        self.table.turn(letter, qubit);
+        self.table.conjugate(letter, qubit);
     }
 
     /// Whether the rows of a tableau differ from the kept ones only in their signs; if so, a string gets the letters by
     /// which the two states differ, and its sign does not matter; otherwise it stays as it was. It takes no memory.
     ///
-    /// A string stabilises the tableau's state if and only if it stabilises the kept one, with its sign turned if it
+    /// A string stabilises the tableau's state if and only if it stabilises the kept one, with its sign flipped if it
     /// anticommutes with these letters.
     pub fn frame_to(&self, tableau: &Tableau, frame: &mut Pauli) -> bool
         requires same_length { length frame.old.letters ≡ self.now.qubits }
         ensures length { length frame.new.letters ≡ length frame.old.letters }
         ensures same { (result ≡ true) ↔ SameLetters self.now.rows tableau.now.rows }
-        ensures turned { result ≡ true → IsTurned self.now.qubits frame.new.letters (stabilises self.now) (stabilises tableau.now) }
+        ensures conjugated { result ≡ true → IsConjugated self.now.qubits frame.new.letters (stabilises self.now) (stabilises tableau.now) }
         ensures kept { result ≡ false → frame.new ≡ frame.old }
     {
         if !self.table.same_letters(&tableau.table) {

@@ -2,6 +2,16 @@
 
 import { iconOf } from "./svg_pen.js";
 
+const filled = new WeakMap();
+
+// Fills a box anew if it is about something else than before; `parts()` makes what is in it.
+export function fillOnce(box, about, parts) {
+  const said = JSON.stringify(about);
+  if (filled.get(box) === said) return;
+  filled.set(box, said);
+  fill(box, ...parts());
+}
+
 // Fills a box anew; the focus stays on the button of the same place.
 export function fill(box, ...parts) {
   const buttons = () => [...box.querySelectorAll("button:not(:disabled)")];
@@ -22,10 +32,16 @@ export function link(words, act) {
   return button;
 }
 
+const icons = new Map();
+
+// A glyph as an icon; one that looks the same is copied, since that is quicker than to read it anew.
 export function icon(glyph, side, role, label = "") {
-  const made = element("span", "icon");
-  made.innerHTML = iconOf(glyph, side, role, label);
-  return made;
+  const key = [glyph, side, role, label].join();
+  if (!icons.has(key)) {
+    icons.set(key, element("span", "icon"));
+    icons.get(key).innerHTML = iconOf(glyph, side, role, label);
+  }
+  return icons.get(key).cloneNode(true);
 }
 
 export function element(name, className, ...parts) {

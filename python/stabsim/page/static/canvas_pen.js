@@ -1,6 +1,7 @@
 // Draws elements (glyphs.js) on a canvas. A glyph is drawn once as a picture of its own and then copied, since most of a moment's
 // glyphs are the same.
 
+import { TILE, Tiles, changesOf } from "./changes.js";
 import { elementsOf, hatch } from "./glyphs.js";
 import { colourOf, theme } from "./colours.js";
 
@@ -14,26 +15,52 @@ export class CanvasPen {
   #hatches = new Map();
   #theme = null;
   #ratio = 1;
+  // The layers that are drawn, or null if there are none.
+  #layers = null;
 
   constructor(canvas) {
     this.#canvas = canvas;
     this.#pen = canvas.getContext("2d");
   }
 
-  // Clears the canvas, which is as large as it is shown.
+  // Makes the canvas as large as it is shown. What was drawn stays, if it was drawn alike.
   begin(width, height) {
     const ratio = devicePixelRatio || 1;
     if (theme() !== this.#theme || ratio !== this.#ratio) {
       this.#pictures.clear();
       this.#hatches.clear();
+      this.#layers = null;
     }
     [this.#theme, this.#ratio] = [theme(), ratio];
     const size = [Math.round(width * ratio), Math.round(height * ratio)];
-    if (this.#canvas.width !== size[0]) this.#canvas.width = size[0];
-    if (this.#canvas.height !== size[1]) this.#canvas.height = size[1];
+    if (this.#canvas.width !== size[0] || this.#canvas.height !== size[1]) {
+      [this.#canvas.width, this.#canvas.height] = size;
+      this.#layers = null;
+    }
     this.#pen.setTransform(ratio, 0, 0, ratio, 0, 0);
-    this.#pen.clearRect(0, 0, width, height);
     this.#pen.lineJoin = this.#pen.lineCap = "round";
+  }
+
+  // Draws layers in place of what was drawn before (changes.js): the tiles that change, or all if most do, or if tiles are no whole pixels.
+  show(layers, width, height) {
+    const changes = this.#layers && Number.isInteger(TILE * this.#ratio) && changesOf(this.#layers, layers);
+    const tiles = changes && new Tiles(width, height, changes);
+    this.#layers = layers;
+    if (tiles && !tiles.areMost) return void this.#drawWithin(tiles, layers.flat());
+    this.#pen.clearRect(0, 0, width, height);
+    this.draw(layers.flat());
+  }
+
+  #drawWithin(tiles, elements) {
+    const { boxes } = tiles;
+    if (!boxes.length) return;
+    this.#pen.save();
+    this.#pen.beginPath();
+    for (const box of boxes) this.#pen.rect(...box);
+    this.#pen.clip();
+    for (const box of boxes) this.#pen.clearRect(...box);
+    this.draw(elements.filter((element) => tiles.areUnder(element)));
+    this.#pen.restore();
   }
 
   draw(elements) {

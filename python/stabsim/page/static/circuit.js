@@ -4,9 +4,9 @@
 // those of all its rounds, and in `once` those of one; an item that acts may have a `cut` in front of it (cuts.js). A path is the list
 // of an item's place in the outermost list, then in the block there, and so on, as the editing session counts them.
 
-import { before, forget, recount } from "./counts.js";
+import { before, firstReaching, recount, recountPart } from "./counts.js";
 import { cutList } from "./cuts.js";
-import { acts, isPair, isRecorded, qubitsOf, resets } from "./instructions.js";
+import { isPair, isRecorded, qubitsOf, resets } from "./instructions.js";
 
 const HEAD = /^([A-Za-z][A-Za-z0-9_]*)(?:\[[^\]]*\])?(?:\(([^)]*)\))?\s*(.*)$/;
 const NAMES = {
@@ -57,10 +57,8 @@ function lineKnown(line, known) {
   const first = known.get(line);
   if (first) return { ...first };
   const item = lineOf(line);
-  if (acts(item.name)) {
-    qubitsOf(item);
-    known.set(line, item);
-  }
+  qubitsOf(item);
+  known.set(line, item);
   return item;
 }
 
@@ -119,15 +117,15 @@ export function applyEdit(items, edit) {
   const path = pathOf(edit.place);
   const list = listAt(items, path);
   const place = path.at(-1);
+  const count = items.length;
   if (edit.kind === "insert") list.splice(place, 0, itemOf(edit.item));
   else if (edit.kind === "replace") list.splice(place, 1, itemOf(edit.item));
   else if (edit.kind === "delete") list.splice(place, 1);
   else if (edit.kind === "split") list.splice(place, 1, ...partsOf(list[place], Number(edit.item)));
-  const lists = [items, ...blocksAround(items, path).map((block) => block.items)];
-  lists.forEach((it) => forget(it));
   for (const block of blocksAround(items, path).reverse()) recount(block);
   // What cuts a block depends on what is before it, so all is cut anew from the outermost list on.
-  cutList(items, path[0], path[0] + (edit.kind === "split" ? 3 : 1));
+  const [first, end] = cutList(items, path[0], path[0] + (edit.kind === "split" ? 3 : 1));
+  recountPart(items, first, end, items.length - count);
 }
 
 // The blocks that a block becomes if a round is split off: the rounds before it, that round, and the rounds after it.
@@ -160,13 +158,11 @@ export function findNumbered(items, name, number) {
   let records = 0;
   let list = items;
   for (;;) {
-    const place = list.findIndex((item) => {
-      if (left < item[name]) return true;
-      left -= item[name];
-      records += item.records;
-      return false;
-    });
-    if (place < 0) return null;
+    const sums = before(list);
+    const place = firstReaching(sums[name], left + 1);
+    if (place === list.length) return null;
+    left -= sums[name][place];
+    records += sums.records[place];
     const item = list[place];
     path.push(place);
     if (!item.items) return { item, path, rounds, records, number: left };

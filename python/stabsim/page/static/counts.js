@@ -6,19 +6,30 @@ const NAMES = ["ticks", "bounds", "records", "detectors", "steps", "coins"];
 // The places at which an item ends moments: a TICK is one, and a cut in front of an item.
 const boundsOf = (item) => (item.items ? item.bounds : item.ticks) + (item.cut ? 1 : 0);
 
-const countOf = (item, name) => (name === "bounds" ? boundsOf(item) : item[name]);
+const newSums = (length) => Object.fromEntries(NAMES.map((name) => [name, new Float64Array(length)]));
 
-export function countsOfList(items) {
-  const sums = Object.fromEntries(NAMES.map((name) => [name, 0]));
-  for (const item of items) for (const name of NAMES) sums[name] += countOf(item, name);
+// Adds up the items of a list from one place to before another: sums[name][place + 1] is what comes up to that place. Each name is
+// written out, since to look up names one after another takes many times as long.
+function addUp(list, sums, from, to) {
+  const { ticks, bounds, records, detectors, steps, coins } = sums;
+  for (let place = from; place < to; place += 1) {
+    const item = list[place];
+    ticks[place + 1] = ticks[place] + item.ticks;
+    bounds[place + 1] = bounds[place] + boundsOf(item);
+    records[place + 1] = records[place] + item.records;
+    detectors[place + 1] = detectors[place] + item.detectors;
+    steps[place + 1] = steps[place] + item.steps;
+    coins[place + 1] = coins[place] + item.coins;
+  }
   return sums;
 }
 
 // Counts what a block has anew, once its items are right.
 export function recount(block) {
-  block.once = countsOfList(block.items);
-  for (const name of NAMES) block[name] = block.once[name] * block.count;
   forget(block.items);
+  const sums = before(block.items);
+  block.once = Object.fromEntries(NAMES.map((name) => [name, sums[name].at(-1)]));
+  for (const name of NAMES) block[name] = block.once[name] * block.count;
 }
 
 // What is worked out of a list, by its name, is kept until the list changes.
@@ -34,12 +45,26 @@ export function forget(list) {
 }
 
 // What comes before each item of a list, in order: how many of each name.
-export const before = (list) => derived(list, "sums", sumsOf);
+export const before = (list) => derived(list, "sums", () => addUp(list, newSums(list.length + 1), 0, list.length));
 
-function sumsOf(list) {
-  const sums = Object.fromEntries(NAMES.map((name) => [name, new Float64Array(list.length + 1)]));
-  for (const name of NAMES) list.forEach((item, place) => { sums[name][place + 1] = sums[name][place] + countOf(item, name); });
-  return sums;
+// Counts a list anew after an edit that changed its items from one place to before another, and made them `more` than they were; those
+// before and after are counted already.
+export function recountPart(list, from, to, more) {
+  const old = kept.get(list)?.sums;
+  forget(list);
+  if (!old) return;
+  const sums = newSums(list.length + 1);
+  for (const name of NAMES) sums[name].set(old[name].subarray(0, from + 1));
+  addUp(list, sums, from, to);
+  for (const name of NAMES) moveRest(sums[name], old[name], to, more);
+  derived(list, "sums", () => sums);
+}
+
+// What comes after the changed items is as far from these as it was.
+function moveRest(sums, old, to, more) {
+  const by = sums[to] - old[to - more];
+  if (by) for (let place = to + 1; place < sums.length; place += 1) sums[place] = old[place - more] + by;
+  else sums.set(old.subarray(to - more), to);
 }
 
 // The first place of a list whose sums reach a number: sums[place + 1] >= number.

@@ -6,7 +6,7 @@ import { qubitsOf } from "./instructions.js";
 
 const PAULIS = new Set(["X", "Y", "Z"]);
 
-// Cuts a list, or the part of it from the last TICK in front of `from` to the next one after `to`.
+// Cuts a list, or the part of it from the last TICK in front of `from` to the next one after `to`; answers where that begins and ends.
 export function cutList(list, from = 0, to = list.length) {
   let first = Math.min(from, list.length);
   while (first > 0 && list[first - 1].name !== "TICK") first -= 1;
@@ -14,6 +14,7 @@ export function cutList(list, from = 0, to = list.length) {
   while (end < list.length && list[end].name !== "TICK") end += 1;
   const on = new Map();
   for (let place = first; place < end; place += 1) cutItem(list[place], on);
+  return [first, end];
 }
 
 // `on` has the qubits of the moment so far, each with whether a Pauli acts on it after something else.

@@ -1,21 +1,24 @@
 // The distance of the circuit: the least number of errors that flip an observable and no detector, with such errors.
 
-import { element, fill, icon, line, link, quiet, title } from "./boxes.js";
+import { element, fill, fillOnce, icon, line, link, quiet, title } from "./boxes.js";
 import { WRONG, placesOfErrors } from "./fault_set.js";
 
 const ABOUT = "How few errors flip an observable unseen?";
 const MARKED = { true: "where I marks them", false: "everywhere" };
 
 export class DistanceView {
-  #box;
   #act;
+  // Its button stays while it is said how far the search is, since it may be being pressed.
+  #head = element("div", "head");
+  #body = element("div");
   // What the server said last (distances.py), and the errors at their places.
   #told = { state: "none" };
   #set = [];
 
   // `act` has ask(), end(), show(set), which draws errors, and goTo(error), which shows where one is.
   constructor(box, act) {
-    [this.#box, this.#act] = [box, act];
+    this.#act = act;
+    box.append(this.#head, this.#body);
     this.#draw();
   }
 
@@ -31,12 +34,16 @@ export class DistanceView {
     const { state, first, is_marked: isMarked } = this.#told;
     const number = /^distance (\d+)/.exec(first ?? "")?.[1];
     const where = ["running", "found"].includes(state) ? `of errors ${MARKED[isMarked]}` : "";
-    const head = title(`Distance${number ? ` ${number}` : ""}`, where);
     const isRunning = state === "running";
+    fillOnce(this.#head, [number, where, isRunning], () => [title(`Distance${number ? ` ${number}` : ""}`, where), this.#button(isRunning)]);
+    fill(this.#body, ...this.#said());
+  }
+
+  #button(isRunning) {
     const button = element("button", "ask", isRunning ? "End" : "Ask");
     button.title = isRunning ? "end the search" : "ask for the distance of the circuit as it is";
     button.addEventListener("click", isRunning ? this.#act.end : this.#act.ask);
-    fill(this.#box, element("div", "head", head, button), ...this.#said());
+    return button;
   }
 
   #said() {

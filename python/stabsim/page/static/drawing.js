@@ -6,36 +6,62 @@
 
 import { PITCH, gates, table } from "./glyphs.js";
 import { groundElements } from "./ground_drawing.js";
-import { PAULIS, actionsOf, qubitsOf } from "./instructions.js";
+import { PAULIS, actionsOf, isControlled, qubitsOf } from "./instructions.js";
 import { marksOf } from "./marks.js";
 import { coinElements, errorElements, faceElements, letterElements, neighbourElements, regionElements } from "./region_drawing.js";
 
 // How far out of sight, in sides of a glyph, something is still drawn, since its wire may be seen.
 const MARGIN = 2;
 
-export function drawingOf(scene, view) {
+export const drawingOf = (scene, view) => layersOf(scene, view, new Kept()).flat();
+
+// What the last picture has drawn of things: they look the same in the next one, if they are seen at the same places.
+export class Kept {
+  #seen = "";
+  #places = null;
+  #before = new Map();
+  #drawn = new Map();
+
+  // Begins the next picture.
+  take({ places, box }, view) {
+    const seen = JSON.stringify([box, view]);
+    this.#before = seen === this.#seen && places === this.#places ? this.#drawn : new Map();
+    [this.#seen, this.#places, this.#drawn] = [seen, places, new Map()];
+  }
+
+  // What `draw()` draws of a thing by which it is known.
+  of(thing, draw) {
+    const drawn = this.#drawn.get(thing) ?? this.#before.get(thing) ?? draw();
+    this.#drawn.set(thing, drawn);
+    return drawn;
+  }
+}
+
+// The drawing by its layers, the lowest first.
+export function layersOf(scene, view, kept) {
+  kept.take(scene, view);
   const pitch = view.scale * view.near;
   const side = Math.max(3, Math.min(40, pitch * PITCH));
   const at = (qubit) => {
     const place = scene.places.get(qubit);
     return place && [view.x + place[0] * view.scale, view.y + place[1] * view.scale];
   };
-  const sheet = { at, side, pitch, scene, view };
+  const sheet = { at, side, pitch, scene, view, kept };
   const operations = operationsOf(sheet);
   return [
-    ...groundElements(sheet),
-    ...faceElements(sheet),
-    ...neighbourElements(sheet),
-    ...regionElements(sheet),
-    ...operations.under,
-    ...idleElements(sheet, operations.busy),
-    ...numberElements(sheet, operations.busy),
-    ...operations.over,
-    ...choiceElements(sheet),
-    ...coinElements(sheet),
-    ...letterElements(sheet, operations.busy),
-    ...operations.errors,
-    ...errorElements(sheet),
+    kept.of("ground", () => groundElements(sheet)),
+    kept.of(scene.faces, () => faceElements(sheet)),
+    neighbourElements(sheet),
+    regionElements(sheet),
+    operations.under,
+    idleElements(sheet, operations.busy),
+    numberElements(sheet, operations.busy),
+    operations.over,
+    choiceElements(sheet),
+    coinElements(sheet),
+    letterElements(sheet, operations.busy),
+    operations.errors,
+    errorElements(sheet),
   ];
 }
 
@@ -47,20 +73,34 @@ function isSeen({ view, side }, [x, y]) {
 // What the instructions of the moment draw under and over the qubits, the errors that come after something else on their qubits, and how
 // often something acts on each qubit.
 function operationsOf(sheet) {
-  const { scene: { instructions }, at, side } = sheet;
+  const { scene: { instructions } } = sheet;
   const found = { under: [], over: [], errors: [], busy: new Map() };
   const isShared = shareQubits(instructions.filter(({ item }) => item.name === "MPP").map(({ item }) => item));
   for (const instruction of instructions) {
     const { item } = instruction;
-    for (const action of actionsOf(item)) {
-      const points = action.qubits.map(at);
-      if (points.includes(undefined) || !points.some((point) => isSeen(sheet, point))) continue;
-      const look = lookOf(instruction, action, { isShared, busy: found.busy, recordName: sheet.scene.recordName });
-      const { under, over } = marksOf(look.marks, look, points, side, action.factors);
-      found.under.push(...under);
-      (look.marks === "error" ? found.errors : found.over).push(...over);
-    }
+    const draw = () => drawnOf(sheet, instruction, isShared, found.busy);
+    const { under, over, errors } = isAlone(item) ? sheet.kept.of(item.targets, draw) : draw();
+    found.under.push(...under);
+    found.over.push(...over);
+    found.errors.push(...errors);
     if (item.name !== "MPP" || !isShared) for (const qubit of qubitsOf(item)) found.busy.set(qubit, (found.busy.get(qubit) ?? 0) + 1);
+  }
+  return found;
+}
+
+// Whether it looks the same whatever else acts in its moment. Items that share their targets (circuit.js) look the same.
+const isAlone = (item) => item.name !== "MPP" && !PAULIS.includes(item.name) && !isControlled(item);
+
+// What one instruction draws, by what is drawn so far.
+function drawnOf(sheet, instruction, isShared, busy) {
+  const found = { under: [], over: [], errors: [] };
+  for (const action of actionsOf(instruction.item)) {
+    const points = action.qubits.map(sheet.at);
+    if (points.includes(undefined) || !points.some((point) => isSeen(sheet, point))) continue;
+    const look = lookOf(instruction, action, { isShared, busy, recordName: sheet.scene.recordName });
+    const { under, over } = marksOf(look.marks, look, points, sheet.side, action.factors);
+    found.under.push(...under);
+    (look.marks === "error" ? found.errors : found.over).push(...over);
   }
   return found;
 }
@@ -87,9 +127,11 @@ function lookOf({ item: { name }, path }, { qubits, factors, record }, { isShare
 }
 
 function idleElements(sheet, busy) {
-  const { scene: { places, ancillas }, at, side } = sheet;
-  return [...places.keys()].filter((qubit) => !busy.has(qubit) && isSeen(sheet, at(qubit)))
-    .flatMap((qubit) => marksOf("idle", { shape: ancillas.has(qubit) ? "ancilla" : "data" }, [at(qubit)], side).over);
+  const { scene: { places, ancillas }, at, side, kept } = sheet;
+  return [...places.keys()].filter((qubit) => !busy.has(qubit) && isSeen(sheet, at(qubit))).flatMap((qubit) => {
+    const shape = ancillas.has(qubit) ? "ancilla" : "data";
+    return kept.of(`${shape} ${qubit}`, () => marksOf("idle", { shape }, [at(qubit)], side).over);
+  });
 }
 
 function numberElements(sheet, busy) {

@@ -22,7 +22,10 @@ export class Followed {
     this.bit = bit;
     [this.region, this.why, this.coins] = [{}, bit === null ? "" : "its region is asked for", null];
     this.#page.changed();
-    if (bit === null) return;
+    if (bit !== null) await this.#findRegion(bit);
+  }
+
+  async #findRegion(bit) {
     this.explain();
     const found = await this.#knowledge.region(bit);
     if (this.bit !== bit) return;
@@ -42,19 +45,22 @@ export class Followed {
 
   // Follows an error on a qubit at the end of a moment, or with null none.
   async follow(error) {
-    const way = error && { ...error, letters: { [error.moment]: { [error.qubit]: error.letter } } };
-    this.way = way;
+    this.way = error && { ...error, letters: { [error.moment]: { [error.qubit]: error.letter } } };
     this.#page.changed();
-    if (!way) return;
+    if (error) await this.#findWay();
+  }
+
+  async #findWay() {
+    const { way } = this;
     const found = await this.#knowledge.way(way.moment, way.qubit, way.letter);
     if (this.way !== way || found.why) return;
     this.way = { ...way, letters: found.letters };
     this.#page.changed();
   }
 
-  // Asks anew, once more is known.
+  // Asks anew, once more is known; what is shown stays until the answer is there.
   known() {
-    this.chooseBit(this.bit);
-    if (this.way) this.follow(this.way);
+    if (this.bit !== null) this.#findRegion(this.bit);
+    if (this.way) this.#findWay();
   }
 }

@@ -1,6 +1,6 @@
 // What is chosen, at places that never move: the qubit, what an error there would flip, and the detector.
 
-import { code, fill, icon, line, link, quiet, title } from "./boxes.js";
+import { code, element, fillOnce, icon, line, link, quiet, title } from "./boxes.js";
 import { findNumbered } from "./circuit.js";
 
 const MOST_NAMES = 8;
@@ -9,33 +9,41 @@ const MOST_COINS = 6;
 export class Inspector {
   #boxes;
   #act;
+  // Of the detector its declaration, what decides it, and its region: each is drawn anew by itself, so that a button which is being pressed
+  // stays while something beside it becomes known.
+  #declaration = element("div");
+  #decision = element("p");
+  #region = element("p");
 
   // `act` has choose(bit), select(path), follow(letter), which shows the way of an error on the qubit, and goTo(place), which shows what
   // has {moment, path}.
   constructor(boxes, act) {
     this.#boxes = boxes;
     this.#act = act;
+    this.#region.id = "region";
+    boxes.detector.append(this.#declaration, this.#decision, this.#region);
   }
 
-  // `about` has {qubit, kind, at, said, item, path, more}, or is null if no qubit is chosen: then `where` says what is shown.
+  // `about` has {qubit, kind, at, name, path, more}, with the name and the path of what acts on it, or is null if no qubit is chosen: then `where` says what is shown.
   qubit(about, where) {
-    if (!about) return void fill(this.#boxes.qubit, title("No qubit chosen"), line(where), quiet("Click one, or use the arrows."));
-    const place = about.at ? ` at (${about.at.join(", ")})` : "";
-    const item = about.item ? [code(about.item.name), " of item ", this.#itemButton(about.path)] : ["idle here"];
-    const others = about.more ? `, and ${about.more} more` : "";
-    return void fill(this.#boxes.qubit, title(`Qubit ${about.qubit}`, `${about.kind}${place}${others}`), line(where), line(...item));
+    const { qubit, kind, at, name, path, more } = about ?? {};
+    fillOnce(this.#boxes.qubit, [about, where], () => {
+      if (!about) return [title("No qubit chosen"), line(where), quiet("Click one, or use the arrows.")];
+      const place = at ? ` at (${at.join(", ")})` : "";
+      const item = name ? [code(name), " of item ", this.#itemButton(path)] : ["idle here"];
+      return [title(`Qubit ${qubit}`, `${kind}${place}${more ? `, and ${more} more` : ""}`), line(where), line(...item)];
+    });
   }
 
   // What each Pauli there would flip, {X, Y, Z} of names, or why that is not known.
   errors(flips, why) {
-    const rows = ["X", "Y", "Z"].map((letter) => {
+    fillOnce(this.#boxes.errors, [flips, why], () => [title("An error here would flip"), ...["X", "Y", "Z"].map((letter) => {
       const row = document.createElement("p");
       row.className = "error";
       row.dataset.letter = letter;
       row.append(this.#follower(letter, flips), ...this.#names(flips?.[letter], why));
       return row;
-    });
-    fill(this.#boxes.errors, title("An error here would flip"), ...rows);
+    })]);
   }
 
   // A button that shows the way of an error, if its way is known.
@@ -59,28 +67,27 @@ export class Inspector {
   // state: {items, detectors, observables, coordinates}; `kind` says how the bit is drawn (state.js), `region` is what is said of its
   // region, and `coins` where the coins are thrown that decide it (coins.js), or null if that is not known.
   detector(bit, state, { kind, region, coins }) {
-    const place = this.#boxes.detector;
-    if (bit === null) return void fill(place, title("No detector chosen"), quiet("Click one on the timeline, or in the list above."));
-    const number = Number(bit.slice(1));
-    const value = (bit.startsWith("D") ? state.detectors : state.observables)[number];
-    const said = { random: "a coin decides it", flipped: `${value}, flipped`, bit1: "1", bit0: "0" }[kind];
-    const decided = coins?.length ? [` decided by ${coins.length > 1 ? `${coins.length} coins` : "the coin"}: `, ...this.#coins(coins)] : [` ${said}`];
-    const role = { random: "quiet", flipped: "flip", bit1: "one", bit0: "zero" }[kind];
-    const now = line(icon(kind, 12, role), ...decided);
-    now.className = `bit ${kind}`;
-    const about = document.createElement("p");
-    about.id = "region";
-    about.textContent = region;
-    return void fill(place, ...this.#declared(bit, number, state), now, about);
+    const value = bit && (bit.startsWith("D") ? state.detectors : state.observables)[Number(bit.slice(1))];
+    const declared = bit?.startsWith("D") ? declarationOf(Number(bit.slice(1)), state) : null;
+    fillOnce(this.#declaration, [bit, declared], () => this.#declared(bit, declared));
+    fillOnce(this.#decision, [bit, value, kind, coins], () => (bit === null ? [] : this.#decided(value, kind, coins)));
+    this.#decision.className = `bit ${kind}`;
+    this.#region.textContent = region;
   }
 
-  #declared(bit, number, { items, coordinates }) {
-    if (!bit.startsWith("D")) return [title(bit, "observable")];
-    const found = findNumbered(items, "detectors", number);
-    const at = coordinates[number]?.length ? `at (${coordinates[number].join(", ")})` : "";
-    const records = found.item.targets.map((target) => found.records - Number(/\d+/.exec(target)[0]));
+  #decided(value, kind, coins) {
+    const role = { random: "quiet", flipped: "flip", bit1: "one", bit0: "zero" }[kind];
+    const said = { random: "a coin decides it", flipped: `${value}, flipped`, bit1: "1", bit0: "0" }[kind];
+    const decided = coins?.length ? [` decided by ${coins.length > 1 ? `${coins.length} coins` : "the coin"}: `, ...this.#coins(coins)] : [` ${said}`];
+    return [icon(kind, 12, role), ...decided];
+  }
+
+  #declared(bit, declared) {
+    if (bit === null) return [title("No detector chosen"), quiet("Click one on the timeline, or in the list above.")];
+    if (!declared) return [title(bit, "observable")];
+    const { at, path, records } = declared;
     const head = title(bit, `${at}${at ? " · " : ""}item `);
-    head.querySelector("small").append(this.#itemButton(found.path));
+    head.querySelector("small").append(this.#itemButton(path));
     return [head, line(`records ${records.join(" + ") || "none"}`)];
   }
 
@@ -92,4 +99,11 @@ export class Inspector {
   #itemButton(path) {
     return link(path.join("/"), () => this.#act.select(path));
   }
+}
+
+// Where a detector is, the path of its item, and the records of which it is the sum.
+function declarationOf(number, { items, coordinates }) {
+  const { item, path, records } = findNumbered(items, "detectors", number);
+  const at = coordinates[number]?.length ? `at (${coordinates[number].join(", ")})` : "";
+  return { at, path, records: item.targets.map((target) => records - Number(/\d+/.exec(target)[0])) };
 }

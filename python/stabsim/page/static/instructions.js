@@ -14,7 +14,8 @@ export const isPair = (name) => PAIRS.has(name);
 export const isRecorded = (name) => RECORDED.has(name);
 export const resets = (name) => RESETS.has(name);
 export const isSingle = (name) => GATES.has(name) || RESETS.has(name) || (RECORDED.has(name) && name !== "MPP");
-export const acts = (name) => isSingle(name) || isPair(name) || name === "MPP";
+const ACTING = new Set([...GATES, ...PAIRS, ...RESETS, ...RECORDED]);
+export const acts = (name) => ACTING.has(name);
 
 const isQubit = (target) => !target.startsWith("rec[");
 const qubitOf = (target) => Number(target.replace("!", ""));
@@ -65,4 +66,13 @@ export function groupsOf(item) {
 }
 
 export const isRecord = (target) => !isQubit(target);
+
+const controlled = new WeakMap();
+
+// Whether records control an item. It is found out once for all items that share their targets (circuit.js).
+export function isControlled({ targets }) {
+  if (!controlled.has(targets)) controlled.set(targets, targets.some(isRecord));
+  return controlled.get(targets);
+}
+
 export { qubitOf };

@@ -75,8 +75,9 @@ export class Knowledge {
   }
 }
 
+// Of each bit the server says the qubits, and their letters as one word.
 function slicesOf(slice) {
-  return Object.fromEntries(Object.entries(slice).map(([bit, letters]) => [bit, new Map(Object.entries(letters).map(([qubit, letter]) => [Number(qubit), letter]))]));
+  return Object.fromEntries(Object.entries(slice).map(([bit, [qubits, letters]]) => [bit, new Map(qubits.map((qubit, i) => [qubit, letters[i]]))]));
 }
 
 // The moments next to one in which something is measured: the last up to it, and the first after it.
@@ -112,6 +113,10 @@ export function facesOf(slices, ancillas) {
   // Greater ones are drawn first, so that none hides another.
   return [...faces.values()].sort((a, b) => b.qubits.length - a.qubits.length);
 }
+
+// Whether faces are those of another list.
+export const areFaces = (faces, others) => faces.length === others.length
+  && faces.every(({ qubits, kind }, i) => kind === others[i].kind && qubits.join() === others[i].qubits.join());
 
 // The regions that some Pauli on one qubit flips together with that of a bit.
 export function neighboursOf(slice, bit) {

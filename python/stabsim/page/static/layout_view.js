@@ -1,7 +1,7 @@
 // The qubits at one moment, on a canvas in a pane, zoomed and panned.
 
 import { CanvasPen } from "./canvas_pen.js";
-import { drawingOf } from "./drawing.js";
+import { Kept, layersOf } from "./drawing.js";
 import { Gestures } from "./gestures.js";
 import { PITCH } from "./glyphs.js";
 import { qubitsOf } from "./instructions.js";
@@ -18,6 +18,7 @@ export class LayoutView {
   #gestures;
   #sight = new Sight();
   #scene = null;
+  #kept = new Kept();
   #frame = 0;
   #rest = 0;
   // How places were seen when the picture was drawn, if it has many marks; else null.
@@ -55,16 +56,20 @@ export class LayoutView {
 
   drawNow() {
     if (!this.isThere) return;
-    const elements = this.elements();
+    const layers = this.#layers();
     this.#pen.begin(...this.size);
-    this.#pen.draw(elements);
+    this.#pen.show(layers, ...this.size);
     this.#canvas.style.transform = "";
-    this.#drawn = elements.length > MANY ? this.#sight.view : null;
+    this.#drawn = layers.flat().length > MANY ? this.#sight.view : null;
   }
 
   // What is drawn, as elements (glyphs.js).
   elements() {
-    return drawingOf({ ...this.#scene, ...this.#marks() }, this.#sight.view);
+    return this.#layers().flat();
+  }
+
+  #layers() {
+    return layersOf({ ...this.#scene, ...this.#marks() }, this.#sight.view, this.#kept);
   }
 
   get isThere() {

@@ -17,6 +17,11 @@ export class Link {
     };
   }
 
+  // Whether all that was asked is answered.
+  get isIdle() {
+    return this.#waiting.size === 0;
+  }
+
   #take(message, hear) {
     if (message.id === undefined) return hear(message);
     const { settle } = this.#waiting.get(message.id);

@@ -266,7 +266,7 @@ takeFiles(by("file"), openText, (text) => isCopied(text) && Boolean(editor.paste
 takeCopies({ shown, editor, say });
 showLegend(by("legend"));
 
-// For tests: what is shown, and where it is seen.
+// For tests: what is shown, where it is seen, and whether more is to come.
 export const page = {
-  shown, views, moments: () => momentsOf(shown.state.items), text: () => shown.state.items.map((item) => `${textOf(item)}\n`).join(""),
+  shown, views, isIdle: () => link.isIdle, moments: () => momentsOf(shown.state.items), text: () => shown.state.items.map((item) => `${textOf(item)}\n`).join(""),
 };

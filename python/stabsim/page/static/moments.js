@@ -1,37 +1,44 @@
 // Moments: what is between two ticks or cuts, with the rounds of blocks written out.
 
-import { before, countsOfList, firstReaching } from "./counts.js";
+import { before, firstReaching } from "./counts.js";
+import { acts } from "./instructions.js";
 
 // The instructions of a moment, each {item, path, rounds}.
-export function momentAt(items, moment) {
+export const momentAt = (items, moment) => instructionsAt(items, moment, () => true);
+
+// Those of a moment that act on qubits: a moment may declare hundreds of detectors beside them.
+export const actingAt = (items, moment) => instructionsAt(items, moment, ({ name }) => acts(name));
+
+function instructionsAt(items, moment, isWanted) {
   const found = [];
-  gather(items, moment, 0, [], [], found);
+  gather(items, { moment, isWanted, found }, 0, [], []);
   return found;
 }
 
 // Adds those of a list in front of which this many moments end.
-function gather(items, moment, start, path, rounds, found) {
+function gather(items, sought, start, path, rounds) {
+  const { moment, isWanted, found } = sought;
   const { bounds } = before(items);
   for (let place = firstReaching(bounds, moment - start); place < items.length; place += 1) {
     const item = items[place];
     let now = start + bounds[place];
     if (now > moment) return;
     if (item.cut) now += 1;
-    if (item.items) gatherBlock(item, moment, now, [...path, place], rounds, found);
-    else if (now === moment) found.push({ item, path: [...path, place], rounds });
+    if (item.items) gatherBlock(item, sought, now, [...path, place], rounds);
+    else if (now === moment && isWanted(item)) found.push({ item, path: [...path, place], rounds });
   }
 }
 
 // A block within one moment is shown by its first round.
-function gatherBlock(block, moment, now, path, rounds, found) {
+function gatherBlock(block, sought, now, path, rounds) {
   const once = block.once.bounds;
   if (once === 0) {
-    gather(block.items, moment, now, path, [...rounds, 0], found);
+    gather(block.items, sought, now, path, [...rounds, 0]);
     return;
   }
-  const last = Math.min(block.count - 1, Math.floor((moment - now) / once));
+  const last = Math.min(block.count - 1, Math.floor((sought.moment - now) / once));
   for (let round = Math.max(0, last - 1); round <= last; round += 1) {
-    gather(block.items, moment, now + round * once, path, [...rounds, round], found);
+    gather(block.items, sought, now + round * once, path, [...rounds, round]);
   }
 }
 
@@ -122,33 +129,25 @@ function ticksUpTo(list, number) {
 
 // The moment that declares each detector, in order.
 export function momentsOfDetectors(items) {
-  const found = new Int32Array(countsOfList(items).detectors);
+  const found = new Int32Array(before(items).detectors[items.length]);
   fill(items, 0, found, 0);
   return found;
 }
 
-// Fills in those of a list from a moment and a detector on; answers with the detector after its last.
+// Fills in those of a list, from a moment and a detector on.
 function fill(list, start, found, first) {
-  let moment = start;
-  let next = first;
-  for (const item of list) {
-    if (item.cut) moment += 1;
-    if (item.items) {
-      const begin = next;
-      if (item.detectors) {
-        next = fill(item.items, moment, found, begin);
-        const once = next - begin;
-        for (let round = 1; round < item.count; round += 1) {
-          const shift = round * item.once.bounds;
-          for (let i = 0; i < once; i += 1) found[next + i] = found[begin + i] + shift;
-          next += once;
-        }
-      }
-      moment += item.bounds;
-      continue;
-    }
-    if (item.detectors) found[next++] = moment;
-    moment += item.ticks;
+  const { bounds, detectors } = before(list);
+  for (let place = 0; place < list.length; place += 1) {
+    if (detectors[place + 1] === detectors[place]) continue;
+    if (list[place].items) fillBlock(list[place], start + bounds[place], found, first + detectors[place]);
+    else found[first + detectors[place]] = start + bounds[place];
   }
-  return next;
+}
+
+// Those of the later rounds are as far from each other as those of the first.
+function fillBlock({ items, cut, count, once }, moment, found, first) {
+  fill(items, moment + (cut ? 1 : 0), found, first);
+  for (let round = 1; round < count; round += 1) {
+    for (let i = 0; i < once.detectors; i += 1) found[first + round * once.detectors + i] = found[first + i] + round * once.bounds;
+  }
 }

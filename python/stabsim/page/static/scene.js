@@ -29,6 +29,6 @@ export function timeOf({ state, moment, set }, { bit, region, coins, way }, flip
   return {
     items: state.items, moments: momentsOf(state.items), moment, bit, region, coins, way, set: lettersByMoments(set),
     observables: state.observables, coordinates: state.coordinates,
-    kindOf: (it) => state.kindOf(it, flips), isTold: (number) => state.isTold(number, flips),
+    kindOf: (it) => state.kindOf(it, flips), toldBetween: (first, end) => state.toldBetween(first, end, flips),
   };
 }

@@ -4,6 +4,7 @@ import { blocksAround, itemAt, pathOf } from "./circuit.js";
 import { placesOfCoins } from "./coins.js";
 import { Followed } from "./followed.js";
 import { acts, qubitsOf } from "./instructions.js";
+import { areFaces } from "./knowledge.js";
 import { endOf, momentAt, momentOf, momentsOf, momentsOfDetectors } from "./moments.js";
 import { sayNumbers } from "./numbers.js";
 import { aboutBit, sayMoment, saySeen } from "./saying.js";
@@ -111,6 +112,7 @@ export class Shown {
   }
 
   takeTool(name, waiting = []) {
+    if (name === this.tool && waiting.join() === this.waiting.join()) return;
     [this.tool, this.waiting] = [name, waiting];
     this.#views.palette.show(name);
     by("picture").classList.toggle("armed", name !== "pick");
@@ -186,9 +188,11 @@ export class Shown {
     const faces = await this.#knowledge.faces(state.items, moment, state.ancillas);
     const neighbours = bit === null ? [] : await this.#knowledge.neighbours(bit, moment);
     if (isStale()) return;
+    // Most often the checks of a moment are those of the one before.
+    const isSame = (!faces || areFaces(faces, this.#faces)) && !neighbours.length && !this.#neighbours.length;
     if (faces) this.#faces = faces;
     this.#neighbours = neighbours;
-    this.drawLayout();
+    if (!isSame) this.drawLayout();
   }
 
   #look(isFresh, isEdited) {
@@ -231,13 +235,8 @@ export class Shown {
   }
 
   #flagOf(first, behind) {
-    let flag = null;
-    for (let number = first; number < behind; number += 1) {
-      const kind = this.#kindOf(`D${number}`);
-      if (kind === "flipped") return kind;
-      if (kind === "random") flag = kind;
-    }
-    return flag;
+    const kinds = this.state.toldBetween(first, behind, this.#flips()).map((number) => this.#kindOf(`D${number}`));
+    return ["flipped", "random"].find((kind) => kinds.includes(kind)) ?? null;
   }
 
   showSince(which) {
@@ -268,7 +267,7 @@ export class Shown {
     const found = qubit === null ? null : this.#itemOn(qubit);
     const at = qubit === null ? null : this.state.qubitCoordinates[qubit];
     inspector.qubit(qubit === null ? null : {
-      qubit, kind: this.state.ancillas.has(qubit) ? "ancilla" : "data", at: at?.length ? at : null, item: found?.item, path: found?.path,
+      qubit, kind: this.state.ancillas.has(qubit) ? "ancilla" : "data", at: at?.length ? at : null, name: found?.item.name, path: found?.path,
       more: this.#hovered === null ? this.chosen.length - 1 : 0,
     }, this.where);
     const { coins, set } = this.scene();

@@ -4,7 +4,10 @@ import { applyEdit, parseCircuit } from "./circuit.js";
 import { isRecorded, pairsOf, isPair, isRecord, qubitOf, qubitsOf, resets } from "./instructions.js";
 import { placesOf } from "./places.js";
 
-const bitsOf = (line) => Uint8Array.from(line, Number);
+const ENCODER = new TextEncoder();
+
+// Characters 0 and 1 as numbers.
+const bitsOf = (line) => ENCODER.encode(line).map((letter) => letter & 1);
 
 export class State {
   constructor(event) {
@@ -71,9 +74,13 @@ export class State {
     return this.#listOf(bit)[Number(bit.slice(1))] ? "bit1" : "bit0";
   }
 
-  // Whether a detector is drawn otherwise than as 0.
-  isTold(number, flips) {
-    return this.detectors[number] === 1 || this.sure?.[number] === 0 || (flips.size > 0 && flips.has(`D${number}`));
+  // The detectors from one to before another that are drawn otherwise than as 0, in order.
+  toldBetween(first, end, flips) {
+    const { detectors, sure } = this;
+    const told = [];
+    for (let number = first; number < end; number += 1) if (detectors[number] === 1 || (sure !== null && sure[number] === 0)) told.push(number);
+    const flipped = [...flips].filter((name) => name.startsWith("D")).map((name) => Number(name.slice(1)));
+    return [...new Set([...told, ...flipped.filter((number) => number >= first && number < end)])].sort((a, b) => a - b);
   }
 
   #listOf(bit) {

@@ -5,11 +5,12 @@ import { before } from "./counts.js";
 import { keyOf } from "./keys.js";
 import { countRows, numberOfRow, rowsBetween } from "./rows.js";
 import { iconOf } from "./svg_pen.js";
+import { TextRows, span } from "./text_rows.js";
 
 export class TextView {
   #place;
   #sheet = document.createElement("div");
-  #list = document.createElement("div");
+  #rows;
   #act;
   #items = [];
   #unfolded = new Set();
@@ -20,8 +21,9 @@ export class TextView {
   #flagOf = () => null;
   #refusal = null;
   #height = 0;
-  // How far it is scrolled: to ask the browser for it while rows change would have it lay out the page.
+  // How far it is scrolled, or is to be in the next frame: to ask the browser for it while rows change would have it lay out the page.
   #top = 0;
+  #isScrolled = true;
   #row = 20;
   #frame = 0;
 
@@ -31,13 +33,18 @@ export class TextView {
     this.#act = act;
     this.#sheet.className = "sheet";
     // Rows are of the tree, and what they lie in is not.
-    this.#sheet.role = this.#list.role = "presentation";
-    this.#sheet.append(this.#list);
+    const list = document.createElement("div");
+    this.#sheet.role = list.role = "presentation";
+    this.#sheet.append(list);
+    this.#rows = new TextRows(list);
     place.append(this.#sheet);
     place.addEventListener("scroll", () => {
+      if (!this.#isScrolled) return;
       this.#top = place.scrollTop;
       this.#draw();
     });
+    list.addEventListener("click", ({ target }) => this.#click(this.#rows.rowOf(target), target.matches(".fold")));
+    list.addEventListener("dblclick", ({ target }) => this.#write(this.#rows.rowOf(target)));
     place.addEventListener("keydown", (event) => this.#key(event));
     new ResizeObserver(() => {
       this.#height = place.clientHeight;
@@ -120,15 +127,12 @@ export class TextView {
   #bringIntoSight() {
     const top = numberOfRow(this.#items, this.#unfolded, pathOf(this.#selected)) * this.#row;
     if (top >= this.#top && top + this.#row <= this.#top + this.#height) return;
-    // The sheet is as high as what was unfolded when it was last drawn.
-    this.#sheet.style.height = `${(countRows(this.#items, this.#unfolded) + 1) * this.#row}px`;
     this.#scrollTo(top - this.#height / 2);
   }
 
-  // The browser may scroll less far, and says so by an event before the next frame is drawn.
+  // Scrolls once what is unfolded is drawn.
   #scrollTo(top) {
-    this.#top = Math.max(0, top);
-    this.#place.scrollTop = top;
+    [this.#top, this.#isScrolled] = [top, false];
   }
 
   // Draws in the next frame, however often it is asked for.
@@ -140,69 +144,65 @@ export class TextView {
   }
 
   #drawNow() {
+    const height = (countRows(this.#items, this.#unfolded) + 1) * this.#row;
+    this.#top = Math.max(0, Math.min(this.#top, height - this.#height));
     const first = Math.max(0, Math.floor(this.#top / this.#row) - 5);
-    const { rows, count } = this.#rowsBetween(first, first + Math.ceil(this.#height / this.#row) + 10);
-    const selected = this.#selectedRow();
-    this.#sheet.style.height = `${count * this.#row}px`;
-    this.#list.replaceChildren(...rows.map((row) => this.#line(row, row.number === selected?.number)));
-    const active = this.#list.querySelector("[aria-selected=true]");
-    if (active) this.#place.setAttribute("aria-activedescendant", active.id);
+    const { rows } = this.#rowsBetween(first, first + Math.ceil(this.#height / this.#row) + 10);
+    const selected = this.#selectedRow()?.number;
+    this.#sheet.style.height = `${height}px`;
+    this.#rows.show(rows.map((row) => this.#shown(row, row.number === selected)));
+    const active = rows.find(({ number }) => number === selected);
+    if (active) this.#place.setAttribute("aria-activedescendant", idOf(active));
     else this.#place.removeAttribute("aria-activedescendant");
+    if (!this.#isScrolled) this.#place.scrollTop = this.#top;
+    this.#isScrolled = true;
   }
 
-  #line({ number, path, item, run }, isSelected) {
+  // A row with what it says (text_rows.js).
+  #shown(row, isSelected) {
+    const { path, item, run } = row;
+    const isOpen = this.#unfolded.has(item);
+    const flag = this.#flag(path, item, run);
+    const refusal = this.#refusal?.place === path.join("/") && !run ? this.#refusal.words : "";
+    const within = item?.items ? `${item.items.length} ${item.detectors}` : "";
+    return {
+      ...row, said: [item?.text, run, within, path.length, isOpen, flag, refusal].join("\n"),
+      parts: () => [foldOf(item, run, isOpen), ...saidOf(item, run, isOpen, path.length - 1), ...marksOf(flag, refusal)],
+      place: (line) => this.#placeRow(line, row, isSelected),
+    };
+  }
+
+  #placeRow(line, row, isSelected) {
+    const { number, path, item, run } = row;
     const name = path.join("/");
-    const line = document.createElement("div");
-    line.className = ["row", isSelected && "selected", !run && this.#here.has(name) && "here", item?.name === "TICK" && "tick"].filter(Boolean).join(" ");
-    line.role = "treeitem";
-    line.id = `row-${name}${run ? "+" : ""}`;
+    const isHere = !run && this.#here.has(name);
+    line.className = ["row", isSelected && "selected", isHere && "here", item?.name === "TICK" && "tick"].filter(Boolean).join(" ");
+    line.id = idOf(row);
     line.ariaLevel = path.length;
     line.ariaPosInSet = path.at(-1) + 1;
     line.ariaSetSize = (blocksAround(this.#items, path).at(-1)?.items ?? this.#items).length + (path.length > 1 ? 0 : 1);
     line.ariaSelected = isSelected;
+    line.ariaExpanded = item?.items || run ? this.#unfolded.has(item) : null;
     line.style.top = `${number * this.#row}px`;
     line.dataset.path = run ? `${name}+` : name;
-    line.append(span("path", item ? name : "end"), this.#fold(item, run), ...this.#said(item, run, path.length - 1));
-    if (item?.items || run) line.ariaExpanded = this.#unfolded.has(item);
-    const flag = this.#flag(path, item, run);
-    if (flag) line.append(flag);
-    if (this.#refusal?.place === name && !run) line.append(span("refusal", this.#refusal.words));
-    line.addEventListener("click", () => this.#choose(path, item, run));
-    line.addEventListener("dblclick", () => run || this.#act.write(item ? "replace" : "insert", path, item));
-    return line;
-  }
-
-  #said(item, run, depth) {
-    const margin = span("margin", "");
-    margin.style.paddingLeft = `${depth * 14}px`;
-    if (run) return [margin, span("inside", `${run} × ${item.name}`)];
-    if (!item) return [margin];
-    const [, name, rest] = /^(\S*?)((?:[[(\s].*)?)$/.exec(item.text);
-    const words = [margin, span("name", name), span("words", rest.slice(0, 300))];
-    if (item.items && !this.#unfolded.has(item)) words.push(span("inside", ` ${item.items.length} items, ${item.detectors} detectors`));
-    return words;
+    const label = item ? name : "end";
+    if (line.firstChild.textContent !== label) line.firstChild.textContent = label;
   }
 
   // Whether detectors of a row were flipped, or coins decide them; in a block rows have detectors of each round, and no flag.
   #flag(path, item, run) {
     if (path.length > 1 || item?.name !== "DETECTOR" || (run && this.#unfolded.has(item))) return null;
     const { detectors } = before(this.#items);
-    const kind = this.#flagOf(detectors[path[0]], detectors[path[0] + Math.max(1, run)]);
-    if (!kind) return null;
-    const flag = span("flag", "");
-    flag.title = kind;
-    flag.innerHTML = iconOf(kind, kind === "random" ? 11 : 8, kind === "random" ? "quiet" : "flip");
-    return flag;
+    return this.#flagOf(detectors[path[0]], detectors[path[0] + Math.max(1, run)]);
   }
 
-  #fold(item, run) {
-    if (!item?.items && !run) return span("fold", "");
-    const mark = span("fold", this.#unfolded.has(item) ? "▾" : "▸");
-    mark.addEventListener("click", (event) => {
-      event.stopPropagation();
-      this.#toggle(item);
-    });
-    return mark;
+  #click({ path, item, run }, isFold) {
+    if (isFold && (item?.items || run)) this.#toggle(item);
+    else this.#choose(path, item, run);
+  }
+
+  #write({ path, item, run }) {
+    if (!run) this.#act.write(item ? "replace" : "insert", path, item);
   }
 
   #toggle(item) {
@@ -256,9 +256,26 @@ export class TextView {
   }
 }
 
-function span(name, text) {
-  const element = document.createElement("span");
-  element.className = name;
-  element.textContent = text;
-  return element;
+const idOf = ({ path, run }) => `row-${path.join("/")}${run ? "+" : ""}`;
+
+const foldOf = (item, run, isOpen) => span("fold", !item?.items && !run ? "" : isOpen ? "▾" : "▸");
+
+function saidOf(item, run, isOpen, depth) {
+  const margin = span("margin", "");
+  margin.style.paddingLeft = `${depth * 14}px`;
+  if (run) return [margin, span("inside", `${run} × ${item.name}`)];
+  if (!item) return [margin];
+  const [, name, rest] = /^(\S*?)((?:[[(\s].*)?)$/.exec(item.text);
+  const words = [margin, span("name", name), span("words", rest.slice(0, 300))];
+  if (item.items && !isOpen) words.push(span("inside", ` ${item.items.length} items, ${item.detectors} detectors`));
+  return words;
+}
+
+function marksOf(kind, refusal) {
+  const marks = refusal ? [span("refusal", refusal)] : [];
+  if (!kind) return marks;
+  const flag = span("flag", "");
+  flag.title = kind;
+  flag.innerHTML = iconOf(kind, kind === "random" ? 11 : 8, kind === "random" ? "quiet" : "flip");
+  return [flag, ...marks];
 }

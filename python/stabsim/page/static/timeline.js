@@ -1,8 +1,8 @@
 // What a timeline shows of a circuit: the moment and the row of each detector, the rounds of moments, and what happens in each.
 
 import { derived } from "./counts.js";
-import { acts } from "./instructions.js";
-import { momentAt, momentsOfDetectors, nameOf } from "./moments.js";
+import { PAULIS, acts } from "./instructions.js";
+import { actingAt, momentAt, momentsOfDetectors, nameOf } from "./moments.js";
 
 export class Timeline {
   #items;
@@ -20,12 +20,21 @@ export class Timeline {
 
   // Whether its detectors are where those of another timeline are.
   isLike(other) {
-    return this.rowOf === other.rowOf && this.moments.length === other.moments.length && this.moments.every((moment, number) => moment === other.moments[number]);
+    const { moments, rowOf } = other;
+    let same = 0;
+    while (same < moments.length && moments[same] === this.moments[same]) same += 1;
+    return this.rowOf === rowOf && this.moments.length === moments.length && same === moments.length;
   }
 
-  // The numbers of the detectors from one moment to before another.
+  // The first of the detectors from one moment to before another, and the first one after them.
+  range(from, to) {
+    return [this.#firstFrom(from), this.#firstFrom(to)];
+  }
+
+  // Their numbers.
   *between(from, to) {
-    for (let number = this.#firstFrom(from); number < this.moments.length && this.moments[number] < to; number += 1) yield number;
+    const [first, end] = this.range(from, to);
+    for (let number = first; number < end; number += 1) yield number;
   }
 
   // How far a detector is beside the middle of its moment, from -1/2 to 1/2, since several may have one place.
@@ -84,10 +93,9 @@ export class Timeline {
   }
 
   #found(moment) {
-    const instructions = momentAt(this.#items, moment);
-    const acting = instructions.filter(({ item }) => acts(item.name));
-    const operation = (acting.find(({ item }) => ["X", "Y", "Z"].includes(item.name)) ?? acting.at(-1))?.item ?? null;
-    const { path, rounds } = roundOf(instructions);
+    const acting = actingAt(this.#items, moment);
+    const operation = (acting.find(({ item }) => PAULIS.includes(item.name)) ?? acting.at(-1))?.item ?? null;
+    const { path, rounds } = roundOf(acting.length ? acting : momentAt(this.#items, moment));
     const key = rounds.length ? `${path.slice(0, rounds.length).join("/")} ${rounds.join("/")}` : "";
     return { name: nameOf(this.#items, moment), operation, key, band: this.#bandOf(path, rounds) };
   }

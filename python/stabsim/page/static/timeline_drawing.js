@@ -1,4 +1,4 @@
-// The drawing of a timeline, as elements (glyphs.js).
+// The drawing of a timeline, as layers of elements (glyphs.js).
 //
 // A sheet says what is shown and where: {line, shown, width, height, step, first, last, aim, gap, x(moment), at(bit), rowHeight, ground},
 // with the moments in sight from `first` to `last`, the one to which something is dragged as `aim`, where a tick is dragged to as `gap`,
@@ -6,7 +6,7 @@
 
 import { WRONG } from "./fault_set.js";
 import { circle, gates } from "./glyphs.js";
-import { isPair, isRecord } from "./instructions.js";
+import { isControlled, isPair } from "./instructions.js";
 import { endsByTick } from "./ticks.js";
 
 export const LEFT = 76;
@@ -24,20 +24,21 @@ export function timelineOf(sheet) {
   const columnOf = (moment) => ({ path: box(sheet.x(moment) - Math.max(3, sheet.step / 2), 20.5, Math.max(6, sheet.step), height - 25) });
   const head = columnOf(shown.moment);
   return [
-    ...bands(sheet),
-    { ...head, fill: "chosen" },
-    ...ticks(sheet),
-    ...tickMarks(sheet),
-    ...errorElements(sheet),
-    ...thread(sheet),
-    ...coinThread(sheet),
-    ...dots(sheet),
-    { ...head, stroke: "accent", width: 1.5 },
-    ...(aim === null ? [] : [{ ...columnOf(aim), stroke: "accent", width: 2, dash: [4, 3] }]),
-    ...(gap === null ? [] : [{ path: [["M", gap, 20.5], ["L", gap, height - 5]], stroke: "accent", width: 2.5 }]),
-    { path: box(0, 0, LEFT - 4, height), fill: "sheet" },
-    ...names(),
-    ...observables(sheet, width, height),
+    bands(sheet),
+    [{ ...head, fill: "chosen" }],
+    ticks(sheet),
+    tickMarks(sheet),
+    errorElements(sheet),
+    thread(sheet),
+    coinThread(sheet),
+    [sheet.ground],
+    dots(sheet),
+    [{ ...head, stroke: "accent", width: 1.5 }],
+    aim === null ? [] : [{ ...columnOf(aim), stroke: "accent", width: 2, dash: [4, 3] }],
+    gap === null ? [] : [{ path: [["M", gap, 20.5], ["L", gap, height - 5]], stroke: "accent", width: 2.5 }],
+    [{ path: box(0, 0, LEFT - 4, height), fill: "sheet" }],
+    names(),
+    observables(sheet, width, height),
   ];
 }
 
@@ -132,16 +133,15 @@ const sizeOfDots = ({ rowHeight, step }) => Math.max(3.5, Math.min(9, rowHeight 
 
 // Those that are 1, flipped, or decided by a coin are drawn over the others, and the last two are never small.
 function dots(sheet) {
-  const { line, shown, first, last, at, ground, width, height } = sheet;
+  const { line, shown, first, last, at } = sheet;
   const size = sizeOfDots(sheet);
-  const told = [...line.between(first - 1, last + 1)].filter((number) => shown.isTold(number));
-  const marks = told.map((number) => {
+  const marks = shown.toldBetween(...line.range(first - 1, last + 1)).map((number) => {
     const kind = shown.kindOf(`D${number}`);
     const [x, y] = at(`D${number}`);
     return { ...dotOf(kind), x, y, side: kind === "bit1" ? size : Math.max(9, size), isLate: kind !== "bit1" };
   });
   const chosen = shown.bit?.startsWith("D") ? [{ path: circle(...at(shown.bit), 8), stroke: "accent", width: 2 }] : [];
-  return [{ picture: ground, width, height }, ...marks.filter(({ isLate }) => !isLate), ...marks.filter(({ isLate }) => isLate), ...chosen];
+  return [...marks.filter(({ isLate }) => !isLate), ...marks.filter(({ isLate }) => isLate), ...chosen];
 }
 
 // All detectors as they are if nothing is known of them.
@@ -174,7 +174,7 @@ function glyphOf(item, side) {
   if (item.name === "MPP") return { glyph: "factor", role: "wire", label: side >= 12 ? "P" : "" };
   if (isPair(item.name)) {
     const letter = item.name.slice(1);
-    return item.targets.some(isRecord) ? { glyph: "gate", role: letter.toLowerCase(), label: letter } : { glyph: gates[item.name].second, role: "wire" };
+    return isControlled(item) ? { glyph: "gate", role: letter.toLowerCase(), label: letter } : { glyph: gates[item.name].second, role: "wire" };
   }
   const { shape, role, label } = gates[item.name];
   return { glyph: shape, role, label };

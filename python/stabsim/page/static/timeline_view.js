@@ -64,10 +64,10 @@ export class TimelineView {
     }).observe(canvas);
   }
 
-  // state: {items, moments, moment, observables, coordinates, isTold, kindOf, bit, region, coins, way, set}: `kindOf(bit)` says how a bit
-  // is drawn (state.js), `isTold(number)` whether a detector is drawn otherwise than as 0, `bit` is the chosen one, `coins` are those that
-  // decide it, and `region` has its letters by moment, as `way.letters` has those of an error and `set` those of several; `coins` and `way`
-  // may be null.
+  // state: {items, moments, moment, observables, coordinates, toldBetween, kindOf, bit, region, coins, way, set}: `kindOf(bit)` says how a
+  // bit is drawn and `toldBetween(first, end)` which detectors otherwise than as 0 (state.js), `bit` is the chosen one, `coins` are those
+  // that decide it, and `region` has its letters by moment, as `way.letters` has those of an error and `set` those of several; `coins` and
+  // `way` may be null.
   show(state, isFresh) {
     const isOther = this.#shown?.items !== state.items;
     if (isFresh || !this.#line) {
@@ -129,7 +129,7 @@ export class TimelineView {
     if (!this.#line) return;
     this.#pen.begin(...this.#size);
     const sheet = this.#sheet();
-    this.#pen.draw(timelineOf({ ...sheet, ground: this.#groundOf(sheet) }));
+    this.#pen.show(timelineOf({ ...sheet, ground: this.#groundOf(sheet) }), ...this.#size);
   }
 
   #measure() {
@@ -265,7 +265,10 @@ export class TimelineView {
 
   #groundOf(sheet) {
     const key = [theme(), devicePixelRatio, ...this.#size, this.#offset, this.#step].join();
-    if (this.#ground?.key !== key) this.#ground = { key, picture: this.#pen.pictureOf(groundOf(sheet), ...this.#size) };
-    return this.#ground.picture;
+    if (this.#ground?.key !== key) {
+      const [width, height] = this.#size;
+      this.#ground = { key, element: { picture: this.#pen.pictureOf(groundOf(sheet), width, height), width, height } };
+    }
+    return this.#ground.element;
   }
 }

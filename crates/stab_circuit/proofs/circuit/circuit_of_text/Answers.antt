@@ -1,5 +1,4 @@
-use Rattle.std.proofs.Common.{arith}
-use Rattle.std.proofs.lemmas.Result.{err_from_is_err_and}
+use Rattle.stab_circuit.proofs.Names.{arith, err_from_is_err_and}
 use Rattle.stab_circuit.proofs.TextLemmas.{circuit_refused, circuit_placed, circuit_judged, circuit_answered}
 use Rattle.stab_circuit.proofs.circuit.circuit_of_text.Goals as goal
 

@@ -1,5 +1,4 @@
-use Rattle.std.proofs.Common.{arith}
-use Rattle.std.proofs.lemmas.Result.{err_from_is_err_and}
+use Rattle.stab_circuit.proofs.Names.{arith, err_from_is_err_and}
 use Rattle.stab_circuit.proofs.TextLemmas.{one_read, none_read, one_refused, item_placed}
 use Rattle.stab_circuit.proofs.circuit.read_item.Goals as goal
 

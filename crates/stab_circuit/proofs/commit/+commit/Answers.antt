@@ -1,5 +1,4 @@
-use Rattle.std.proofs.Common.{◌≡◌, sym, subst, arith, Option, IfOk}
-use Rattle.stab_items.specs.Items.{OneItem}
+use Rattle.stab_circuit.proofs.Names.{◌≡◌, sym, subst, arith, Option, IfOk, OneItem}
 use Rattle.stab_circuit.proofs.CommitLemmas.{found_at, allowed_at, committed_at, taken_through, put_back, allowed_within, committed_within, taken_within, unchanged_within, kept_shallow}
 use Rattle.stab_circuit.proofs.commit.+commit.Goals as goal
 

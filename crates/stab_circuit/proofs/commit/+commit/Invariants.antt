@@ -1,4 +1,4 @@
-use Rattle.std.proofs.Common.{length, ◌+◌, ◌*◌}
+use Rattle.stab_circuit.proofs.Names.{length, ◌+◌, ◌*◌}
 use Rattle.stab_circuit.proofs.commit.+commit.Given as goal
 
 abbrev pub decreases-commit : goal.decreases-commit

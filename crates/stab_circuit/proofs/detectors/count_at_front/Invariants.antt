@@ -1,6 +1,4 @@
-use Rattle.std.proofs.Common.{◌≡◌, true, take}
-use Rattle.std.specs.List.{list_all}
-use Rattle.stab_circuit.specs.Detectors.{detects}
+use Rattle.stab_circuit.proofs.Names.{◌≡◌, true, take, list_all, detects}
 use Rattle.stab_circuit.proofs.detectors.count_at_front.Given as goal
 
 abbrev pub invariant-loop-place : goal.invariant-loop-place

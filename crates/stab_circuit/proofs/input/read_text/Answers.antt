@@ -1,4 +1,4 @@
-use Rattle.std.proofs.Common.{refl, inl, arith}
+use Rattle.stab_circuit.proofs.Names.{refl, inl, arith}
 use Rattle.stab_circuit.proofs.InputLemmas.{read_past, read_within, front_refused}
 use Rattle.stab_circuit.proofs.input.read_text.Goals as goal
 

@@ -1,6 +1,4 @@
-use Rattle.std.proofs.Common.{◌≤◌, ◌-◌, vec_len}
-use Rattle.stab_io.specs.Devices.{Gave}
-use Rattle.stab_items.specs.Circuits.{most_bytes}
+use Rattle.stab_circuit.proofs.Names.{◌≤◌, ◌-◌, vec_len, Gave, most_bytes}
 use Rattle.stab_circuit.proofs.input.read_text.Given as goal
 
 abbrev pub invariant-reads : goal.invariant-reads

@@ -1,6 +1,4 @@
-use Rattle.std.proofs.Common.{◌≡◌, drop}
-use Rattle.stab_letters.specs.Letters.{◌⊕◌}
-use Rattle.stab_items.specs.Steps.{is_inverted}
+use Rattle.stab_circuit.proofs.Names.{◌≡◌, drop, ◌⊕◌, is_inverted}
 use Rattle.stab_circuit.proofs.instruction.is_inverted.Given as goal
 
 abbrev pub invariant-loop-factor : goal.invariant-loop-factor

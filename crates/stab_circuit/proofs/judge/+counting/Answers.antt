@@ -1,4 +1,4 @@
-use Rattle.std.specs.Prelude.{slice_get}
+use Rattle.stab_circuit.proofs.Names.{slice_get}
 use Rattle.stab_circuit.proofs.JudgementLemmas.{none_inside, inside_block}
 use Rattle.stab_circuit.proofs.judge.+counting.Goals as goal
 

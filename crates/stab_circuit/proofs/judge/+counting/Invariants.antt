@@ -1,4 +1,4 @@
-use Rattle.std.proofs.Common.{length, ◌+◌, ◌*◌}
+use Rattle.stab_circuit.proofs.Names.{length, ◌+◌, ◌*◌}
 use Rattle.stab_circuit.proofs.judge.+counting.Given as goal
 
 abbrev pub decreases-steps_in : goal.decreases-steps_in

@@ -1,10 +1,4 @@
-use Rattle.std.proofs.Common.{◌≡◌, ◌∙◌, ap, Ok, ◌+◌, min, length, drop, subst, arith}
-use Rattle.std.proofs.Math.Seq.{take-length}
-use Rattle.std.proofs.lemmas.Option.{slice_get_within}
-use Rattle.stab_items.specs.Items.{repeat, listed}
-use Rattle.stab_items.specs.inner.Summaries.{repeated, IsSumOf}
-use Rattle.stab_circuit.specs.Edits.{edit_path}
-use Rattle.stab_circuit.specs.inner.EditResults.{steps_within}
+use Rattle.stab_circuit.proofs.Names.{◌≡◌, ◌∙◌, ap, Ok, ◌+◌, min, length, drop, subst, arith, take-length, slice_get_within, repeat, listed, repeated, IsSumOf, edit_path, steps_within}
 use Rattle.stab_circuit.proofs.JudgementLemmas.{judged_err, judged_ok, judged_apart, begins_at, begins_block, gone_block, put_block, edit_refused}
 use Rattle.stab_circuit.proofs.EditResultLemmas.{on_ok, edit_result_is}
 use Rattle.stab_circuit.proofs.judge.+judging.Goals as goal

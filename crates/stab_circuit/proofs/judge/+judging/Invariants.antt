@@ -1,4 +1,4 @@
-use Rattle.std.proofs.Common.{length, ◌+◌, ◌*◌}
+use Rattle.stab_circuit.proofs.Names.{length, ◌+◌, ◌*◌}
 use Rattle.stab_circuit.proofs.judge.+judging.Given as goal
 
 abbrev pub decreases-judge : goal.decreases-judge

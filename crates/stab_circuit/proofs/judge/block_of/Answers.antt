@@ -1,5 +1,4 @@
-use Rattle.std.proofs.Common.{◌∙◌, ap, Some}
-use Rattle.stab_circuit.specs.inner.Judgements.{shown_item}
+use Rattle.stab_circuit.proofs.Names.{◌∙◌, ap, Some, shown_item}
 use Rattle.stab_circuit.proofs.judge.block_of.Goals as goal
 
 pub returns-in-Block : goal.returns-in-Block

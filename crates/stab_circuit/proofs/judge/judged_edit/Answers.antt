@@ -1,7 +1,5 @@
-use Rattle.std.proofs.Common.{◌≡◌, ◌∙◌, ap, subst}
+use Rattle.stab_circuit.proofs.Names.{◌≡◌, ◌∙◌, ap, subst, edit_path, edited_in, IsEditResult}
 use Rattle.std.specs.Prelude.{IfOk, IfErr, Err}
-use Rattle.stab_circuit.specs.Edits.{edit_path, edited_in}
-use Rattle.stab_circuit.specs.inner.EditResults.{IsEditResult}
 use Rattle.stab_circuit.proofs.judge.judged_edit.Goals as goal
 
 pub returns : goal.returns

@@ -1,4 +1,4 @@
-use Rattle.stab_items.specs.Prints.{printed}
+use Rattle.stab_circuit.proofs.Names.{printed}
 use Rattle.stab_circuit.proofs.RoundLemmas.{round_trip, only_items}
 use Rattle.stab_circuit.proofs.laws.printed_items_are_read_back.Goals as goal
 

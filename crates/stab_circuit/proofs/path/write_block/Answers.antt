@@ -1,6 +1,4 @@
-use Rattle.std.proofs.Common.{codes}
-use Rattle.std.proofs.lemmas.Result.{err_from_is_err_and}
-use Rattle.stab_lines.proofs.WriteLemmas.{writes_failed, writes_then}
+use Rattle.stab_circuit.proofs.Names.{codes, err_from_is_err_and, writes_failed, writes_then}
 use Rattle.stab_circuit.proofs.path.write_block.Goals as goal
 
 pub returns-in_err-write_number : goal.returns-in_err-write_number

@@ -1,8 +1,4 @@
-use Rattle.std.proofs.Common.{[], ◌∙◌, ◌+◌, drop, ap, sym}
-use Rattle.std.proofs.lemmas.Result.{err_from_is_err_and}
-use Rattle.stab_io.proofs.DeviceLemmas.{took_none}
-use Rattle.stab_circuit.specs.Paths.{path_text}
-use Rattle.stab_lines.proofs.WriteLemmas.{written_more, written_failed}
+use Rattle.stab_circuit.proofs.Names.{[], ◌∙◌, ◌+◌, drop, ap, sym, err_from_is_err_and, took_none, path_text, written_more, written_failed}
 use Rattle.stab_circuit.proofs.PathLemmas.{places_text, path_text_is, next_block}
 use Rattle.stab_circuit.proofs.path.write_path.Goals as goal
 

@@ -1,6 +1,4 @@
-use Rattle.std.proofs.Common.{drop}
-use Rattle.stab_circuit.specs.Paths.{path_text}
-use Rattle.stab_lines.proofs.WriteLemmas.{HasWritten}
+use Rattle.stab_circuit.proofs.Names.{drop, path_text, HasWritten}
 use Rattle.stab_circuit.proofs.PathLemmas.{places_text}
 use Rattle.stab_circuit.proofs.path.write_path.Given as goal
 

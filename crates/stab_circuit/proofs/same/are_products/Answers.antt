@@ -1,5 +1,4 @@
-use Rattle.std.proofs.Common.{◌<◌, ◌∙◌, [], refl, sym, length, arith}
-use Rattle.std.proofs.lemmas.List.{take_more_same, get_or_read}
+use Rattle.stab_circuit.proofs.Names.{◌<◌, ◌∙◌, [], refl, sym, length, arith, take_more_same, get_or_read}
 use Rattle.stab_circuit.proofs.SameLemmas.{same_list, tells_factors}
 use Rattle.stab_circuit.proofs.same.are_products.Goals as goal
 

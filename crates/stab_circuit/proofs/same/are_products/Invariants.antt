@@ -1,4 +1,4 @@
-use Rattle.std.proofs.Common.{◌≡◌, take}
+use Rattle.stab_circuit.proofs.Names.{◌≡◌, take}
 use Rattle.stab_circuit.proofs.same.are_products.Given as goal
 
 abbrev pub invariant-loop-place : goal.invariant-loop-place

@@ -1,7 +1,4 @@
-use Rattle.std.proofs.Common.{◌<◌, ◌++◌, ◌∙◌, sym, ap, length, take, arith}
-use Rattle.std.proofs.lemmas.List.{length-append}
-use Rattle.stab_items.specs.Items.{listed, before, done}
-use Rattle.stab_items.specs.Steps.{unroll}
+use Rattle.stab_circuit.proofs.Names.{◌<◌, ◌++◌, ◌∙◌, sym, ap, length, take, arith, length-append, listed, before, done, unroll}
 use Rattle.stab_circuit.proofs.PastItemLemmas.{steps_more}
 use Rattle.stab_circuit.proofs.same.count_same_items.Goals as goal
 

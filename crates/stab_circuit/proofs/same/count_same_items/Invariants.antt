@@ -1,6 +1,4 @@
-use Rattle.std.proofs.Common.{◌≡◌, length, take}
-use Rattle.stab_items.specs.Items.{listed}
-use Rattle.stab_items.specs.Steps.{unroll}
+use Rattle.stab_circuit.proofs.Names.{◌≡◌, length, take, listed, unroll}
 use Rattle.stab_circuit.proofs.same.count_same_items.Given as goal
 
 abbrev pub invariant-loop-place : goal.invariant-loop-place

@@ -1,5 +1,4 @@
-use Rattle.std.proofs.Common.{refl, sym, ◌∙◌, ap, map}
-use Rattle.stab_items.specs.Steps.{controlled_step, steps_of}
+use Rattle.stab_circuit.proofs.Names.{refl, sym, ◌∙◌, ap, map, controlled_step, steps_of}
 use Rattle.stab_circuit.proofs.SameLemmas.{same_mapped, same_axis, tells_pairs}
 use Rattle.stab_circuit.proofs.same.is_controlled.Goals as goal
 

@@ -1,7 +1,5 @@
-use Rattle.std.proofs.Common.{rules, sym, ◌∙◌, ap, map}
-use denote.Enum.Bare.{same_true}
-use Rattle.stab_letters.specs.contracts.gate.Gate.{the_type}
-use Rattle.stab_items.specs.Steps.{one, steps_of}
+use Rattle.stab_circuit.proofs.Names.{rules, sym, ◌∙◌, ap, map, same_true, one, steps_of}
+use Rattle.stab_gates.specs.contracts.gate.Gate.{the_type}
 use Rattle.stab_circuit.proofs.SameLemmas.{same_mapped, tells_qubits}
 use Rattle.stab_circuit.proofs.same.is_gate.Goals as goal
 

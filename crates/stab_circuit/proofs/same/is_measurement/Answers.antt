@@ -1,5 +1,4 @@
-use Rattle.std.proofs.Common.{refl, sym, ◌∙◌, ap, map}
-use Rattle.stab_items.specs.Steps.{measured, steps_of}
+use Rattle.stab_circuit.proofs.Names.{refl, sym, ◌∙◌, ap, map, measured, steps_of}
 use Rattle.stab_circuit.proofs.SameLemmas.{same_mapped, same_measurement, tells_targets}
 use Rattle.stab_circuit.proofs.same.is_measurement.Goals as goal
 

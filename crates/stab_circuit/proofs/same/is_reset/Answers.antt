@@ -1,6 +1,4 @@
-use Rattle.std.proofs.Common.{sym, ◌∙◌, ap, true, false, map}
-use Rattle.stab_lines.specs.Axes.{letter_of}
-use Rattle.stab_items.specs.Steps.{collapse, steps_of}
+use Rattle.stab_circuit.proofs.Names.{sym, ◌∙◌, ap, true, false, map, letter_of, collapse, steps_of}
 use Rattle.stab_circuit.proofs.SameLemmas.{same_mapped, same_axis, tells_qubits}
 use Rattle.stab_circuit.proofs.same.is_reset.Goals as goal
 

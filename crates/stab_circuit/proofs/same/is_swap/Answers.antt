@@ -1,7 +1,5 @@
-use Rattle.std.proofs.Common.{sym, ◌∙◌, ap, map}
-use Rattle.std.proofs.lemmas.Bool.{OnTrue_from}
-use Rattle.stab_letters.specs.declared.gate.PairGate.TheVariants as gate
-use Rattle.stab_items.specs.Steps.{two, steps_of}
+use Rattle.stab_circuit.proofs.Names.{sym, ◌∙◌, ap, map, OnTrue_from, two, steps_of}
+use Rattle.stab_gates.specs.declared.gate.PairGate.TheVariants as gate
 use Rattle.stab_circuit.proofs.SameLemmas.{same_list, tells_both}
 use Rattle.stab_circuit.proofs.same.is_swap.Goals as goal
 

@@ -1,6 +1,4 @@
-use Rattle.std.proofs.Common.{ap}
-use Rattle.stab_items.specs.Steps.{one, controlled_step, measured, steps_of}
-use Rattle.stab_circuit.specs.Cursors.{step_shown}
+use Rattle.stab_circuit.proofs.Names.{ap, one, controlled_step, measured, steps_of, step_shown}
 use Rattle.stab_circuit.proofs.WalkLemmas.{none_given, some_given}
 use Rattle.stab_circuit.proofs.StepPartLemmas.{part-steps}
 use Rattle.stab_circuit.proofs.steps.steps_from.Goals as goal

@@ -1,11 +1,4 @@
-use Rattle.std.proofs.Common.{◌≡◌, [], ◌+◌, sym, ◌∙◌, ap, subst, refl, length, drop, ◌++◌, arith}
-use Rattle.std.proofs.lemmas.List.{length-append}
-use Rattle.stab_circuit.specs.Steps.{unroll}
-use Rattle.stab_circuit.specs.Cursors.{steps_shown}
-use Rattle.stab_circuit.specs.Views.{circuit_items}
-use Rattle.stab_coins.specs.inner.Groups.{coins_together}
-use Rattle.stab_laws.proofs.CoinLemmas.{coins-few}
-use Rattle.stab_laws.proofs.FitLemmas.{check-steps}
+use Rattle.stab_coins.proofs.Names.{◌≡◌, [], ◌+◌, sym, ◌∙◌, ap, subst, refl, length, drop, ◌++◌, arith, length-append, unroll, steps_shown, circuit_items, coins_together, coins-few, check-steps}
 use Rattle.stab_coins.proofs.PlaceLemmas.{AreGathered, TakeCoins, together, few-together, drop-group, gathered-group, gathered-all}
 use Rattle.stab_coins.proofs.places.coin_places.Goals as goal
 

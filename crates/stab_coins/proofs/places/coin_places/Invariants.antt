@@ -1,6 +1,4 @@
-use Rattle.std.proofs.Common.{◌≡◌, ◌+◌, length, drop}
-use Rattle.stab_circuit.specs.Steps.{unroll}
-use Rattle.stab_circuit.specs.Views.{circuit_items}
+use Rattle.stab_coins.proofs.Names.{◌≡◌, ◌+◌, length, drop, unroll, circuit_items}
 use Rattle.stab_coins.proofs.PlaceLemmas.{AreGathered}
 use Rattle.stab_coins.proofs.places.coin_places.Given as goal
 

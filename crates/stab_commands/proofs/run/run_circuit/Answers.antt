@@ -1,5 +1,4 @@
-use Rattle.stab_circuit.specs.Views.{circuit_items}
-use Rattle.stab_sampling.specs.Sendings.{shots_of}
+use Rattle.stab_commands.proofs.Names.{circuit_items, shots_of}
 use Rattle.stab_commands.proofs.RunLaws.{ends_refused, ends_sent}
 use Rattle.stab_commands.proofs.run.run_circuit.Goals as goal
 

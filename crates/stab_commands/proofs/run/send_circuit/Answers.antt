@@ -1,4 +1,4 @@
-use Rattle.stab_tables.proofs.SendingLaws.{sends_cut_off, sends_finished}
+use Rattle.stab_commands.proofs.Names.{sends_cut_off, sends_finished}
 use Rattle.stab_commands.proofs.run.send_circuit.Goals as goal
 
 pub returns-in_err-send_shots : goal.returns-in_err-send_shots

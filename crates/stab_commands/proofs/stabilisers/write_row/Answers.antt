@@ -1,7 +1,4 @@
-use Rattle.std.proofs.Common.{codes}
-use Rattle.stab_pauli.specs.Texts.{pauli_text}
-use Rattle.stab_io.proofs.DeviceLemmas.{failed_on, failed_within, took_and_failed}
-use Rattle.stab_tables.specs.Rows.{line_of}
+use Rattle.stab_commands.proofs.Names.{codes, pauli_text, failed_on, failed_within, took_and_failed, line_of}
 use Rattle.stab_commands.proofs.stabilisers.write_row.Goals as goal
 
 pub returns-in_err-write_text : goal.returns-in_err-write_text

@@ -1,6 +1,4 @@
-use Rattle.std.proofs.Common.{drop}
-use Rattle.stab_io.proofs.DeviceLemmas.{wrote_part, wrote_and_failed, failed_on}
-use Rattle.stab_tables.specs.Rows.{line_of, lines_of}
+use Rattle.stab_commands.proofs.Names.{drop, wrote_part, wrote_and_failed, failed_on, line_of, lines_of}
 use Rattle.stab_commands.proofs.RowLaws.{lines-drop}
 use Rattle.stab_commands.proofs.stabilisers.write_rows.Goals as goal
 

@@ -1,6 +1,5 @@
+use Rattle.stab_commands.proofs.Names.{WroteUpTo, lines_of}
 use Rattle.std.proofs.Math.ListN.{drop}
-use Rattle.stab_io.proofs.DeviceLemmas.{WroteUpTo}
-use Rattle.stab_tables.specs.Rows.{lines_of}
 use Rattle.stab_commands.proofs.stabilisers.write_rows.Given as goal
 
 abbrev pub invariant-loop-row : goal.invariant-loop-row

@@ -1,12 +1,10 @@
-use Rattle.std.proofs.Common.{subst, sym}
-use Rattle.stab_tables.specs.FaultTables.{EndsFaults, fault_of}
-use Rattle.stab_tables.specs.Distances.{EndsDistance}
+use Rattle.stab_commands.proofs.Names.{subst, sym, EndsFaults, fault_of, EndsDistance}
 use Rattle.stab_commands.proofs.status.run_command.Goals as goal
 
 pub returns-in-Faults-clause-ends : goal.returns-in-Faults-clause-ends
 returns-in-Faults-clause-ends g c =
     let ends = subst
-    (λ u. EndsFaults c.in-Faults.layout c.in-Faults.everywhere c.in-Faults.sure_only (g.I.Input.seen c.args.input.now) (g.I.Input.seen c.run_faults.new.input) (g.O.Output.seen c.args.out.now) (g.O.Output.seen c.run_faults.new.out) (fault_of c.run_faults.result) u)
+    (λ u. EndsFaults c.in-Faults.layout c.in-Faults.everywhere c.in-Faults.deterministic_only (g.I.Input.seen c.args.input.now) (g.I.Input.seen c.run_faults.new.input) (g.O.Output.seen c.args.out.now) (g.O.Output.seen c.run_faults.new.out) (fault_of c.run_faults.result) u)
     (sym c.refuses_none.ensures.same) c.run_faults.ensures.ends in
     rw c.in-Faults.is (fault_of c.run_faults.result, ends, c.refuses_none.ensures.value)
 

@@ -1,4 +1,4 @@
-use Rattle.std.proofs.Common.{arith, below_more}
+use Rattle.stab_distance.proofs.Names.{arith, below_more}
 use Rattle.stab_distance.proofs.GraphLemmas.{true-inside}
 use Rattle.stab_distance.proofs.bounds.are_far.Goals as goal
 

@@ -1,5 +1,4 @@
-use Rattle.std.proofs.Common.{◌≡◌, ℕ, ◌<◌, true, false, get_or}
-use Rattle.stab_distance.specs.inner.Labels.{IsFar}
+use Rattle.stab_distance.proofs.Names.{◌≡◌, ℕ, ◌<◌, true, false, get_or, IsFar}
 use Rattle.stab_distance.proofs.bounds.are_far.Given as goal
 
 abbrev pub invariant-sources : goal.invariant-sources

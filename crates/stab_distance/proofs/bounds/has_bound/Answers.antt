@@ -1,5 +1,4 @@
-use Rattle.std.proofs.Common.{◌≡◌, ℕ, ◌<◌, ◌≤◌, false, List, length, subst, arith}
-use Rattle.stab_distance.specs.Tables.{odd, row}
+use Rattle.stab_distance.proofs.Names.{◌≡◌, ℕ, ◌<◌, ◌≤◌, false, List, length, subst, arith, odd, row}
 use Rattle.stab_distance.proofs.BoundLemmas.{bound-all}
 use Rattle.stab_distance.proofs.bounds.has_bound.Goals as goal
 

@@ -1,5 +1,4 @@
-use Rattle.std.proofs.Common.{ℕ, ◌<◌, ◌≤◌}
-use Rattle.stab_distance.specs.inner.Graphs.{HasAtLeast}
+use Rattle.stab_distance.proofs.Names.{ℕ, ◌<◌, ◌≤◌, HasAtLeast}
 use Rattle.stab_distance.proofs.bounds.has_bound.Given as goal
 
 abbrev pub invariant-observables : goal.invariant-observables

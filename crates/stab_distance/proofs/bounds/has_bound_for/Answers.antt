@@ -1,8 +1,4 @@
-use Rattle.std.proofs.Common.{refl, subst, ap, ◌∙◌, ℕ, Bool, false, List, get_or}
-use Rattle.std.proofs.lemmas.Result.{IfOk-weaker}
-use Rattle.stab_distance.specs.declared.edges.Edge.{Edge}
-use Rattle.stab_distance.specs.inner.Graphs.{AreBits}
-use Rattle.stab_distance.specs.inner.Labels.{AreCovered, IsFar}
+use Rattle.stab_distance.proofs.Names.{refl, subst, ap, ◌∙◌, ℕ, Bool, false, List, get_or, IfOk-weaker, Edge, AreBits, AreCovered, IsFar}
 use Rattle.stab_distance.proofs.GraphLemmas.{at-least}
 use Rattle.stab_distance.proofs.bounds.has_bound_for.Goals as goal
 

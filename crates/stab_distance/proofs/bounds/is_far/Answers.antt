@@ -1,6 +1,4 @@
-use Rattle.std.proofs.Common.{List, subst}
-use Rattle.stab_distance.specs.declared.edges.Edge.{Edge}
-use Rattle.stab_distance.specs.inner.Labels.{AreLabels}
+use Rattle.stab_distance.proofs.Names.{List, subst, Edge, AreLabels}
 use Rattle.stab_distance.proofs.bounds.is_far.Goals as goal
 
 pub returns : goal.returns

@@ -1,5 +1,4 @@
-use Rattle.std.proofs.Common.{refl, arith}
-use Rattle.stab_distance.specs.Tables.{ErrorTable}
+use Rattle.stab_distance.proofs.Names.{refl, arith, ErrorTable}
 use Rattle.stab_distance.proofs.CertificateLemmas.{certified, follow-next, none-followed}
 use Rattle.stab_distance.proofs.certificate.are_certified.Goals as goal
 

@@ -1,5 +1,4 @@
-use Rattle.std.proofs.Common.{ℕ, ◌<◌, ◌≤◌}
-use Rattle.stab_distance.specs.inner.Certificates.{FollowsDetectors}
+use Rattle.stab_distance.proofs.Names.{ℕ, ◌<◌, ◌≤◌, FollowsDetectors}
 use Rattle.stab_distance.proofs.certificate.are_certified.Given as goal
 
 abbrev pub invariant-observables : goal.invariant-observables

@@ -1,4 +1,4 @@
-use Rattle.std.proofs.Common.{◌≡◌, ℕ, ◌<◌, ◌≤◌, true, false, get_or}
+use Rattle.stab_distance.proofs.Names.{◌≡◌, ℕ, ◌<◌, ◌≤◌, true, false, get_or}
 use Rattle.stab_distance.proofs.certificate.are_detectors.Given as goal
 
 abbrev pub invariant-members : goal.invariant-members

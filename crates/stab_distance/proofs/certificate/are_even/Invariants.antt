@@ -1,6 +1,4 @@
-use Rattle.std.proofs.Common.{◌≡◌, ℕ, ◌<◌, false}
-use Rattle.stab_distance.specs.Tables.{row}
-use Rattle.stab_distance.specs.inner.Certificates.{odd_members}
+use Rattle.stab_distance.proofs.Names.{◌≡◌, ℕ, ◌<◌, false, row, odd_members}
 use Rattle.stab_distance.proofs.certificate.are_even.Given as goal
 
 abbrev pub invariant-rows : goal.invariant-rows

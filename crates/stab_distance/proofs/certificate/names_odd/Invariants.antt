@@ -1,6 +1,4 @@
-use Rattle.std.proofs.Common.{◌≡◌, drop}
-use Rattle.stab_letters.specs.Letters.{◌⊕◌}
-use Rattle.stab_distance.specs.inner.Certificates.{odd_members}
+use Rattle.stab_distance.proofs.Names.{◌≡◌, drop, ◌⊕◌, odd_members}
 use Rattle.stab_distance.proofs.certificate.names_odd.Given as goal
 
 abbrev pub invariant-each : goal.invariant-each

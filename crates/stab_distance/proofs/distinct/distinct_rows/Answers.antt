@@ -1,6 +1,4 @@
-use Rattle.std.proofs.Common.{sym, subst, arith, below_more}
-use Rattle.stab_distance.specs.Tables.{row}
-use Rattle.stab_distance.specs.inner.Errors.{HasRow}
+use Rattle.stab_distance.proofs.Names.{sym, subst, arith, below_more, row, HasRow}
 use Rattle.stab_distance.proofs.distinct.distinct_rows.Goals as goal
 
 pub all-preserved : goal.all-preserved

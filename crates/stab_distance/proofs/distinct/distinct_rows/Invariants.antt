@@ -1,6 +1,4 @@
-use Rattle.std.proofs.Common.{ℕ, ◌<◌}
-use Rattle.stab_distance.specs.Tables.{row}
-use Rattle.stab_distance.specs.inner.Errors.{AreRowsOf, HasRow}
+use Rattle.stab_distance.proofs.Names.{ℕ, ◌<◌, row, AreRowsOf, HasRow}
 use Rattle.stab_distance.proofs.distinct.distinct_rows.Given as goal
 
 abbrev pub invariant-observed : goal.invariant-observed

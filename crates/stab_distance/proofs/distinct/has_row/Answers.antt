@@ -1,4 +1,4 @@
-use Rattle.std.proofs.Common.{◌∙◌, sym, get_or}
+use Rattle.stab_distance.proofs.Names.{◌∙◌, sym, get_or}
 use Rattle.stab_distance.proofs.EqualLemmas.{pointwise-true}
 use Rattle.stab_distance.proofs.IndexLemmas.{row-in}
 use Rattle.stab_distance.proofs.distinct.has_row.Goals as goal

@@ -1,5 +1,4 @@
-use Rattle.std.proofs.Common.{◌≡◌, ℕ, ◌<◌, false, length, get_or}
-use Rattle.stab_distance.specs.Tables.{odd, row}
+use Rattle.stab_distance.proofs.Names.{◌≡◌, ℕ, ◌<◌, false, length, get_or, odd, row}
 use Rattle.stab_distance.proofs.edges.bits_of.Given as goal
 
 abbrev pub invariant-rows : goal.invariant-rows

@@ -1,4 +1,4 @@
-use Rattle.std.proofs.Common.{refl}
+use Rattle.stab_distance.proofs.Names.{refl}
 use Rattle.stab_distance.proofs.EdgeLemmas.{edge-is}
 use Rattle.stab_distance.proofs.edges.edge_of.Goals as goal
 

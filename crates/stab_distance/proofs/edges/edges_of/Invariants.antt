@@ -1,6 +1,4 @@
-use Rattle.std.proofs.Common.{◌≡◌, ℕ, ◌<◌, length}
-use Rattle.stab_distance.specs.Tables.{row}
-use Rattle.stab_distance.specs.inner.Graphs.{IsEdge, edge}
+use Rattle.stab_distance.proofs.Names.{◌≡◌, ℕ, ◌<◌, length, row, IsEdge, edge}
 use Rattle.stab_distance.proofs.edges.edges_of.Given as goal
 
 abbrev pub invariant-rows : goal.invariant-rows

@@ -1,5 +1,4 @@
-use Rattle.std.proofs.Common.{arith}
-use Rattle.std.proofs.lemmas.Bool.{leb-true, leb-false}
+use Rattle.stab_distance.proofs.Names.{arith, leb-true, leb-false}
 use Rattle.stab_distance.proofs.EdgeLemmas.{graphlike-beyond, not-graphlike}
 use Rattle.stab_distance.proofs.edges.is_graphlike.Goals as goal
 

@@ -1,6 +1,4 @@
-use Rattle.std.proofs.Common.{◌≡◌, drop}
-use Rattle.std.specs.Prelude.{bit_xor}
-use Rattle.stab_distance.specs.inner.Errors.{key_of}
+use Rattle.stab_distance.proofs.Names.{◌≡◌, drop, bit_xor, key_of}
 use Rattle.stab_distance.proofs.errors.key_of.Given as goal
 
 abbrev pub invariant-each : goal.invariant-each

@@ -1,6 +1,4 @@
-use Rattle.std.proofs.Common.{◌≡◌, ℕ, ◌<◌, length, get_or}
-use Rattle.stab_distance.specs.Tables.{row}
-use Rattle.stab_distance.specs.inner.Errors.{key_of}
+use Rattle.stab_distance.proofs.Names.{◌≡◌, ℕ, ◌<◌, length, get_or, row, key_of}
 use Rattle.stab_distance.proofs.errors.keys_of.Given as goal
 
 abbrev pub invariant-rows : goal.invariant-rows

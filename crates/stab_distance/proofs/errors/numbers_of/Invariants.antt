@@ -1,4 +1,4 @@
-use Rattle.std.proofs.Common.{◌≡◌, length}
+use Rattle.stab_distance.proofs.Names.{◌≡◌, length}
 use Rattle.stab_distance.proofs.errors.numbers_of.Given as goal
 
 abbrev pub invariant-each : goal.invariant-each

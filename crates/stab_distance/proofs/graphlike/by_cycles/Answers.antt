@@ -1,5 +1,4 @@
-use Rattle.std.proofs.Common.{◌≡◌, ap, subst, arith, length}
-use Rattle.stab_distance.specs.LogicalErrors.{HasNone}
+use Rattle.stab_distance.proofs.Names.{◌≡◌, ap, subst, arith, length, HasNone}
 use Rattle.stab_distance.proofs.DistinctLemmas.{none-told, none-within_told, bound-told}
 use Rattle.stab_distance.proofs.BoundLemmas.{least-bounded, none-bounded}
 use Rattle.stab_distance.proofs.graphlike.by_cycles.Goals as goal

@@ -1,4 +1,4 @@
-use Rattle.std.proofs.lemmas.Result.{IfOk-weaker}
+use Rattle.stab_distance.proofs.Names.{IfOk-weaker}
 use Rattle.stab_distance.proofs.PartLemmas.{part-answer}
 use Rattle.stab_distance.proofs.graphlike.least_graphlike_error.Goals as goal
 

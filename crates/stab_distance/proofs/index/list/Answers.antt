@@ -1,5 +1,4 @@
-use Rattle.std.proofs.Common.{ℕ, ◌<◌, List, [], ◌∷◌, ◌++◌, ◌∙◌, ap, arith, length}
-use Rattle.stab_distance.specs.inner.Indexes.{listed}
+use Rattle.stab_distance.proofs.Names.{ℕ, ◌<◌, List, [], ◌∷◌, ◌++◌, ◌∙◌, ap, arith, length, listed}
 use Rattle.stab_distance.proofs.IndexLemmas.{listed-push, listed-set_here, listed-set_other, listed-at}
 use Rattle.stab_distance.proofs.index.list.Goals as goal
 

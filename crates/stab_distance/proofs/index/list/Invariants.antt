@@ -1,5 +1,4 @@
-use Rattle.std.proofs.Common.{◌≡◌, ℕ, ◌+◌, ◌-◌, length}
-use Rattle.stab_distance.specs.inner.Indexes.{listed}
+use Rattle.stab_distance.proofs.Names.{◌≡◌, ℕ, ◌+◌, ◌-◌, length, listed}
 use Rattle.stab_distance.proofs.index.list.Given as goal
 
 abbrev pub invariant-grow : goal.invariant-grow

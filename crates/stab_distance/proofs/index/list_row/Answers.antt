@@ -1,6 +1,4 @@
-use Rattle.std.proofs.Common.{◌≡◌, true, arith, subst, below_more, get_or}
-use Rattle.stab_distance.specs.inner.Lists.{has}
-use Rattle.stab_distance.specs.inner.Indexes.{listed}
+use Rattle.stab_distance.proofs.Names.{◌≡◌, true, arith, subst, below_more, get_or, has, listed}
 use Rattle.stab_distance.proofs.ListLemmas.{has-at}
 use Rattle.stab_distance.proofs.IndexLemmas.{added-has, kept-has, kept-inside}
 use Rattle.stab_distance.proofs.index.list_row.Goals as goal

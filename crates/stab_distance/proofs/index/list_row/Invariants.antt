@@ -1,7 +1,4 @@
-use Rattle.std.proofs.Common.{◌≡◌, ℕ, ◌<◌, true, get_or}
-use Rattle.stab_distance.specs.inner.Lists.{Each}
-use Rattle.stab_distance.specs.inner.Lists.{has}
-use Rattle.stab_distance.specs.inner.Indexes.{listed}
+use Rattle.stab_distance.proofs.Names.{◌≡◌, ℕ, ◌<◌, true, get_or, Each, has, listed}
 use Rattle.stab_distance.proofs.index.list_row.Given as goal
 
 abbrev pub invariant-each : goal.invariant-each

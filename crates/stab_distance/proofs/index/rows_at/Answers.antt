@@ -1,4 +1,4 @@
-use Rattle.std.proofs.Common.{sym, ◌∙◌}
+use Rattle.stab_distance.proofs.Names.{sym, ◌∙◌}
 use Rattle.stab_distance.proofs.IndexLemmas.{listed-at, listed-past}
 use Rattle.stab_distance.proofs.index.rows_at.Goals as goal
 

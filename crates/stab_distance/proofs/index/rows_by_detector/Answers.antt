@@ -1,4 +1,4 @@
-use Rattle.std.proofs.Common.{◌∙◌, length}
+use Rattle.stab_distance.proofs.Names.{◌∙◌, length}
 use Rattle.stab_distance.proofs.IndexLemmas.{complete-more, row-in}
 use Rattle.stab_distance.proofs.index.rows_by_detector.Goals as goal
 

@@ -1,8 +1,4 @@
-use Rattle.std.proofs.Common.{◌≡◌, ℕ, ◌<◌, true, length}
-use Rattle.stab_distance.specs.Tables.{odd, row}
-use Rattle.stab_distance.specs.inner.Lists.{Each}
-use Rattle.stab_distance.specs.inner.Lists.{has}
-use Rattle.stab_distance.specs.inner.Indexes.{listed}
+use Rattle.stab_distance.proofs.Names.{◌≡◌, ℕ, ◌<◌, true, length, odd, row, Each, has, listed}
 use Rattle.stab_distance.proofs.index.rows_by_detector.Given as goal
 
 abbrev pub invariant-all : goal.invariant-all

@@ -1,4 +1,4 @@
-use Rattle.std.proofs.Common.{◌<◌, length, get_or, subst, sym, ◌∙◌, ap, arith}
+use Rattle.stab_distance.proofs.Names.{◌<◌, length, get_or, subst, sym, ◌∙◌, ap, arith}
 use Rattle.stab_distance.proofs.ListLemmas.{has-at}
 use Rattle.stab_distance.proofs.keys.has_key.Goals as goal
 

@@ -1,4 +1,4 @@
-use Rattle.std.proofs.Common.{◌≢◌, ℕ, ◌<◌, length, get_or}
+use Rattle.stab_distance.proofs.Names.{◌≢◌, ℕ, ◌<◌, length, get_or}
 use Rattle.stab_distance.proofs.keys.has_key.Given as goal
 
 abbrev pub invariant-candidates : goal.invariant-candidates

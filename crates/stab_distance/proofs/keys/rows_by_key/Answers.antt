@@ -1,5 +1,4 @@
-use Rattle.std.proofs.Common.{below_more, get_or, length}
-use Rattle.std.specs.Prelude.{bit_and}
+use Rattle.stab_distance.proofs.Names.{below_more, get_or, length, bit_and}
 use Rattle.stab_distance.proofs.IndexLemmas.{added-has, kept-has, kept-inside}
 use Rattle.stab_distance.proofs.keys.rows_by_key.Goals as goal
 

@@ -1,7 +1,4 @@
-use Rattle.std.proofs.Common.{◌≡◌, ℕ, ◌<◌, true, length, get_or}
-use Rattle.std.specs.Prelude.{bit_and}
-use Rattle.stab_distance.specs.inner.Lists.{Each, has}
-use Rattle.stab_distance.specs.inner.Indexes.{listed}
+use Rattle.stab_distance.proofs.Names.{◌≡◌, ℕ, ◌<◌, true, length, get_or, bit_and, Each, has, listed}
 use Rattle.stab_distance.proofs.keys.rows_by_key.Given as goal
 
 abbrev pub invariant-keys : goal.invariant-keys

@@ -1,5 +1,4 @@
-use Rattle.std.proofs.Common.{◌≡◌, ℕ, ◌<◌, true, get_or}
-use Rattle.std.specs.Prelude.{bit_and}
+use Rattle.stab_distance.proofs.Names.{◌≡◌, ℕ, ◌<◌, true, get_or, bit_and}
 use Rattle.stab_distance.proofs.keys.signs_of.Given as goal
 
 abbrev pub invariant-keys : goal.invariant-keys

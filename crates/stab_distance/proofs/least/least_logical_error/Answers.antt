@@ -1,7 +1,4 @@
-use Rattle.std.proofs.Common.{subst, ap, ℕ, List, map}
-use Rattle.std.specs.Prelude.{slice_index}
-use Rattle.stab_distance.specs.Tables.{ErrorTable}
-use Rattle.stab_distance.specs.inner.Shortest.{IsGathered}
+use Rattle.stab_distance.proofs.Names.{subst, ap, ℕ, List, map, slice_index, ErrorTable, IsGathered}
 use Rattle.stab_distance.proofs.DistinctLemmas.{none-told, none-within_told, least-told}
 use Rattle.stab_distance.proofs.least.least_logical_error.Goals as goal
 

@@ -1,4 +1,4 @@
-use Rattle.std.proofs.Common.{arith}
+use Rattle.stab_distance.proofs.Names.{arith}
 use Rattle.stab_distance.proofs.ShortestLemmas.{none-more}
 use Rattle.stab_distance.proofs.least.of_one_more.Goals as goal
 

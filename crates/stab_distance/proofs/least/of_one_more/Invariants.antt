@@ -1,6 +1,4 @@
-use Rattle.std.proofs.Common.{ℕ, ◌<◌}
-use Rattle.stab_distance.specs.Tables.{row}
-use Rattle.stab_distance.specs.inner.Ends.{NoEnds}
+use Rattle.stab_distance.proofs.Names.{ℕ, ◌<◌, row, NoEnds}
 use Rattle.stab_distance.proofs.least.of_one_more.Given as goal
 
 abbrev pub invariant-firsts : goal.invariant-firsts

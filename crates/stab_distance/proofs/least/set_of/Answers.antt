@@ -1,6 +1,4 @@
-use Rattle.std.proofs.Common.{subst, sym, arith, take, map, ◌+◌}
-use Rattle.std.specs.Prelude.{slice_index}
-use Rattle.stab_distance.specs.inner.Shortest.{IsGathered}
+use Rattle.stab_distance.proofs.Names.{subst, sym, arith, take, map, ◌+◌, slice_index, IsGathered}
 use Rattle.stab_distance.proofs.ShortestLemmas.{gathered-next}
 use Rattle.stab_distance.proofs.least.set_of.Goals as goal
 

@@ -1,6 +1,4 @@
-use Rattle.std.proofs.Common.{take, map}
-use Rattle.std.specs.Prelude.{slice_index}
-use Rattle.stab_distance.specs.inner.Shortest.{IsGathered}
+use Rattle.stab_distance.proofs.Names.{take, map, slice_index, IsGathered}
 use Rattle.stab_distance.proofs.least.set_of.Given as goal
 
 abbrev pub invariant-each : goal.invariant-each

@@ -1,4 +1,4 @@
-use Rattle.std.proofs.Common.{arith}
+use Rattle.stab_distance.proofs.Names.{arith}
 use Rattle.stab_distance.proofs.ShortestLemmas.{none-up_to}
 use Rattle.stab_distance.proofs.least.shortest.Goals as goal
 

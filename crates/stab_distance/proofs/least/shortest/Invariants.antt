@@ -1,4 +1,4 @@
-use Rattle.stab_distance.specs.LogicalErrors.{HasNoneWithin}
+use Rattle.stab_distance.proofs.Names.{HasNoneWithin}
 use Rattle.stab_distance.proofs.least.shortest.Given as goal
 
 abbrev pub invariant-sizes : goal.invariant-sizes

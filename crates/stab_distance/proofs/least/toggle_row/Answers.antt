@@ -1,5 +1,4 @@
-use Rattle.std.proofs.Common.{◌≡◌, ◌<◌, ◌∙◌, arith, length, get_or}
-use Rattle.std.proofs.lemmas.List.{get_or_read}
+use Rattle.stab_distance.proofs.Names.{◌≡◌, ◌<◌, ◌∙◌, arith, length, get_or, get_or_read}
 use Rattle.stab_distance.proofs.ShortestLemmas.{toggle-insert, toggle-remove}
 use Rattle.stab_distance.proofs.least.toggle_row.Goals as goal
 use Rattle.stab_distance.proofs.least.toggle_row.Goals.{then-pass-test+else-index-r, else-pass-test, else-place-len-via-then-place-len+else-index-r-2, else-place-len-via-else-place-len}

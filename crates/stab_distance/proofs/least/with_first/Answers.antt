@@ -1,6 +1,4 @@
-use Rattle.std.proofs.Common.{sym, subst, ℕ, List, ◌+◌}
-use Rattle.stab_distance.specs.inner.Ends.{EndsWithin}
-use Rattle.stab_distance.specs.inner.Shortest.{IsLogicalWithin}
+use Rattle.stab_distance.proofs.Names.{sym, subst, ℕ, List, ◌+◌, EndsWithin, IsLogicalWithin}
 use Rattle.stab_distance.proofs.ShortestLemmas.{begun}
 use Rattle.stab_distance.proofs.least.with_first.Goals as goal
 

@@ -1,4 +1,4 @@
-use Rattle.std.proofs.Common.{ℕ, ◌<◌, get_or}
+use Rattle.stab_distance.proofs.Names.{ℕ, ◌<◌, get_or}
 use Rattle.stab_distance.proofs.logical.are_below.Given as goal
 
 abbrev pub invariant-each : goal.invariant-each

@@ -1,9 +1,4 @@
-use Rattle.std.proofs.Common.{◌≢◌, ◌∙◌, ap, sym, subst, arith, below_more, length, get_or, List, ℕ}
-use Rattle.std.proofs.lemmas.Bool.{leb-true, eqb-false}
-use Rattle.std.proofs.lemmas.List.{take_all}
-use Rattle.stab_letters.specs.Letters.{◌⊕◌}
-use Rattle.stab_distance.specs.Ascending.{IsAscending}
-use Rattle.stab_distance.specs.Tables.{odd, row, flips}
+use Rattle.stab_distance.proofs.Names.{◌≢◌, ◌∙◌, ap, sym, subst, arith, below_more, length, get_or, List, ℕ, leb-true, eqb-false, take_all, ◌⊕◌, IsAscending, odd, row, flips}
 use Rattle.stab_distance.proofs.LogicalLemmas.{flips-next, flipped-logical}
 use Rattle.stab_distance.proofs.logical.is_logical.Goals as goal
 

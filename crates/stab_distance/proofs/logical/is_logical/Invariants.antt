@@ -1,6 +1,4 @@
-use Rattle.std.proofs.Common.{◌≡◌, ℕ, ◌<◌, length, get_or, take}
-use Rattle.stab_distance.specs.Ascending.{IsAscending}
-use Rattle.stab_distance.specs.Tables.{odd, flips}
+use Rattle.stab_distance.proofs.Names.{◌≡◌, ℕ, ◌<◌, length, get_or, take, IsAscending, odd, flips}
 use Rattle.stab_distance.proofs.logical.is_logical.Given as goal
 
 abbrev pub invariant-each : goal.invariant-each

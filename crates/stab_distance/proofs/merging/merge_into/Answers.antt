@@ -1,6 +1,4 @@
-use Rattle.std.proofs.Common.{◌≡◌, ◌≤◌, ◌⊎◌, inl, inr, length, get_or, ◌+◌, ◌++◌, ◌∙◌, ap, sym, subst, arith, List, ℕ, drop}
-use Rattle.stab_distance.specs.Ascending.{IsAscending}
-use Rattle.stab_distance.specs.Tables.{odd}
+use Rattle.stab_distance.proofs.Names.{◌≡◌, ◌≤◌, ◌⊎◌, inl, inr, length, get_or, ◌+◌, ◌++◌, ◌∙◌, ap, sym, subst, arith, List, ℕ, drop, IsAscending, odd}
 use Rattle.stab_distance.proofs.AscendingLemmas.{ascends-next, ascends-less, ascends-left_out, ascends-end}
 use Rattle.stab_distance.proofs.MergeLemmas.{merging, merging-left, merging-right, merging-both, merging-end}
 use Rattle.stab_distance.proofs.merging.merge_into.Goals as goal

@@ -1,7 +1,4 @@
-use Rattle.std.proofs.Common.{◌≡◌, ℕ, ◌+◌, ◌≤◌, ◌++◌, length, drop}
-use Rattle.stab_letters.specs.Letters.{◌⊕◌}
-use Rattle.stab_distance.specs.Ascending.{IsAscending}
-use Rattle.stab_distance.specs.Tables.{odd}
+use Rattle.stab_distance.proofs.Names.{◌≡◌, ℕ, ◌+◌, ◌≤◌, ◌++◌, length, drop, ◌⊕◌, IsAscending, odd}
 use Rattle.stab_distance.proofs.merging.merge_into.Given as goal
 
 abbrev pub invariant-heads : goal.invariant-heads

@@ -1,7 +1,4 @@
-use Rattle.std.proofs.Common.{◌≡◌, ◌⊎◌, ℕ, List, [], ◌∷◌, ◌++◌, length, ap, sym, subst, arith, ◌∙◌}
-use Rattle.std.proofs.lemmas.List.{length-append}
-use Rattle.stab_distance.specs.Tables.{ErrorTable, row}
-use Rattle.stab_distance.specs.Graphlike.{IsGraphlike}
+use Rattle.stab_distance.proofs.Names.{◌≡◌, ◌⊎◌, ℕ, List, [], ◌∷◌, ◌++◌, length, ap, sym, subst, arith, ◌∙◌, length-append, ErrorTable, row, IsGraphlike}
 use Rattle.stab_distance.proofs.PartLemmas.{kept-push, others-push}
 use Rattle.stab_distance.proofs.parts.graphlike_part.Goals as goal
 

@@ -1,6 +1,4 @@
-use Rattle.std.proofs.Common.{◌≡◌, ℕ, ◌<◌, ◌⊎◌, [], length}
-use Rattle.stab_distance.specs.Tables.{row}
-use Rattle.stab_distance.specs.Graphlike.{IsGraphlike}
+use Rattle.stab_distance.proofs.Names.{◌≡◌, ℕ, ◌<◌, ◌⊎◌, [], length, row, IsGraphlike}
 use Rattle.stab_distance.proofs.parts.graphlike_part.Given as goal
 
 abbrev pub invariant-rows : goal.invariant-rows

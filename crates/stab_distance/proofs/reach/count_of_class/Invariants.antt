@@ -1,5 +1,4 @@
-use Rattle.std.proofs.Common.{◌≡◌, ◌+◌, ◌≤◌, drop}
-use Rattle.stab_distance.specs.inner.Reach.{of_class}
+use Rattle.stab_distance.proofs.Names.{◌≡◌, ◌+◌, ◌≤◌, drop, of_class}
 use Rattle.stab_distance.proofs.reach.count_of_class.Given as goal
 
 abbrev pub invariant-each : goal.invariant-each

@@ -1,6 +1,4 @@
-use Rattle.std.proofs.Common.{ℕ, ◌<◌, ◌≤◌}
-use Rattle.stab_distance.specs.Tables.{row}
-use Rattle.stab_distance.specs.inner.Reach.{of_class}
+use Rattle.stab_distance.proofs.Names.{ℕ, ◌<◌, ◌≤◌, row, of_class}
 use Rattle.stab_distance.proofs.reach.most_of_class.Given as goal
 
 abbrev pub invariant-rows : goal.invariant-rows

@@ -1,5 +1,4 @@
-use Rattle.std.proofs.Common.{◌≡◌, length}
-use Rattle.stab_distance.specs.inner.Reach.{IsReach}
+use Rattle.stab_distance.proofs.Names.{◌≡◌, length, IsReach}
 use Rattle.stab_distance.proofs.reach.reach_of.Given as goal
 
 abbrev pub invariant-classes : goal.invariant-classes

@@ -1,5 +1,4 @@
-use Rattle.std.proofs.Common.{◌≢◌, ◌-◌, length, sym, arith}
-use Rattle.std.proofs.lemmas.Bool.{eqb-false}
+use Rattle.stab_distance.proofs.Names.{◌≢◌, ◌-◌, length, sym, arith, eqb-false}
 use Rattle.stab_distance.proofs.AscendingLemmas.{odd-beyond}
 use Rattle.stab_distance.proofs.row.end_of.Goals as goal
 

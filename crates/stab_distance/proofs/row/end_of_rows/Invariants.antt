@@ -1,5 +1,4 @@
-use Rattle.std.proofs.Common.{◌≡◌, ℕ, ◌<◌, ◌≤◌, false}
-use Rattle.stab_distance.specs.Tables.{odd, row}
+use Rattle.stab_distance.proofs.Names.{◌≡◌, ℕ, ◌<◌, ◌≤◌, false, odd, row}
 use Rattle.stab_distance.proofs.row.end_of_rows.Given as goal
 
 abbrev pub invariant-rows : goal.invariant-rows

@@ -1,6 +1,4 @@
-use Rattle.std.proofs.Common.{◌≡◌, drop}
-use Rattle.stab_letters.specs.Letters.{◌⊕◌}
-use Rattle.stab_distance.specs.Tables.{odd}
+use Rattle.stab_distance.proofs.Names.{◌≡◌, drop, ◌⊕◌, odd}
 use Rattle.stab_distance.proofs.row.flips.Given as goal
 
 abbrev pub invariant-each : goal.invariant-each

@@ -1,11 +1,4 @@
-use Rattle.std.proofs.Common.{rules, ◌≡◌, ◌≢◌, ℕ, ◌+◌, ◌-◌, ◌∙◌, length, List, sym, ap, subst, arith, below_more, get_or}
-use Rattle.std.specs.Prelude.{bit_xor}
-use Rattle.std.proofs.lemmas.Bool.{eqb-true, eqb-false}
-use Rattle.std.proofs.lemmas.List.{nil_from_length}
-use Rattle.stab_letters.specs.Letters.{◌⊕◌}
-use Rattle.stab_distance.specs.Ascending.{IsAscending}
-use Rattle.stab_distance.specs.Tables.{odd, row}
-use Rattle.stab_distance.specs.inner.Ends.{EndsWithin, NoEndsBy}
+use Rattle.stab_distance.proofs.Names.{rules, ◌≡◌, ◌≢◌, ℕ, ◌+◌, ◌-◌, ◌∙◌, length, List, sym, ap, subst, arith, below_more, get_or, bit_xor, eqb-true, eqb-false, nil_from_length, ◌⊕◌, IsAscending, odd, row, EndsWithin, NoEndsBy}
 use Rattle.stab_distance.proofs.AscendingLemmas.{named-ascending}
 use Rattle.stab_distance.proofs.FlipLemmas.{key-sum}
 use Rattle.stab_distance.proofs.EndLemmas.{no_ends-nothing, no_ends-over, no_ends-all, no_end-before, no_end-unkeyed, ends-observed, tried-none, tried-some}

@@ -1,5 +1,4 @@
-use Rattle.std.proofs.Common.{ℕ, ◌+◌, ◌*◌, ◌<◌, get_or}
-use Rattle.stab_distance.specs.inner.Ends.{NoEndsBy}
+use Rattle.stab_distance.proofs.Names.{ℕ, ◌+◌, ◌*◌, ◌<◌, get_or, NoEndsBy}
 use Rattle.stab_distance.proofs.searching.+search.Given as goal
 
 abbrev pub decreases-search : goal.decreases-search

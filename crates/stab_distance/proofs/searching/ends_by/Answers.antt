@@ -1,9 +1,4 @@
-use Rattle.std.proofs.Common.{◌≢◌, ℕ, length, ◌∙◌, ap, sym, subst, arith, List}
-use Rattle.std.proofs.lemmas.Bool.{eqb-true, eqb-false, leb-true, leb-false}
-use Rattle.std.proofs.lemmas.List.{nil_from_length}
-use Rattle.stab_letters.specs.Letters.{◌⊕◌}
-use Rattle.stab_distance.specs.Ascending.{IsAscending}
-use Rattle.stab_distance.specs.Tables.{odd}
+use Rattle.stab_distance.proofs.Names.{◌≢◌, ℕ, length, ◌∙◌, ap, sym, subst, arith, List, eqb-true, eqb-false, leb-true, leb-false, nil_from_length, ◌⊕◌, IsAscending, odd}
 use Rattle.stab_distance.proofs.EndLemmas.{no_end-before, no_end-alone, ends-alone, ends-nothing, ends-detected, ends-observed}
 use Rattle.stab_distance.proofs.searching.ends_by.Goals as goal
 

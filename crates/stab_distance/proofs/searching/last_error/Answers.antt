@@ -1,4 +1,4 @@
-use Rattle.std.proofs.Common.{sym, ◌∙◌, arith}
+use Rattle.stab_distance.proofs.Names.{sym, ◌∙◌, arith}
 use Rattle.stab_distance.proofs.EndLemmas.{no_ends-keyed}
 use Rattle.stab_distance.proofs.searching.last_error.Goals as goal
 

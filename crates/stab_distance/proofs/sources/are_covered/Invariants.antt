@@ -1,5 +1,4 @@
-use Rattle.std.proofs.Common.{◌≡◌, ◌⊎◌, ℕ, ◌<◌, true, false, get_or}
-use Rattle.stab_distance.specs.inner.Graphs.{edge}
+use Rattle.stab_distance.proofs.Names.{◌≡◌, ◌⊎◌, ℕ, ◌<◌, true, false, get_or, edge}
 use Rattle.stab_distance.proofs.sources.are_covered.Given as goal
 
 abbrev pub invariant-edges : goal.invariant-edges

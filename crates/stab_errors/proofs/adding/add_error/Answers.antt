@@ -1,4 +1,4 @@
-use Rattle.stab_errors.specs.inner.Adding.{ErrorStands}
+use Rattle.stab_errors.proofs.Names.{ErrorStands}
 use Rattle.stab_errors.proofs.AddingLemmas.{adds-one}
 use Rattle.stab_errors.proofs.adding.add_error.Goals as goal
 

@@ -1,8 +1,4 @@
-use Rattle.std.proofs.Common.{◌≡◌, ◌∙◌, sym, ap, subst, [], ◌∷◌}
-use Rattle.std.proofs.lemmas.List.{get_or_default}
-use Rattle.stab_errors.specs.Errors.{letter}
-use Rattle.stab_errors.specs.Placed.{letter_at, error_shown}
-use Rattle.stab_errors.specs.inner.Adding.{ErrorStands, Stands}
+use Rattle.stab_errors.proofs.Names.{◌≡◌, ◌∙◌, sym, ap, subst, [], ◌∷◌, get_or_default, letter, letter_at, error_shown, ErrorStands, Stands}
 use Rattle.stab_errors.specs.declared.placed.Error.TheVariants as error
 use Rattle.stab_errors.proofs.AddingLemmas.{adds-same, adds-weaker, mapped-more}
 use Rattle.stab_errors.proofs.adding.add_letters.Goals as goal

@@ -1,7 +1,4 @@
-use Rattle.std.proofs.Common.{take}
-use Rattle.stab_errors.specs.Errors.{each_letter}
-use Rattle.stab_errors.specs.Placed.{letter_at}
-use Rattle.stab_errors.specs.inner.Adding.{Adds, Stands}
+use Rattle.stab_errors.proofs.Names.{take, each_letter, letter_at, Adds, Stands}
 use Rattle.stab_errors.proofs.adding.add_letters.Given as goal
 
 abbrev pub invariant-letters : goal.invariant-letters

@@ -1,9 +1,4 @@
-use Rattle.std.proofs.Common.{◌∙◌, ap, map, take, [], ◌∷◌, arith}
-use Rattle.std.proofs.lemmas.List.{get_or_default, take_all}
-use Rattle.stab_errors.specs.Errors.{Error, product_at, each_product}
-use Rattle.stab_letters.specs.declared.letter.Letter.{Letter}
-use Rattle.stab_errors.specs.Placed.{letter_at, error_shown}
-use Rattle.stab_errors.specs.inner.Adding.{ErrorStands, Stands}
+use Rattle.stab_errors.proofs.Names.{◌∙◌, ap, map, take, [], ◌∷◌, arith, get_or_default, take_all, Error, product_at, each_product, Letter, letter_at, error_shown, ErrorStands, Stands}
 use Rattle.stab_errors.proofs.AddingLemmas.{adds-none, adds-same, adds-weaker, mapped-more}
 use Rattle.stab_errors.proofs.adding.add_products.Goals as goal
 

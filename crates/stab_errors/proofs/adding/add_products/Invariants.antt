@@ -1,7 +1,4 @@
-use Rattle.std.proofs.Common.{◌≡◌, map, take}
-use Rattle.stab_errors.specs.Errors.{product_at, pairs_asked}
-use Rattle.stab_errors.specs.Placed.{letter_at}
-use Rattle.stab_errors.specs.inner.Adding.{Adds, Stands}
+use Rattle.stab_errors.proofs.Names.{◌≡◌, map, take, product_at, pairs_asked, letter_at, Adds, Stands}
 use Rattle.stab_errors.proofs.adding.add_products.Given as goal
 
 abbrev pub invariant-pairs : goal.invariant-pairs

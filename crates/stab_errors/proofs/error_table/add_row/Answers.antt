@@ -1,7 +1,4 @@
-use Rattle.std.proofs.Common.{◌∙◌, ◌++◌, ◌∷◌, [], sym, ap, subst}
-use Rattle.stab_distance.specs.Ascending.{IsAscending}
-use Rattle.stab_distance.specs.Tables.{odd}
-use Rattle.stab_errors.specs.inner.ErrorRows.{AreRowsOf}
+use Rattle.stab_errors.proofs.Names.{◌∙◌, ◌++◌, ◌∷◌, [], sym, ap, subst, IsAscending, odd, AreRowsOf}
 use Rattle.stab_errors.proofs.RowLemmas.{rows-push}
 use Rattle.stab_errors.proofs.error_table.add_row.Goals as goal
 

@@ -1,5 +1,4 @@
-use Rattle.std.proofs.Common.{◌≡◌, take}
-use Rattle.stab_errors.specs.inner.ErrorRows.{AreRowsOf}
+use Rattle.stab_errors.proofs.Names.{◌≡◌, take, AreRowsOf}
 use Rattle.stab_errors.proofs.error_table.rows_of.Given as goal
 
 abbrev pub invariant-errors : goal.invariant-errors

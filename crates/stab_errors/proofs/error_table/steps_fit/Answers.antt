@@ -1,7 +1,4 @@
-use Rattle.std.proofs.Common.{refl}
-use Rattle.stab_circuit.specs.Steps.{unroll}
-use Rattle.stab_circuit.specs.Views.{circuit_items}
-use Rattle.stab_laws.proofs.FitLemmas.{check-fits}
+use Rattle.stab_errors.proofs.Names.{refl, unroll, circuit_items, check-fits}
 use Rattle.stab_errors.proofs.error_table.steps_fit.Goals as goal
 
 pub returns : goal.returns

@@ -1,4 +1,4 @@
-use Rattle.stab_regions.specs.Faults.{behind}
+use Rattle.stab_errors.proofs.Names.{behind}
 use Rattle.stab_errors.proofs.AddingLemmas.{products-at}
 use Rattle.stab_errors.proofs.everywhere.add_behind_two.Goals as goal
 

@@ -1,8 +1,4 @@
-use Rattle.std.proofs.Common.{◌≡◌, ◌∙◌, ◌+◌, ◌*◌, ◌∷◌, sym, ap, subst, drop, arith}
-use Rattle.std.proofs.lemmas.List.{drop_more}
-use Rattle.stab_regions.specs.Faults.{in_front, fault_on}
-use Rattle.stab_errors.specs.inner.Adding.{HasFrom, IsUnderWay}
-use Rattle.stab_errors.specs.inner.Everywhere.{factor_errors, factor_faults}
+use Rattle.stab_errors.proofs.Names.{◌≡◌, ◌∙◌, ◌+◌, ◌*◌, ◌∷◌, sym, ap, subst, drop, arith, drop_more, in_front, fault_on, HasFrom, IsUnderWay, factor_errors, factor_faults}
 use Rattle.stab_errors.proofs.EverywhereLemmas.{long-factors, factor-more}
 use Rattle.stab_errors.proofs.everywhere.add_factors.Goals as goal
 

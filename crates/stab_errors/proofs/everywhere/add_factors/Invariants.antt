@@ -1,6 +1,4 @@
-use Rattle.std.proofs.Common.{◌+◌, ◌*◌, drop}
-use Rattle.stab_errors.specs.inner.Adding.{HasFrom, IsUnderWay}
-use Rattle.stab_errors.specs.inner.Everywhere.{factor_errors, factor_faults}
+use Rattle.stab_errors.proofs.Names.{◌+◌, ◌*◌, drop, HasFrom, IsUnderWay, factor_errors, factor_faults}
 use Rattle.stab_errors.proofs.everywhere.add_factors.Given as goal
 
 abbrev pub invariant-factors : goal.invariant-factors

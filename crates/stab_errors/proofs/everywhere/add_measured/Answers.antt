@@ -1,9 +1,4 @@
-use Rattle.std.proofs.Common.{[], ◌∷◌, ◌++◌}
-use Rattle.stab_run.specs.Runs.{flip_of}
-use Rattle.stab_errors.specs.Errors.{each_letter, wrong_record}
-use Rattle.stab_errors.specs.Placed.{letter_at}
-use Rattle.stab_errors.specs.inner.Adding.{Stands}
-use Rattle.stab_errors.specs.inner.Everywhere.{back_of, reset_errors}
+use Rattle.stab_errors.proofs.Names.{[], ◌∷◌, ◌++◌, flip_of, each_letter, wrong_record, letter_at, Stands, back_of, reset_errors}
 use Rattle.stab_errors.proofs.AddingLemmas.{adds-more, adds-weaker}
 use Rattle.stab_errors.proofs.everywhere.add_measured.Goals as goal
 

@@ -1,6 +1,4 @@
-use Rattle.stab_errors.specs.Errors.{wrong_product}
-use Rattle.stab_errors.specs.inner.Adding.{HasFrom}
-use Rattle.stab_errors.specs.inner.Everywhere.{factor_errors, factor_faults}
+use Rattle.stab_errors.proofs.Names.{wrong_product, HasFrom, factor_errors, factor_faults}
 use Rattle.stab_errors.proofs.AddingLemmas.{adds-more}
 use Rattle.stab_errors.proofs.everywhere.add_product.Goals as goal
 

@@ -1,14 +1,4 @@
-use Rattle.std.proofs.Common.{◌≡◌, ◌∙◌, ◌<◌, ◌∷◌, [], false, sym, ap, subst, drop, length, arith}
-use Rattle.std.specs.Prelude.{◌==◌}
-use Rattle.std.proofs.lemmas.Bool.Decides.{nat_tests}
-use Rattle.std.proofs.lemmas.List.{drop_more}
-use Rattle.stab_lines.specs.Axes.{letter_of}
-use Rattle.stab_run.specs.Runs.{flip_of}
-use Rattle.stab_regions.specs.Faults.{in_front, behind, fault_on}
-use Rattle.stab_errors.specs.Errors.{wrong_product, wrong_record}
-use Rattle.stab_errors.specs.Placed.{letter_at}
-use Rattle.stab_errors.specs.inner.Adding.{Adds, HasFrom, Stands}
-use Rattle.stab_errors.specs.inner.Everywhere.{factor_faults}
+use Rattle.stab_errors.proofs.Names.{◌≡◌, ◌∙◌, ◌<◌, ◌∷◌, [], false, sym, ap, subst, drop, length, arith, ◌==◌, nat_tests, drop_more, letter_of, flip_of, in_front, behind, fault_on, wrong_product, wrong_record, letter_at, Adds, HasFrom, Stands, factor_faults}
 use Rattle.stab_errors.proofs.EverywhereLemmas.{record-at}
 use Rattle.stab_errors.proofs.everywhere.add_product_record.Goals as goal
 

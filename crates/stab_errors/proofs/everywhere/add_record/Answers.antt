@@ -1,9 +1,4 @@
-use Rattle.std.proofs.Common.{◌≡◌, ◌∙◌, ap, [], ◌∷◌}
-use Rattle.stab_run.specs.Runs.{flip_of}
-use Rattle.stab_errors.specs.Errors.{wrong_record}
-use Rattle.stab_errors.specs.Placed.{letter_at, fault_shown, faults_shown, error_shown}
-use Rattle.stab_errors.specs.inner.Adding.{ErrorStands, Stands}
-use Rattle.stab_errors.specs.inner.Everywhere.{back_of}
+use Rattle.stab_errors.proofs.Names.{◌≡◌, ◌∙◌, ap, [], ◌∷◌, flip_of, wrong_record, letter_at, fault_shown, faults_shown, error_shown, ErrorStands, Stands, back_of}
 use Rattle.stab_errors.specs.declared.placed.Error.TheVariants as error
 use Rattle.stab_errors.proofs.AddingLemmas.{adds-same, adds-weaker, record-stands}
 use Rattle.stab_errors.proofs.everywhere.add_record.Goals as goal

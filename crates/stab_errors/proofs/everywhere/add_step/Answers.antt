@@ -1,10 +1,4 @@
-use Rattle.std.proofs.Common.{◌++◌, true, sym, subst}
-use Rattle.stab_circuit.specs.Cursors.{step_shown}
-use Rattle.stab_circuit.specs.Steps.{collapse}
-use Rattle.stab_regions.specs.Faults.{in_front, behind, fault_on, faults_on}
-use Rattle.stab_errors.specs.Errors.{each_letter, errors_at, letters_asked, wrong_product}
-use Rattle.stab_errors.specs.inner.Adding.{Adds, HasFrom}
-use Rattle.stab_errors.specs.inner.Everywhere.{factor_errors, factor_faults, measured_errors, step_faults}
+use Rattle.stab_errors.proofs.Names.{◌++◌, true, sym, subst, step_shown, collapse, in_front, behind, fault_on, faults_on, each_letter, errors_at, letters_asked, wrong_product, Adds, HasFrom, factor_errors, factor_faults, measured_errors, step_faults}
 use Rattle.stab_errors.proofs.AddingLemmas.{adds-same, letters-at}
 use Rattle.stab_errors.proofs.EverywhereLemmas.{measured-are, measured-at}
 use Rattle.stab_errors.proofs.everywhere.add_step.Goals as goal

@@ -1,14 +1,4 @@
-use Rattle.std.proofs.Common.{◌+◌, ◌++◌, sym, ap, subst, [], true, length, append-nil, arith}
-use Rattle.std.proofs.lemmas.List.{length-append}
-use Rattle.std.proofs.lemmas.List.Elements.{All-nil}
-use Rattle.stab_items.proofs.SummaryLemmas.{few_steps}
-use Rattle.stab_circuit.specs.Cursors.{step_shown}
-use Rattle.stab_circuit.specs.Steps.{unroll}
-use Rattle.stab_circuit.specs.Views.{circuit_items}
-use Rattle.stab_regions.specs.Faults.{faults_from, faults_of}
-use Rattle.stab_errors.specs.Errors.{errors_at, errors_from}
-use Rattle.stab_errors.specs.inner.Adding.{ErrorStands, HasFrom, IsUnderWay}
-use Rattle.stab_errors.specs.inner.Everywhere.{step_faults}
+use Rattle.stab_errors.proofs.Names.{◌+◌, ◌++◌, sym, ap, subst, [], true, length, append-nil, arith, length-append, All-nil, few_steps, step_shown, unroll, circuit_items, faults_from, faults_of, errors_at, errors_from, ErrorStands, HasFrom, IsUnderWay, step_faults}
 use Rattle.stab_errors.proofs.AddingLemmas.{under-way-all, under-way-more}
 use Rattle.stab_errors.proofs.EverywhereLemmas.{makes-few}
 use Rattle.stab_errors.proofs.everywhere.errors_everywhere.Goals as goal

@@ -1,9 +1,4 @@
-use Rattle.std.proofs.Common.{◌≡◌, ◌+◌, ◌≤◌, length, [], true}
-use Rattle.stab_circuit.specs.Steps.{unroll}
-use Rattle.stab_circuit.specs.Views.{circuit_items}
-use Rattle.stab_regions.specs.Faults.{faults_from, faults_of}
-use Rattle.stab_errors.specs.Errors.{errors_from}
-use Rattle.stab_errors.specs.inner.Adding.{HasFrom, IsUnderWay}
+use Rattle.stab_errors.proofs.Names.{◌≡◌, ◌+◌, ◌≤◌, length, [], true, unroll, circuit_items, faults_from, faults_of, errors_from, HasFrom, IsUnderWay}
 use Rattle.stab_errors.proofs.everywhere.errors_everywhere.Given as goal
 
 abbrev pub invariant-steps : goal.invariant-steps

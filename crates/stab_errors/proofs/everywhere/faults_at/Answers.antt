@@ -1,6 +1,4 @@
-use Rattle.std.proofs.Common.{sym, ap, ◌∙◌, length}
-use Rattle.stab_circuit.specs.Cursors.{step_shown}
-use Rattle.stab_errors.specs.inner.Everywhere.{step_faults}
+use Rattle.stab_errors.proofs.Names.{sym, ap, ◌∙◌, length, step_shown, step_faults}
 use Rattle.stab_errors.proofs.EverywhereLemmas.{long-factors}
 use Rattle.stab_errors.proofs.everywhere.faults_at.Goals as goal
 

@@ -1,10 +1,4 @@
-use Rattle.std.proofs.Common.{◌≡◌, ◌∙◌, ◌+◌, ◌*◌, ◌∷◌, [], refl, sym, ap, subst, append-nil, drop, arith}
-use Rattle.std.proofs.lemmas.List.{drop_more, drop_all}
-use Rattle.stab_regions.specs.Faults.{in_front, fault_on, faults_on}
-use Rattle.stab_errors.specs.Errors.{each_letter, each_two_targets, letters_asked}
-use Rattle.stab_errors.specs.Placed.{letter_at}
-use Rattle.stab_errors.specs.inner.Adding.{Adds, HasFrom, IsUnderWay, Stands}
-use Rattle.stab_errors.specs.inner.Marked.{target_faults}
+use Rattle.stab_errors.proofs.Names.{◌≡◌, ◌∙◌, ◌+◌, ◌*◌, ◌∷◌, [], refl, sym, ap, subst, append-nil, drop, arith, drop_more, drop_all, in_front, fault_on, faults_on, each_letter, each_two_targets, letters_asked, letter_at, Adds, HasFrom, IsUnderWay, Stands, target_faults}
 use Rattle.stab_errors.proofs.AddingLemmas.{letters-at, under-way-all, under-way-more}
 use Rattle.stab_errors.proofs.MarkedLemmas.{targets-more}
 use Rattle.stab_errors.proofs.marked.add_pairs.Goals as goal

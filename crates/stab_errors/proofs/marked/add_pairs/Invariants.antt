@@ -1,7 +1,4 @@
-use Rattle.std.proofs.Common.{◌+◌, ◌-◌, ◌*◌, ◌≤◌, drop, length}
-use Rattle.stab_errors.specs.Errors.{each_two_targets}
-use Rattle.stab_errors.specs.inner.Adding.{HasFrom, IsUnderWay}
-use Rattle.stab_errors.specs.inner.Marked.{target_faults}
+use Rattle.stab_errors.proofs.Names.{◌+◌, ◌-◌, ◌*◌, ◌≤◌, drop, length, each_two_targets, HasFrom, IsUnderWay, target_faults}
 use Rattle.stab_errors.proofs.marked.add_pairs.Given as goal
 
 abbrev pub invariant-pairs : goal.invariant-pairs

@@ -1,9 +1,4 @@
-use Rattle.std.proofs.Common.{◌≡◌, ◌∙◌, ◌+◌, ◌*◌, ◌∷◌, sym, ap, subst, drop, arith}
-use Rattle.std.proofs.lemmas.List.{drop_more}
-use Rattle.stab_regions.specs.Faults.{in_front, fault_on}
-use Rattle.stab_errors.specs.Errors.{each_target}
-use Rattle.stab_errors.specs.inner.Adding.{HasFrom, IsUnderWay}
-use Rattle.stab_errors.specs.inner.Marked.{target_faults}
+use Rattle.stab_errors.proofs.Names.{◌≡◌, ◌∙◌, ◌+◌, ◌*◌, ◌∷◌, sym, ap, subst, drop, arith, drop_more, in_front, fault_on, each_target, HasFrom, IsUnderWay, target_faults}
 use Rattle.stab_errors.proofs.MarkedLemmas.{target-more}
 use Rattle.stab_errors.proofs.marked.add_targets.Goals as goal
 

@@ -1,7 +1,4 @@
-use Rattle.std.proofs.Common.{◌+◌, ◌*◌, drop}
-use Rattle.stab_errors.specs.Errors.{each_target}
-use Rattle.stab_errors.specs.inner.Adding.{HasFrom, IsUnderWay}
-use Rattle.stab_errors.specs.inner.Marked.{target_faults}
+use Rattle.stab_errors.proofs.Names.{◌+◌, ◌*◌, drop, each_target, HasFrom, IsUnderWay, target_faults}
 use Rattle.stab_errors.proofs.marked.add_targets.Given as goal
 
 abbrev pub invariant-targets : goal.invariant-targets

@@ -1,15 +1,4 @@
-use Rattle.std.proofs.Common.{◌≡◌, ◌∙◌, ◌+◌, ◌*◌, ◌<◌, ◌++◌, sym, ap, subst, append-nil, drop, length, map, [], false, arith}
-use Rattle.std.specs.List.{flat_map}
-use Rattle.std.proofs.lemmas.List.{drop_all}
-use Rattle.std.proofs.lemmas.List.Elements.{All-nil}
-use Rattle.stab_items.specs.Items.{listed}
-use Rattle.stab_items.proofs.SummaryLemmas.{few_steps}
-use Rattle.stab_circuit.specs.Steps.{unroll}
-use Rattle.stab_circuit.specs.Views.{circuit_items}
-use Rattle.stab_regions.specs.Faults.{faults_of}
-use Rattle.stab_errors.specs.Errors.{errors_marked, instructions, marks_from}
-use Rattle.stab_errors.specs.inner.Adding.{ErrorStands, HasFrom, IsUnderWay}
-use Rattle.stab_errors.specs.inner.Marked.{marks_shown, marked_faults}
+use Rattle.stab_errors.proofs.Names.{◌≡◌, ◌∙◌, ◌+◌, ◌*◌, ◌<◌, ◌++◌, sym, ap, subst, append-nil, drop, length, map, [], false, arith, flat_map, drop_all, All-nil, listed, few_steps, unroll, circuit_items, faults_of, errors_marked, instructions, marks_from, ErrorStands, HasFrom, IsUnderWay, marks_shown, marked_faults}
 use Rattle.stab_errors.proofs.AddingLemmas.{under-way-all, under-way-more, under-way-none}
 use Rattle.stab_errors.proofs.MarkLemmas.{marked-all}
 use Rattle.stab_errors.proofs.MarkedLemmas.{long-targets, marks-few, marks-split, rows-split}

@@ -1,11 +1,4 @@
-use Rattle.std.proofs.Common.{◌≡◌, ◌+◌, drop, length, map, [], false}
-use Rattle.std.specs.List.{flat_map}
-use Rattle.stab_circuit.specs.Steps.{unroll}
-use Rattle.stab_circuit.specs.Views.{circuit_items}
-use Rattle.stab_regions.specs.Faults.{faults_of}
-use Rattle.stab_errors.specs.Errors.{errors_marked}
-use Rattle.stab_errors.specs.inner.Adding.{HasFrom, IsUnderWay}
-use Rattle.stab_errors.specs.inner.Marked.{marks_shown, marked_faults}
+use Rattle.stab_errors.proofs.Names.{◌≡◌, ◌+◌, drop, length, map, [], false, flat_map, unroll, circuit_items, faults_of, errors_marked, HasFrom, IsUnderWay, marks_shown, marked_faults}
 use Rattle.stab_errors.proofs.marked.errors_marked.Given as goal
 
 abbrev pub invariant-marks : goal.invariant-marks

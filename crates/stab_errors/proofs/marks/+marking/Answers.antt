@@ -1,12 +1,4 @@
-use Rattle.std.proofs.Common.{ℕ, ◌≡◌, ◌∙◌, ◌+◌, ◌*◌, ◌++◌, sym, ap, map, take, length, append_assoc, append-nil, arith}
-use Rattle.std.proofs.lemmas.Result.{IfOk-weaker}
-use Rattle.stab_items.specs.Items.{listed, repeat, before, done}
-use Rattle.stab_items.specs.Items.{depth_of as nested_in}
-use Rattle.stab_items.specs.inner.Parts.{part_of}
-use Rattle.stab_items.proofs.ItemLemmas.{depth_at}
-use Rattle.stab_circuit.specs.Steps.{unroll}
-use Rattle.stab_errors.specs.Errors.{instruction_rounds, instructions, marks_from}
-use Rattle.stab_errors.specs.inner.Marked.{marks_shown}
+use Rattle.stab_errors.proofs.Names.{ℕ, ◌≡◌, ◌∙◌, ◌+◌, ◌*◌, ◌++◌, sym, ap, map, take, length, append_assoc, append-nil, arith, IfOk-weaker, listed, repeat, before, done, nested_in, part_of, depth_at, unroll, instruction_rounds, instructions, marks_from, marks_shown}
 use Rattle.stab_errors.proofs.MarkLemmas.{block-steps, long-rounds, long-unrolled, times-none, marks-more, marks-round, no-marks, steps-more, steps-within}
 use Rattle.stab_errors.proofs.marks.+marking.Goals as goal
 

@@ -1,9 +1,4 @@
-use Rattle.std.proofs.Common.{◌≡◌, ◌+◌, ◌*◌, ◌++◌, map, take, length}
-use Rattle.stab_items.specs.Items.{listed, depth}
-use Rattle.stab_items.specs.Items.{depth_of as nested_in}
-use Rattle.stab_circuit.specs.Steps.{unroll}
-use Rattle.stab_errors.specs.Errors.{instruction_rounds, instructions, marks_from}
-use Rattle.stab_errors.specs.inner.Marked.{marks_shown}
+use Rattle.stab_errors.proofs.Names.{◌≡◌, ◌+◌, ◌*◌, ◌++◌, map, take, length, listed, depth, nested_in, unroll, instruction_rounds, instructions, marks_from, marks_shown}
 use Rattle.stab_errors.proofs.marks.+marking.Given as goal
 
 abbrev pub decreases-mark_item : goal.decreases-mark_item

@@ -1,7 +1,4 @@
-use Rattle.std.proofs.Common.{sym, subst}
-use Rattle.stab_errors.specs.Parts.{fault_parts, parts_of}
-use Rattle.stab_errors.specs.Placed.{error_shown, fault_shown}
-use Rattle.stab_errors.specs.inner.Adding.{Adds, ErrorStands, Stands}
+use Rattle.stab_errors.proofs.Names.{sym, subst, fault_parts, parts_of, error_shown, fault_shown, Adds, ErrorStands, Stands}
 use Rattle.stab_errors.proofs.AddingLemmas.{adds-more, adds-weaker}
 use Rattle.stab_errors.proofs.parts.add_parts.Goals as goal
 

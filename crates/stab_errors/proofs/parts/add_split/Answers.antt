@@ -1,9 +1,4 @@
-use Rattle.std.proofs.Common.{◌∙◌, ◌∷◌, [], inl, inr, refl, sym, ap, subst}
-use Rattle.stab_distance.specs.Ascending.{IsAscending}
-use Rattle.stab_distance.specs.Tables.{odd}
-use Rattle.stab_errors.specs.Parts.{parts_of}
-use Rattle.stab_errors.specs.Placed.{error_shown}
-use Rattle.stab_errors.specs.inner.ErrorRows.{IsRowOf}
+use Rattle.stab_errors.proofs.Names.{◌∙◌, ◌∷◌, [], inl, inr, refl, sym, ap, subst, IsAscending, odd, parts_of, error_shown, IsRowOf}
 use Rattle.stab_errors.proofs.PartLemmas.{split-more}
 use Rattle.stab_errors.proofs.parts.add_split.Goals as goal
 

@@ -1,5 +1,4 @@
-use Rattle.std.proofs.Common.{take}
-use Rattle.stab_errors.specs.inner.RowParts.{AreSplitByRows}
+use Rattle.stab_errors.proofs.Names.{take, AreSplitByRows}
 use Rattle.stab_errors.proofs.parts.split_errors.Given as goal
 
 abbrev pub invariant-errors : goal.invariant-errors

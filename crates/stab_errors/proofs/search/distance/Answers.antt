@@ -1,7 +1,4 @@
-use Rattle.std.proofs.Common.{◌∙◌, ap, length, subst}
-use Rattle.std.specs.Option.{unwrap_or}
-use Rattle.std.proofs.lemmas.Result.{IfOk-weaker}
-use Rattle.stab_distance.specs.LogicalErrors.{IsAnswer}
+use Rattle.stab_errors.proofs.Names.{◌∙◌, ap, length, subst, unwrap_or, IfOk-weaker, IsAnswer}
 use Rattle.stab_errors.proofs.AnswerLemmas.{answer-is}
 use Rattle.stab_errors.proofs.search.distance.Goals as goal
 

@@ -1,7 +1,4 @@
-use Rattle.std.proofs.Common.{◌∙◌, ap, length, subst}
-use Rattle.std.specs.Option.{unwrap_or}
-use Rattle.std.proofs.lemmas.Result.{IfOk-weaker}
-use Rattle.stab_distance.specs.Graphlike.{IsGraphlikeAnswer}
+use Rattle.stab_errors.proofs.Names.{◌∙◌, ap, length, subst, unwrap_or, IfOk-weaker, IsGraphlikeAnswer}
 use Rattle.stab_errors.proofs.GraphlikeLemmas.{graphlike-answer}
 use Rattle.stab_errors.proofs.search.graphlike_distance.Goals as goal
 

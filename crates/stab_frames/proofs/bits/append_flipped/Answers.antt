@@ -1,4 +1,4 @@
-use Rattle.std.proofs.Common.{rules, arith}
+use Rattle.stab_frames.proofs.Names.{rules, arith}
 use Rattle.stab_frames.proofs.FlippedListLemmas.{flipped-more, flipped-whole}
 use Rattle.stab_frames.proofs.bits.append_flipped.Goals as goal
 

@@ -1,5 +1,4 @@
-use Rattle.std.proofs.Common.{◌≡◌, ◌++◌, take}
-use Rattle.stab_frames.specs.Flips.{flipped}
+use Rattle.stab_frames.proofs.Names.{◌≡◌, ◌++◌, take, flipped}
 use Rattle.stab_frames.proofs.bits.append_flipped.Given as goal
 
 abbrev pub invariant-loop-place : goal.invariant-loop-place

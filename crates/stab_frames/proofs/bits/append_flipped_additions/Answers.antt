@@ -1,5 +1,4 @@
-use Rattle.std.proofs.Common.{arith, false, get_or}
-use Rattle.stab_steps.specs.declared.records.Addition.{Addition}
+use Rattle.stab_frames.proofs.Names.{arith, false, get_or, Addition}
 use Rattle.stab_frames.proofs.FlippedListLemmas.{added-flipped, additions-more, additions-whole}
 use Rattle.stab_frames.proofs.bits.append_flipped_additions.Goals as goal
 

@@ -1,5 +1,4 @@
-use Rattle.std.proofs.Common.{◌≡◌, ◌++◌, take}
-use Rattle.stab_frames.specs.Flips.{flipped_additions}
+use Rattle.stab_frames.proofs.Names.{◌≡◌, ◌++◌, take, flipped_additions}
 use Rattle.stab_frames.proofs.bits.append_flipped_additions.Given as goal
 
 abbrev pub invariant-loop-place : goal.invariant-loop-place

@@ -1,5 +1,4 @@
-use Rattle.std.proofs.Common.{◌≡◌, ◌+◌, ◌≤◌, drop}
-use Rattle.stab_steps.specs.Records.{ones}
+use Rattle.stab_frames.proofs.Names.{◌≡◌, ◌+◌, ◌≤◌, drop, ones}
 use Rattle.stab_frames.proofs.bits.count_ones.Given as goal
 
 abbrev pub invariant-loop-bit : goal.invariant-loop-bit

@@ -1,4 +1,4 @@
-use Rattle.std.proofs.Common.{arith}
+use Rattle.stab_items.proofs.Names.{arith}
 use Rattle.stab_items.proofs.ItemLemmas.{depth_at}
 use Rattle.stab_items.proofs.copy.+copying.Goals as goal
 

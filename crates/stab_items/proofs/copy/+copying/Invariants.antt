@@ -1,6 +1,4 @@
-use Rattle.std.proofs.Common.{◌≡◌, ◌+◌, ◌*◌, take}
-use Rattle.stab_items.specs.Items.{listed, depth}
-use Rattle.stab_items.specs.Items.{depth_of as nested_in}
+use Rattle.stab_items.proofs.Names.{◌≡◌, ◌+◌, ◌*◌, take, listed, depth, nested_in}
 use Rattle.stab_items.proofs.copy.+copying.Given as goal
 
 abbrev pub invariant-copied_items-loop-item : goal.invariant-copied_items-loop-item

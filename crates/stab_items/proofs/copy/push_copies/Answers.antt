@@ -1,4 +1,4 @@
-use Rattle.std.proofs.Common.{◌∙◌, ap, ◌++◌, ◌∷◌, [], arith}
+use Rattle.stab_items.proofs.Names.{◌∙◌, ap, ◌++◌, ◌∷◌, [], arith}
 use Rattle.stab_items.proofs.CopyLemmas.{copied_more}
 use Rattle.stab_items.proofs.copy.push_copies.Goals as goal
 

@@ -1,4 +1,4 @@
-use Rattle.std.proofs.Common.{◌≡◌, ◌≤◌, ◌++◌, take, drop}
+use Rattle.stab_items.proofs.Names.{◌≡◌, ◌≤◌, ◌++◌, take, drop}
 use Rattle.stab_items.proofs.copy.push_copies.Given as goal
 
 abbrev pub invariant-loop-place : goal.invariant-loop-place

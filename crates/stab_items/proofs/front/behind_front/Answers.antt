@@ -1,5 +1,4 @@
-use Rattle.std.proofs.Common.{sym, ap, ◌∙◌}
-use Rattle.std.specs.Option.{option_copied}
+use Rattle.stab_items.proofs.Names.{sym, ap, ◌∙◌, option_copied}
 use Rattle.stab_items.proofs.FrontLemmas.{line_alone}
 use Rattle.stab_items.proofs.front.behind_front.Goals as goal
 

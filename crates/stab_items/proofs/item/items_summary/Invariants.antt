@@ -1,7 +1,4 @@
-use Rattle.std.proofs.Common.{◌≡◌, take, All}
-use Rattle.stab_items.specs.Items.{listed}
-use Rattle.stab_items.specs.Steps.{unroll, IsApart}
-use Rattle.stab_items.specs.inner.Summaries.{summary_of, IsSummary}
+use Rattle.stab_items.proofs.Names.{◌≡◌, take, All, listed, unroll, IsApart, summary_of, IsSummary}
 use Rattle.stab_items.proofs.item.items_summary.Given as goal
 
 abbrev pub invariant-loop-item : goal.invariant-loop-item

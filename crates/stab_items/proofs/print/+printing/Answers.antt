@@ -1,11 +1,4 @@
-use Rattle.std.proofs.Common.{◌++◌, ◌+◌, suc, codes, drop, ap, arith}
-use Rattle.std.proofs.lemmas.Result.{err_from_is_err_and}
-use Rattle.stab_items.specs.Items.{listed}
-use Rattle.stab_items.specs.Items.{depth_of as nested_in}
-use Rattle.stab_items.specs.inner.Margins.{margin_depth}
-use Rattle.stab_items.specs.Prints.{line_text, printed_in}
-use Rattle.stab_io.proofs.DeviceLemmas.{took_more}
-use Rattle.stab_lines.proofs.WriteLemmas.{writes_failed, writes_then, writes_as, took_as}
+use Rattle.stab_items.proofs.Names.{◌++◌, ◌+◌, suc, codes, drop, ap, arith, err_from_is_err_and, listed, nested_in, margin_depth, line_text, printed_in, took_more, writes_failed, writes_then, writes_as, took_as}
 use Rattle.stab_items.proofs.PrintLemmas.{block_lines, printed_place, printed_more}
 use Rattle.stab_items.proofs.ItemLemmas.{depth_at}
 use Rattle.stab_items.proofs.print.+printing.Goals as goal

@@ -1,9 +1,4 @@
-use Rattle.std.proofs.Common.{◌+◌, ◌*◌, take}
-use Rattle.stab_items.specs.Items.{listed, depth}
-use Rattle.stab_items.specs.Items.{depth_of as nested_in}
-use Rattle.stab_io.specs.Devices.{Took}
-use Rattle.stab_items.specs.inner.Margins.{margin_depth}
-use Rattle.stab_items.specs.Prints.{printed_in}
+use Rattle.stab_items.proofs.Names.{◌+◌, ◌*◌, take, listed, depth, nested_in, Took, margin_depth, printed_in}
 use Rattle.stab_items.proofs.print.+printing.Given as goal
 
 abbrev pub invariant-write_items-loop-item : goal.invariant-write_items-loop-item

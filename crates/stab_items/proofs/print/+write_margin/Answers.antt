@@ -1,7 +1,4 @@
-use Rattle.std.proofs.Common.{ℕ, ◌*◌, ◌∙◌, sym, ap, codes, replicate}
-use Rattle.std.proofs.lemmas.Result.{err_from_is_err_and}
-use Rattle.stab_items.specs.inner.Margins.{margin_depth}
-use Rattle.stab_lines.proofs.WriteLemmas.{writes_failed, writes_then, writes_as}
+use Rattle.stab_items.proofs.Names.{ℕ, ◌*◌, ◌∙◌, sym, ap, codes, replicate, err_from_is_err_and, margin_depth, writes_failed, writes_then, writes_as}
 use Rattle.stab_items.proofs.PrintLemmas.{margin_inside}
 use Rattle.stab_items.proofs.print.+write_margin.Goals as goal
 

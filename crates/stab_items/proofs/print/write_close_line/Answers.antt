@@ -1,6 +1,4 @@
-use Rattle.std.proofs.Common.{codes}
-use Rattle.std.proofs.lemmas.Result.{err_from_is_err_and}
-use Rattle.stab_lines.proofs.WriteLemmas.{writes_failed, writes_then}
+use Rattle.stab_items.proofs.Names.{codes, err_from_is_err_and, writes_failed, writes_then}
 use Rattle.stab_items.proofs.print.write_close_line.Goals as goal
 
 pub returns-in_err-write_margin : goal.returns-in_err-write_margin

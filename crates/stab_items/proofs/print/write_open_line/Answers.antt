@@ -1,7 +1,4 @@
-use Rattle.std.proofs.Common.{◌++◌, codes}
-use Rattle.stab_lines.specs.Prints.{open_text}
-use Rattle.std.proofs.lemmas.Result.{err_from_is_err_and}
-use Rattle.stab_lines.proofs.WriteLemmas.{writes_failed, writes_then}
+use Rattle.stab_items.proofs.Names.{◌++◌, codes, open_text, err_from_is_err_and, writes_failed, writes_then}
 use Rattle.stab_items.proofs.print.write_open_line.Goals as goal
 
 pub returns-in_err-write_margin : goal.returns-in_err-write_margin

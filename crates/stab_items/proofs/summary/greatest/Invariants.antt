@@ -1,5 +1,4 @@
-use Rattle.std.proofs.Common.{◌≡◌, max, drop}
-use Rattle.stab_items.specs.inner.Summaries.{greatest}
+use Rattle.stab_items.proofs.Names.{◌≡◌, max, drop, greatest}
 use Rattle.stab_items.proofs.summary.greatest.Given as goal
 
 abbrev pub invariant-loop-number : goal.invariant-loop-number

@@ -1,5 +1,4 @@
-use Rattle.std.proofs.Common.{◌∙◌, sym, subst, All}
-use Rattle.stab_items.specs.Steps.{steps_of, IsApart}
+use Rattle.stab_items.proofs.Names.{◌∙◌, sym, subst, All, steps_of, IsApart}
 use Rattle.stab_items.proofs.SummaryLemmas.{controlled_found}
 use Rattle.stab_items.proofs.StepApartLemmas.{controlled_apart}
 use Rattle.stab_items.proofs.summary.kind_summary.Goals as goal

@@ -1,8 +1,4 @@
-use Rattle.std.proofs.Common.{◌≡◌, ◌≤◌, max, drop, take, All}
-use Rattle.stab_letters.specs.Limits.{most_qubits}
-use Rattle.stab_lines.specs.Targets.{pair_qubits}
-use Rattle.stab_items.specs.Steps.{past}
-use Rattle.stab_items.specs.inner.Summaries.{IsSwapApart}
+use Rattle.stab_items.proofs.Names.{◌≡◌, ◌≤◌, max, drop, take, All, most_qubits, pair_qubits, past, IsSwapApart}
 use Rattle.stab_items.proofs.summary.past_pairs.Given as goal
 
 abbrev pub invariant-loop-pair : goal.invariant-loop-pair

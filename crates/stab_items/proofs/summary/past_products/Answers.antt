@@ -1,6 +1,4 @@
-use Rattle.std.proofs.Common.{◌≡◌, ap, ◌∙◌, get_or, subst, arith}
-use Rattle.stab_items.specs.Steps.{past, factor_qubits}
-use Rattle.stab_items.specs.inner.Summaries.{IsProductApart}
+use Rattle.stab_items.proofs.Names.{◌≡◌, ap, ◌∙◌, get_or, subst, arith, past, factor_qubits, IsProductApart}
 use Rattle.stab_items.proofs.StepApartLemmas.{All_taken}
 use Rattle.stab_items.proofs.SummaryLemmas.{past_products_dropped}
 use Rattle.stab_items.proofs.summary.past_products.Goals as goal

@@ -1,7 +1,4 @@
-use Rattle.std.proofs.Common.{◌≡◌, ◌≤◌, max, drop, take, All}
-use Rattle.stab_letters.specs.Limits.{most_qubits}
-use Rattle.stab_items.specs.Steps.{past, product_qubits}
-use Rattle.stab_items.specs.inner.Summaries.{IsProductApart}
+use Rattle.stab_items.proofs.Names.{◌≡◌, ◌≤◌, max, drop, take, All, most_qubits, past, product_qubits, IsProductApart}
 use Rattle.stab_items.proofs.summary.past_products.Given as goal
 
 abbrev pub invariant-loop-product : goal.invariant-loop-product

@@ -1,6 +1,4 @@
-use Rattle.std.proofs.Common.{◌≡◌, ◌≤◌, max, drop}
-use Rattle.stab_letters.specs.Limits.{most_qubits}
-use Rattle.stab_items.specs.Steps.{past, target_qubits}
+use Rattle.stab_items.proofs.Names.{◌≡◌, ◌≤◌, max, drop, most_qubits, past, target_qubits}
 use Rattle.stab_items.proofs.summary.past_targets.Given as goal
 
 abbrev pub invariant-loop-target : goal.invariant-loop-target

@@ -1,6 +1,4 @@
-use Rattle.std.proofs.Common.{◌≡◌, ◌≤◌, ◌+◌, length, Some}
-use Rattle.stab_items.specs.inner.Readers.{progress_of, reading, IsShallowProgress}
-use Rattle.stab_items.specs.inner.Stretches.{reading_on, AreStretches, IsRun}
+use Rattle.stab_items.proofs.Names.{◌≡◌, ◌≤◌, ◌+◌, length, Some, progress_of, reading, IsShallowProgress, reading_on, AreStretches, IsRun}
 use Rattle.stab_items.proofs.whole_text.read_lines.Given as goal
 
 abbrev pub invariant-lines : goal.invariant-lines

@@ -1,9 +1,4 @@
-use Rattle.std.proofs.Common.{◌≡◌, map}
-use Rattle.std.specs.List.{list_all}
-use Rattle.std.specs.Option.{option_copied}
-use Rattle.stab_lines.specs.Lines.{trimmed}
-use Rattle.stab_lines.specs.Words.{arguments_of, pieces_after}
-use Rattle.stab_lines.specs.inner.Parts.{is_coordinate}
+use Rattle.stab_lines.proofs.Names.{◌≡◌, map, list_all, option_copied, trimmed, arguments_of, pieces_after, is_coordinate}
 use Rattle.stab_lines.proofs.PieceLemmas.{left}
 use Rattle.stab_lines.proofs.argument.are_coordinates.Given as goal
 

@@ -1,6 +1,4 @@
-use Rattle.std.proofs.Common.{◌≡◌, length}
-use Rattle.stab_lines.specs.Words.{words}
-use Rattle.stab_lines.specs.Controls.{by_turns}
+use Rattle.stab_lines.proofs.Names.{◌≡◌, length, words, by_turns}
 use Rattle.stab_lines.proofs.ResultLemmas.{behind}
 use Rattle.stab_lines.proofs.control.control_targets.Given as goal
 

@@ -1,5 +1,4 @@
-use Rattle.std.proofs.Common.{◌∙◌}
-use Rattle.stab_lines.specs.Words.{words}
+use Rattle.stab_lines.proofs.Names.{◌∙◌, words}
 use Rattle.stab_lines.proofs.ControlLemmas.{pairs_next}
 use Rattle.stab_lines.proofs.control.controlled_pairs.Goals as goal
 

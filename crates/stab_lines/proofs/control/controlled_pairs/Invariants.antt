@@ -1,6 +1,4 @@
-use Rattle.std.proofs.Common.{◌≡◌, length}
-use Rattle.stab_lines.specs.Words.{words}
-use Rattle.stab_lines.specs.Controls.{controlled_of}
+use Rattle.stab_lines.proofs.Names.{◌≡◌, length, words, controlled_of}
 use Rattle.stab_lines.proofs.ResultLemmas.{behind}
 use Rattle.stab_lines.proofs.control.controlled_pairs.Given as goal
 

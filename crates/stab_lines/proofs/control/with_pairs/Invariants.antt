@@ -1,6 +1,4 @@
-use Rattle.std.proofs.Common.{◌≡◌, drop}
-use Rattle.stab_lines.specs.Results.{each}
-use Rattle.stab_lines.specs.Controls.{paired}
+use Rattle.stab_lines.proofs.Names.{◌≡◌, drop, each, paired}
 use Rattle.stab_lines.proofs.ResultLemmas.{behind}
 use Rattle.stab_lines.proofs.control.with_pairs.Given as goal
 

@@ -1,8 +1,4 @@
-use Rattle.std.proofs.Common.{◌<◌, length, take, arith, Ok, sym, ap, ◌∙◌}
-use Rattle.std.proofs.lemmas.List.{length-set}
-use Rattle.stab_lines.specs.Results.{each}
-use Rattle.stab_lines.specs.Words.{words}
-use Rattle.stab_lines.specs.Targets.{lookback_of}
+use Rattle.stab_lines.proofs.Names.{◌<◌, length, take, arith, Ok, sym, ap, ◌∙◌, length-set, each, words, lookback_of}
 use Rattle.stab_lines.proofs.DetectorLemmas.{found_in_range, found_more, found_all}
 use Rattle.stab_lines.proofs.ClearLemmas.{blank_clear}
 use Rattle.stab_lines.proofs.detector.short_records.Goals as goal

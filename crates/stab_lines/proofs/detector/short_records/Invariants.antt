@@ -1,10 +1,4 @@
-use Rattle.std.proofs.Common.{◌≡◌, ◌≤◌, ◌-◌, length, take, All}
-use Rattle.std.specs.List.{list_any}
-use Rattle.stab_lines.specs.Lines.{is_brace}
-use Rattle.stab_lines.specs.Results.{each}
-use Rattle.stab_lines.specs.Words.{words}
-use Rattle.stab_lines.specs.Lookbacks.{IsLookback}
-use Rattle.stab_lines.specs.Targets.{lookback_of}
+use Rattle.stab_lines.proofs.Names.{◌≡◌, ◌≤◌, ◌-◌, length, take, All, list_any, is_brace, each, words, IsLookback, lookback_of}
 use Rattle.stab_lines.proofs.ResultLemmas.{behind}
 use Rattle.stab_lines.proofs.detector.short_records.Given as goal
 

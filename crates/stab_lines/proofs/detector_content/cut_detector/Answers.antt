@@ -1,4 +1,4 @@
-use Rattle.std.proofs.Common.{sym, ◌∙◌}
+use Rattle.stab_lines.proofs.Names.{sym, ◌∙◌}
 use Rattle.stab_lines.proofs.DetectorContentLemmas.{detector_cut}
 use Rattle.stab_lines.proofs.detector_content.cut_detector.Goals as goal
 

@@ -1,5 +1,4 @@
-use Rattle.std.proofs.Common.{sym, ◌∙◌}
-use Rattle.std.proofs.lemmas.Result.{err_from_is_err_and}
+use Rattle.stab_lines.proofs.Names.{sym, ◌∙◌, err_from_is_err_and}
 use Rattle.stab_lines.proofs.DetectorContentLemmas.{few_tell, many_tell, refused_tell}
 use Rattle.stab_lines.proofs.detector_content.plain_detector.Goals as goal
 

@@ -1,6 +1,4 @@
-use Rattle.std.proofs.Common.{sym, subst, take, ◌∙◌}
-use Rattle.std.specs.Option.{option_copied}
-use Rattle.stab_lines.specs.inner.DetectorLines.{AreSpacedRecords}
+use Rattle.stab_lines.proofs.Names.{sym, subst, take, ◌∙◌, option_copied, AreSpacedRecords}
 use Rattle.stab_lines.proofs.DetectorLineLemmas.{detector_begins, detector_shorter}
 use Rattle.stab_lines.proofs.detector_line.detector_in_front.Goals as goal
 

@@ -1,5 +1,4 @@
-use Rattle.std.proofs.Common.{◌≡◌, ℕ, ◌+◌, suc, arith, ap, sym, ◌∙◌, false, take, drop}
-use Rattle.stab_lines.specs.inner.DetectorLines.{are_listed}
+use Rattle.stab_lines.proofs.Names.{◌≡◌, ℕ, ◌+◌, suc, arith, ap, sym, ◌∙◌, false, take, drop, are_listed}
 use Rattle.stab_lines.proofs.DetectorLineLemmas.{listed_more, listed_whole}
 use Rattle.stab_lines.proofs.detector_line.listed_len.Goals as goal
 

@@ -1,5 +1,4 @@
-use Rattle.std.proofs.Common.{◌≡◌, ◌≤◌, ◌-◌, ◌+◌, ℕ, false, length, take, drop}
-use Rattle.stab_lines.specs.inner.DetectorLines.{are_listed}
+use Rattle.stab_lines.proofs.Names.{◌≡◌, ◌≤◌, ◌-◌, ◌+◌, ℕ, false, length, take, drop, are_listed}
 use Rattle.stab_lines.proofs.detector_line.listed_len.Given as goal
 
 abbrev pub invariant-loop-length : goal.invariant-loop-length

@@ -1,9 +1,4 @@
-use Rattle.std.proofs.Common.{◌≡◌}
-use Rattle.std.specs.List.{list_all, slice_split}
-use Rattle.std.specs.Option.{option_copied}
-use Rattle.stab_lines.specs.Lines.{is_byte}
-use Rattle.stab_lines.specs.Words.{pieces_after}
-use Rattle.stab_lines.specs.Products.{is_factor}
+use Rattle.stab_lines.proofs.Names.{◌≡◌, list_all, slice_split, option_copied, is_byte, pieces_after, is_factor}
 use Rattle.stab_lines.proofs.PieceLemmas.{left}
 use Rattle.stab_lines.proofs.factor.are_factors.Given as goal
 

@@ -1,10 +1,4 @@
-use Rattle.std.proofs.Common.{◌≡◌}
-use Rattle.std.specs.List.{slice_split}
-use Rattle.std.specs.Option.{option_copied}
-use Rattle.stab_lines.specs.Results.{each}
-use Rattle.stab_lines.specs.Lines.{is_byte}
-use Rattle.stab_lines.specs.Words.{pieces_after}
-use Rattle.stab_lines.specs.Products.{factor_of}
+use Rattle.stab_lines.proofs.Names.{◌≡◌, slice_split, option_copied, each, is_byte, pieces_after, factor_of}
 use Rattle.stab_lines.proofs.ResultLemmas.{behind}
 use Rattle.stab_lines.proofs.PieceLemmas.{left}
 use Rattle.stab_lines.proofs.factor.factors.Given as goal

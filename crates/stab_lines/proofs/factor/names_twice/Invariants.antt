@@ -1,5 +1,4 @@
-use Rattle.std.proofs.Common.{◌≡◌, ◌≤◌, length, drop, false}
-use Rattle.stab_lines.specs.Products.{names_twice}
+use Rattle.stab_lines.proofs.Names.{◌≡◌, ◌≤◌, length, drop, false, names_twice}
 use Rattle.stab_lines.proofs.factor.names_twice.Given as goal
 
 abbrev pub invariant-loop-start : goal.invariant-loop-start

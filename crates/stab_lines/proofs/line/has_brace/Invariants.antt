@@ -1,6 +1,4 @@
-use Rattle.std.proofs.Common.{◌≡◌, length}
-use Rattle.std.specs.List.{list_any}
-use Rattle.stab_lines.specs.Lines.{is_brace}
+use Rattle.stab_lines.proofs.Names.{◌≡◌, length, list_any, is_brace}
 use Rattle.stab_lines.proofs.line.has_brace.Given as goal
 
 abbrev pub invariant-loop-rest : goal.invariant-loop-rest

@@ -1,6 +1,4 @@
-use Rattle.std.proofs.Common.{◌≡◌, ◌≤◌, ◌-◌, false, length, take}
-use Rattle.std.specs.List.{list_any}
-use Rattle.stab_lines.specs.Lines.{is_byte}
+use Rattle.stab_lines.proofs.Names.{◌≡◌, ◌≤◌, ◌-◌, false, length, take, list_any, is_byte}
 use Rattle.stab_lines.proofs.line.others_in_front.Given as goal
 
 abbrev pub invariant-loop-length : goal.invariant-loop-length

@@ -1,6 +1,4 @@
-use Rattle.std.proofs.Common.{ap, ◌∙◌}
-use Rattle.std.specs.List.{position_or_len}
-use Rattle.stab_lines.specs.Lines.{is_byte}
+use Rattle.stab_lines.proofs.Names.{ap, ◌∙◌, position_or_len, is_byte}
 use Rattle.stab_lines.proofs.SearchLemmas.{behind_others}
 use Rattle.stab_lines.proofs.line.position_of.Goals as goal
 

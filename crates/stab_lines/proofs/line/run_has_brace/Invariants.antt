@@ -1,6 +1,4 @@
-use Rattle.std.proofs.Common.{◌≡◌, take}
-use Rattle.std.specs.List.{list_any}
-use Rattle.stab_lines.specs.Lines.{is_brace}
+use Rattle.stab_lines.proofs.Names.{◌≡◌, take, list_any, is_brace}
 use Rattle.stab_lines.proofs.line.run_has_brace.Given as goal
 
 abbrev pub invariant-loop-byte : goal.invariant-loop-byte

@@ -1,6 +1,4 @@
-use Rattle.std.proofs.Common.{◌≡◌, take}
-use Rattle.std.specs.List.{list_any}
-use Rattle.stab_lines.specs.Lines.{is_byte}
+use Rattle.stab_lines.proofs.Names.{◌≡◌, take, list_any, is_byte}
 use Rattle.stab_lines.proofs.line.run_has_byte.Given as goal
 
 abbrev pub invariant-loop-other : goal.invariant-loop-other

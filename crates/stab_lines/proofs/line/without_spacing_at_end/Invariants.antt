@@ -1,6 +1,4 @@
-use Rattle.std.proofs.Common.{◌≡◌, ◌≤◌, ◌+◌, length, take}
-use Rattle.std.specs.List.{suffix_len}
-use Rattle.stab_lines.specs.Lines.{is_spacing}
+use Rattle.stab_lines.proofs.Names.{◌≡◌, ◌≤◌, ◌+◌, length, take, suffix_len, is_spacing}
 use Rattle.stab_lines.proofs.line.without_spacing_at_end.Given as goal
 
 abbrev pub invariant-loop-end : goal.invariant-loop-end

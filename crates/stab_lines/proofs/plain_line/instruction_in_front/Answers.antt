@@ -1,4 +1,4 @@
-use Rattle.std.proofs.Common.{Ok, sym, ap, ◌∙◌}
+use Rattle.stab_lines.proofs.Names.{Ok, sym, ap, ◌∙◌}
 use Rattle.stab_lines.proofs.PlainLineLemmas.{name_told, name_shorter}
 use Rattle.stab_lines.proofs.plain_line.instruction_in_front.Goals as goal
 

@@ -1,8 +1,4 @@
-use Rattle.std.proofs.Common.{◌∙◌, map, sym}
-use Rattle.std.specs.List.{slice_split}
-use Rattle.std.proofs.lemmas.Result.{err_from_is_err_and}
-use Rattle.stab_lines.specs.Lines.{is_byte, trimmed}
-use Rattle.stab_lines.specs.Prints.{arguments_text}
+use Rattle.stab_lines.proofs.Names.{◌∙◌, map, sym, slice_split, err_from_is_err_and, is_byte, trimmed, arguments_text}
 use Rattle.stab_lines.proofs.ArgumentLemmas.{spaced_arguments}
 use Rattle.stab_lines.proofs.WriteLemmas.{writes_failed, writes_then, writes_as}
 use Rattle.stab_lines.proofs.print.write_after_space.Goals as goal

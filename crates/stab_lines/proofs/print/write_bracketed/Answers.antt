@@ -1,7 +1,4 @@
-use Rattle.std.proofs.Common.{◌++◌, codes, sym}
-use Rattle.std.specs.Option.{option_copied}
-use Rattle.stab_lines.specs.Words.{pieces_after}
-use Rattle.std.proofs.lemmas.Result.{err_from_is_err_and}
+use Rattle.stab_lines.proofs.Names.{◌++◌, codes, sym, option_copied, pieces_after, err_from_is_err_and}
 use Rattle.stab_lines.proofs.WriteLemmas.{writes_failed, writes_then, writes_as}
 use Rattle.stab_lines.proofs.ArgumentLemmas.{more_text, arguments_are}
 use Rattle.stab_lines.proofs.print.write_bracketed.Goals as goal

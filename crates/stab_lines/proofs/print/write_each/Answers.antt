@@ -1,8 +1,5 @@
-use Rattle.std.proofs.Common.{◌++◌, ◌+◌, take, drop}
-use Rattle.stab_lines.specs.Prints.{each_after}
+use Rattle.stab_lines.proofs.Names.{◌++◌, ◌+◌, take, drop, each_after, err_from_is_err_and, took_more}
 use Rattle.stab_lines.proofs.PrintLemmas.{each_after_place, each_after_more}
-use Rattle.std.proofs.lemmas.Result.{err_from_is_err_and}
-use Rattle.stab_io.proofs.DeviceLemmas.{took_more}
 use Rattle.stab_lines.proofs.WriteLemmas.{writes_failed, writes_then, writes_as, took_as}
 use Rattle.stab_lines.proofs.print.write_each.Goals as goal
 

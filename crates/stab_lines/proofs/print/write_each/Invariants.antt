@@ -1,6 +1,4 @@
-use Rattle.std.proofs.Common.{take}
-use Rattle.stab_io.specs.Devices.{Took}
-use Rattle.stab_lines.specs.Prints.{each_after}
+use Rattle.stab_lines.proofs.Names.{take, Took, each_after}
 use Rattle.stab_lines.proofs.print.write_each.Given as goal
 
 abbrev pub invariant-loop-word : goal.invariant-loop-word

@@ -1,6 +1,4 @@
-use Rattle.std.proofs.Common.{codes}
-use Rattle.stab_lines.specs.Prints.{each_after, factor_text}
-use Rattle.std.proofs.lemmas.Result.{err_from_is_err_and}
+use Rattle.stab_lines.proofs.Names.{codes, each_after, factor_text, err_from_is_err_and}
 use Rattle.stab_lines.proofs.WriteLemmas.{writes_failed, writes_then}
 use Rattle.stab_lines.proofs.print.write_factors.Goals as goal
 

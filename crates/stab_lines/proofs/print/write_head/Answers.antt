@@ -1,5 +1,4 @@
-use Rattle.stab_lines.specs.Prints.{tag_text}
-use Rattle.std.proofs.lemmas.Result.{err_from_is_err_and}
+use Rattle.stab_lines.proofs.Names.{tag_text, err_from_is_err_and}
 use Rattle.stab_lines.proofs.WriteLemmas.{writes_failed, writes_then}
 use Rattle.stab_lines.proofs.print.write_head.Goals as goal
 

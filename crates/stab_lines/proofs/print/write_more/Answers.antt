@@ -1,7 +1,4 @@
-use Rattle.std.proofs.Common.{◌++◌, codes, ap}
-use Rattle.std.specs.Option.{option_copied}
-use Rattle.stab_lines.specs.Words.{pieces_after}
-use Rattle.std.proofs.lemmas.Result.{err_from_is_err_and}
+use Rattle.stab_lines.proofs.Names.{◌++◌, codes, ap, option_copied, pieces_after, err_from_is_err_and}
 use Rattle.stab_lines.proofs.WriteLemmas.{written_more, written_failed}
 use Rattle.stab_lines.proofs.ArgumentLemmas.{more_text, more_left}
 use Rattle.stab_lines.proofs.print.write_more.Goals as goal

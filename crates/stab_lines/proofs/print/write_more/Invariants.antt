@@ -1,8 +1,4 @@
-use Rattle.std.proofs.Common.{map, codes}
-use Rattle.std.specs.Option.{option_copied}
-use Rattle.stab_lines.specs.Lines.{trimmed}
-use Rattle.stab_lines.specs.Words.{pieces_after}
-use Rattle.stab_lines.specs.Prints.{each_after}
+use Rattle.stab_lines.proofs.Names.{map, codes, option_copied, trimmed, pieces_after, each_after}
 use Rattle.stab_lines.proofs.PieceLemmas.{left}
 use Rattle.stab_lines.proofs.WriteLemmas.{HasWritten}
 use Rattle.stab_lines.proofs.print.write_more.Given as goal

@@ -1,5 +1,4 @@
-use Rattle.std.proofs.Common.{◌++◌}
-use Rattle.std.proofs.lemmas.Result.{err_from_is_err_and}
+use Rattle.stab_lines.proofs.Names.{◌++◌, err_from_is_err_and}
 use Rattle.stab_lines.proofs.WriteLemmas.{writes_failed, writes_then}
 use Rattle.stab_lines.proofs.print.write_parts.Goals as goal
 

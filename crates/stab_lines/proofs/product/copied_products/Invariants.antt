@@ -1,4 +1,4 @@
-use Rattle.std.proofs.Common.{◌≡◌, take}
+use Rattle.stab_lines.proofs.Names.{◌≡◌, take}
 use Rattle.stab_lines.proofs.product.copied_products.Given as goal
 
 abbrev pub invariant-loop-product : goal.invariant-loop-product

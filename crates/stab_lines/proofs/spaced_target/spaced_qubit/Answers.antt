@@ -1,5 +1,4 @@
-use Rattle.std.proofs.Common.{◌<◌, arith, subst, sym, ◌∙◌}
-use Rattle.stab_lines.specs.inner.PlainLines.{IsSpacedQubit}
+use Rattle.stab_lines.proofs.Names.{◌<◌, arith, subst, sym, ◌∙◌, IsSpacedQubit}
 use Rattle.stab_lines.proofs.SpacedTargetLemmas.{qubit_spaced}
 use Rattle.stab_lines.proofs.spaced_target.spaced_qubit.Goals as goal
 

@@ -1,4 +1,4 @@
-use Rattle.std.proofs.Common.{[], ◌∷◌}
+use Rattle.stab_lines.proofs.Names.{[], ◌∷◌}
 use Rattle.stab_lines.proofs.SpacedTargetLemmas.{target_more}
 use Rattle.stab_lines.proofs.spaced_target.targets_in_front.Goals as goal
 

@@ -1,5 +1,4 @@
-use Rattle.std.proofs.Common.{length}
-use Rattle.stab_lines.specs.inner.PlainLines.{AreSpacedTargets}
+use Rattle.stab_lines.proofs.Names.{length, AreSpacedTargets}
 use Rattle.stab_lines.proofs.spaced_target.targets_in_front.Given as goal
 
 abbrev pub invariant-loop-target : goal.invariant-loop-target

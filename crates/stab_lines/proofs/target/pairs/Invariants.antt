@@ -1,5 +1,4 @@
-use Rattle.std.proofs.Common.{◌≡◌, length}
-use Rattle.stab_lines.specs.Targets.{pairs_of}
+use Rattle.stab_lines.proofs.Names.{◌≡◌, length, pairs_of}
 use Rattle.stab_lines.proofs.ResultLemmas.{behind}
 use Rattle.stab_lines.proofs.target.pairs.Given as goal
 

@@ -1,6 +1,4 @@
-use Rattle.std.proofs.Common.{subst, sym}
-use Rattle.stab_lines.specs.Targets.{qubit_of}
-use Rattle.stab_lines.specs.inner.FrontTargets.{BeginsWithTarget}
+use Rattle.stab_lines.proofs.Names.{subst, sym, qubit_of, BeginsWithTarget}
 use Rattle.stab_lines.proofs.FrontTargetLemmas.{qubit_begins}
 use Rattle.stab_lines.proofs.target.qubit_at_front.Goals as goal
 

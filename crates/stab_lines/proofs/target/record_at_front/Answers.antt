@@ -1,4 +1,4 @@
-use Rattle.std.proofs.Common.{sym, ◌∙◌}
+use Rattle.stab_lines.proofs.Names.{sym, ◌∙◌}
 use Rattle.stab_lines.proofs.ClearLemmas.{record_clear}
 use Rattle.stab_lines.proofs.FrontTargetLemmas.{record_parts, record_begins, record_shorter}
 use Rattle.stab_lines.proofs.target.record_at_front.Goals as goal

@@ -1,6 +1,4 @@
-use Rattle.std.proofs.Common.{◌≡◌, length}
-use Rattle.stab_lines.specs.Results.{each}
-use Rattle.stab_lines.specs.Words.{words}
+use Rattle.stab_lines.proofs.Names.{◌≡◌, length, each, words}
 use Rattle.stab_lines.proofs.ResultLemmas.{behind}
 use Rattle.stab_lines.proofs.target.targets.Given as goal
 

@@ -1,6 +1,5 @@
-use Rattle.std.proofs.Common.{◌≡◌, ◌≤◌, ◌<◌}
+use Rattle.stab_lines.proofs.Names.{◌≡◌, ◌≤◌, ◌<◌, value_from}
 use Rattle.std.proofs.Math.ListN.{drop}
-use Rattle.stab_lines.specs.Words.{value_from}
 use Rattle.stab_lines.proofs.word.capped_value.Given as goal
 
 abbrev pub invariant-loop-digit : goal.invariant-loop-digit

@@ -1,4 +1,4 @@
-use Rattle.std.proofs.Common.{◌<◌, ◌≤◌, ◌+◌, length, arith, sym, ◌∙◌}
+use Rattle.stab_lines.proofs.Names.{◌<◌, ◌≤◌, ◌+◌, length, arith, sym, ◌∙◌}
 use Rattle.stab_lines.proofs.WordLemmas.{digits_more, value_more, few_digits}
 use Rattle.stab_lines.proofs.word.digits_in_front.Goals as goal
 

@@ -1,7 +1,4 @@
-use Rattle.std.proofs.Common.{◌≡◌, ◌≤◌, ◌<◌, ◌-◌, true, length, take}
-use Rattle.std.specs.List.{list_all}
-use Rattle.stab_lines.specs.Lines.{is_digit}
-use Rattle.stab_lines.specs.Words.{value}
+use Rattle.stab_lines.proofs.Names.{◌≡◌, ◌≤◌, ◌<◌, ◌-◌, true, length, take, list_all, is_digit, value}
 use Rattle.stab_lines.proofs.word.digits_in_front.Given as goal
 
 abbrev pub invariant-loop-length : goal.invariant-loop-length

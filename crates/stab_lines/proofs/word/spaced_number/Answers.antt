@@ -1,5 +1,4 @@
-use Rattle.std.proofs.Common.{arith, subst}
-use Rattle.stab_lines.specs.inner.Numbers.{IsBehindWord}
+use Rattle.stab_lines.proofs.Names.{arith, subst, IsBehindWord}
 use Rattle.stab_lines.proofs.NumberLemmas.{number_begins}
 use Rattle.stab_lines.proofs.word.spaced_number.Goals as goal
 

@@ -1,4 +1,4 @@
-use Rattle.stab_pauli.proofs.MaskLemmas.{behind-first, behind-others, byte-small}
+use Rattle.stab_pauli.proofs.Lemmas.{behind-first, behind-others, byte-small}
 use Rattle.stab_pauli.proofs.masks.behind.Goals as goal
 
 pub returns-clause-first : goal.returns-clause-first

@@ -1,5 +1,5 @@
-use Rattle.std.proofs.Common.{arith}
-use Rattle.stab_pauli.proofs.MaskLemmas.{behind_several-first, behind_several-others, eight-fits, eight-short}
+use Rattle.stab_pauli.proofs.Names.{arith}
+use Rattle.stab_pauli.proofs.Lemmas.{behind_several-first, behind_several-others, eight-fits, eight-short}
 use Rattle.stab_pauli.proofs.masks.behind_eight.Goals as goal
 
 pub overflow_mul-result : goal.overflow_mul-result

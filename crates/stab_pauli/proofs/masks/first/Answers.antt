@@ -1,4 +1,4 @@
-use Rattle.stab_pauli.proofs.MaskLemmas.{first-chosen}
+use Rattle.stab_pauli.proofs.Lemmas.{first-chosen}
 use Rattle.stab_pauli.proofs.masks.first.Goals as goal
 
 pub returns-clause-chosen : goal.returns-clause-chosen

@@ -1,4 +1,4 @@
-use Rattle.stab_pauli.proofs.MaskLemmas.{with-here, with-others}
+use Rattle.stab_pauli.proofs.Lemmas.{with-here, with-others}
 use Rattle.stab_pauli.proofs.masks.with_if.Goals as goal
 
 pub returns-clause-here : goal.returns-clause-here

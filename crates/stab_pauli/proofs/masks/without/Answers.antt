@@ -1,4 +1,4 @@
-use Rattle.stab_pauli.proofs.MaskLemmas.{without-gone, without-others, without-fewer}
+use Rattle.stab_pauli.proofs.Lemmas.{without-gone, without-others, without-fewer}
 use Rattle.stab_pauli.proofs.masks.without.Goals as goal
 
 pub returns-clause-gone : goal.returns-clause-gone

@@ -1,6 +1,4 @@
-use Rattle.std.proofs.Common.{◌≡◌, ◌≤◌, ◌+◌, ◌-◌, ◌<◌, ap, subst, sym, ◌∙◌, arith, length, take, drop, get_or, List, ℕ}
-use Rattle.std.proofs.lemmas.List.{drop-set-lt}
-use Rattle.stab_regions.specs.inner.StoredRows.{Rises, kept_of}
+use Rattle.stab_regions.proofs.Names.{◌≡◌, ◌≤◌, ◌+◌, ◌-◌, ◌<◌, ap, subst, sym, ◌∙◌, arith, length, take, drop, get_or, List, ℕ, drop-set-lt, Rises, kept_of}
 use Rattle.stab_regions.proofs.StoredRowLemmas.{rises-below, rises-drop, ends-step, part-long, ends-end}
 use Rattle.stab_regions.proofs.fault_rows.move_ends.Goals as goal
 use Rattle.stab_regions.proofs.fault_rows.move_ends.Goals.{After-count_kept-count}

@@ -1,5 +1,4 @@
-use Rattle.std.proofs.Common.{◌≡◌, ◌≤◌, ◌++◌, length, take, drop}
-use Rattle.stab_regions.specs.inner.StoredRows.{Rises, ends_kept}
+use Rattle.stab_regions.proofs.Names.{◌≡◌, ◌≤◌, ◌++◌, length, take, drop, Rises, ends_kept}
 use Rattle.stab_regions.proofs.fault_rows.move_ends.Given as goal
 
 abbrev pub invariant-rows : goal.invariant-rows

@@ -1,4 +1,4 @@
-use Rattle.std.proofs.Common.{refl, ◌∙◌, arith, length}
+use Rattle.stab_regions.proofs.Names.{refl, ◌∙◌, arith, length}
 use Rattle.stab_regions.proofs.StoredRowLemmas.{rises-at, row-is}
 use Rattle.stab_regions.proofs.fault_rows.row_of.Goals as goal
 

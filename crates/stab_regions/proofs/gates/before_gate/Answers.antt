@@ -1,5 +1,4 @@
-use Rattle.std.proofs.Common.{arith, length, ◌<◌}
-use Rattle.stab_letters.specs.Letters.{◌⊕◌}
+use Rattle.stab_regions.proofs.Names.{arith, length, ◌<◌, ◌⊕◌}
 use Rattle.stab_regions.proofs.GateLemmas.{gate-moves-by, on_ok, mixes-x, mixes-z, mixes-exchanged, mixes-exchanged_x, mixes-exchanged_z}
 use Rattle.stab_regions.proofs.RowLemmas.{toggles-by, inside-set}
 use Rattle.stab_regions.proofs.gates.before_gate.Goals as goal

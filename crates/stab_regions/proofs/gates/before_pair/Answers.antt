@@ -1,5 +1,4 @@
-use Rattle.std.proofs.Common.{arith, length, ◌<◌}
-use Rattle.stab_letters.specs.declared.gate.PairGate.TheVariants.{Cx, Cy, Cz, Swap}
+use Rattle.stab_regions.proofs.Names.{arith, length, ◌<◌, Cx, Cy, Cz, Swap}
 use Rattle.stab_regions.proofs.GateLemmas.{on_ok}
 use Rattle.stab_regions.proofs.RowLemmas.{toggles-by}
 use Rattle.stab_regions.proofs.PairLemmas.{pair-moves-as, cx-mixes, cy-mixes, cz-mixes, swap-mixes}

@@ -1,6 +1,4 @@
-use Rattle.std.proofs.Common.{◌∙◌, ap, subst, List, ℕ, ◌++◌, length, ◌<◌, take, get_or}
-use Rattle.stab_regions.specs.Rows.{odd, ShowsLooks}
-use Rattle.stab_regions.specs.Regions.{look_where}
+use Rattle.stab_regions.proofs.Names.{◌∙◌, ap, subst, List, ℕ, ◌++◌, length, ◌<◌, take, get_or, odd, ShowsLooks, look_where}
 use Rattle.stab_regions.proofs.LookRowLemmas.{names-own, names-other, looks-more}
 use Rattle.stab_regions.proofs.looks.look_each.Goals as goal
 

@@ -1,5 +1,4 @@
-use Rattle.std.proofs.Common.{◌≢◌, ℕ, List, ◌++◌, take}
-use Rattle.stab_regions.specs.Rows.{ShowsLooks}
+use Rattle.stab_regions.proofs.Names.{◌≢◌, ℕ, List, ◌++◌, take, ShowsLooks}
 use Rattle.stab_regions.proofs.looks.look_each.Given as goal
 
 abbrev pub invariant-loop-k : goal.invariant-loop-k

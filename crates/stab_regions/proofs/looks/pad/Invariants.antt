@@ -1,5 +1,4 @@
-use Rattle.stab_regions.specs.Rows.{SameRows}
-use Rattle.std.proofs.Common.{◌+◌, ◌-◌, length}
+use Rattle.stab_regions.proofs.Names.{SameRows, ◌+◌, ◌-◌, length}
 use Rattle.stab_regions.proofs.looks.pad.Given as goal
 
 abbrev pub invariant-padding : goal.invariant-padding

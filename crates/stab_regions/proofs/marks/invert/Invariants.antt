@@ -1,4 +1,5 @@
-use Rattle.std.proofs.Common.{◌≡◌, ℕ, ◌<◌, ◌≤◌, false, not, length, slice_index_or}
+use Rattle.stab_regions.proofs.Names.{◌≡◌, ℕ, ◌<◌, ◌≤◌, false, not, length}
+use Rattle.std.proofs.Common.{slice_index_or}
 use Rattle.stab_regions.proofs.marks.invert.Given as goal
 
 abbrev pub invariant-loop-place : goal.invariant-loop-place

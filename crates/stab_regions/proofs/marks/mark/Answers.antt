@@ -1,8 +1,4 @@
-use Rattle.std.proofs.Common.{◌≡◌, ◌∙◌, ap, arith, Bool, false, ◌||◌, ℕ, List, length, take}
-use Rattle.std.specs.Prelude.{◌==◌, slice_index_or}
-use Rattle.std.specs.List.{list_any}
-use Rattle.std.proofs.Math.Seq.{take-length}
-use Rattle.stab_distance.proofs.AscendingLemmas.{named-ascending}
+use Rattle.stab_regions.proofs.Names.{◌≡◌, ◌∙◌, ap, arith, Bool, false, ◌||◌, ℕ, List, length, take, ◌==◌, slice_index_or, list_any, take-length, named-ascending}
 use Rattle.stab_regions.proofs.marks.mark.Goals as goal
 
 pub returns-clause-value : goal.returns-clause-value

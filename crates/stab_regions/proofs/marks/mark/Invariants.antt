@@ -1,6 +1,5 @@
-use Rattle.std.proofs.Common.{◌≡◌, ℕ, ◌<◌, false, ◌||◌, length, take, slice_index_or}
-use Rattle.std.specs.Prelude.{◌==◌}
-use Rattle.std.specs.List.{list_any}
+use Rattle.stab_regions.proofs.Names.{◌≡◌, ℕ, ◌<◌, false, ◌||◌, length, take, ◌==◌, list_any}
+use Rattle.std.proofs.Common.{slice_index_or}
 use Rattle.stab_regions.proofs.marks.mark.Given as goal
 
 abbrev pub invariant-loop-number : goal.invariant-loop-number

@@ -1,4 +1,4 @@
-use Rattle.std.proofs.Common.{length}
+use Rattle.stab_regions.proofs.Names.{length}
 use Rattle.stab_regions.proofs.FactorLemmas.{product-moves}
 use Rattle.stab_regions.proofs.products.before_product.Goals as goal
 

@@ -1,11 +1,4 @@
-use Rattle.std.proofs.Common.{◌<◌, ◌∙◌, sym, ap, arith, List, length, take, get_or}
-use Rattle.std.proofs.lemmas.List.{take_more}
-use Rattle.stab_letters.specs.Letters.{◌⊕◌}
-use Rattle.stab_pauli.specs.Paulis.{single, anticommute}
-use Rattle.stab_lines.specs.declared.product.Factor.{Factor}
-use Rattle.stab_lines.specs.Axes.{letter_of}
-use Rattle.stab_run.specs.Runs.{string_of}
-use Rattle.stab_regions.specs.Rows.{odd}
+use Rattle.stab_regions.proofs.Names.{◌<◌, ◌∙◌, sym, ap, arith, List, length, take, get_or, take_more, ◌⊕◌, single, anticommute, Factor, letter_of, string_of, odd}
 use Rattle.stab_regions.proofs.ShowLemmas.{bits-anticommute}
 use Rattle.stab_regions.proofs.FactorLemmas.{flips-none, flips-more, place-apart}
 use Rattle.stab_regions.proofs.products.flipped_by_product.Goals as goal

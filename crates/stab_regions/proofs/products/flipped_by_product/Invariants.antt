@@ -1,7 +1,4 @@
-use Rattle.std.proofs.Common.{◌≡◌, ℕ, length, take}
-use Rattle.stab_pauli.specs.Paulis.{Signed, anticommute}
-use Rattle.stab_run.specs.Runs.{string_of}
-use Rattle.stab_regions.specs.Rows.{odd, ShowsLetters}
+use Rattle.stab_regions.proofs.Names.{◌≡◌, ℕ, length, take, Signed, anticommute, string_of, odd, ShowsLetters}
 use Rattle.stab_regions.proofs.products.flipped_by_product.Given as goal
 
 abbrev pub invariant-loop-factor : goal.invariant-loop-factor

@@ -1,8 +1,4 @@
-use Rattle.std.proofs.Common.{◌<◌, refl, ◌∙◌, sym, ap, subst, List, length, take, get_or}
-use Rattle.std.proofs.lemmas.List.{take_more}
-use Rattle.stab_lines.specs.declared.product.Factor.{Factor}
-use Rattle.stab_lines.specs.Axes.{letter_of}
-use Rattle.stab_regions.specs.Rows.{MovesLetters}
+use Rattle.stab_regions.proofs.Names.{◌<◌, refl, ◌∙◌, sym, ap, subst, List, length, take, get_or, take_more, Factor, letter_of, MovesLetters}
 use Rattle.stab_regions.proofs.FactorLemmas.{by_product, by_product-none, by_product-more, multiplied-as, place-apart}
 use Rattle.stab_regions.proofs.products.multiply_product.Goals as goal
 

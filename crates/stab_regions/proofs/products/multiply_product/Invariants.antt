@@ -1,5 +1,4 @@
-use Rattle.std.proofs.Common.{◌≡◌, length, take}
-use Rattle.stab_regions.specs.Rows.{MovesLetters}
+use Rattle.stab_regions.proofs.Names.{◌≡◌, length, take, MovesLetters}
 use Rattle.stab_regions.proofs.FactorLemmas.{by_product}
 use Rattle.stab_regions.proofs.products.multiply_product.Given as goal
 

@@ -1,5 +1,4 @@
-use Rattle.std.proofs.Common.{◌≡◌, ◌≤◌, ◌-◌, [], length}
-use Rattle.std.specs.Prelude.{replicate}
+use Rattle.stab_regions.proofs.Names.{◌≡◌, ◌≤◌, ◌-◌, [], length, replicate}
 use Rattle.stab_regions.proofs.regions.empty_rows.Given as goal
 
 abbrev pub invariant-rows : goal.invariant-rows

@@ -1,6 +1,5 @@
-use Rattle.std.proofs.Common.{◌≡◌, ℕ, ◌<◌, false, ◌||◌, length, take, slice_index_or}
-use Rattle.std.specs.List.{list_any}
-use Rattle.stab_regions.specs.Rows.{odd}
+use Rattle.stab_regions.proofs.Names.{◌≡◌, ℕ, ◌<◌, false, ◌||◌, length, take, list_any, odd}
+use Rattle.std.proofs.Common.{slice_index_or}
 use Rattle.stab_regions.proofs.regions.mark_all.Given as goal
 
 abbrev pub invariant-loop-parities : goal.invariant-loop-parities

@@ -1,6 +1,4 @@
-use Rattle.std.proofs.Common.{refl, sym, subst, ◌∙◌, length, List, ℕ}
-use Rattle.stab_letters.specs.declared.letter.Letter.TheVariants.{X}
-use Rattle.stab_letters.specs.Letters.{letters_anticommute}
+use Rattle.stab_regions.proofs.Names.{refl, sym, subst, ◌∙◌, length, List, ℕ, X, letters_anticommute}
 use Rattle.stab_regions.proofs.MultiplyLemmas.{TogglesWhere, toggles-true, toggles-false, multiply-moves}
 use Rattle.stab_regions.proofs.rows.multiply.Goals as goal
 use Rattle.stab_regions.proofs.rows.multiply.Goals.{then-anticommutes+in_ok-toggle, else-anticommutes}

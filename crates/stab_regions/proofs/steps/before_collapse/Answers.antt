@@ -1,4 +1,4 @@
-use Rattle.std.proofs.Common.{length}
+use Rattle.stab_regions.proofs.Names.{length}
 use Rattle.stab_regions.proofs.ShowLemmas.{collapse-moves}
 use Rattle.stab_regions.proofs.steps.before_collapse.Goals as goal
 

@@ -1,10 +1,4 @@
-use Rattle.std.proofs.Common.{◌≡◌, ℕ, ◌*◌, ◌≤◌, ◌∷◌, ◌++◌, true, List, length, drop, reverse}
-use Rattle.std.specs.List.{flat_map}
-use Rattle.stab_circuit.specs.Steps.{Step}
-use Rattle.stab_circuit.specs.Cursors.{step_shown}
-use Rattle.stab_regions.specs.inner.Sites.{step_qubits}
-use Rattle.stab_regions.specs.inner.RegionsAt.{IsRegionsAt}
-use Rattle.stab_regions.specs.inner.Sweeps.{Inserted, inserted_by, HaveRows, AreKept}
+use Rattle.stab_regions.proofs.Names.{◌≡◌, ℕ, ◌*◌, ◌≤◌, ◌∷◌, ◌++◌, true, List, length, drop, reverse, flat_map, Step, step_shown, step_qubits, IsRegionsAt, Inserted, inserted_by, HaveRows, AreKept}
 use Rattle.stab_regions.proofs.sweep.add_all.Given as goal
 
 abbrev pub invariant-qubits : goal.invariant-qubits

@@ -1,5 +1,4 @@
-use Rattle.std.proofs.Common.{sym, subst, reverse}
-use Rattle.std.specs.Prelude.{slice_index}
+use Rattle.stab_regions.proofs.Names.{sym, subst, reverse, slice_index}
 use Rattle.stab_regions.proofs.InsertedLemmas.{IsXRow, IsZRow, kept-before, rows-asked}
 use Rattle.stab_regions.proofs.sweep.add_behind.Goals as goal
 

@@ -1,5 +1,5 @@
-use Rattle.std.proofs.Common.{reverse}
-use Rattle.stab_letters.specs.declared.letter.Letter.TheVariants as letter
+use Rattle.stab_regions.proofs.Names.{reverse}
+use Rattle.stab_gates.specs.declared.letter.Letter.TheVariants as letter
 use Rattle.stab_regions.proofs.InsertedLemmas.{flipped-row, rows-asked}
 use Rattle.stab_regions.proofs.sweep.add_front.Goals as goal
 

@@ -1,9 +1,4 @@
-use Rattle.std.proofs.Common.{◌≡◌, ℕ, ◌*◌, List, length, take}
-use Rattle.stab_circuit.specs.Steps.{Step}
-use Rattle.stab_circuit.specs.Cursors.{step_shown}
-use Rattle.stab_regions.specs.inner.Sites.{step_qubits}
-use Rattle.stab_regions.specs.inner.RegionsAt.{IsRegionsAt}
-use Rattle.stab_regions.specs.inner.Sweeps.{AreKept}
+use Rattle.stab_regions.proofs.Names.{◌≡◌, ℕ, ◌*◌, List, length, take, Step, step_shown, step_qubits, IsRegionsAt, AreKept}
 use Rattle.stab_regions.proofs.sweep.keep_all.Given as goal
 
 abbrev pub invariant-qubits : goal.invariant-qubits

@@ -1,6 +1,5 @@
-use Rattle.std.proofs.Common.{sym, ap, ◌∙◌, subst, ◌++◌, ◌∷◌, [], List, ℕ}
-use Rattle.stab_letters.specs.declared.letter.Letter.TheVariants as letter
-use Rattle.stab_regions.specs.inner.Sweeps.{AreKept}
+use Rattle.stab_regions.proofs.Names.{sym, ap, ◌∙◌, subst, ◌++◌, ◌∷◌, [], List, ℕ, AreKept}
+use Rattle.stab_gates.specs.declared.letter.Letter.TheVariants as letter
 use Rattle.stab_regions.proofs.InsertedLemmas.{flipped-row, kept-push}
 use Rattle.stab_regions.proofs.sweep.keep_letters.Goals as goal
 

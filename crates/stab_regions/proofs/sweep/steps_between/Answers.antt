@@ -1,8 +1,4 @@
-use Rattle.std.proofs.Common.{◌≡◌, ◌+◌, sym, ap, ◌∙◌, ◌++◌, ◌∷◌, [], List, length, take, drop, map, arith}
-use Rattle.std.proofs.lemmas.List.{map_push, length_push, length-drop}
-use Rattle.stab_circuit.specs.Steps.{Step, unroll}
-use Rattle.stab_circuit.specs.Views.{circuit_items}
-use Rattle.stab_circuit.specs.Cursors.{step_shown}
+use Rattle.stab_regions.proofs.Names.{◌≡◌, ◌+◌, sym, ap, ◌∙◌, ◌++◌, ◌∷◌, [], List, length, take, drop, map, arith, map_push, length_push, length-drop, Step, unroll, circuit_items, step_shown}
 use Rattle.stab_regions.proofs.SweepLemmas.{taken-more}
 use Rattle.stab_regions.proofs.sweep.steps_between.Goals as goal
 

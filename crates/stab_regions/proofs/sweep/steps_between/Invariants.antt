@@ -1,7 +1,4 @@
-use Rattle.std.proofs.Common.{◌≡◌, ◌-◌, ◌≤◌, length, take, drop, map}
-use Rattle.stab_circuit.specs.Steps.{unroll}
-use Rattle.stab_circuit.specs.Views.{circuit_items}
-use Rattle.stab_circuit.specs.Cursors.{step_shown}
+use Rattle.stab_regions.proofs.Names.{◌≡◌, ◌-◌, ◌≤◌, length, take, drop, map, unroll, circuit_items, step_shown}
 use Rattle.stab_regions.proofs.sweep.steps_between.Given as goal
 
 abbrev pub invariant-steps : goal.invariant-steps

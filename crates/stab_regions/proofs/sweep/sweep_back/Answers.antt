@@ -1,12 +1,4 @@
-use Rattle.std.proofs.Common.{◌≡◌, ◌-◌, ◌≤◌, refl, sym, ap, subst, ◌∙◌, ◌++◌, [], List, length, take, drop, map, arith}
-use Rattle.std.specs.Prelude.{All}
-use Rattle.std.proofs.lemmas.List.{drop_all}
-use Rattle.stab_circuit.specs.Steps.{Step, unroll, observables_of, detectors_of}
-use Rattle.stab_circuit.specs.Views.{circuit_items}
-use Rattle.stab_circuit.specs.Cursors.{step_shown}
-use Rattle.stab_run.specs.ProgramStates.{StepFits}
-use Rattle.stab_laws.proofs.FitLemmas.{check-fits, check-whole, check-steps}
-use Rattle.stab_regions.specs.inner.Sweeps.{IsSwept, MayPass}
+use Rattle.stab_regions.proofs.Names.{◌≡◌, ◌-◌, ◌≤◌, refl, sym, ap, subst, ◌∙◌, ◌++◌, [], List, length, take, drop, map, arith, All, drop_all, Step, unroll, observables_of, detectors_of, circuit_items, step_shown, StepFits, check-fits, check-whole, check-steps, IsSwept, MayPass}
 use Rattle.stab_regions.proofs.SweepLemmas.{detectors-exact, piece, passes-piece}
 use Rattle.stab_regions.proofs.BelowLemmas.{names-below}
 use Rattle.stab_regions.proofs.sweep.sweep_back.Goals as goal

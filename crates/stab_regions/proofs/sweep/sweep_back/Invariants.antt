@@ -1,7 +1,4 @@
-use Rattle.std.proofs.Common.{◌≤◌, length, drop}
-use Rattle.stab_circuit.specs.Steps.{unroll, observables_of, detectors_of}
-use Rattle.stab_circuit.specs.Views.{circuit_items}
-use Rattle.stab_regions.specs.inner.Sweeps.{IsSwept}
+use Rattle.stab_regions.proofs.Names.{◌≤◌, length, drop, unroll, observables_of, detectors_of, circuit_items, IsSwept}
 use Rattle.stab_regions.proofs.sweep.sweep_back.Given as goal
 
 abbrev pub invariant-pieces : goal.invariant-pieces

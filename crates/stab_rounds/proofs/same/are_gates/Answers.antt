@@ -1,8 +1,5 @@
-use Rattle.std.proofs.Common.{rules, sym, ◌∙◌, ap}
-use denote.Enum.Bare.{same_true}
-use Rattle.stab_letters.specs.contracts.gate.Gate.{the_type}
-use Rattle.stab_circuit.specs.Steps.{one}
-use Rattle.stab_circuit.specs.Cursors.{steps_shown}
+use Rattle.stab_rounds.proofs.Names.{rules, sym, ◌∙◌, ap, same_true, one, steps_shown}
+use Rattle.stab_gates.specs.contracts.gate.Gate.{the_type}
 use Rattle.stab_rounds.proofs.SameLemmas.{same_shown, tells_qubits}
 use Rattle.stab_rounds.proofs.same.are_gates.Goals as goal
 

@@ -1,6 +1,4 @@
-use Rattle.std.proofs.Common.{refl, sym, ◌∙◌, ap}
-use Rattle.stab_circuit.specs.Steps.{measured}
-use Rattle.stab_circuit.specs.Cursors.{steps_shown}
+use Rattle.stab_rounds.proofs.Names.{refl, sym, ◌∙◌, ap, measured, steps_shown}
 use Rattle.stab_rounds.proofs.SameLemmas.{same_shown, same_measurement, tells_targets}
 use Rattle.stab_rounds.proofs.same.are_measurements.Goals as goal
 

@@ -1,8 +1,4 @@
-use Rattle.std.proofs.Common.{rules, refl, sym, ◌∙◌, ap}
-use denote.Enum.Bare.{same_true}
-use Rattle.stab_lines.specs.contracts.axis.Axis.{the_type}
-use Rattle.stab_circuit.specs.Steps.{controlled_step}
-use Rattle.stab_circuit.specs.Cursors.{steps_shown}
+use Rattle.stab_rounds.proofs.Names.{rules, refl, sym, ◌∙◌, ap, same_true, the_type, controlled_step, steps_shown}
 use Rattle.stab_rounds.proofs.SameLemmas.{same_shown, tells_pairs}
 use Rattle.stab_rounds.proofs.same.are_pairs.Goals as goal
 

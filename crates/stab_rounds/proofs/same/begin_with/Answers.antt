@@ -1,7 +1,4 @@
-use Rattle.std.proofs.Common.{◌≡◌, ℕ, sym, subst, List, length, map, take, drop}
-use Rattle.std.proofs.lemmas.Bool.{OnTrue_at, OnTrue_from}
-use Rattle.stab_circuit.specs.Steps.{Step, detector}
-use Rattle.stab_circuit.specs.Cursors.{steps_shown, lookbacks_of}
+use Rattle.stab_rounds.proofs.Names.{◌≡◌, ℕ, sym, subst, List, length, map, take, drop, OnTrue_at, OnTrue_from, Step, detector, steps_shown, lookbacks_of}
 use Rattle.stab_rounds.proofs.SameLemmas.{mapped_part}
 use Rattle.stab_rounds.proofs.same.begin_with.Goals as goal
 

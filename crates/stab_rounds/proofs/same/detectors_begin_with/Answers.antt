@@ -1,6 +1,4 @@
-use Rattle.std.proofs.Common.{◌<◌, ◌∙◌, [], sym, length, drop, arith}
-use Rattle.std.proofs.lemmas.List.{take_more_same, get_or-drop, length-drop}
-use Rattle.stab_circuit.specs.Cursors.{lookbacks_of}
+use Rattle.stab_rounds.proofs.Names.{◌<◌, ◌∙◌, [], sym, length, drop, arith, take_more_same, get_or-drop, length-drop, lookbacks_of}
 use Rattle.stab_rounds.proofs.SameLemmas.{same_list, tells_qubits}
 use Rattle.stab_rounds.proofs.same.detectors_begin_with.Goals as goal
 

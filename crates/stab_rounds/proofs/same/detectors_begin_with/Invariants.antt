@@ -1,5 +1,4 @@
-use Rattle.std.proofs.Common.{◌≡◌, take, drop}
-use Rattle.stab_circuit.specs.Cursors.{lookbacks_of}
+use Rattle.stab_rounds.proofs.Names.{◌≡◌, take, drop, lookbacks_of}
 use Rattle.stab_rounds.proofs.same.detectors_begin_with.Given as goal
 
 abbrev pub invariant-loop-number : goal.invariant-loop-number

@@ -1,7 +1,4 @@
-use Rattle.std.proofs.Common.{refl, sym, ◌∙◌, ap}
-use Rattle.std.proofs.lemmas.Bool.{OnTrue_from}
-use Rattle.stab_circuit.specs.Steps.{product}
-use Rattle.stab_circuit.specs.Cursors.{step_shown}
+use Rattle.stab_rounds.proofs.Names.{refl, sym, ◌∙◌, ap, OnTrue_from, product, step_shown}
 use Rattle.stab_rounds.proofs.SameLemmas.{same_list, same_bool, tells_factors}
 use Rattle.stab_rounds.proofs.same.is_product.Goals as goal
 

@@ -1,6 +1,4 @@
-use Rattle.std.proofs.Common.{◌≤◌, length}
-use Rattle.stab_circuit.specs.Steps.{unroll}
-use Rattle.stab_circuit.specs.Views.{circuit_items}
+use Rattle.stab_rounds.proofs.Names.{◌≤◌, length, unroll, circuit_items}
 use Rattle.stab_rounds.proofs.search.find_from.Given as goal
 
 abbrev pub invariant-places : goal.invariant-places

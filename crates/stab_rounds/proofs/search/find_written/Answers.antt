@@ -1,8 +1,4 @@
-use Rattle.std.proofs.Common.{◌+◌, ◌*◌, ◌≤◌, sym, subst, IfSome, arith}
-use Rattle.stab_items.proofs.SummaryLemmas.{few_steps}
-use Rattle.stab_circuit.specs.Steps.{unroll}
-use Rattle.stab_circuit.specs.Views.{circuit_items}
-use Rattle.stab_circuit.specs.Repeats.{IsRepeat}
+use Rattle.stab_rounds.proofs.Names.{◌+◌, ◌*◌, ◌≤◌, sym, subst, IfSome, arith, few_steps, unroll, circuit_items, IsRepeat}
 use Rattle.stab_rounds.proofs.SearchLemmas.{AreRepeatsTo, one-repeat-more, are-repeats, is-further}
 use Rattle.stab_rounds.proofs.search.find_written.Goals as goal
 

@@ -1,10 +1,5 @@
-use Rattle.std.proofs.Common.{◌≡◌, ◌+◌, ◌++◌, ◌∙◌, sym, ap, length, drop, arith}
-use Rattle.std.proofs.lemmas.List.{length-drop, length-append}
-use Rattle.stab_items.proofs.SummaryLemmas.{few_steps}
-use Rattle.stab_circuit.specs.Steps.{unroll}
-use Rattle.stab_circuit.specs.Views.{circuit_items}
-use Rattle.stab_circuit.specs.Cursors.{steps_shown}
-use Rattle.stab_rounds.proofs.StretchLemmas.{goes-behind}
+use Rattle.stab_rounds.proofs.Names.{◌≡◌, ◌+◌, ◌++◌, ◌∙◌, sym, ap, length, drop, arith, length-drop, length-append, few_steps, unroll, circuit_items, steps_shown}
+use Rattle.stab_rounds.proofs.AlikeLemmas.{goes-behind}
 use Rattle.stab_rounds.proofs.search.next_place.Goals as goal
 
 pub overflow_add-place : goal.overflow_add-place

@@ -1,6 +1,4 @@
-use Rattle.std.proofs.Common.{◌≡◌, ◌≤◌, length, drop}
-use Rattle.stab_circuit.specs.Steps.{unroll}
-use Rattle.stab_circuit.specs.Views.{circuit_items}
+use Rattle.stab_rounds.proofs.Names.{◌≡◌, ◌≤◌, length, drop, unroll, circuit_items}
 use Rattle.stab_rounds.proofs.search.next_place.Given as goal
 
 abbrev pub invariant-going : goal.invariant-going

@@ -1,8 +1,4 @@
-use Rattle.std.proofs.Common.{refl, subst, All, take, drop, arith}
-use Rattle.stab_items.proofs.SummaryLemmas.{few_steps}
-use Rattle.stab_circuit.specs.Steps.{unroll}
-use Rattle.stab_circuit.specs.Views.{circuit_items}
-use Rattle.stab_rounds.specs.Lookbacks.{LooksWithin}
+use Rattle.stab_rounds.proofs.Names.{refl, subst, All, take, drop, arith, few_steps, unroll, circuit_items, LooksWithin}
 use Rattle.stab_rounds.proofs.LookLemmas.{looks-within}
 use Rattle.stab_rounds.proofs.search.rounds_at.Goals as goal
 
@@ -13,7 +9,7 @@ pub returns-clause-found : goal.returns-clause-found
 returns-clause-found c =
     let ys = unroll (circuit_items c.args.circuit.now) in
     let round = take c.args.round (drop c.args.first ys) in
-    let look = c.reach_of.result in (
+    let look = c.window_of.result in (
       refl,
       record {
         some = c.requires.some;
@@ -21,6 +17,6 @@ returns-clause-found c =
         inside = c.in_ok-rounds.ensures.inside;
         again = c.in_ok-rounds.ensures.again;
         within = looks-within look round
-            (subst (λ left. All (LooksWithin look) (take c.args.round left)) c.in_ok-cursor.ensures.steps c.reach_of.ensures.within);
+            (subst (λ left. All (LooksWithin look) (take c.args.round left)) c.in_ok-cursor.ensures.steps c.window_of.ensures.within);
       },
     )

@@ -1,5 +1,4 @@
-use Rattle.std.proofs.Common.{refl, subst, IfSome, length}
-use Rattle.stab_circuit.specs.Rounds.{AreGaps}
+use Rattle.stab_session.proofs.Names.{refl, subst, IfSome, length, AreGaps}
 use Rattle.stab_session.proofs.PauliSpanLemmas.{taken-fit, put-fit, pending-differs}
 use Rattle.stab_session.proofs.PendingLemmas.{few}
 use Rattle.stab_session.proofs.paulis.difference.Goals as goal

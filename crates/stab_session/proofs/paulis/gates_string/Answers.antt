@@ -1,8 +1,4 @@
-use Rattle.std.proofs.Common.{◌≡◌, length, replicate, ◌∙◌, ap}
-use Rattle.std.proofs.lemmas.List.{length-replicate}
-use Rattle.stab_letters.specs.declared.letter.Letter.TheVariants.{I}
-use Rattle.stab_pauli.specs.Paulis.{string_product}
-use Rattle.stab_frames.specs.Starts.{letters_on}
+use Rattle.stab_session.proofs.Names.{◌≡◌, length, replicate, ◌∙◌, ap, length-replicate, I, string_product, letters_on}
 use Rattle.stab_session.proofs.PauliLetterLemmas.{both-multiplied}
 use Rattle.stab_session.proofs.paulis.gates_string.Goals as goal
 

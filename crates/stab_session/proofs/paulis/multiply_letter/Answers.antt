@@ -1,7 +1,4 @@
-use Rattle.std.proofs.Common.{◌≡◌, length, set, get_or, ◌∙◌, ap}
-use Rattle.std.proofs.lemmas.List.{length-set}
-use Rattle.stab_letters.specs.declared.letter.Letter.TheVariants.{I}
-use Rattle.stab_letters.specs.Letters.{letter_product}
+use Rattle.stab_session.proofs.Names.{◌≡◌, length, set, get_or, ◌∙◌, ap, length-set, I, letter_product}
 use Rattle.stab_session.proofs.PauliLetterLemmas.{qubit-fits, next-multiplied, all-multiplied}
 use Rattle.stab_session.proofs.paulis.multiply_letter.Goals as goal
 

@@ -1,6 +1,4 @@
-use Rattle.std.proofs.Common.{◌≡◌, length, drop}
-use Rattle.stab_pauli.specs.Paulis.{string_product}
-use Rattle.stab_frames.specs.Starts.{letters_on}
+use Rattle.stab_session.proofs.Names.{◌≡◌, length, drop, string_product, letters_on}
 use Rattle.stab_session.proofs.paulis.multiply_letter.Given as goal
 
 abbrev pub invariant-loop-qubit : goal.invariant-loop-qubit

@@ -1,7 +1,4 @@
-use Rattle.std.proofs.Common.{sym, ◌∙◌, subst}
-use Rattle.stab_io.specs.Refusals.{IsCallFault}
-use Rattle.stab_circuit.proofs.EditingLemmas.{replaced}
-use Rattle.stab_circuit.proofs.ClearLemmas.{verdict-instead}
+use Rattle.stab_session.proofs.Names.{sym, ◌∙◌, subst, IsCallFault, replaced, verdict-instead}
 use Rattle.stab_session.proofs.PendingLemmas.{begun-delete}
 use Rattle.stab_session.proofs.pending.delete.Goals as goal
 

@@ -1,5 +1,4 @@
-use Rattle.std.proofs.Common.{sym, ◌∙◌}
-use Rattle.stab_circuit.proofs.EditingLemmas.{replaced}
+use Rattle.stab_session.proofs.Names.{sym, ◌∙◌, replaced}
 use Rattle.stab_session.proofs.PendingLemmas.{begun-replace}
 use Rattle.stab_session.proofs.pending.replace.Goals as goal
 

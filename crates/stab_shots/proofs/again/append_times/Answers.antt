@@ -1,5 +1,5 @@
-use Rattle.std.proofs.Common.{arith}
-use Rattle.stab_shots.proofs.MarkLemmas.{appended-more, appended-none}
+use Rattle.stab_shots.proofs.Names.{arith}
+use Rattle.stab_shots.proofs.CheckpointLemmas.{appended-more, appended-none}
 use Rattle.stab_shots.proofs.again.append_times.Goals as goal
 
 pub returns-then-from-behind : goal.returns-then-from-behind

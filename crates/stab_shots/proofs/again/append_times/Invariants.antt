@@ -1,5 +1,4 @@
-use Rattle.std.proofs.Common.{◌≡◌, ◌++◌, drop}
-use Rattle.stab_shots.specs.Marks.{times}
+use Rattle.stab_shots.proofs.Names.{◌≡◌, ◌++◌, drop, times}
 use Rattle.stab_shots.proofs.again.append_times.Given as goal
 
 abbrev pub invariant-loop : goal.invariant-loop

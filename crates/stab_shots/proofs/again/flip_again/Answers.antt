@@ -1,4 +1,4 @@
-use Rattle.stab_shots.proofs.MarkLemmas.{output-again}
+use Rattle.stab_shots.proofs.CheckpointLemmas.{output-again}
 use Rattle.stab_shots.proofs.again.flip_again.Goals as goal
 
 pub returns-clause-output : goal.returns-clause-output

@@ -1,6 +1,4 @@
-use Rattle.std.proofs.Common.{◌≡◌, ℕ, ◌+◌, ◌<◌, Bool, length}
-use Rattle.stab_circuit.specs.Items.{Items}
-use Rattle.stab_shots.specs.Shots.{AreRuns, AreShots}
+use Rattle.stab_shots.proofs.Names.{◌≡◌, ℕ, ◌+◌, ◌<◌, Bool, length, Items, AreRuns, AreShots}
 use Rattle.stab_shots.proofs.batches.push_lanes.Given as goal
 
 abbrev pub invariant-loop-lane : goal.invariant-loop-lane

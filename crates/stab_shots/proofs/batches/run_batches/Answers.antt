@@ -1,10 +1,6 @@
-use Rattle.std.proofs.Common.{arith, ◌∙◌, ◌+◌, ◌<◌, ap, subst}
-use Rattle.stab_circuit.specs.Views.{circuit_items}
-use Rattle.stab_shots.specs.Seeds.{shot_coins}
-use Rattle.stab_shots.specs.References.{IsReference}
-use Rattle.stab_shots.specs.Shots.{AreRuns}
+use Rattle.stab_shots.proofs.Names.{arith, ◌∙◌, ◌+◌, ◌<◌, ap, subst, circuit_items, shot_coins, IsReference, AreRuns}
 use Rattle.stab_shots.proofs.BatchLemmas.{lane-coins}
-use Rattle.stab_shots.proofs.NotedLemmas.{if-copied}
+use Rattle.stab_shots.proofs.RecordedLemmas.{if-copied}
 use Rattle.stab_shots.proofs.batches.run_batches.Goals as goal
 
 pub run_checked_batch-requires-clause-reference : goal.run_checked_batch-requires-clause-reference
@@ -23,6 +19,6 @@ loop-made-preserved g c =
           (λ l less.
           let within : l < g.W.Word.lanes = omega (arith, less, c.min-batch.ensures, c.requires.few) in
           subst (λ coins. AreRuns g.W.Word.at l c.args.n coins items c.run_checked_batch.new.shots)
-          (lane-coins c.args.seed c.args.first c.loop-made.made _ l _ so_far.number (λ t. c.of_seed-coins.ensures.value l t within))
+          (lane-coins c.args.seed c.args.first c.loop-made.made _ l _ so_far.number (λ t. c.of_seed-coins.ensures.value l t less))
           (c.in_ok-run_checked_batch.ensures.runs l within));
     }

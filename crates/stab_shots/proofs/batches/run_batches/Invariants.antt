@@ -1,7 +1,4 @@
-use Rattle.std.proofs.Common.{◌≡◌, ◌-◌, ◌≤◌, length}
-use Rattle.stab_circuit.specs.Views.{circuit_items}
-use Rattle.stab_shots.specs.Seeds.{shot_coins}
-use Rattle.stab_shots.specs.Shots.{AreShots}
+use Rattle.stab_shots.proofs.Names.{◌≡◌, ◌-◌, ◌≤◌, length, circuit_items, shot_coins, AreShots}
 use Rattle.stab_shots.proofs.batches.run_batches.Given as goal
 
 abbrev pub invariant-loop-made : goal.invariant-loop-made

@@ -1,5 +1,4 @@
-use Rattle.std.proofs.Common.{◌≡◌, ℕ, ◌+◌, ◌*◌, ◌<◌, get_or, length}
-use Rattle.stab_shots.specs.Blocks.{first_exchanged, second_exchanged}
+use Rattle.stab_shots.proofs.Names.{◌≡◌, ℕ, ◌+◌, ◌*◌, ◌<◌, get_or, length, first_exchanged, second_exchanged}
 use Rattle.stab_shots.proofs.blocks.exchange_halves.Given as goal
 
 abbrev pub invariant-loop-p : goal.invariant-loop-p

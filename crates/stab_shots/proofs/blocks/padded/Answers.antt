@@ -1,4 +1,4 @@
-use Rattle.std.proofs.Common.{ap, ◌∙◌, length, get_or}
+use Rattle.stab_shots.proofs.Names.{ap, ◌∙◌, length, get_or}
 use Rattle.stab_shots.proofs.RowLemmas.{all-same, padded}
 use Rattle.stab_shots.proofs.blocks.padded.Goals as goal
 

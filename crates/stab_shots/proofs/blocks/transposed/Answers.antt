@@ -1,5 +1,4 @@
-use Rattle.std.proofs.Common.{ap, ◌∙◌}
-use Rattle.stab_shots.specs.Words.{word_bit}
+use Rattle.stab_shots.proofs.Names.{ap, ◌∙◌, word_bit}
 use Rattle.stab_shots.proofs.TransposeLemmas.{transposed-at}
 use Rattle.stab_shots.proofs.RowLemmas.{lane-bit}
 use Rattle.stab_shots.proofs.blocks.transposed.Goals as goal

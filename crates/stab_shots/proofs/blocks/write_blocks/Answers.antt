@@ -1,8 +1,4 @@
-use Rattle.std.proofs.Common.{rules, arith, ap, ◌∙◌, ◌≡◌, ◌+◌, length}
-use Rattle.std.specs.Slice.Iter.{chunks_rest}
-use Rattle.std.proofs.lemmas.List.{length-append, length_push, nil_from_length}
-use Rattle.stab_shots.specs.Words.{word_bit}
-use Rattle.stab_shots.specs.Lanes.{lane_bits}
+use Rattle.stab_shots.proofs.Names.{rules, arith, ap, ◌∙◌, ◌≡◌, ◌+◌, length, chunks_rest, length-append, length_push, nil_from_length, word_bit, lane_bits}
 use Rattle.stab_shots.proofs.RowLemmas.{next-block, whole-row}
 use Rattle.stab_shots.proofs.blocks.write_blocks.Goals as goal
 

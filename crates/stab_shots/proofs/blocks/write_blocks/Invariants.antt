@@ -1,8 +1,4 @@
-use Rattle.std.proofs.Common.{◌≡◌, ◌++◌, ℕ, ◌+◌, ◌*◌, ◌<◌, ◌≤◌, List, length}
-use Rattle.std.specs.Slice.Iter.{chunks_rest, chunks_size}
-use Rattle.stab_shots.specs.Words.{word_bit}
-use Rattle.stab_shots.specs.Lanes.{lane_bits}
-use Rattle.stab_shots.specs.Blocks.{row_bytes}
+use Rattle.stab_shots.proofs.Names.{◌≡◌, ◌++◌, ℕ, ◌+◌, ◌*◌, ◌<◌, ◌≤◌, List, length, chunks_rest, chunks_size, word_bit, lane_bits, row_bytes}
 use Rattle.stab_shots.proofs.RowLemmas.{BeginWith}
 use Rattle.stab_shots.proofs.blocks.write_blocks.Given as goal
 

@@ -1,5 +1,4 @@
-use Rattle.std.proofs.Common.{◌≡◌, ◌*◌, take, length}
-use Rattle.stab_shots.specs.Blocks.{row_bytes}
+use Rattle.stab_shots.proofs.Names.{◌≡◌, ◌*◌, take, length, row_bytes}
 use Rattle.stab_shots.proofs.blocks.write_row.Given as goal
 
 abbrev pub invariant-loop-i : goal.invariant-loop-i

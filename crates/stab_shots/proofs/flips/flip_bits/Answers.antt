@@ -1,7 +1,4 @@
-use Rattle.std.proofs.Common.{rules, arith, ◌≡◌, ◌<◌, ◌≤◌, sym, ◌∙◌, length}
-use Rattle.std.proofs.lemmas.List.{length-map}
-use Rattle.stab_frames.specs.Flips.{flipped}
-use Rattle.stab_shots.specs.Lanes.{lane_bits}
+use Rattle.stab_shots.proofs.Names.{rules, arith, ◌≡◌, ◌<◌, ◌≤◌, sym, ◌∙◌, length, length-map, flipped, lane_bits}
 use Rattle.stab_shots.proofs.LaneLemmas.{flips-next, flips-all}
 use Rattle.stab_shots.proofs.flips.flip_bits.Goals as goal
 

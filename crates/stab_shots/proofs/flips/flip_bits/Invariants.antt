@@ -1,6 +1,4 @@
-use Rattle.std.proofs.Common.{◌≡◌, ℕ, ◌<◌, ◌++◌, length, take, drop}
-use Rattle.stab_frames.specs.Flips.{flipped}
-use Rattle.stab_shots.specs.Lanes.{lane_bits}
+use Rattle.stab_shots.proofs.Names.{◌≡◌, ℕ, ◌<◌, ◌++◌, length, take, drop, flipped, lane_bits}
 use Rattle.stab_shots.proofs.flips.flip_bits.Given as goal
 
 abbrev pub invariant-loop-place : goal.invariant-loop-place

@@ -1,6 +1,4 @@
-use Rattle.std.proofs.Common.{◌≡◌, true, false, sym, ◌∙◌, ap, set, get_or}
-use Rattle.stab_letters.specs.Letters.{◌⊕◌}
-use Rattle.stab_shots.specs.Lanes.{lane_bits}
+use Rattle.stab_shots.proofs.Names.{◌≡◌, true, false, sym, ◌∙◌, ap, set, get_or, ◌⊕◌, lane_bits}
 use Rattle.stab_shots.proofs.LaneLemmas.{flips-at}
 use Rattle.stab_shots.proofs.flips.flip_where.Goals as goal
 

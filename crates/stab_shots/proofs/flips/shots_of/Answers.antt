@@ -1,8 +1,4 @@
-use Rattle.std.proofs.Common.{◌≡◌, sym, ◌∙◌, ap, ◌++◌, length, replicate, false}
-use Rattle.std.proofs.lemmas.List.{length-replicate}
-use Rattle.stab_run.specs.Points.{with_additions}
-use Rattle.stab_frames.specs.Flips.{flipped}
-use Rattle.stab_shots.specs.Lanes.{lane_bits, lane_additions}
+use Rattle.stab_shots.proofs.Names.{◌≡◌, sym, ◌∙◌, ap, ◌++◌, length, replicate, false, length-replicate, with_additions, flipped, lane_bits, lane_additions}
 use Rattle.stab_shots.proofs.LaneRunLemmas.{length-added}
 use Rattle.stab_shots.proofs.flips.shots_of.Goals as goal
 

@@ -1,4 +1,4 @@
-use Rattle.std.proofs.Common.{rules}
+use Rattle.stab_shots.proofs.Names.{rules}
 use Rattle.stab_shots.proofs.LaneLemmas.{added-inside}
 use Rattle.stab_shots.proofs.lanes.add.Goals as goal
 

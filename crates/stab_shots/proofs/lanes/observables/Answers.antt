@@ -1,6 +1,4 @@
-use Rattle.std.proofs.Common.{rules, ◌<◌, ◌∙◌, ap, false, length}
-use Rattle.stab_run.specs.Points.{with_additions}
-use Rattle.stab_shots.specs.Lanes.{lane_bits, lane_additions}
+use Rattle.stab_shots.proofs.Names.{rules, ◌<◌, ◌∙◌, ap, false, length, with_additions, lane_bits, lane_additions}
 use Rattle.stab_shots.proofs.LaneLemmas.{map-replicate, adds-next}
 use Rattle.stab_shots.proofs.lanes.observables.Goals as goal
 

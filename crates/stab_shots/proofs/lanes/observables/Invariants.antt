@@ -1,6 +1,4 @@
-use Rattle.std.proofs.Common.{◌≡◌, ℕ, ◌<◌, drop, replicate, false}
-use Rattle.stab_run.specs.Points.{with_additions}
-use Rattle.stab_shots.specs.Lanes.{lane_bits, lane_additions}
+use Rattle.stab_shots.proofs.Names.{◌≡◌, ℕ, ◌<◌, drop, replicate, false, with_additions, lane_bits, lane_additions}
 use Rattle.stab_shots.proofs.lanes.observables.Given as goal
 
 abbrev pub invariant-loop-sum : goal.invariant-loop-sum

@@ -1,7 +1,4 @@
-use Rattle.std.proofs.Common.{◌≡◌, ℕ, ◌<◌, drop}
-use Rattle.stab_letters.specs.Letters.{◌⊕◌}
-use Rattle.stab_run.specs.Records.{parity}
-use Rattle.stab_shots.specs.Lanes.{lane_bits}
+use Rattle.stab_shots.proofs.Names.{◌≡◌, ℕ, ◌<◌, drop, ◌⊕◌, parity, lane_bits}
 use Rattle.stab_shots.proofs.lanes.parity.Given as goal
 
 abbrev pub invariant-loop-k : goal.invariant-loop-k

@@ -1,5 +1,4 @@
-use Rattle.std.proofs.Common.{◌≡◌, take}
-use Rattle.stab_shots.specs.Lanes.{lane_bits}
+use Rattle.stab_shots.proofs.Names.{◌≡◌, take, lane_bits}
 use Rattle.stab_shots.proofs.lanes.write_lane.Given as goal
 
 abbrev pub invariant-loop-word : goal.invariant-loop-word

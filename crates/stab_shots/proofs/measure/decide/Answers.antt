@@ -1,18 +1,12 @@
-use Rattle.std.proofs.Common.{rules, arith, refl, true, false, ◌≡◌, ◌+◌, sym, ◌∙◌, ap, length, take, get_or, [], ◌∷◌}
-use Rattle.std.proofs.lemmas.List.{length-append, length-take}
-use Rattle.stab_run.specs.Records.{ones}
-use Rattle.stab_frames.specs.Frames.{times_where}
-use Rattle.stab_frames.proofs.WalkLemmas.{ones-few}
-use Rattle.stab_shots.specs.Lanes.{lane_output}
-use Rattle.stab_shots.specs.Differences.{lane_difference}
-use Rattle.stab_shots.proofs.NoteLemmas.{ones-before, counted-next, decided-fixed, decided-free}
+use Rattle.stab_shots.proofs.Names.{rules, arith, refl, true, false, ◌≡◌, ◌+◌, sym, ◌∙◌, ap, length, take, get_or, [], ◌∷◌, length-append, length-take, ones, times_where, ones-few, lane_output, lane_difference}
+use Rattle.stab_shots.proofs.PivotLemmas.{ones-before, counted-next, decided-deterministic, decided-random}
 use Rattle.stab_shots.proofs.measure.decide.Goals as goal
 
 pub string-requires : goal.string-requires
 string-requires g c =
-    let free = c.args.noted.free.now in
+    let free = c.args.recorded_pivots.free.now in
     let coin : c.len-coin.result ≡ length c.args.lanes.now.free.items = search rules in
-    let flag : get_or free (length c.args.lanes.now.free.items) false ≡ true = grind (arith, coin, c.is_free.ensures.value) in
+    let flag : get_or free (length c.args.lanes.now.free.items) false ≡ true = grind (arith, coin, c.is_random.ensures.value) in
     record { in_range = omega (arith, c.requires.all, c.requires.counted, ones-before free (length c.args.lanes.now.free.items) flag) }
 
 pub multiply-requires : goal.multiply-requires
@@ -20,42 +14,42 @@ multiply-requires g c = record { same_length = c.string.ensures.length ∙ sym c
 
 pub overflow_add-number : goal.overflow_add-number
 overflow_add-number g c =
-    let free = c.args.noted.free.now in
+    let free = c.args.recorded_pivots.free.now in
     let coin = length c.args.lanes.now.free.items in
     omega (arith, c.requires.counted, ones-few (take coin free), length-take coin free, c.args.lanes.now.free.small)
 
-pub returns-then-not-is_free-clause-counted : goal.returns-then-not-is_free-clause-counted
-returns-then-not-is_free-clause-counted g c =
+pub returns-then-not-is_random-clause-counted : goal.returns-then-not-is_random-clause-counted
+returns-then-not-is_random-clause-counted g c =
     let coin : c.len-coin.result ≡ length c.args.lanes.now.free.items = search rules in
-    let flag : get_or c.args.noted.free.now (length c.args.lanes.now.free.items) false ≡ false = grind (arith, coin, c.is_free.ensures.value) in
+    let flag : get_or c.args.recorded_pivots.free.now (length c.args.lanes.now.free.items) false ≡ false = grind (arith, coin, c.is_random.ensures.value) in
     let none : c.args.number.now ≡ c.args.number.now + ones (false ∷ []) = omega arith in
-    counted-next c.args.noted c.args.number.now (length c.args.lanes.now.free.items) false c.args.number.now _ c.requires.counted flag none
+    counted-next c.args.recorded_pivots c.args.number.now (length c.args.lanes.now.free.items) false c.args.number.now _ c.requires.counted flag none
     (ap length c.in_ok-push.ensures.items ∙ length-append c.args.lanes.now.free.items (false ∷ []))
 
-pub returns-then-not-is_free-clause-measures : goal.returns-then-not-is_free-clause-measures
-returns-then-not-is_free-clause-measures g c = λ l lt m apart.
+pub returns-then-not-is_random-clause-measures : goal.returns-then-not-is_random-clause-measures
+returns-then-not-is_random-clause-measures g c = λ l lt m apart.
     let at = g.W.Word.at in
     let coin : c.len-coin.result ≡ length c.args.lanes.now.free.items = search rules in
-    let flag : get_or c.args.noted.free.now (length c.args.lanes.now.free.items) false ≡ false = grind (arith, coin, c.is_free.ensures.value) in
-    decided-fixed c.args.noted (g.D.Draw.sequences c.args.draw.now l) m (at c.args.anticommuting l) (lane_difference at l c.args.lanes.now) _ apart
+    let flag : get_or c.args.recorded_pivots.free.now (length c.args.lanes.now.free.items) false ≡ false = grind (arith, coin, c.is_random.ensures.value) in
+    decided-deterministic c.args.recorded_pivots (g.D.Draw.sequences c.args.draw.now l) m (at c.args.anticommuting l) (lane_difference at l c.args.lanes.now) _ apart
     (λ i. record (lane_output at l c.args.lanes.now) { free = c.in_ok-push.ensures.items i }) flag refl
 
 pub returns-clause-counted : goal.returns-clause-counted
 returns-clause-counted g c =
     let coin : c.len-coin.result ≡ length c.args.lanes.now.free.items = search rules in
-    let flag : get_or c.args.noted.free.now (length c.args.lanes.now.free.items) false ≡ true = grind (arith, coin, c.is_free.ensures.value) in
-    counted-next c.args.noted c.args.number.now (length c.args.lanes.now.free.items) true (c.args.number.now + 1) _ c.requires.counted flag refl
+    let flag : get_or c.args.recorded_pivots.free.now (length c.args.lanes.now.free.items) false ≡ true = grind (arith, coin, c.is_random.ensures.value) in
+    counted-next c.args.recorded_pivots c.args.number.now (length c.args.lanes.now.free.items) true (c.args.number.now + 1) _ c.requires.counted flag refl
     (ap length c.in_ok-push.ensures.items ∙ length-append c.args.lanes.now.free.items (false ∷ []))
 
 pub returns-clause-measures : goal.returns-clause-measures
 returns-clause-measures g c = λ l lt m apart.
     let at = g.W.Word.at in
-    let noted = c.args.noted in
+    let recorded_pivots = c.args.recorded_pivots in
     let old = lane_difference at l c.args.lanes.now in
     let coins = g.D.Draw.sequences c.args.draw.now l in
     let coin : c.len-coin.result ≡ length c.args.lanes.now.free.items = search rules in
-    let flag : get_or noted.free.now (length c.args.lanes.now.free.items) false ≡ true = grind (arith, coin, c.is_free.ensures.value) in
-    decided-free noted coins m (at c.args.anticommuting l) old _ apart
+    let flag : get_or recorded_pivots.free.now (length c.args.lanes.now.free.items) false ≡ true = grind (arith, coin, c.is_random.ensures.value) in
+    decided-random recorded_pivots coins m (at c.args.anticommuting l) old _ apart
     (λ i. record (lane_output at l c.args.lanes.now) { free = c.in_ok-push.ensures.items i })
     c.args.number.now (at c.coins-flips.result l) c.requires.all c.requires.counted flag
     (c.coins-flips.ensures.value l lt ∙ ap coins coin)

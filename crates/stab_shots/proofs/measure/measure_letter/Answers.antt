@@ -1,13 +1,10 @@
-use Rattle.std.proofs.Common.{◌∙◌, ap}
-use Rattle.std.proofs.lemmas.Result.{IfOk-weaker}
-use Rattle.stab_pauli.specs.Paulis.{single, strings_anticommute}
-use Rattle.stab_shots.specs.Lanes.{lane_letters}
+use Rattle.stab_shots.proofs.Names.{◌∙◌, ap, IfOk-weaker, single, strings_anticommute, lane_letters}
 use Rattle.stab_shots.proofs.measure.measure_letter.Goals as goal
 
 pub returns-clause-measures : goal.returns-clause-measures
 returns-clause-measures g c =
     IfOk-weaker c.decide.result _ _
-    (λ flips are l lt. are l lt (single c.args.noted.strings.now.qubits c.args.qubit c.args.letter)
+    (λ flips are l lt. are l lt (single c.args.recorded_pivots.strings.now.qubits c.args.qubit c.args.letter)
     (c.anticommuting_letter-anticommuting.ensures.value l lt
     ∙ ap (λ k. strings_anticommute (lane_letters g.W.Word.at l c.args.lanes.now.frames.letters.items) (single k c.args.qubit c.args.letter).letters) c.requires.frames))
     c.decide.ensures.measures

@@ -1,5 +1,4 @@
-use Rattle.std.proofs.Common.{rules, ◌≡◌, ◌+◌, ℕ, List, [], ◌∷◌, slice_index_or}
-use Rattle.rand_chacha.specs.ChaCha.{word_at}
+use Rattle.stab_shots.proofs.Names.{rules, ◌≡◌, ◌+◌, ℕ, List, [], ◌∷◌, slice_index_or, word_at}
 use Rattle.stab_shots.proofs.PlaceLemmas.{four-and-more, none-more, from-zero}
 use Rattle.stab_shots.proofs.streams.next_block.Goals as goal
 

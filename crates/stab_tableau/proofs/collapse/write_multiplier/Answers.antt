@@ -1,8 +1,5 @@
-use Rattle.std.proofs.Common.{◌≡◌, ◌∙◌, refl, ap, length, slice_set}
-use Rattle.stab_letters.specs.declared.letter.Letter.TheVariants.{Z}
-use Rattle.stab_letters.specs.declared.phase.Phase.TheVariants.{Quarter}
-use Rattle.stab_pauli.specs.Paulis.{Signed, single}
-use Rattle.stab_pauli.specs.Phaseds.{phased, times_phase, phased_product}
+use Rattle.stab_tableau.proofs.Names.{◌≡◌, ◌∙◌, refl, ap, length, Z, Quarter, Signed, single, phased, times_phase, phased_product}
+use Rattle.std.proofs.Common.{slice_set}
 use Rattle.stab_tableau.proofs.MeasureLemmas.{place-opposed}
 use Rattle.stab_tableau.proofs.collapse.write_multiplier.Goals as goal
 

@@ -1,4 +1,4 @@
-use Rattle.std.proofs.Common.{refl, ◌∙◌, arith}
+use Rattle.stab_tableau.proofs.Names.{refl, ◌∙◌, arith}
 use Rattle.stab_tableau.proofs.EliminationStepLemmas.{start, comes-to, comes-on}
 use Rattle.stab_tableau.proofs.EliminationEndLemmas.{end-step}
 use Rattle.stab_tableau.proofs.elimination.eliminate.Goals as goal

@@ -1,7 +1,4 @@
-use Rattle.std.proofs.Common.{◌≡◌, Bool, length}
-use Rattle.stab_pauli.specs.Paulis.{Signed}
-use Rattle.stab_tableau.specs.Groups.{IsStabiliserGroup}
-use Rattle.stab_tableau.specs.inner.Eliminations.{IsBasis, HasCome}
+use Rattle.stab_tableau.proofs.Names.{◌≡◌, Bool, length, Signed, IsStabiliserGroup, IsBasis, HasCome}
 use Rattle.stab_tableau.proofs.elimination.eliminate.Given as goal
 
 abbrev pub invariant-loop-place : goal.invariant-loop-place

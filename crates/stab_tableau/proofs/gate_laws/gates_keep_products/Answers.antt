@@ -1,4 +1,4 @@
-use Rattle.std.proofs.Common.{length, refl}
+use Rattle.stab_tableau.proofs.Names.{length, refl}
 use Rattle.stab_tableau.proofs.SymmetryLemmas.{IsSymmetry-image, IsSymmetry-pair}
 use Rattle.stab_tableau.proofs.gate_laws.gates_keep_products.Goals as goal
 

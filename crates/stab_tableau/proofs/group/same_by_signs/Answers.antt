@@ -1,5 +1,4 @@
-use Rattle.std.proofs.Common.{refl, sym, ◌∙◌, ap, length}
-use Rattle.stab_pauli.specs.Paulis.{Signed}
+use Rattle.stab_tableau.proofs.Names.{refl, sym, ◌∙◌, ap, length, Signed}
 use Rattle.stab_tableau.proofs.FrameLemmas.{length-same, signs-tableau, signs-yes, signs-no, length-sign_frame}
 use Rattle.stab_tableau.proofs.group.same_by_signs.Goals as goal
 

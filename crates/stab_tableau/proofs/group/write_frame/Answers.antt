@@ -1,9 +1,4 @@
-use Rattle.std.proofs.Common.{◌∙◌, ◌<◌, ◌≤◌, not, length, arith}
-use Rattle.std.specs.Bool.{beq}
-use Rattle.std.proofs.lemmas.List.{length-set}
-use Rattle.stab_pauli.proofs.SignedLemmas.{signed_path}
-use Rattle.stab_tableau.specs.inner.InverseRows.{rows_at}
-use Rattle.stab_tableau.specs.inner.ColumnLetters.{letter_anticommuting}
+use Rattle.stab_tableau.proofs.Names.{◌∙◌, ◌<◌, ◌≤◌, not, length, arith, beq, length-set, signed_path, rows_at, letter_anticommuting}
 use Rattle.stab_tableau.proofs.FrameLemmas.{differ, frame-more, frame-all}
 use Rattle.stab_tableau.proofs.group.write_frame.Goals as goal
 

@@ -1,7 +1,4 @@
-use Rattle.std.proofs.Common.{◌∙◌, ◌<◌, ◌≤◌, sym, length, arith}
-use Rattle.std.proofs.lemmas.List.{length-set}
-use Rattle.stab_pauli.proofs.SignedLemmas.{signed_path}
-use Rattle.stab_tableau.specs.inner.ColumnLetters.{letter_anticommuting}
+use Rattle.stab_tableau.proofs.Names.{◌∙◌, ◌<◌, ◌≤◌, sym, length, arith, length-set, signed_path, letter_anticommuting}
 use Rattle.stab_tableau.proofs.FrameLemmas.{length-same, frame-more, frame-all}
 use Rattle.stab_tableau.proofs.group.write_kept_frame.Goals as goal
 

@@ -1,6 +1,4 @@
-use Rattle.std.proofs.Common.{◌≡◌, ℕ, ◌<◌, length, get_or}
-use Rattle.stab_letters.specs.declared.letter.Letter.TheVariants.{I}
-use Rattle.stab_tableau.specs.inner.Frames.{sign_frame}
+use Rattle.stab_tableau.proofs.Names.{◌≡◌, ℕ, ◌<◌, length, get_or, I, sign_frame}
 use Rattle.stab_tableau.proofs.group.write_kept_frame.Given as goal
 
 abbrev pub invariant-loop-qubit : goal.invariant-loop-qubit

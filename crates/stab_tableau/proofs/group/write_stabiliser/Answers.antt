@@ -1,6 +1,4 @@
-use Rattle.std.proofs.Common.{◌∙◌, ap, length}
-use Rattle.stab_letters.specs.declared.letter.Letter.TheVariants.{Z}
-use Rattle.stab_pauli.specs.Paulis.{Signed, with_sign}
+use Rattle.stab_tableau.proofs.Names.{◌∙◌, ap, length, Z, Signed, with_sign}
 use Rattle.stab_tableau.proofs.ColumnLemmas.{length-column}
 use Rattle.stab_tableau.proofs.SameStateLemmas.{written-is, written-tableau}
 use Rattle.stab_tableau.proofs.group.write_stabiliser.Goals as goal

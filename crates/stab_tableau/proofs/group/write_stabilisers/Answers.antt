@@ -1,6 +1,4 @@
-use Rattle.std.proofs.Common.{◌∙◌, sym, arith, below_more}
-use Rattle.std.proofs.lemmas.List.{length-set, get_or-set_same, get_or-set_other}
-use Rattle.stab_pauli.specs.Paulis.{identity}
+use Rattle.stab_tableau.proofs.Names.{◌∙◌, sym, arith, below_more, length-set, get_or-set_same, get_or-set_other, identity}
 use Rattle.stab_tableau.proofs.group.write_stabilisers.Goals as goal
 
 pub set_row-requires-clause-same_length : goal.set_row-requires-clause-same_length

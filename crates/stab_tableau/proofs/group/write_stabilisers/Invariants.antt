@@ -1,7 +1,4 @@
-use Rattle.std.proofs.Common.{◌≡◌, ℕ, ◌<◌, length}
-use Rattle.stab_pauli.specs.Rows.{row_at}
-use Rattle.stab_tableau.specs.Columns.{stabiliser_of}
-use Rattle.stab_tableau.specs.inner.Tables.{IsTableau}
+use Rattle.stab_tableau.proofs.Names.{◌≡◌, ℕ, ◌<◌, length, row_at, stabiliser_of, IsTableau}
 use Rattle.stab_tableau.proofs.group.write_stabilisers.Given as goal
 
 abbrev pub invariant-loop-k : goal.invariant-loop-k

@@ -1,10 +1,4 @@
-use Rattle.std.proofs.Common.{◌∙◌, refl, length}
-use Rattle.stab_pauli.specs.Paulis.{anticommute, product}
-use Rattle.stab_pauli.specs.Rows.{product_times_i}
-use Rattle.stab_pauli.proofs.SeenLemmas.{phased_product-times_phase}
-use Rattle.stab_tableau.specs.declared.table.InverseRow.TheVariants.{OfX, OfZ}
-use Rattle.stab_letters.specs.declared.gate.PairGate.TheVariants.{Cx, Cy, Cz, Swap}
-use Rattle.stab_tableau.specs.inner.InverseRows.{rows_at}
+use Rattle.stab_tableau.proofs.Names.{◌∙◌, refl, length, anticommute, product, product_times_i, phased_product-times_phase, OfX, OfZ, Cx, Cy, Cz, Swap, rows_at}
 use Rattle.stab_tableau.proofs.PairRowLemmas.{back_x, back_z, mid_opposed, rows-cx, rows-cy, rows-cz, rows-swap, begin, first-read, second-read, first-step, second-step, exchange-step, is-pair_gated}
 use Rattle.stab_tableau.proofs.inverse_rows.apply_pair.Goals as goal
 

@@ -1,8 +1,4 @@
-use Rattle.std.proofs.Common.{◌∙◌, ap}
-use Rattle.stab_pauli.specs.Phaseds.{phased}
-use Rattle.stab_pauli.specs.Rows.{product_times_i}
-use Rattle.stab_pauli.proofs.SeenLemmas.{phased_product-times_phase}
-use Rattle.stab_tableau.specs.inner.InverseRows.{rows_at}
+use Rattle.stab_tableau.proofs.Names.{◌∙◌, ap, phased, product_times_i, phased_product-times_phase, rows_at}
 use Rattle.stab_tableau.proofs.inverse_rows.copy_into.Goals as goal
 
 pub returns-in-Y : goal.returns-in-Y

@@ -1,8 +1,4 @@
-use Rattle.std.proofs.Common.{◌∙◌, ap, length}
-use Rattle.stab_pauli.specs.Phaseds.{phased}
-use Rattle.stab_pauli.proofs.SignedLemmas.{phased-product}
-use Rattle.stab_pauli.proofs.SeenLemmas.{phased_product-times_phase}
-use Rattle.stab_tableau.specs.inner.InverseRows.{rows_at}
+use Rattle.stab_tableau.proofs.Names.{◌∙◌, ap, length, phased, phased-product, phased_product-times_phase, rows_at}
 use Rattle.stab_tableau.proofs.WalkLemmas.{times-i, mid-size, mid-opposed, times-y}
 use Rattle.stab_tableau.proofs.inverse_rows.multiply_into.Goals as goal
 

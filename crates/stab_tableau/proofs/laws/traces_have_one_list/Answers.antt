@@ -1,4 +1,4 @@
-use Rattle.stab_tableau.specs.Traces.{member}
+use Rattle.stab_tableau.proofs.Names.{member}
 use Rattle.stab_tableau.proofs.TraceLemmas.{group-member}
 use Rattle.stab_tableau.proofs.ReducedLemmas.{AreReduced-one}
 use Rattle.stab_tableau.proofs.laws.traces_have_one_list.Goals as goal

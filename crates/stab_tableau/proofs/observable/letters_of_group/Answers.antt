@@ -1,4 +1,4 @@
-use Rattle.std.proofs.Common.{◌*◌, ◌%◌}
+use Rattle.stab_tableau.proofs.Names.{◌*◌, ◌%◌}
 use Rattle.stab_tableau.proofs.MaskHalfLemmas.{half-few, group-inside, group-spared}
 use Rattle.stab_tableau.proofs.observable.letters_of_group.Goals as goal
 

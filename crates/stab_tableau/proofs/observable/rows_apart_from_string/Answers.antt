@@ -1,6 +1,4 @@
-use Rattle.std.proofs.Common.{◌*◌, ◌∙◌, ap}
-use Rattle.stab_letters.specs.Letters.{letters_anticommute}
-use Rattle.stab_tableau.specs.inner.Pairs.{row_letter}
+use Rattle.stab_tableau.proofs.Names.{◌*◌, ◌∙◌, ap, letters_anticommute, row_letter}
 use Rattle.stab_tableau.proofs.RowsApartLemmas.{apart-next}
 use Rattle.stab_tableau.proofs.observable.rows_apart_from_string.Goals as goal
 

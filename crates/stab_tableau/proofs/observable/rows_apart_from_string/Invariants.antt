@@ -1,4 +1,4 @@
-use Rattle.std.proofs.Common.{◌*◌}
+use Rattle.stab_tableau.proofs.Names.{◌*◌}
 use Rattle.stab_tableau.proofs.RowsApartLemmas.{AreApart}
 use Rattle.stab_tableau.proofs.observable.rows_apart_from_string.Given as goal
 

@@ -1,5 +1,4 @@
-use Rattle.std.proofs.Common.{arith, ◌*◌, ◌+◌, ◌∙◌}
-use Rattle.stab_tableau.specs.declared.table.InverseRow.TheVariants.{OfX, OfZ}
+use Rattle.stab_tableau.proofs.Names.{arith, ◌*◌, ◌+◌, ◌∙◌, OfX, OfZ}
 use Rattle.stab_tableau.proofs.observable.with_rows_apart.Goals as goal
 
 pub with_if-mask-requires-clause-blank : goal.with_if-mask-requires-clause-blank

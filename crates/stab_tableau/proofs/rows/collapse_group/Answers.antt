@@ -1,14 +1,4 @@
-use Rattle.std.proofs.Common.{◌≡◌, ℕ, ◌*◌, ◌+◌, ◌<◌, Bool, true, sym, subst, List, length}
-use Rattle.std.specs.Prelude.{bit_xor}
-use Rattle.stab_letters.specs.Letters.{letters_anticommute}
-use Rattle.stab_pauli.specs.Masks.{chooses}
-use Rattle.stab_pauli.specs.Paulis.{Signed, anticommute}
-use Rattle.stab_pauli.specs.Rows.{product_times_i_if}
-use Rattle.stab_tableau.specs.Gates.{letter_at}
-use Rattle.stab_tableau.specs.declared.table.InverseRow.{InverseRow}
-use Rattle.stab_tableau.specs.inner.InverseRows.{InverseRows, rows_at}
-use Rattle.stab_tableau.specs.inner.Observables.{observed}
-use Rattle.stab_tableau.specs.inner.Pairs.{row_place, row_letter, row_string, ArePairsChosen}
+use Rattle.stab_tableau.proofs.Names.{◌≡◌, ℕ, ◌*◌, ◌+◌, ◌<◌, Bool, true, sym, subst, List, length, bit_xor, letters_anticommute, chooses, Signed, anticommute, product_times_i_if, letter_at, InverseRow, InverseRows, rows_at, observed, row_place, row_letter, row_string, ArePairsChosen}
 use Rattle.stab_tableau.proofs.CollapsedGroupLemmas.{multiplied-in, multiplied-apart, group-collapsed}
 use Rattle.stab_tableau.proofs.rows.collapse_group.Goals as goal
 use Rattle.stab_tableau.proofs.rows.collapse_group.Goals.{After-rows_apart-with_r}

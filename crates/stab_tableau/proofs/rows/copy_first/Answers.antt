@@ -1,6 +1,4 @@
-use Rattle.std.proofs.Common.{arith, ◌≤◌, ◌<◌, ◌∙◌, ap, length}
-use Rattle.stab_pauli.specs.Paulis.{identity}
-use Rattle.stab_tableau.specs.inner.InverseRows.{rows_at, letter_preimage}
+use Rattle.stab_tableau.proofs.Names.{arith, ◌≤◌, ◌<◌, ◌∙◌, ap, length, identity, rows_at, letter_preimage}
 use Rattle.stab_tableau.proofs.TableRowLemmas.{table-row}
 use Rattle.stab_tableau.proofs.WalkLemmas.{walk-first, walk-none}
 use Rattle.stab_tableau.proofs.rows.copy_first.Goals as goal

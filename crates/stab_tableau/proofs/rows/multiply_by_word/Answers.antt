@@ -1,6 +1,4 @@
-use Rattle.std.proofs.Common.{arith, ◌*◌, ◌+◌}
-use Rattle.std.specs.Prelude.{max}
-use Rattle.stab_letters.specs.declared.letter.Letter.TheVariants.{X, Z}
+use Rattle.stab_tableau.proofs.Names.{arith, ◌*◌, ◌+◌, max, X, Z}
 use Rattle.stab_tableau.proofs.TableRowLemmas.{table-row}
 use Rattle.stab_tableau.proofs.WalkLemmas.{walk-start, walk-end, walk-in, walk-apart, walk-step}
 use Rattle.stab_tableau.proofs.rows.multiply_by_word.Goals as goal

@@ -1,4 +1,4 @@
-use Rattle.std.proofs.Common.{◌*◌, length}
+use Rattle.stab_tableau.proofs.Names.{◌*◌, length}
 use Rattle.stab_tableau.proofs.WalkLemmas.{Walked}
 use Rattle.stab_tableau.proofs.rows.multiply_by_word.Given as goal
 

@@ -1,6 +1,4 @@
-use Rattle.std.proofs.Common.{◌∙◌, ap}
-use Rattle.std.specs.Prelude.{slice_set}
-use Rattle.stab_letters.specs.declared.letter.Letter.{Letter}
+use Rattle.stab_tableau.proofs.Names.{◌∙◌, ap, slice_set, Letter}
 use Rattle.stab_tableau.proofs.TableauColumnLemmas.{column-bits}
 use Rattle.stab_tableau.proofs.rows.put_column_letter.Goals as goal
 

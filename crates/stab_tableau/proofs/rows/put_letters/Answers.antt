@@ -1,6 +1,4 @@
-use Rattle.std.proofs.Common.{arith, ℕ, ◌+◌, ◌/◌, ◌<◌, ◌∙◌, ap, set}
-use Rattle.stab_letters.specs.declared.letter.Letter.{Letter}
-use Rattle.stab_tableau.specs.inner.ColumnLetters.{letter_anticommuting}
+use Rattle.stab_tableau.proofs.Names.{arith, ℕ, ◌+◌, ◌/◌, ◌<◌, ◌∙◌, ap, set, Letter, letter_anticommuting}
 use Rattle.stab_tableau.proofs.PutLettersLemmas.{put-in, put-end, put-next}
 use Rattle.stab_tableau.proofs.rows.put_letters.Goals as goal
 

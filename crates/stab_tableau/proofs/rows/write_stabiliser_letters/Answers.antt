@@ -1,9 +1,4 @@
-use Rattle.std.proofs.Common.{◌<◌, ◌≤◌, ◌∙◌, refl, length, below_more, arith}
-use Rattle.std.proofs.lemmas.List.{length-set, length-replicate, get_or-set_other, get_or-set_same}
-use Rattle.stab_letters.specs.declared.letter.Letter.TheVariants.{I, Z}
-use Rattle.stab_pauli.proofs.SignedLemmas.{signed_path}
-use Rattle.stab_tableau.specs.Gates.{letter_at}
-use Rattle.stab_tableau.specs.inner.ColumnLetters.{column}
+use Rattle.stab_tableau.proofs.Names.{◌<◌, ◌≤◌, ◌∙◌, refl, length, below_more, arith, length-set, length-replicate, get_or-set_other, get_or-set_same, I, Z, signed_path, letter_at, column}
 use Rattle.stab_tableau.proofs.PlaceLemmas.{get_or-blank}
 use Rattle.stab_tableau.proofs.TableauColumnLemmas.{column-all}
 use Rattle.stab_tableau.proofs.rows.write_stabiliser_letters.Goals as goal

@@ -1,6 +1,4 @@
-use Rattle.std.proofs.Common.{◌≡◌, ℕ, ◌<◌, ◌≤◌, false, length, get_or}
-use Rattle.stab_letters.specs.declared.letter.Letter.TheVariants.{I, Z}
-use Rattle.stab_tableau.specs.inner.ColumnLetters.{column}
+use Rattle.stab_tableau.proofs.Names.{◌≡◌, ℕ, ◌<◌, ◌≤◌, false, length, get_or, I, Z, column}
 use Rattle.stab_tableau.proofs.rows.write_stabiliser_letters.Given as goal
 
 abbrev pub invariant-loop-qubit : goal.invariant-loop-qubit

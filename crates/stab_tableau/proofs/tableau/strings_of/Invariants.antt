@@ -1,4 +1,4 @@
-use Rattle.std.proofs.Common.{◌≡◌, take}
+use Rattle.stab_tableau.proofs.Names.{◌≡◌, take}
 use Rattle.stab_tableau.proofs.tableau.strings_of.Given as goal
 
 abbrev pub invariant-loop-row : goal.invariant-loop-row

@@ -1,7 +1,4 @@
-use Rattle.std.proofs.Common.{ap, sym, ◌∙◌, arith, length}
-use Rattle.std.proofs.lemmas.List.{length-append}
-use Rattle.stab_circuit.specs.declared.edit.Edit.TheVariants.{Delete}
-use Rattle.stab_circuit.specs.Edits.{edited, edit_refusal}
+use Rattle.stab_circuit.proofs.Names.{ap, sym, ◌∙◌, arith, length, length-append, Delete, edited, edit_refusal}
 use Rattle.stab_circuit.proofs.PartLemmas.{insert_let, deep_inserted, delete_let, deleted_back, one_before}
 use Rattle.stab_circuit.proofs.circuit.Circuit.+put_before.Goals as goal
 

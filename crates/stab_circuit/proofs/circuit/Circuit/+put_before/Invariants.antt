@@ -1,4 +1,4 @@
-use Rattle.std.proofs.Common.{length}
+use Rattle.stab_circuit.proofs.Names.{length}
 use Rattle.stab_circuit.proofs.circuit.Circuit.+put_before.Given as goal
 
 abbrev pub decreases-put_before : goal.decreases-put_before

@@ -1,5 +1,4 @@
-use Rattle.std.proofs.Common.{◌∙◌, sym}
-use Rattle.stab_circuit.specs.Edits.{edited, verdict}
+use Rattle.stab_circuit.proofs.Names.{◌∙◌, sym, edited, verdict}
 use Rattle.stab_circuit.proofs.EditingLemmas.{verdict_of, call_fault, want_fault, no_want}
 use Rattle.stab_circuit.proofs.circuit.Circuit.edit.Goals as goal
 

@@ -1,8 +1,4 @@
-use Rattle.std.proofs.Common.{◌≡◌, ◌∙◌, refl, ap, sym, subst, length, arith}
-use Rattle.std.specs.Prelude.{slice_get}
-use Rattle.stab_circuit.specs.Rounds.{item_steps, AreGaps}
-use Rattle.stab_circuit.specs.inner.Judgements.{shown_item}
-use Rattle.stab_circuit.specs.inner.Gaps.{AreGapsInside}
+use Rattle.stab_circuit.proofs.Names.{◌≡◌, ◌∙◌, refl, ap, sym, subst, length, arith, slice_get, item_steps, AreGaps, shown_item, AreGapsInside}
 use Rattle.stab_circuit.proofs.GapPartLemmas.{gaps_within, many_within, item_short, told_so, none_so, many_at}
 use Rattle.stab_circuit.proofs.circuit.Circuit.gaps.Goals as goal
 

@@ -1,12 +1,4 @@
-use Rattle.std.proofs.Common.{◌≡◌, ◌≤◌, ◌∙◌, ◌<◌, ◌+◌, ◌-◌, ap, sym, refl, arith, length, take, drop, subst}
-use Rattle.std.proofs.lemmas.List.{take_more_set, length-set}
-use Rattle.stab_lines.specs.declared.operation.Operation.{Operation}
-use Rattle.stab_items.specs.Items.{repeat, operation, listed, depth}
-use Rattle.stab_items.specs.Steps.{unroll}
-use Rattle.stab_circuit.specs.Views.{circuit_items}
-use Rattle.stab_circuit.specs.StepPaths.{paths_of, item_steps_left}
-use Rattle.stab_items.proofs.ItemLemmas.{depth_at}
-use Rattle.stab_items.proofs.SummaryLemmas.{few_steps}
+use Rattle.stab_circuit.proofs.Names.{◌≡◌, ◌≤◌, ◌∙◌, ◌<◌, ◌+◌, ◌-◌, ap, sym, refl, arith, length, take, drop, subst, take_more_set, length-set, Operation, repeat, operation, listed, depth, unroll, circuit_items, paths_of, item_steps_left, depth_at, few_steps}
 use Rattle.stab_circuit.proofs.StepPathLemmas.{steps_split, paths_from_place, item_few, within_item, operation_steps, round_of, Reached, reached_first, reached_block, reached_operation}
 use Rattle.stab_circuit.proofs.StepsLeftLemmas.{left_from_place, left_block, left_operation}
 use Rattle.stab_circuit.proofs.circuit.Circuit.item_of_step.Goals as goal

@@ -1,8 +1,4 @@
-use Rattle.std.proofs.Common.{◌≡◌, ◌<◌, ◌≤◌, ◌+◌, length, take, drop}
-use Rattle.stab_items.specs.Items.{listed, depth}
-use Rattle.stab_items.specs.Steps.{unroll, most_steps}
-use Rattle.stab_circuit.specs.Views.{circuit_items}
-use Rattle.stab_circuit.specs.StepPaths.{paths_of, item_steps_left}
+use Rattle.stab_circuit.proofs.Names.{◌≡◌, ◌<◌, ◌≤◌, ◌+◌, length, take, drop, listed, depth, unroll, most_steps, circuit_items, paths_of, item_steps_left}
 use Rattle.stab_circuit.proofs.StepPathLemmas.{Reached}
 use Rattle.stab_circuit.proofs.circuit.Circuit.item_of_step.Given as goal
 

@@ -1,12 +1,4 @@
-use Rattle.std.proofs.Common.{◌≡◌, ◌∙◌, ap, sym, subst, length, Some, Ok, IfOk}
-use Rattle.std.specs.Prelude.{slice_get}
-use Rattle.stab_items.specs.Items.{listed}
-use Rattle.stab_items.specs.inner.Summaries.{summary_of}
-use Rattle.stab_circuit.specs.Edits.{edited_in, edit_path, edited, taken_in}
-use Rattle.stab_circuit.specs.Paths.{numbers}
-use Rattle.stab_circuit.specs.inner.Judgements.{summed, IsShallow}
-use Rattle.stab_circuit.specs.inner.EditResults.{AreApart}
-use Rattle.stab_circuit.specs.inner.Stretches.{AreStretches, WereStretches}
+use Rattle.stab_circuit.proofs.Names.{◌≡◌, ◌∙◌, ap, sym, subst, length, Some, Ok, IfOk, slice_get, listed, summary_of, edited_in, edit_path, edited, taken_in, numbers, summed, IsShallow, AreApart, AreStretches, WereStretches}
 use Rattle.stab_circuit.proofs.EditResultLemmas.{were_stretches}
 use Rattle.stab_circuit.proofs.EditingLemmas.{result_shallow}
 use Rattle.stab_circuit.proofs.circuit.Circuit.make.Goals as goal

@@ -1,6 +1,4 @@
-use Rattle.std.proofs.Common.{◌+◌, ap, sym, subst, drop, arith}
-use Rattle.std.proofs.lemmas.List.{drop-drop, length-drop}
-use Rattle.stab_circuit.specs.inner.Stretches.{AreStretches}
+use Rattle.stab_circuit.proofs.Names.{◌+◌, ap, sym, subst, drop, arith, drop-drop, length-drop, AreStretches}
 use Rattle.stab_circuit.proofs.StretchLemmas.{stretch_here, steps_further}
 use Rattle.stab_circuit.proofs.circuit.Circuit.place_before.Goals as goal
 

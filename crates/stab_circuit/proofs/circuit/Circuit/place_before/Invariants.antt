@@ -1,7 +1,4 @@
-use Rattle.std.proofs.Common.{◌≡◌, ◌≤◌, ◌+◌, length, take, drop}
-use Rattle.stab_items.specs.Items.{listed}
-use Rattle.stab_items.specs.Steps.{unroll}
-use Rattle.stab_circuit.specs.inner.Stretches.{AreStretches}
+use Rattle.stab_circuit.proofs.Names.{◌≡◌, ◌≤◌, ◌+◌, length, take, drop, listed, unroll, AreStretches}
 use Rattle.stab_circuit.proofs.circuit.Circuit.place_before.Given as goal
 
 abbrev pub invariant-stretches : goal.invariant-stretches

@@ -1,6 +1,4 @@
-use Rattle.std.proofs.Common.{ap, sym, ◌∙◌}
-use Rattle.stab_circuit.specs.declared.edit.Edit.TheVariants.{Replace}
-use Rattle.stab_circuit.specs.Edits.{edited, edit_refusal}
+use Rattle.stab_circuit.proofs.Names.{ap, sym, ◌∙◌, Replace, edited, edit_refusal}
 use Rattle.stab_circuit.proofs.PartLemmas.{replace_let, deep_replaced, put_back_let, put_back, all_put}
 use Rattle.stab_circuit.proofs.circuit.Circuit.put_parts.Goals as goal
 

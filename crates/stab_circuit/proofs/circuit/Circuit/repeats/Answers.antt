@@ -1,11 +1,4 @@
-use Rattle.std.proofs.Common.{◌∙◌, ◌++◌, ap, arith, subst, sym, length}
-use Rattle.stab_items.specs.Items.{listed}
-use Rattle.stab_items.specs.Steps.{unroll}
-use Rattle.stab_circuit.specs.Repeats.{AreRepeats}
-use Rattle.stab_circuit.specs.inner.Repeats.{repeats_in}
-use Rattle.stab_circuit.specs.Views.{circuit_items}
-use Rattle.stab_items.specs.inner.Summaries.{summary_of}
-use Rattle.stab_items.proofs.SummaryLemmas.{few_steps}
+use Rattle.stab_circuit.proofs.Names.{◌∙◌, ◌++◌, ap, arith, subst, sym, length, listed, unroll, AreRepeats, repeats_in, circuit_items, summary_of, few_steps}
 use Rattle.stab_circuit.proofs.RepeatLemmas.{all_repeats, no_repeats, length-repeats}
 use Rattle.stab_circuit.proofs.circuit.Circuit.repeats.Goals as goal
 

@@ -1,4 +1,4 @@
-use Rattle.std.proofs.Common.{◌∙◌, sym}
+use Rattle.stab_circuit.proofs.Names.{◌∙◌, sym}
 use Rattle.stab_circuit.proofs.EditingLemmas.{replaced}
 use Rattle.stab_circuit.proofs.circuit.Circuit.replace.Goals as goal
 

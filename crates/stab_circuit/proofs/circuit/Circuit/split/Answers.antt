@@ -1,8 +1,4 @@
-use Rattle.std.proofs.Common.{◌≡◌}
-use Rattle.std.proofs.lemmas.Result.{err_from_is_err_and, on_ok_weaker, IfErr-weaker}
-use Rattle.stab_io.specs.Refusals.{IsCallFault, whole}
-use Rattle.stab_io.specs.declared.refusal.Refusal.TheVariants.{OutOfMemory}
-use Rattle.stab_circuit.specs.Splits.{split_refusal}
+use Rattle.stab_circuit.proofs.Names.{◌≡◌, err_from_is_err_and, on_ok_weaker, IfErr-weaker, IsCallFault, whole, OutOfMemory, split_refusal}
 use Rattle.stab_circuit.proofs.PartLemmas.{parts_as_deep, some_parts, parts_are_split, path_refused, item_refused, memory_refused}
 use Rattle.stab_circuit.proofs.circuit.Circuit.split.Goals as goal
 

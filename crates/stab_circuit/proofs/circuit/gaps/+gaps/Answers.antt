@@ -1,8 +1,4 @@
-use Rattle.std.proofs.Common.{rules, ◌≡◌, ◌≤◌, ◌<◌, ◌∙◌, refl, ap, sym, subst, ◌+◌, length, All, arith, ◌*◌}
-use Rattle.std.specs.Prelude.{slice_get}
-use Rattle.stab_circuit.specs.Rounds.{item_steps}
-use Rattle.stab_circuit.specs.inner.Judgements.{shown_item}
-use Rattle.stab_circuit.specs.inner.Gaps.{round_gaps, AreGapsInside}
+use Rattle.stab_circuit.proofs.Names.{rules, ◌≡◌, ◌≤◌, ◌<◌, ◌∙◌, refl, ap, sym, subst, ◌+◌, length, All, arith, ◌*◌, slice_get, item_steps, shown_item, round_gaps, AreGapsInside}
 use Rattle.stab_circuit.proofs.PieceLemmas.{lead_short, gaps_short}
 use Rattle.stab_circuit.proofs.GapPartLemmas.{gaps_at, gaps_around, many_around, item_short, behind_few, body_short, inside_short, gaps_of_block, many_inside, many_rounds, told_is, none_is, told_so, none_so, many_at}
 use Rattle.stab_circuit.proofs.circuit.gaps.+gaps.Goals as goal

@@ -1,4 +1,4 @@
-use Rattle.std.proofs.Common.{length, ◌+◌, ◌*◌}
+use Rattle.stab_circuit.proofs.Names.{length, ◌+◌, ◌*◌}
 use Rattle.stab_circuit.proofs.circuit.gaps.+gaps.Given as goal
 
 abbrev pub decreases-gaps_in : goal.decreases-gaps_in

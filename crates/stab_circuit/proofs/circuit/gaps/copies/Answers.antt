@@ -1,5 +1,4 @@
-use Rattle.std.proofs.Common.{◌∙◌, ap, sym, ◌++◌}
-use Rattle.stab_circuit.specs.inner.Gaps.{copies}
+use Rattle.stab_circuit.proofs.Names.{◌∙◌, ap, sym, ◌++◌, copies}
 use Rattle.stab_circuit.proofs.EditLemmas.{next_place}
 use Rattle.stab_circuit.proofs.GapLemmas.{copies-more}
 use Rattle.stab_circuit.proofs.circuit.gaps.copies.Goals as goal

@@ -1,5 +1,4 @@
-use Rattle.std.proofs.Common.{◌≡◌}
-use Rattle.stab_circuit.specs.inner.Gaps.{copies}
+use Rattle.stab_circuit.proofs.Names.{◌≡◌, copies}
 use Rattle.stab_circuit.proofs.circuit.gaps.copies.Given as goal
 
 abbrev pub invariant-loop : goal.invariant-loop

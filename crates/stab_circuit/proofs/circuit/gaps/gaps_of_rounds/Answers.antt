@@ -1,5 +1,4 @@
-use Rattle.std.proofs.Common.{◌≡◌, ◌∙◌, ap, sym, ◌+◌, ◌++◌, ◌∷◌, []}
-use Rattle.stab_circuit.specs.inner.Gaps.{copies, round_gaps}
+use Rattle.stab_circuit.proofs.Names.{◌≡◌, ◌∙◌, ap, sym, ◌+◌, ◌++◌, ◌∷◌, [], copies, round_gaps}
 use Rattle.stab_circuit.proofs.GapLemmas.{no-gaps, rounds-popped}
 use Rattle.stab_circuit.proofs.circuit.gaps.gaps_of_rounds.Goals as goal
 

@@ -1,5 +1,4 @@
-use Rattle.std.proofs.Common.{◌∙◌, ap, sym}
-use Rattle.stab_circuit.specs.inner.Gaps.{with_more}
+use Rattle.stab_circuit.proofs.Names.{◌∙◌, ap, sym, with_more}
 use Rattle.stab_circuit.proofs.GapLemmas.{more-last}
 use Rattle.stab_circuit.proofs.circuit.gaps.with_more.Goals as goal
 

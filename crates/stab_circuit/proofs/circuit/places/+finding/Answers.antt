@@ -1,5 +1,4 @@
-use Rattle.std.specs.Prelude.{slice_get}
-use Rattle.stab_circuit.specs.Places.{item_in}
+use Rattle.stab_circuit.proofs.Names.{slice_get, item_in}
 use Rattle.stab_circuit.proofs.PlaceLemmas.{nothing_inside, finds_inside}
 use Rattle.stab_circuit.proofs.circuit.places.+finding.Goals as goal
 

@@ -1,4 +1,4 @@
-use Rattle.std.proofs.Common.{length, ◌+◌, ◌*◌}
+use Rattle.stab_circuit.proofs.Names.{length, ◌+◌, ◌*◌}
 use Rattle.stab_circuit.proofs.circuit.places.+finding.Given as goal
 
 abbrev pub decreases-item_in : goal.decreases-item_in

@@ -1,6 +1,4 @@
-use Rattle.std.proofs.Common.{◌*◌, ap, length, arith}
-use Rattle.stab_items.specs.Items.{OneItem, before, done, listed}
-use Rattle.stab_items.specs.Steps.{unroll}
+use Rattle.stab_circuit.proofs.Names.{◌*◌, ap, length, arith, OneItem, before, done, listed, unroll}
 use Rattle.stab_circuit.proofs.FinerLemmas.{block-steps}
 use Rattle.stab_circuit.proofs.circuit.repeats.add_repeat.Goals as goal
 

@@ -1,7 +1,4 @@
-use Rattle.std.proofs.Common.{◌≡◌, ◌+◌, ◌++◌, length, drop}
-use Rattle.stab_items.specs.Items.{listed}
-use Rattle.stab_items.specs.Steps.{unroll}
-use Rattle.stab_circuit.specs.inner.Repeats.{repeats_in}
+use Rattle.stab_circuit.proofs.Names.{◌≡◌, ◌+◌, ◌++◌, length, drop, listed, unroll, repeats_in}
 use Rattle.stab_circuit.proofs.circuit.repeats.add_repeats.Given as goal
 
 abbrev pub invariant-items : goal.invariant-items

@@ -1,6 +1,4 @@
-use Rattle.std.proofs.Common.{◌≡◌, drop}
-use Rattle.stab_items.specs.Items.{listed}
-use Rattle.stab_circuit.specs.inner.Repeats.{first_with_steps}
+use Rattle.stab_circuit.proofs.Names.{◌≡◌, drop, listed, first_with_steps}
 use Rattle.stab_circuit.proofs.circuit.repeats.first_block.Given as goal
 
 abbrev pub invariant-loop-item : goal.invariant-loop-item

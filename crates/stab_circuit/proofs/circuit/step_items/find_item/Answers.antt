@@ -1,4 +1,4 @@
-use Rattle.std.proofs.Common.{◌∙◌, arith}
+use Rattle.stab_circuit.proofs.Names.{◌∙◌, arith}
 use Rattle.stab_circuit.proofs.StepPathLemmas.{some_item, item_few, steps_at, item_passed}
 use Rattle.stab_circuit.proofs.StepsLeftLemmas.{left_passed}
 use Rattle.stab_circuit.proofs.circuit.step_items.find_item.Goals as goal

@@ -1,7 +1,4 @@
-use Rattle.std.proofs.Common.{◌≡◌, ◌<◌, ◌-◌, length, drop}
-use Rattle.stab_items.specs.Items.{listed}
-use Rattle.stab_items.specs.Steps.{unroll}
-use Rattle.stab_circuit.specs.StepPaths.{paths_from, item_steps_left}
+use Rattle.stab_circuit.proofs.Names.{◌≡◌, ◌<◌, ◌-◌, length, drop, listed, unroll, paths_from, item_steps_left}
 use Rattle.stab_circuit.proofs.circuit.step_items.find_item.Given as goal
 
 abbrev pub invariant-items : goal.invariant-items

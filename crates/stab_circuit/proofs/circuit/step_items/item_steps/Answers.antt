@@ -1,5 +1,4 @@
-use Rattle.std.proofs.Common.{◌∙◌, ap, sym, arith}
-use Rattle.stab_items.specs.Items.{repeat, listed}
+use Rattle.stab_circuit.proofs.Names.{◌∙◌, ap, sym, arith, repeat, listed}
 use Rattle.stab_circuit.proofs.StepPathLemmas.{block_steps}
 use Rattle.stab_circuit.proofs.circuit.step_items.item_steps.Goals as goal
 

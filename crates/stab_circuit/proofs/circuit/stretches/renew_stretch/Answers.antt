@@ -1,5 +1,4 @@
-use Rattle.std.proofs.Common.{◌≡◌, ◌<◌, ap, sym, subst, ◌∙◌, arith, get_or, length, drop, slice_set}
-use Rattle.stab_circuit.specs.inner.Stretches.{AreStretches}
+use Rattle.stab_circuit.proofs.Names.{◌≡◌, ◌<◌, ap, sym, subst, ◌∙◌, arith, get_or, length, drop, slice_set, AreStretches}
 use Rattle.stab_circuit.proofs.StretchLemmas.{items_next, end_within, stays_behind, renewed_at}
 use Rattle.stab_circuit.proofs.circuit.stretches.renew_stretch.Goals as goal
 

@@ -1,5 +1,4 @@
-use Rattle.std.proofs.Common.{◌≡◌, ◌≤◌, take}
-use Rattle.stab_circuit.specs.inner.Stretches.{items_in}
+use Rattle.stab_circuit.proofs.Names.{◌≡◌, ◌≤◌, take, items_in}
 use Rattle.stab_circuit.proofs.circuit.stretches.renew_stretch.Given as goal
 
 abbrev pub invariant-stretches : goal.invariant-stretches

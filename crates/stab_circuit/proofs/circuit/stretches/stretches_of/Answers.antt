@@ -1,8 +1,4 @@
-use Rattle.std.proofs.Common.{◌≡◌, ◌∙◌, ap, sym, subst, length, take, drop, ◌++◌, ◌∷◌, [], arith}
-use Rattle.std.proofs.lemmas.List.{drop-drop, length-drop}
-use Rattle.stab_items.specs.Items.{listed}
-use Rattle.stab_items.specs.inner.Summaries.{IsSumOf}
-use Rattle.stab_circuit.specs.inner.Stretches.{AreStretches, items_in}
+use Rattle.stab_circuit.proofs.Names.{◌≡◌, ◌∙◌, ap, sym, subst, length, take, drop, ◌++◌, ◌∷◌, [], arith, drop-drop, length-drop, listed, IsSumOf, AreStretches, items_in}
 use Rattle.stab_circuit.proofs.StretchLemmas.{stretch_pushed, items_pushed}
 use Rattle.stab_circuit.proofs.circuit.stretches.stretches_of.Goals as goal
 

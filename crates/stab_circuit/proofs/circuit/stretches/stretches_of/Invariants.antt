@@ -1,5 +1,4 @@
-use Rattle.std.proofs.Common.{◌≡◌, ◌≤◌, length, drop}
-use Rattle.stab_circuit.specs.inner.Stretches.{AreStretches, items_in}
+use Rattle.stab_circuit.proofs.Names.{◌≡◌, ◌≤◌, length, drop, AreStretches, items_in}
 use Rattle.stab_circuit.proofs.circuit.stretches.stretches_of.Given as goal
 
 abbrev pub invariant-stretches : goal.invariant-stretches

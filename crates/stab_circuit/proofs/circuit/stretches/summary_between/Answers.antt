@@ -1,6 +1,4 @@
-use Rattle.std.proofs.Common.{◌≡◌, refl, ◌+◌, ◌++◌, ◌∙◌, ap, sym, subst, max, arith, drop, take}
-use Rattle.std.proofs.lemmas.List.{drop-drop, length-drop}
-use Rattle.stab_circuit.specs.inner.Stretches.{AreStretches}
+use Rattle.stab_circuit.proofs.Names.{◌≡◌, refl, ◌+◌, ◌++◌, ◌∙◌, ap, sym, subst, max, arith, drop, take, drop-drop, length-drop, AreStretches}
 use Rattle.stab_circuit.proofs.StretchLemmas.{stretch_here, sum_is, sum_joined, sum_further, sum_in_front, from_joined}
 use Rattle.stab_circuit.proofs.circuit.stretches.summary_between.Goals as goal
 

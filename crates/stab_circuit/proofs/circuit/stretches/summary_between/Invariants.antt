@@ -1,7 +1,4 @@
-use Rattle.std.proofs.Common.{◌≤◌, length, take, drop}
-use Rattle.stab_items.specs.Items.{listed}
-use Rattle.stab_items.specs.inner.Summaries.{IsSumOf}
-use Rattle.stab_circuit.specs.inner.Stretches.{AreStretches}
+use Rattle.stab_circuit.proofs.Names.{◌≤◌, length, take, drop, listed, IsSumOf, AreStretches}
 use Rattle.stab_circuit.proofs.circuit.stretches.summary_between.Given as goal
 
 abbrev pub invariant-stretches : goal.invariant-stretches

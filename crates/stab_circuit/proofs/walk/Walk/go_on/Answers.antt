@@ -1,5 +1,4 @@
-use Rattle.std.proofs.Common.{arith, ap, sym, ◌∙◌}
-use Rattle.stab_items.specs.Items.{repeat, listed}
+use Rattle.stab_circuit.proofs.Names.{arith, ap, sym, ◌∙◌, repeat, listed}
 use Rattle.stab_circuit.proofs.WalkLemmas.{goes_in, goes_past}
 use Rattle.stab_circuit.proofs.walk.Walk.go_on.Goals as goal
 

@@ -1,4 +1,4 @@
-use Rattle.std.proofs.Common.{◌≤◌, length, arith, []}
+use Rattle.stab_circuit.proofs.Names.{◌≤◌, length, arith, []}
 use Rattle.stab_circuit.proofs.WalkLemmas.{next_round, next_round_less, left_out, left_out_less, left_walk, at_end}
 use Rattle.stab_circuit.proofs.walk.Walk.leave.Goals as goal
 

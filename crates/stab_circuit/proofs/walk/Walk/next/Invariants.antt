@@ -1,5 +1,4 @@
-use Rattle.std.proofs.Common.{◌≡◌}
-use Rattle.stab_circuit.specs.inner.Walks.{walk_left, walk_weight, IsWalk}
+use Rattle.stab_circuit.proofs.Names.{◌≡◌, walk_left, walk_weight, IsWalk}
 use Rattle.stab_circuit.proofs.walk.Walk.next.Given as goal
 
 abbrev pub invariant-walk : goal.invariant-walk

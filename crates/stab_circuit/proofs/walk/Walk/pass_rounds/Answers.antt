@@ -1,4 +1,4 @@
-use Rattle.stab_items.specs.Items.{listed}
+use Rattle.stab_circuit.proofs.Names.{listed}
 use Rattle.stab_circuit.proofs.SkipLemmas.{jumps_in, jumps_past}
 use Rattle.stab_circuit.proofs.walk.Walk.pass_rounds.Goals as goal
 

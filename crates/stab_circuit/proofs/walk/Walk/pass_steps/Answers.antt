@@ -1,4 +1,4 @@
-use Rattle.stab_items.specs.Steps.{steps_of}
+use Rattle.stab_circuit.proofs.Names.{steps_of}
 use Rattle.stab_circuit.proofs.SkipLemmas.{passes_steps}
 use Rattle.stab_circuit.proofs.walk.Walk.pass_steps.Goals as goal
 

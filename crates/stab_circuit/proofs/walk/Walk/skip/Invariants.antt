@@ -1,6 +1,4 @@
-use Rattle.std.proofs.Common.{◌≡◌, ◌≤◌, ◌<◌, None, drop}
-use Rattle.stab_items.specs.Steps.{most_steps}
-use Rattle.stab_circuit.specs.inner.Walks.{walk_left, walk_weight, IsWalk}
+use Rattle.stab_circuit.proofs.Names.{◌≡◌, ◌≤◌, ◌<◌, None, drop, most_steps, walk_left, walk_weight, IsWalk}
 use Rattle.stab_circuit.proofs.walk.Walk.skip.Given as goal
 
 abbrev pub invariant-walk : goal.invariant-walk

@@ -1,6 +1,4 @@
-use Rattle.std.proofs.Common.{refl}
-use Rattle.stab_circuit.specs.inner.Walks.{kind_steps}
-use Rattle.stab_circuit.specs.Cursors.{step_shown}
+use Rattle.stab_circuit.proofs.Names.{refl, kind_steps, step_shown}
 use Rattle.stab_circuit.proofs.WalkLemmas.{none_given, gives}
 use Rattle.stab_circuit.proofs.walk.Walk.step.Goals as goal
 

@@ -1,4 +1,4 @@
-use Rattle.std.proofs.Common.{refl}
+use Rattle.stab_circuit.proofs.Names.{refl}
 use Rattle.stab_circuit.proofs.WalkLemmas.{taken, past_item}
 use Rattle.stab_circuit.proofs.walk.Walk.take.Goals as goal
 

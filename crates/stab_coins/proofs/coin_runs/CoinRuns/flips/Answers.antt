@@ -1,12 +1,6 @@
-use Rattle.std.proofs.Common.{◌≡◌, sym, ◌∙◌, ap, subst, ◌+◌, length, drop, get_or}
-use Rattle.stab_circuit.specs.Views.{circuit_items}
-use Rattle.stab_run.specs.Runs.{run_of}
-use Rattle.stab_frames.specs.Flips.{flipped}
-use Rattle.stab_shots.specs.Units.{AreAscending, unit_coin}
-use Rattle.stab_coins.specs.Coins.{turned, zero_coins}
-use Rattle.stab_coins.specs.Runs.{free_coins}
+use Rattle.stab_coins.proofs.Names.{◌≡◌, sym, ◌∙◌, ap, subst, ◌+◌, length, drop, get_or, circuit_items, run_of, flipped, AreAscending, unit_coin, coin_flipped, zero_coins, free_coins}
 use Rattle.stab_coins.proofs.BitLemmas.{flipped-either}
-use Rattle.stab_coins.proofs.PlaceLemmas.{ascending, ascending-rest, unit-turned}
+use Rattle.stab_coins.proofs.PlaceLemmas.{ascending, ascending-rest, unit-flipped}
 use Rattle.stab_coins.proofs.RowLemmas.{alike-zero}
 use Rattle.stab_coins.proofs.coin_runs.CoinRuns.flips.Goals as goal
 
@@ -26,10 +20,10 @@ returns-clause-flips g c = λ l lt within.
     let t = get_or coins (c.args.first + l) 0 in
     let left : c.new-coins.result ≡ drop c.args.first coins =
     c.new-coins.ensures.value ∙ c.split_at.ensures.back ∙ ap (drop c.args.first) (c.as_slice.ensures.value ∙ c.requires.runs.numbers) in
-    let one : unit_coin c.new-coins.result l ≡ turned t zero_coins =
-    ap (λ numbers. unit_coin numbers l) left ∙ (λ i s. unit-turned coins c.args.first l s within i) in
+    let one : unit_coin c.new-coins.result l ≡ coin_flipped t zero_coins =
+    ap (λ numbers. unit_coin numbers l) left ∙ (λ i s. unit-flipped coins c.args.first l s within i) in
     let runs = c.in_ok-run_lanes.ensures.runs l lt in
-    let alike = alike-zero n items c.requires.runs.fits (turned t zero_coins) in
+    let alike = alike-zero n items c.requires.runs.fits (coin_flipped t zero_coins) in
     let zero = c.requires.runs.zero in
     let zero_records = c.as_slice-2.ensures.value ∙ zero.records in
     let zero_detectors = c.as_slice-3.ensures.value ∙ zero.detectors in
@@ -41,13 +35,13 @@ returns-clause-flips g c = λ l lt within.
       records =
           c.flip_bits.ensures.value l lt (ap length records ∙ alike.records ∙ sym (ap length zero_records))
           ∙ (λ i. flipped (zero_records i) (records i))
-          ∙ flipped-either (run_of n zero_coins items).records (run_of n (turned t zero_coins) items).records (sym alike.records);
+          ∙ flipped-either (run_of n zero_coins items).records (run_of n (coin_flipped t zero_coins) items).records (sym alike.records);
       detectors =
           c.flip_bits-2.ensures.value l lt (ap length detectors ∙ alike.detectors ∙ sym (ap length zero_detectors))
           ∙ (λ i. flipped (zero_detectors i) (detectors i))
-          ∙ flipped-either (run_of n zero_coins items).detectors (run_of n (turned t zero_coins) items).detectors (sym alike.detectors);
+          ∙ flipped-either (run_of n zero_coins items).detectors (run_of n (coin_flipped t zero_coins) items).detectors (sym alike.detectors);
       observables =
           c.flip_bits-3.ensures.value l lt (ap length observables ∙ alike.observables ∙ sym (ap length zero_observables))
           ∙ (λ i. flipped (zero_observables i) (observables i))
-          ∙ flipped-either (run_of n zero_coins items).observables (run_of n (turned t zero_coins) items).observables (sym alike.observables);
+          ∙ flipped-either (run_of n zero_coins items).observables (run_of n (coin_flipped t zero_coins) items).observables (sym alike.observables);
     }

@@ -1,12 +1,4 @@
-use Rattle.std.proofs.Common.{◌≡◌, refl, ◌∙◌, ap, false, length, map, get_or}
-use Rattle.stab_circuit.specs.Steps.{unroll}
-use Rattle.stab_circuit.specs.Views.{circuit_items}
-use Rattle.stab_run.specs.Runs.{run_of}
-use Rattle.stab_results.specs.Formats.{one_places}
-use Rattle.stab_laws.proofs.FitLemmas.{check-fits}
-use Rattle.stab_steps.specs.Coins.{Listed, list_coin}
-use Rattle.stab_coins.specs.Coins.{zero_coins}
-use Rattle.stab_coins.specs.Places.{step_of_coin}
+use Rattle.stab_coins.proofs.Names.{◌≡◌, refl, ◌∙◌, ap, false, length, map, get_or, unroll, circuit_items, run_of, one_places, check-fits, Listed, list_coin, zero_coins, step_of_coin}
 use Rattle.stab_coins.proofs.PlaceLemmas.{flags-of-run}
 use Rattle.stab_coins.proofs.RowLemmas.{coins-have-rows}
 use Rattle.stab_coins.proofs.coin_runs.CoinRuns.of_checked.Goals as goal

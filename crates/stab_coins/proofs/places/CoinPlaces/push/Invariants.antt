@@ -1,5 +1,4 @@
-use Rattle.std.proofs.Common.{◌≡◌, ◌++◌, take, drop}
-use Rattle.stab_results.specs.Formats.{one_places_from}
+use Rattle.stab_coins.proofs.Names.{◌≡◌, ◌++◌, take, drop, one_places_from}
 use Rattle.stab_coins.proofs.places.CoinPlaces.push.Given as goal
 
 abbrev pub invariant-loop-taken : goal.invariant-loop-taken

@@ -1,6 +1,4 @@
-use Rattle.std.proofs.Common.{◌≤◌, length, sym, subst, List, ℕ}
-use Rattle.stab_distance.specs.inner.Errors.{Keyed}
-use Rattle.stab_distance.specs.inner.Reach.{IsReach}
+use Rattle.stab_distance.proofs.Names.{◌≤◌, length, sym, subst, List, ℕ, Keyed, IsReach}
 use Rattle.stab_distance.proofs.ReachLemmas.{no_ends-beyond}
 use Rattle.stab_distance.proofs.errors.Errors.are_beyond.Goals as goal
 

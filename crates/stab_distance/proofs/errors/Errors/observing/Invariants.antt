@@ -1,5 +1,4 @@
-use Rattle.std.proofs.Common.{◌≤◌, length}
-use Rattle.stab_distance.specs.inner.Errors.{FlipNoObservable}
+use Rattle.stab_distance.proofs.Names.{◌≤◌, length, FlipNoObservable}
 use Rattle.stab_distance.proofs.errors.Errors.observing.Given as goal
 
 abbrev pub invariant-unobserved : goal.invariant-unobserved

@@ -1,5 +1,4 @@
-use Rattle.std.proofs.Common.{◌≡◌, ◌<◌, true}
-use Rattle.stab_distance.specs.inner.Lists.{has}
+use Rattle.stab_distance.proofs.Names.{◌≡◌, ◌<◌, true, has}
 use Rattle.stab_distance.proofs.errors.Errors.rarest.Given as goal
 
 abbrev pub invariant-each : goal.invariant-each

@@ -1,6 +1,4 @@
-use Rattle.std.proofs.Common.{◌∙◌, ap, sym, subst}
-use Rattle.stab_items.specs.Items.{listed}
-use Rattle.stab_items.specs.inner.Kept.{shown, IsKept}
+use Rattle.stab_items.proofs.Names.{◌∙◌, ap, sym, subst, listed, shown, IsKept}
 use Rattle.stab_items.proofs.SummaryLemmas.{kept_summary}
 use Rattle.stab_items.proofs.StepApartLemmas.{block_apart}
 use Rattle.stab_items.proofs.item.Item.summary.Goals as goal

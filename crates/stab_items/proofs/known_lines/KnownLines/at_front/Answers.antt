@@ -1,6 +1,4 @@
-use Rattle.std.proofs.Common.{ap, ◌∙◌}
-use Rattle.std.specs.Option.{option_copied}
-use Rattle.stab_items.specs.Items.{operation}
+use Rattle.stab_items.proofs.Names.{ap, ◌∙◌, option_copied, operation}
 use Rattle.stab_items.proofs.KnownLineLemmas.{known_front}
 use Rattle.stab_items.proofs.known_lines.KnownLines.at_front.Goals as goal
 

@@ -1,5 +1,4 @@
-use Rattle.std.proofs.Common.{◌≡◌, ap, ◌∙◌, ◌++◌, ◌∷◌, []}
-use Rattle.stab_items.specs.Items.{repeat, listed}
+use Rattle.stab_items.proofs.Names.{◌≡◌, ap, ◌∙◌, ◌++◌, ◌∷◌, [], repeat, listed}
 use Rattle.stab_items.proofs.ReadingLemmas.{closed_kept}
 use Rattle.stab_items.proofs.reader.CircuitReader.close.Goals as goal
 

@@ -1,4 +1,4 @@
-use Rattle.std.proofs.Common.{◌≡◌, refl, ◌∙◌, length, arith}
+use Rattle.stab_items.proofs.Names.{◌≡◌, refl, ◌∙◌, length, arith}
 use Rattle.stab_items.proofs.ReadingLemmas.{settled}
 use Rattle.stab_items.proofs.StretchLemmas.{run_ends, keeps_all, more_keeps}
 use Rattle.stab_items.proofs.reader.CircuitReader.cut.Goals as goal

@@ -1,5 +1,4 @@
-use Rattle.std.proofs.Common.{◌≡◌, refl, length, arith}
-use Rattle.stab_items.specs.inner.Stretches.{items_of}
+use Rattle.stab_items.proofs.Names.{◌≡◌, refl, length, arith, items_of}
 use Rattle.stab_items.proofs.StretchLemmas.{more_keeps, keeps_all, one_more, copy_stretch, copy_put}
 use Rattle.stab_items.proofs.reader.CircuitReader.push_copy.Goals as goal
 

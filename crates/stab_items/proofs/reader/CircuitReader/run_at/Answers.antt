@@ -1,5 +1,4 @@
-use Rattle.std.proofs.Common.{◌≡◌, refl, length, arith}
-use Rattle.std.proofs.lemmas.Bool.Decides.{nat_tests}
+use Rattle.stab_items.proofs.Names.{◌≡◌, refl, length, arith, nat_tests}
 use Rattle.stab_items.proofs.StretchLemmas.{run_begins}
 use Rattle.stab_items.proofs.reader.CircuitReader.run_at.Goals as goal
 

@@ -1,5 +1,4 @@
-use Rattle.std.proofs.Common.{inl, refl}
-use Rattle.std.specs.Option.{option_copied}
+use Rattle.stab_items.proofs.Names.{inl, refl, option_copied}
 use Rattle.stab_items.proofs.FrontLemmas.{some_first}
 use Rattle.stab_items.proofs.KnownLineLemmas.{begun_shorter}
 use Rattle.stab_items.proofs.reader.CircuitReader.take_first.Goals as goal

@@ -1,10 +1,5 @@
-use Rattle.std.proofs.Common.{inl, subst, sym, ap, ◌∙◌, Ok}
-use Rattle.std.specs.Option.{option_copied}
-use Rattle.std.proofs.lemmas.Result.{err_from_is_err_and}
+use Rattle.stab_items.proofs.Names.{inl, subst, sym, ap, ◌∙◌, Ok, option_copied, err_from_is_err_and, content_of, meaning_of, IsOneLine}
 use Rattle.stab_lines.specs.declared.meanings.Line.TheVariants as line
-use Rattle.stab_lines.specs.Lines.{content_of}
-use Rattle.stab_lines.specs.Meanings.{meaning_of}
-use Rattle.stab_items.specs.inner.KnownLines.{IsOneLine}
 use Rattle.stab_items.proofs.FrontLemmas.{one_line_first, split_cut, some_first, some_told}
 use Rattle.stab_items.proofs.reader.CircuitReader.take_new.Goals as goal
 

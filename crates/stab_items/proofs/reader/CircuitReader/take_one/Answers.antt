@@ -1,8 +1,4 @@
-use Rattle.std.proofs.Common.{ap, sym, ◌∙◌, ◌∷◌, ◌+◌, subst}
-use Rattle.std.specs.Option.{option_copied}
-use Rattle.std.proofs.lemmas.Result.{err_from_is_err_and}
-use Rattle.stab_items.specs.inner.Readers.{progress_of, IsShallowProgress}
-use Rattle.stab_items.specs.inner.Stretches.{IsRun, reading_on}
+use Rattle.stab_items.proofs.Names.{ap, sym, ◌∙◌, ◌∷◌, ◌+◌, subst, option_copied, err_from_is_err_and, progress_of, IsShallowProgress, IsRun, reading_on}
 use Rattle.stab_items.proofs.ReaderLemmas.{one_taken_of, one_refused_of, stepped_shallow}
 use Rattle.stab_items.proofs.StretchLemmas.{runs_on}
 use Rattle.stab_items.proofs.reader.CircuitReader.take_one.Goals as goal

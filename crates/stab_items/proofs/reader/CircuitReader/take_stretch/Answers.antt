@@ -1,8 +1,4 @@
-use Rattle.std.proofs.Common.{refl, ap, sym, ◌∙◌, ◌+◌, Some, false}
-use Rattle.std.specs.Option.{option_copied}
-use Rattle.stab_items.specs.Items.{join, listed}
-use Rattle.stab_items.specs.inner.Readers.{progress_of}
-use Rattle.stab_items.specs.inner.Stretches.{outside, items_of, reading_on}
+use Rattle.stab_items.proofs.Names.{refl, ap, sym, ◌∙◌, ◌+◌, Some, false, option_copied, join, listed, progress_of, outside, items_of, reading_on}
 use Rattle.stab_items.proofs.PieceLemmas.{lines_shorter}
 use Rattle.stab_items.proofs.StretchLemmas.{kept_now, stretch_read, stretch_shallow}
 use Rattle.stab_items.proofs.reader.CircuitReader.take_stretch.Goals as goal

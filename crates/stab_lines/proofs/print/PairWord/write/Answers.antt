@@ -1,5 +1,4 @@
-use Rattle.std.specs.Fmt.{decimal}
-use Rattle.std.proofs.lemmas.Result.{err_from_is_err_and}
+use Rattle.stab_lines.proofs.Names.{decimal, err_from_is_err_and}
 use Rattle.stab_lines.proofs.WriteLemmas.{writes_failed, writes_then}
 use Rattle.stab_lines.proofs.print.PairWord.write.Goals as goal
 

@@ -1,8 +1,5 @@
-use Rattle.std.proofs.Common.{arith, ℕ, ◌≡◌, ◌∙◌, ap, sym, length, ◌+◌, ◌-◌, ◌*◌, replicate}
-use Rattle.std.specs.Simd.Lanes.{put_chunk}
-use Rattle.std.proofs.lemmas.Grind.{common_steps}
-use Rattle.std.proofs.lemmas.List.{length-replicate}
-use Rattle.stab_pauli.proofs.RowLemmas.{put_middle}
+use Rattle.stab_pauli.proofs.Names.{arith, ℕ, ◌≡◌, ◌∙◌, ap, sym, length, ◌+◌, ◌-◌, ◌*◌, replicate, put_chunk, common_steps, length-replicate}
+use Rattle.stab_pauli.proofs.Lemmas.{put_middle}
 use Rattle.stab_pauli.proofs.packed.flat.clear.Goals as goal
 
 pub returns : goal.returns

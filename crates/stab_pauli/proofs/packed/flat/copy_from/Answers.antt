@@ -1,7 +1,5 @@
-use Rattle.std.proofs.Common.{arith, ◌≡◌, ◌∙◌, length, ◌+◌, ◌-◌, ◌*◌}
-use Rattle.std.specs.Simd.Lanes.{put_chunk}
-use Rattle.std.proofs.lemmas.Grind.{common_steps}
-use Rattle.stab_pauli.proofs.RowLemmas.{put_middle}
+use Rattle.stab_pauli.proofs.Names.{arith, ◌≡◌, ◌∙◌, length, ◌+◌, ◌-◌, ◌*◌, put_chunk, common_steps}
+use Rattle.stab_pauli.proofs.Lemmas.{put_middle}
 use Rattle.stab_pauli.proofs.packed.flat.copy_from.Goals as goal
 
 pub returns : goal.returns

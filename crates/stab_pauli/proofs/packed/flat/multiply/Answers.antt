@@ -1,9 +1,5 @@
-use Rattle.std.proofs.Common.{◌≡◌, ◌∙◌, ◌*◌, ap, sym}
-use Rattle.std.specs.Simd.Lanes.{chunk, put_chunk}
-use Rattle.stab_pauli.specs.inner.Powers.{strings_meet}
-use Rattle.stab_pauli.specs.inner.Words.{xor_words}
-use Rattle.stab_pauli.specs.inner.Blocks.{row_letters}
-use Rattle.stab_pauli.proofs.TableLemmas.{rows_apart}
+use Rattle.stab_pauli.proofs.Names.{◌≡◌, ◌∙◌, ◌*◌, ap, sym, chunk, put_chunk, strings_meet, xor_words, row_letters}
+use Rattle.stab_pauli.proofs.Lemmas.{rows_apart}
 use Rattle.stab_pauli.proofs.packed.flat.multiply.Goals as goal
 
 pub multiply_at-requires-clause-apart : goal.multiply_at-requires-clause-apart

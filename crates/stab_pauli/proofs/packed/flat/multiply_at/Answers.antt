@@ -1,9 +1,5 @@
-use Rattle.std.proofs.Common.{arith, ◌≡◌, ◌∙◌, ap, length, ◌+◌, ◌-◌, ◌*◌, ◌++◌}
-use Rattle.std.specs.Simd.Lanes.{chunk, put_chunk}
-use Rattle.std.proofs.lemmas.Grind.{common_steps}
-use Rattle.std.proofs.lemmas.List.{take-append-drop}
-use Rattle.stab_pauli.specs.inner.Words.{xor_words}
-use Rattle.stab_pauli.proofs.RowLemmas.{put_front, put_back}
+use Rattle.stab_pauli.proofs.Names.{arith, ◌≡◌, ◌∙◌, ap, length, ◌+◌, ◌-◌, ◌*◌, ◌++◌, chunk, put_chunk, common_steps, take-append-drop, xor_words}
+use Rattle.stab_pauli.proofs.Lemmas.{put_front, put_back}
 use Rattle.stab_pauli.proofs.packed.flat.multiply_at.Goals as goal
 
 pub returns-then-a-b-clause-words : goal.returns-then-a-b-clause-words

@@ -1,5 +1,5 @@
-use Rattle.std.proofs.Common.{arith, refl, ◌∙◌}
-use Rattle.stab_pauli.proofs.BlockLemmas.{product-halves, block-meet}
+use Rattle.stab_pauli.proofs.Names.{arith, refl, ◌∙◌}
+use Rattle.stab_pauli.proofs.Lemmas.{product-halves, block-meet}
 use Rattle.stab_pauli.proofs.packed.flat.multiply_block.Goals as goal
 
 pub returns : goal.returns

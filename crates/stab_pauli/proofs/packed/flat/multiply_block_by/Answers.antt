@@ -1,10 +1,6 @@
-use Rattle.std.proofs.Common.{arith, ◌≡◌, ◌+◌, ◌++◌, refl, ◌∙◌, ap, length}
-use Rattle.std.specs.Simd.Lanes.{chunk, put_chunk}
-use Rattle.std.proofs.lemmas.List.{take_all, length-append}
-use Rattle.stab_pauli.specs.inner.Words.{xor_words}
-use Rattle.stab_pauli.specs.inner.Powers.{strings_meet}
-use Rattle.stab_pauli.specs.inner.Blocks.{row_letters}
-use Rattle.stab_pauli.proofs.BlockLemmas.{product-halves, block-meet, first-half, second-half}
+use Rattle.stab_pauli.proofs.Names.{arith, ◌≡◌, ◌+◌, ◌++◌, refl, ◌∙◌, ap, length, chunk, put_chunk, take_all, xor_words, strings_meet, row_letters}
+use Rattle.std.proofs.lemmas.List.{length-append}
+use Rattle.stab_pauli.proofs.Lemmas.{product-halves, block-meet, first-half, second-half}
 use Rattle.stab_pauli.proofs.packed.flat.multiply_block_by.Goals as goal
 
 pub returns-clause-words : goal.returns-clause-words

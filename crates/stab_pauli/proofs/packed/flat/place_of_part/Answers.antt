@@ -1,5 +1,5 @@
-use Rattle.std.proofs.Common.{arith}
-use Rattle.stab_pauli.proofs.BlockLemmas.{part-inside}
+use Rattle.stab_pauli.proofs.Names.{arith}
+use Rattle.stab_pauli.proofs.Lemmas.{part-inside}
 use Rattle.stab_pauli.proofs.packed.flat.place_of_part.Goals as goal
 
 pub returns-clause-inside : goal.returns-clause-inside

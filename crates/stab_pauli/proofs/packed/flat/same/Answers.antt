@@ -1,5 +1,4 @@
-use Rattle.std.proofs.lemmas.Slice.Eq.{slice_eq-Decides}
-use Rattle.std.proofs.lemmas.Bool.Decides.{Decides-eqb}
+use Rattle.stab_pauli.proofs.Names.{slice_eq-Decides, Decides-eqb}
 use Rattle.stab_pauli.proofs.packed.flat.same.Goals as goal
 
 pub returns-clause-value : goal.returns-clause-value

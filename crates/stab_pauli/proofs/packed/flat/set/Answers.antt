@@ -1,8 +1,5 @@
-use Rattle.std.proofs.Common.{arith, ◌≡◌, ◌∙◌, ◌+◌, ◌-◌, ◌*◌}
-use Rattle.std.specs.Prelude.{slice_set}
-use Rattle.std.specs.Simd.Lanes.{chunk}
-use Rattle.stab_pauli.specs.inner.Blocks.{row_letters}
-use Rattle.stab_pauli.proofs.RowLemmas.{IsRewritten-part}
+use Rattle.stab_pauli.proofs.Names.{arith, ◌≡◌, ◌∙◌, ◌+◌, ◌-◌, ◌*◌, slice_set, chunk, row_letters}
+use Rattle.stab_pauli.proofs.Lemmas.{IsRewritten-part}
 use Rattle.stab_pauli.proofs.packed.flat.set.Goals as goal
 
 pub returns : goal.returns

@@ -1,4 +1,4 @@
-use Rattle.stab_pauli.proofs.TableLemmas.{rows_apart}
+use Rattle.stab_pauli.proofs.Lemmas.{rows_apart}
 use Rattle.stab_pauli.proofs.packed.flat.swap.Goals as goal
 
 pub swap_at-requires-clause-apart : goal.swap_at-requires-clause-apart

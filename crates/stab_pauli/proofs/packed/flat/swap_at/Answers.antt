@@ -1,6 +1,5 @@
-use Rattle.std.proofs.Common.{arith, ◌≡◌, ◌∙◌, ap, sym, ◌+◌, ◌*◌}
-use Rattle.stab_pauli.specs.inner.Words.{swapped_words}
-use Rattle.stab_pauli.proofs.SwapLemmas.{swapped-none, swapped-more, earlier}
+use Rattle.stab_pauli.proofs.Names.{arith, ◌≡◌, ◌∙◌, ap, sym, ◌+◌, ◌*◌, swapped_words}
+use Rattle.stab_pauli.proofs.Lemmas.{swapped-none, swapped-more, earlier}
 use Rattle.stab_pauli.proofs.packed.flat.swap_at.Goals as goal
 
 pub loop-half-init : goal.loop-half-init

@@ -1,5 +1,4 @@
-use Rattle.std.proofs.Common.{◌≡◌, ◌*◌}
-use Rattle.stab_pauli.specs.inner.Words.{swapped_words}
+use Rattle.stab_pauli.proofs.Names.{◌≡◌, ◌*◌, swapped_words}
 use Rattle.stab_pauli.proofs.packed.flat.swap_at.Given as goal
 
 abbrev pub invariant-loop-half : goal.invariant-loop-half

@@ -1,5 +1,5 @@
-use Rattle.std.proofs.Common.{arith, ◌∙◌}
-use Rattle.stab_pauli.proofs.OnesLemmas.{words_odd-fold}
+use Rattle.stab_pauli.proofs.Names.{arith, ◌∙◌}
+use Rattle.stab_pauli.proofs.Lemmas.{words_odd-fold}
 use Rattle.stab_pauli.proofs.packed.ones.are_odd.Goals as goal
 
 pub returns : goal.returns

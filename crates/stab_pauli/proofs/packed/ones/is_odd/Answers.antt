@@ -1,5 +1,5 @@
-use Rattle.std.proofs.Common.{arith}
-use Rattle.stab_pauli.proofs.OnesLemmas.{word_odd-all}
+use Rattle.stab_pauli.proofs.Names.{arith}
+use Rattle.stab_pauli.proofs.Lemmas.{word_odd-all}
 use Rattle.stab_pauli.proofs.packed.ones.is_odd.Goals as goal
 
 pub returns : goal.returns

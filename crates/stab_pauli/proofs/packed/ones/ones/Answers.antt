@@ -1,5 +1,5 @@
-use Rattle.std.proofs.Common.{arith}
-use Rattle.stab_pauli.proofs.OnesLemmas.{word_ones-all}
+use Rattle.stab_pauli.proofs.Names.{arith}
+use Rattle.stab_pauli.proofs.Lemmas.{word_ones-all}
 use Rattle.stab_pauli.proofs.packed.ones.ones.Goals as goal
 
 pub returns-clause-value : goal.returns-clause-value

@@ -1,10 +1,5 @@
-use Rattle.std.proofs.Common.{arith, ◌≡◌, ◌+◌, ◌-◌, ◌*◌, ◌^◌, ◌<◌, ◌∙◌, get_or, subst}
-use Rattle.std.specs.Simd.Lanes.{chunk}
-use Rattle.stab_letters.specs.declared.letter.Letter.TheVariants.{I}
-use Rattle.stab_letters.specs.XParts.{has_x}
-use Rattle.stab_pauli.specs.inner.Blocks.{row_letters}
-use Rattle.stab_pauli.proofs.MaskLemmas.{grown}
-use Rattle.stab_pauli.proofs.XMaskLemmas.{x-at}
+use Rattle.stab_pauli.proofs.Names.{arith, ◌≡◌, ◌+◌, ◌-◌, ◌*◌, ◌^◌, ◌<◌, ◌∙◌, get_or, subst, chunk, I, has_x, row_letters}
+use Rattle.stab_pauli.proofs.Lemmas.{grown, x-at}
 use Rattle.stab_pauli.proofs.packed.part.mask_of_x.Goals as goal
 
 pub loop-a-preserved : goal.loop-a-preserved

@@ -1,9 +1,4 @@
-use Rattle.std.proofs.Common.{◌≡◌, ℕ, ◌+◌, ◌-◌, ◌*◌, ◌^◌, ◌<◌, ◌≤◌, get_or}
-use Rattle.std.specs.Simd.Lanes.{chunk}
-use Rattle.stab_letters.specs.declared.letter.Letter.TheVariants.{I}
-use Rattle.stab_letters.specs.XParts.{has_x}
-use Rattle.stab_pauli.specs.Masks.{chooses}
-use Rattle.stab_pauli.specs.inner.Blocks.{row_letters}
+use Rattle.stab_pauli.proofs.Names.{◌≡◌, ℕ, ◌+◌, ◌-◌, ◌*◌, ◌^◌, ◌<◌, ◌≤◌, get_or, chunk, I, has_x, chooses, row_letters}
 use Rattle.stab_pauli.proofs.packed.part.mask_of_x.Given as goal
 
 abbrev pub invariant-loop-a : goal.invariant-loop-a

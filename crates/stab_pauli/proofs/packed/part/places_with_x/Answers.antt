@@ -1,9 +1,5 @@
-use Rattle.std.proofs.Common.{◌+◌, ◌*◌, get_or}
-use Rattle.std.specs.Simd.Lanes.{chunk}
-use Rattle.stab_letters.specs.declared.letter.Letter.TheVariants.{I}
-use Rattle.stab_letters.specs.XParts.{has_x}
-use Rattle.stab_pauli.specs.inner.Blocks.{row_letters}
-use Rattle.stab_pauli.proofs.XMaskLemmas.{gathered-next}
+use Rattle.stab_pauli.proofs.Names.{◌+◌, ◌*◌, get_or, chunk, I, has_x, row_letters}
+use Rattle.stab_pauli.proofs.Lemmas.{gathered-next}
 use Rattle.stab_pauli.proofs.packed.part.places_with_x.Goals as goal
 
 pub loop-k-preserved : goal.loop-k-preserved

@@ -1,9 +1,5 @@
-use Rattle.std.proofs.Common.{arith, refl, ◌∙◌, ap}
-use Rattle.stab_letters.specs.Phases.{phase_of_sign}
-use Rattle.stab_pauli.specs.inner.Blocks.{row_letters}
-use Rattle.stab_letters.proofs.PhaseLemmas.{phase_of_sign-injective}
-use Rattle.stab_pauli.proofs.PackedLemmas.{order_phase-step}
-use Rattle.stab_pauli.proofs.RowLemmas.{AddsUp-order, IsPhaseBefore-more, IsPhaseBefore-all, order_phase-is}
+use Rattle.stab_pauli.proofs.Names.{arith, refl, ◌∙◌, ap, phase_of_sign, row_letters, phase_of_sign-injective}
+use Rattle.stab_pauli.proofs.Lemmas.{order_phase-step, AddsUp-order, IsPhaseBefore-more, IsPhaseBefore-all, order_phase-is}
 use Rattle.stab_pauli.proofs.packed.row.anticommute.Goals as goal
 
 pub loop-block-preserved : goal.loop-block-preserved

@@ -1,6 +1,5 @@
-use Rattle.stab_letters.specs.Phases.{phase_of_sign}
-use Rattle.stab_pauli.specs.inner.Words.{words_odd}
-use Rattle.stab_pauli.proofs.RowLemmas.{IsPhaseBefore, order_phase}
+use Rattle.stab_pauli.proofs.Names.{phase_of_sign, words_odd}
+use Rattle.stab_pauli.proofs.Lemmas.{IsPhaseBefore, order_phase}
 use Rattle.stab_pauli.proofs.packed.row.anticommute.Given as goal
 
 abbrev pub invariant-loop-block : goal.invariant-loop-block

@@ -1,5 +1,5 @@
-use Rattle.std.proofs.Common.{arith, refl, ◌<◌, get_or, ◌+◌, ◌*◌, ◌/◌, ◌%◌}
-use Rattle.stab_pauli.proofs.XPartLemmas.{still-word, lowest_in_word, first-found}
+use Rattle.stab_pauli.proofs.Names.{arith, refl, ◌<◌, get_or, ◌+◌, ◌*◌, ◌/◌, ◌%◌}
+use Rattle.stab_pauli.proofs.Lemmas.{still-word, lowest_in_word, first-found}
 use Rattle.stab_pauli.proofs.packed.row.first_x.Goals as goal
 
 pub overflow_mul-result : goal.overflow_mul-result

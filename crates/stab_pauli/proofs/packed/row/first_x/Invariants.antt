@@ -1,5 +1,4 @@
-use Rattle.std.proofs.Common.{◌*◌}
-use Rattle.stab_pauli.specs.inner.Blocks.{row_letters, HasNoXBefore}
+use Rattle.stab_pauli.proofs.Names.{◌*◌, row_letters, HasNoXBefore}
 use Rattle.stab_pauli.proofs.packed.row.first_x.Given as goal
 
 abbrev pub invariant-loop-word : goal.invariant-loop-word

@@ -1,6 +1,5 @@
-use Rattle.std.proofs.Common.{sym, ◌∙◌}
-use Rattle.stab_pauli.specs.inner.Words.{letter_of_bits}
-use Rattle.stab_pauli.proofs.PlaceLemmas.{letter_at_place}
+use Rattle.stab_pauli.proofs.Names.{sym, ◌∙◌, letter_of_bits}
+use Rattle.stab_pauli.proofs.Lemmas.{letter_at_place}
 use Rattle.stab_pauli.proofs.packed.row.letter.Goals as goal
 
 pub returns : goal.returns

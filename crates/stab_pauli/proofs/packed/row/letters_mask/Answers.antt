@@ -1,5 +1,5 @@
-use Rattle.std.proofs.Common.{refl, ◌+◌, ◌*◌, ◌/◌, ◌%◌}
-use Rattle.stab_pauli.proofs.LetterMaskLemmas.{mask-letter, mask-blank}
+use Rattle.stab_pauli.proofs.Names.{refl, ◌+◌, ◌*◌, ◌/◌, ◌%◌}
+use Rattle.stab_pauli.proofs.Lemmas.{mask-letter, mask-blank}
 use Rattle.stab_pauli.proofs.packed.row.letters_mask.Goals as goal
 
 pub returns-clause-chosen : goal.returns-clause-chosen

@@ -1,9 +1,5 @@
-use Rattle.std.proofs.Common.{arith, ◌≡◌, ◌∙◌, sym, refl, ap, length, ◌+◌, ◌*◌}
-use Rattle.stab_letters.proofs.PhaseLemmas.{phase_of_sign-injective}
-use Rattle.stab_letters.specs.Phases.{phase_of_sign}
-use Rattle.stab_pauli.proofs.PackedLemmas.{meet_phase-step}
-use Rattle.stab_pauli.proofs.XorLemmas.{IsXorBefore-all, IsXorBefore-ahead_of}
-use Rattle.stab_pauli.proofs.RowLemmas.{IsXorBefore-two, AddsUp-meet, IsPhaseBefore-more, IsPhaseBefore-all}
+use Rattle.stab_pauli.proofs.Names.{arith, ◌≡◌, ◌∙◌, sym, refl, ap, length, ◌+◌, ◌*◌, phase_of_sign-injective, phase_of_sign}
+use Rattle.stab_pauli.proofs.Lemmas.{meet_phase-step, IsXorBefore-all, IsXorBefore-ahead_of, IsXorBefore-two, AddsUp-meet, IsPhaseBefore-more, IsPhaseBefore-all}
 use Rattle.stab_pauli.proofs.packed.row.multiply.Goals as goal
 
 pub loop-block-preserved : goal.loop-block-preserved

@@ -1,8 +1,5 @@
-use Rattle.std.proofs.Common.{◌*◌}
-use Rattle.stab_letters.specs.Phases.{phase_of_sign}
-use Rattle.stab_pauli.specs.inner.Words.{words_odd}
-use Rattle.stab_pauli.proofs.XorLemmas.{IsXorBefore}
-use Rattle.stab_pauli.proofs.RowLemmas.{IsPhaseBefore, meet_phase}
+use Rattle.stab_pauli.proofs.Names.{◌*◌, phase_of_sign, words_odd}
+use Rattle.stab_pauli.proofs.Lemmas.{IsXorBefore, IsPhaseBefore, meet_phase}
 use Rattle.stab_pauli.proofs.packed.row.multiply.Given as goal
 
 abbrev pub invariant-loop-block : goal.invariant-loop-block

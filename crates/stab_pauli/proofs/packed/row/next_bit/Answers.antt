@@ -1,5 +1,5 @@
-use Rattle.std.proofs.Common.{refl, ◌<◌, ◌/◌, ◌^◌, arith, div-le_self}
-use Rattle.stab_pauli.proofs.NextLetterLemmas.{no_bit, next_bit-found}
+use Rattle.stab_pauli.proofs.Names.{refl, ◌<◌, ◌/◌, ◌^◌, arith, div-le_self}
+use Rattle.stab_pauli.proofs.Lemmas.{no_bit, next_bit-found}
 use Rattle.stab_pauli.proofs.packed.row.next_bit.Goals as goal
 
 pub returns-then-rest-eq0-clause-none : goal.returns-then-rest-eq0-clause-none

@@ -1,5 +1,5 @@
-use Rattle.std.proofs.Common.{arith, refl, ◌+◌, ◌*◌, ◌/◌, ◌%◌}
-use Rattle.stab_pauli.proofs.NextLetterLemmas.{blank_word, letter_found}
+use Rattle.stab_pauli.proofs.Names.{arith, refl, ◌+◌, ◌*◌, ◌/◌, ◌%◌}
+use Rattle.stab_pauli.proofs.Lemmas.{blank_word, letter_found}
 use Rattle.stab_pauli.proofs.packed.row.next_letter.Goals as goal
 
 pub returns-in-Some-clause-some : goal.returns-in-Some-clause-some

@@ -1,5 +1,4 @@
-use Rattle.std.proofs.Common.{◌*◌}
-use Rattle.stab_pauli.specs.inner.Blocks.{row_letters, IsBlankFrom}
+use Rattle.stab_pauli.proofs.Names.{◌*◌, row_letters, IsBlankFrom}
 use Rattle.stab_pauli.proofs.packed.row.next_letter.Given as goal
 
 abbrev pub invariant-loop-word : goal.invariant-loop-word

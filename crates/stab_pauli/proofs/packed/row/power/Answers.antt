@@ -1,6 +1,5 @@
-use Rattle.std.proofs.Common.{refl, ◌∙◌}
-use Rattle.stab_pauli.proofs.PackedLemmas.{power_step}
-use Rattle.stab_pauli.proofs.RowLemmas.{AddsUp-power, IsPhaseBefore-more, IsPhaseBefore-all}
+use Rattle.stab_pauli.proofs.Names.{refl, ◌∙◌}
+use Rattle.stab_pauli.proofs.Lemmas.{power_step, AddsUp-power, IsPhaseBefore-more, IsPhaseBefore-all}
 use Rattle.stab_pauli.proofs.packed.row.power.Goals as goal
 
 pub loop-block-preserved : goal.loop-block-preserved

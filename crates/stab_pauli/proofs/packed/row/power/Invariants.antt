@@ -1,5 +1,5 @@
-use Rattle.stab_letters.specs.Phases.{quarters}
-use Rattle.stab_pauli.proofs.RowLemmas.{IsPhaseBefore, power_phase}
+use Rattle.stab_pauli.proofs.Names.{quarters}
+use Rattle.stab_pauli.proofs.Lemmas.{IsPhaseBefore, power_phase}
 use Rattle.stab_pauli.proofs.packed.row.power.Given as goal
 
 abbrev pub invariant-loop-block : goal.invariant-loop-block

@@ -1,8 +1,5 @@
-use Rattle.std.proofs.Common.{arith, ◌≡◌, ◌+◌, ◌∙◌, ap, get_or, set}
-use Rattle.std.specs.Int.{bit_at}
-use Rattle.std.proofs.lemmas.List.{length-set, get_or-set_other}
-use Rattle.stab_pauli.specs.inner.Words.{letter_of_bits}
-use Rattle.stab_pauli.proofs.PlaceLemmas.{row_letters-set}
+use Rattle.stab_pauli.proofs.Names.{arith, ◌≡◌, ◌+◌, ◌∙◌, ap, get_or, set, bit_at, length-set, get_or-set_other, letter_of_bits}
+use Rattle.stab_pauli.proofs.Lemmas.{row_letters-set}
 use Rattle.stab_pauli.proofs.packed.row.set.Goals as goal
 
 pub returns : goal.returns

@@ -1,4 +1,4 @@
-use Rattle.stab_pauli.proofs.XPartLemmas.{still-block}
+use Rattle.stab_pauli.proofs.Lemmas.{still-block}
 use Rattle.stab_pauli.proofs.packed.row.still_blocks.Goals as goal
 
 pub loop-block-preserved : goal.loop-block-preserved

@@ -1,5 +1,4 @@
-use Rattle.std.proofs.Common.{◌*◌}
-use Rattle.stab_pauli.specs.inner.Blocks.{row_letters, HasNoXBefore}
+use Rattle.stab_pauli.proofs.Names.{◌*◌, row_letters, HasNoXBefore}
 use Rattle.stab_pauli.proofs.packed.row.still_blocks.Given as goal
 
 abbrev pub invariant-loop-block : goal.invariant-loop-block

@@ -1,6 +1,4 @@
-use Rattle.std.proofs.Common.{◌∙◌, ap, sym, eqb}
-use Rattle.std.proofs.lemmas.Nat.Bits.{bit_at_set_same, bit_at_set_other, bit_at_clear_same, bit_at_clear_other}
-use mir.Syntax.{w64}
+use Rattle.stab_pauli.proofs.Names.{◌∙◌, ap, sym, eqb, bit_at_set_same, bit_at_set_other, bit_at_clear_same, bit_at_clear_other, w64}
 use Rattle.stab_pauli.proofs.packed.row.with_bit.Goals as goal
 
 pub returns-then-value-clause-same : goal.returns-then-value-clause-same

@@ -1,5 +1,5 @@
-use Rattle.std.proofs.Common.{refl, ◌+◌, ◌*◌, ◌/◌, ◌%◌}
-use Rattle.stab_pauli.proofs.XMaskLemmas.{x-mask}
+use Rattle.stab_pauli.proofs.Names.{refl, ◌+◌, ◌*◌, ◌/◌, ◌%◌}
+use Rattle.stab_pauli.proofs.Lemmas.{x-mask}
 use Rattle.stab_pauli.proofs.packed.row.x_mask.Goals as goal
 
 pub returns : goal.returns

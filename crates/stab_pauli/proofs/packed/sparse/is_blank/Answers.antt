@@ -1,6 +1,5 @@
-use Rattle.std.proofs.Common.{rules}
-use Rattle.stab_pauli.proofs.PackingLemmas.{blank_block}
-use Rattle.stab_pauli.proofs.SparsePlaceLemmas.{blank_told}
+use Rattle.stab_pauli.proofs.Names.{rules}
+use Rattle.stab_pauli.proofs.Lemmas.{blank_block, blank_told}
 use Rattle.stab_pauli.proofs.packed.sparse.is_blank.Goals as goal
 
 pub returns : goal.returns

@@ -1,7 +1,5 @@
-use Rattle.std.proofs.Common.{arith, subst, sym, ◌∙◌}
-use Rattle.stab_pauli.specs.inner.Words.{words_odd}
-use Rattle.stab_pauli.proofs.OnesLemmas.{words_odd-xor}
-use Rattle.stab_pauli.proofs.SupportLemmas.{IsTimesBut, words_odd-none, times-none, times-more, times-words, times-meet}
+use Rattle.stab_pauli.proofs.Names.{arith, subst, sym, ◌∙◌, words_odd}
+use Rattle.stab_pauli.proofs.Lemmas.{words_odd-xor, IsTimesBut, words_odd-none, times-none, times-more, times-words, times-meet}
 use Rattle.stab_pauli.proofs.packed.support.multiply.Goals as goal
 
 pub loop-rest-init : goal.loop-rest-init

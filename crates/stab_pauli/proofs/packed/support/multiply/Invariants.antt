@@ -1,5 +1,5 @@
-use Rattle.stab_pauli.specs.inner.Words.{words_odd}
-use Rattle.stab_pauli.proofs.SupportLemmas.{IsTimesBut}
+use Rattle.stab_pauli.proofs.Names.{words_odd}
+use Rattle.stab_pauli.proofs.Lemmas.{IsTimesBut}
 use Rattle.stab_pauli.proofs.packed.support.multiply.Given as goal
 
 abbrev pub invariant-loop-rest : goal.invariant-loop-rest

@@ -1,8 +1,5 @@
-use Rattle.std.proofs.Common.{arith, refl, sym, ◌∙◌, ◌+◌}
-use Rattle.std.specs.Prelude.{bit_and}
-use Rattle.std.specs.Simd.Lanes.{chunk}
-use Rattle.std.proofs.lemmas.Simd.{length-zip2, length-chunk}
-use Rattle.stab_pauli.proofs.BlockLemmas.{product-halves, block-meet}
+use Rattle.stab_pauli.proofs.Names.{arith, refl, sym, ◌∙◌, ◌+◌, bit_and, chunk, length-zip2, length-chunk}
+use Rattle.stab_pauli.proofs.Lemmas.{product-halves, block-meet}
 use Rattle.stab_pauli.proofs.packed.support.multiply_block.Goals as goal
 
 pub returns-clause-words : goal.returns-clause-words

@@ -1,8 +1,5 @@
-use Rattle.std.proofs.Common.{arith, ◌≡◌, ◌∙◌, length, ◌+◌, ◌-◌, ◌*◌}
-use Rattle.std.specs.Simd.Lanes.{chunk, put_chunk}
-use Rattle.std.proofs.lemmas.Grind.{common_steps}
-use Rattle.stab_pauli.specs.inner.Words.{xor_words}
-use Rattle.stab_pauli.proofs.RowLemmas.{put_middle}
+use Rattle.stab_pauli.proofs.Names.{arith, ◌≡◌, ◌∙◌, length, ◌+◌, ◌-◌, ◌*◌, chunk, put_chunk, common_steps, xor_words}
+use Rattle.stab_pauli.proofs.Lemmas.{put_middle}
 use Rattle.stab_pauli.proofs.packed.support.multiply_by.Goals as goal
 
 pub returns-clause-words : goal.returns-clause-words

@@ -1,4 +1,4 @@
-use Rattle.stab_pauli.proofs.SupportLemmas.{CoversBefore}
+use Rattle.stab_pauli.proofs.Lemmas.{CoversBefore}
 use Rattle.stab_pauli.proofs.packed.support.of.Given as goal
 
 abbrev pub invariant-loop-block : goal.invariant-loop-block

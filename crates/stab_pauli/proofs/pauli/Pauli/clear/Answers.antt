@@ -1,8 +1,5 @@
-use Rattle.std.proofs.Common.{arith, ℕ, ◌≡◌, length, sym, ◌∙◌, ap, replicate}
-use Rattle.std.proofs.lemmas.Grind.{common_steps}
-use Rattle.stab_pauli.specs.Paulis.{identity}
-use Rattle.stab_pauli.proofs.PaddedLemmas.{view_of, lies_of, is_of, length-view, written_view}
-use Rattle.stab_pauli.proofs.SeenLemmas.{blank_view}
+use Rattle.stab_pauli.proofs.Names.{arith, ℕ, ◌≡◌, length, sym, ◌∙◌, ap, replicate, common_steps, identity}
+use Rattle.stab_pauli.proofs.Lemmas.{view_of, lies_of, is_of, length-view, written_view, blank_view}
 use Rattle.stab_pauli.proofs.pauli.Pauli.clear.Goals as goal
 
 pub invariant_of-self : goal.invariant_of-self

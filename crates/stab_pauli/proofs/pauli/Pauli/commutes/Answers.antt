@@ -1,7 +1,6 @@
-use Rattle.std.proofs.Common.{not, length, ◌∙◌, ap}
-use Rattle.stab_pauli.specs.Paulis.{strings_anticommute}
-use Rattle.stab_pauli.specs.inner.Blocks.{row_letters}
-use Rattle.stab_pauli.proofs.PaddedLemmas.{view_of, alike, anticommute-product}
+use Rattle.stab_pauli.proofs.Names.{not, length, ◌∙◌, ap, strings_anticommute, row_letters}
+use Rattle.stab_pauli.proofs.Lemmas.{view_of, alike}
+use Rattle.stab_pauli.proofs.PaddedLemmas.{anticommute-product}
 use Rattle.stab_pauli.proofs.pauli.Pauli.commutes.Goals as goal
 
 pub anticommute-requires-clause-other_length : goal.anticommute-requires-clause-other_length

@@ -1,10 +1,5 @@
-use Rattle.std.proofs.Common.{arith, ℕ, ◌*◌, sym, ◌∙◌, ap, subst}
-use Rattle.std.specs.List.{list_any}
-use Rattle.std.proofs.lemmas.Option.{IfSome_then}
-use Rattle.stab_letters.specs.XParts.{has_x}
-use Rattle.stab_pauli.specs.inner.Blocks.{row_letters, HasNoXBefore, IsFirstX}
-use Rattle.stab_pauli.proofs.PaddedLemmas.{view_of, length-view}
-use Rattle.stab_pauli.proofs.XPartLemmas.{none_here, none_in_row, found_in_row, any_none}
+use Rattle.stab_pauli.proofs.Names.{arith, ℕ, ◌*◌, sym, ◌∙◌, ap, subst, list_any, IfSome_then, has_x, row_letters, HasNoXBefore, IsFirstX}
+use Rattle.stab_pauli.proofs.Lemmas.{view_of, length-view, none_here, none_in_row, found_in_row, any_none}
 use Rattle.stab_pauli.proofs.pauli.Pauli.first_x.Goals as goal
 
 pub first_x-requires-clause-few : goal.first_x-requires-clause-few

@@ -1,7 +1,5 @@
-use Rattle.std.proofs.Common.{◌∙◌, ap}
-use Rattle.stab_letters.specs.Phases.{sign_of_phase}
-use Rattle.stab_pauli.proofs.PaddedLemmas.{view_of}
-use Rattle.stab_pauli.proofs.PowerLemmas.{fixed_sign}
+use Rattle.stab_pauli.proofs.Names.{◌∙◌, ap, sign_of_phase}
+use Rattle.stab_pauli.proofs.Lemmas.{view_of, fixed_sign}
 use Rattle.stab_pauli.proofs.pauli.Pauli.fixed_sign.Goals as goal
 
 pub returns : goal.returns

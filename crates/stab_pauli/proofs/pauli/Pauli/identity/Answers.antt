@@ -1,6 +1,5 @@
-use Rattle.std.proofs.Common.{rules, ◌≡◌, ◌*◌, replicate}
-use Rattle.stab_pauli.proofs.PaddedLemmas.{lies_of, is_of}
-use Rattle.stab_pauli.proofs.SeenLemmas.{blank_view}
+use Rattle.stab_pauli.proofs.Names.{rules, ◌≡◌, ◌*◌, replicate}
+use Rattle.stab_pauli.proofs.Lemmas.{lies_of, is_of, blank_view}
 use Rattle.stab_pauli.proofs.pauli.Pauli.identity.Goals as goal
 
 pub invariant_of-result : goal.invariant_of-result

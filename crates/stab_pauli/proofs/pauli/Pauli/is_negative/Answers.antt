@@ -1,8 +1,5 @@
-use Rattle.std.proofs.Common.{◌∙◌, ap}
-use Rattle.stab_letters.specs.Phases.{sign_of_phase}
-use Rattle.stab_pauli.specs.inner.Powers.{sign_power}
-use Rattle.stab_pauli.specs.inner.Blocks.{row_letters}
-use Rattle.stab_pauli.proofs.PaddedLemmas.{view_of, sign_read}
+use Rattle.stab_pauli.proofs.Names.{◌∙◌, ap, sign_of_phase, sign_power, row_letters}
+use Rattle.stab_pauli.proofs.Lemmas.{view_of, sign_read}
 use Rattle.stab_pauli.proofs.pauli.Pauli.is_negative.Goals as goal
 
 pub returns : goal.returns

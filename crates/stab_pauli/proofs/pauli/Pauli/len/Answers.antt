@@ -1,5 +1,5 @@
-use Rattle.std.proofs.Common.{sym}
-use Rattle.stab_pauli.proofs.PaddedLemmas.{view_of, length-view}
+use Rattle.stab_pauli.proofs.Names.{sym}
+use Rattle.stab_pauli.proofs.Lemmas.{view_of, length-view}
 use Rattle.stab_pauli.proofs.pauli.Pauli.len.Goals as goal
 
 pub returns : goal.returns

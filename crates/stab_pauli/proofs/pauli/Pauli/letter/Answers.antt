@@ -1,8 +1,5 @@
-use Rattle.std.proofs.Common.{arith, ◌<◌, get_or, sym, ◌∙◌, ap}
-use Rattle.std.proofs.lemmas.List.{get_or-take}
-use Rattle.stab_letters.specs.declared.letter.Letter.TheVariants.{I}
-use Rattle.stab_pauli.specs.inner.Blocks.{row_letters}
-use Rattle.stab_pauli.proofs.PaddedLemmas.{view_of, length-view, place_in_row}
+use Rattle.stab_pauli.proofs.Names.{arith, ◌<◌, get_or, sym, ◌∙◌, ap, get_or-take, I, row_letters}
+use Rattle.stab_pauli.proofs.Lemmas.{view_of, length-view, place_in_row}
 use Rattle.stab_pauli.proofs.pauli.Pauli.letter.Goals as goal
 
 pub letter-requires-clause-in_range : goal.letter-requires-clause-in_range

@@ -1,9 +1,5 @@
-use Rattle.std.proofs.Common.{◌≡◌, ℕ, ◌+◌, ◌*◌, sym, ◌∙◌, ap, get_or, arith}
-use Rattle.stab_letters.specs.declared.letter.Letter.TheVariants.{I}
-use Rattle.stab_pauli.specs.inner.Blocks.{row_letters}
-use Rattle.stab_pauli.proofs.BlankLemmas.{fits}
-use Rattle.stab_pauli.proofs.PaddedLemmas.{view_of, length-view}
-use Rattle.stab_pauli.proofs.LetterMaskLemmas.{string-letter, letter-inside}
+use Rattle.stab_pauli.proofs.Names.{◌≡◌, ℕ, ◌+◌, ◌*◌, sym, ◌∙◌, ap, get_or, arith, I, row_letters}
+use Rattle.stab_pauli.proofs.Lemmas.{fits, view_of, length-view, string-letter, letter-inside}
 use Rattle.stab_pauli.proofs.pauli.Pauli.letters_mask.Goals as goal
 
 pub letters_mask-requires-clause-in_range : goal.letters_mask-requires-clause-in_range

@@ -1,6 +1,5 @@
-use Rattle.std.proofs.Common.{length, ◌∙◌, ap}
-use Rattle.stab_pauli.proofs.PaddedLemmas.{view_of, lies_of, is_of, alike}
-use Rattle.stab_pauli.proofs.RowProductLemmas.{product_of}
+use Rattle.stab_pauli.proofs.Names.{length, ◌∙◌, ap}
+use Rattle.stab_pauli.proofs.Lemmas.{view_of, lies_of, is_of, alike, product_of}
 use Rattle.stab_pauli.proofs.pauli.Pauli.multiply.Goals as goal
 
 pub multiply-meet-requires-clause-other_length : goal.multiply-meet-requires-clause-other_length

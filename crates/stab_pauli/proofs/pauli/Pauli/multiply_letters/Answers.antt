@@ -1,11 +1,5 @@
-use Rattle.std.proofs.Common.{length, ◌∙◌, ap, ◌++◌, take, drop}
-use Rattle.stab_letters.specs.Phases.{phase_add}
-use Rattle.stab_pauli.specs.inner.Words.{xor_words}
-use Rattle.stab_pauli.specs.inner.Powers.{string_power}
-use Rattle.stab_pauli.specs.inner.Blocks.{row_letters}
-use Rattle.stab_pauli.proofs.PaddedLemmas.{view_of, lies_of, is_of, alike, IsView}
-use Rattle.stab_pauli.proofs.SeenLemmas.{written_resigned}
-use Rattle.stab_pauli.specs.Paulis.{string_product}
+use Rattle.stab_pauli.proofs.Names.{length, ◌∙◌, ap, ◌++◌, take, drop, phase_add, xor_words, string_power, row_letters, string_product}
+use Rattle.stab_pauli.proofs.Lemmas.{view_of, lies_of, is_of, alike, IsView, written_resigned}
 use Rattle.stab_pauli.proofs.pauli.Pauli.multiply_letters.Goals as goal
 use Rattle.stab_pauli.proofs.pauli.Pauli.multiply_letters.Goals.{After-times-self-inside}
 

@@ -1,8 +1,5 @@
-use Rattle.std.proofs.Common.{length, ◌∙◌, ap}
-use Rattle.stab_pauli.specs.Phaseds.{phased}
-use Rattle.stab_pauli.proofs.PaddedLemmas.{view_of, lies_of, is_of, alike}
-use Rattle.stab_pauli.proofs.SeenLemmas.{phased_product-times_phase}
-use Rattle.stab_pauli.proofs.RowProductLemmas.{times_i_of}
+use Rattle.stab_pauli.proofs.Names.{length, ◌∙◌, ap, phased}
+use Rattle.stab_pauli.proofs.Lemmas.{view_of, lies_of, is_of, alike, phased_product-times_phase, times_i_of}
 use Rattle.stab_pauli.proofs.pauli.Pauli.multiply_times_i.Goals as goal
 
 pub multiply-meet-requires-clause-other_length : goal.multiply-meet-requires-clause-other_length

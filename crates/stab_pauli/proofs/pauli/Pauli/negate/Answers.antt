@@ -1,6 +1,5 @@
-use Rattle.std.proofs.Common.{refl, true}
-use Rattle.stab_pauli.proofs.PaddedLemmas.{view_of, lies_of, is_of}
-use Rattle.stab_pauli.proofs.SeenLemmas.{signed_view}
+use Rattle.stab_pauli.proofs.Names.{refl, true}
+use Rattle.stab_pauli.proofs.Lemmas.{view_of, lies_of, is_of, signed_view}
 use Rattle.stab_pauli.proofs.pauli.Pauli.negate.Goals as goal
 
 pub invariant_of-self : goal.invariant_of-self

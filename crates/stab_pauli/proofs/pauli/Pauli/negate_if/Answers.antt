@@ -1,7 +1,5 @@
-use Rattle.std.proofs.Common.{◌∙◌, ap, refl}
-use Rattle.stab_letters.specs.Phases.{phase_add}
-use Rattle.stab_pauli.proofs.PaddedLemmas.{view_of, lies_of, is_of}
-use Rattle.stab_pauli.proofs.SeenLemmas.{signed_view}
+use Rattle.stab_pauli.proofs.Names.{◌∙◌, ap, refl, phase_add}
+use Rattle.stab_pauli.proofs.Lemmas.{view_of, lies_of, is_of, signed_view}
 use Rattle.stab_pauli.proofs.pauli.Pauli.negate_if.Goals as goal
 
 pub invariant_of-self : goal.invariant_of-self

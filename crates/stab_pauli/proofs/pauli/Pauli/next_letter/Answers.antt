@@ -1,7 +1,5 @@
-use Rattle.std.proofs.Common.{◌≡◌, ◌*◌, ◌≤◌, subst, length, arith}
-use Rattle.stab_pauli.specs.inner.Blocks.{row_letters, IsBlankFrom, IsNextLetter}
-use Rattle.stab_pauli.proofs.PaddedLemmas.{view_of, length-view}
-use Rattle.stab_pauli.proofs.NextLetterLemmas.{next_inside, blank_inside}
+use Rattle.stab_pauli.proofs.Names.{◌≡◌, ◌*◌, ◌≤◌, subst, length, arith, row_letters, IsBlankFrom, IsNextLetter}
+use Rattle.stab_pauli.proofs.Lemmas.{view_of, length-view, next_inside, blank_inside}
 use Rattle.stab_pauli.proofs.pauli.Pauli.next_letter.Goals as goal
 
 pub next_letter-requires-clause-few : goal.next_letter-requires-clause-few

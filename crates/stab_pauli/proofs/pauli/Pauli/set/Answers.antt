@@ -1,8 +1,5 @@
-use Rattle.std.proofs.Common.{arith, ◌<◌, set, ◌∙◌, ap, ◌++◌, length, take, drop}
-use Rattle.stab_pauli.specs.inner.Blocks.{row_letters}
-use Rattle.stab_pauli.proofs.PaddedLemmas.{view_of, lies_of, is_of, length-view, place_in_row, written_view, IsView}
-use Rattle.stab_pauli.proofs.SeenLemmas.{letter_view}
-use Rattle.stab_pauli.specs.Rows.{with_letter}
+use Rattle.stab_pauli.proofs.Names.{arith, ◌<◌, set, ◌∙◌, ap, ◌++◌, length, take, drop, row_letters, with_letter}
+use Rattle.stab_pauli.proofs.Lemmas.{view_of, lies_of, is_of, length-view, place_in_row, written_view, IsView, letter_view}
 use Rattle.stab_pauli.proofs.pauli.Pauli.set.Goals as goal
 use Rattle.stab_pauli.proofs.pauli.Pauli.set.Goals.{After-power_with-self-inside}
 

@@ -1,8 +1,5 @@
-use Rattle.std.proofs.Common.{arith, subst}
-use Rattle.stab_pauli.specs.Masks.{CoversSupport}
-use Rattle.stab_pauli.specs.inner.Blocks.{CoversLetters}
-use Rattle.stab_pauli.proofs.PaddedLemmas.{view_of, length-view}
-use Rattle.stab_pauli.proofs.SupportMaskLemmas.{letters-covered}
+use Rattle.stab_pauli.proofs.Names.{arith, subst, CoversSupport, CoversLetters}
+use Rattle.stab_pauli.proofs.Lemmas.{view_of, length-view, letters-covered}
 use Rattle.stab_pauli.proofs.pauli.Pauli.support_mask.Goals as goal
 
 pub of-requires-clause-few : goal.of-requires-clause-few

@@ -1,9 +1,5 @@
-use Rattle.std.proofs.Common.{◌+◌, ◌*◌, sym, ◌∙◌, ap, get_or, arith}
-use Rattle.stab_letters.specs.declared.letter.Letter.TheVariants.{I}
-use Rattle.stab_letters.specs.XParts.{has_x}
-use Rattle.stab_pauli.specs.inner.Blocks.{row_letters}
-use Rattle.stab_pauli.proofs.PaddedLemmas.{view_of, place_in_row}
-use Rattle.stab_pauli.proofs.LetterMaskLemmas.{string-letter}
+use Rattle.stab_pauli.proofs.Names.{◌+◌, ◌*◌, sym, ◌∙◌, ap, get_or, arith, I, has_x, row_letters}
+use Rattle.stab_pauli.proofs.Lemmas.{view_of, place_in_row, string-letter}
 use Rattle.stab_pauli.proofs.pauli.Pauli.x_mask.Goals as goal
 
 pub x_mask-requires-clause-in_range : goal.x_mask-requires-clause-in_range

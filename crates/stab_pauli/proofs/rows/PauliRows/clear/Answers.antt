@@ -1,10 +1,5 @@
-use Rattle.std.proofs.Common.{arith, ◌≡◌, ◌*◌, subst, refl, replicate, ℕ, List, ◌++◌, length, set, take, drop}
-use Rattle.std.specs.Simd.Lanes.{put_chunk}
-use Rattle.stab_letters.specs.declared.phase.Phase.TheVariants.{Zero}
-use Rattle.stab_pauli.specs.Paulis.{identity}
-use Rattle.stab_pauli.proofs.PaddedLemmas.{IsView}
-use Rattle.stab_pauli.proofs.SeenLemmas.{counted_seen, seen_of, qubits_seen, in_seen, put_seen, written_seen, blank_view, IsSeen}
-use Rattle.stab_pauli.specs.Rows.{with_row}
+use Rattle.stab_pauli.proofs.Names.{arith, ◌≡◌, ◌*◌, subst, refl, replicate, ℕ, List, ◌++◌, length, set, take, drop, put_chunk, Zero, identity, with_row}
+use Rattle.stab_pauli.proofs.Lemmas.{IsView, counted_seen, seen_of, qubits_seen, in_seen, put_seen, written_seen, blank_view, IsSeen}
 use Rattle.stab_pauli.proofs.rows.PauliRows.clear.Goals as goal
 use Rattle.stab_pauli.proofs.rows.PauliRows.clear.Goals.{After-clear}
 

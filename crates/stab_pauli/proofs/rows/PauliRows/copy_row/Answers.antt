@@ -1,9 +1,5 @@
-use Rattle.std.proofs.Common.{arith, ◌≡◌, ◌∙◌, ◌*◌, ap, sym, length, ◌++◌, take, drop}
-use Rattle.std.specs.Simd.Lanes.{chunk}
-use Rattle.std.proofs.lemmas.Grind.{common_steps}
-use Rattle.stab_pauli.proofs.PaddedLemmas.{is_of, lies_of, view_of, same_numbers, written_view, IsView}
-use Rattle.stab_pauli.proofs.SeenLemmas.{counted_seen, seen_of, in_seen, row_seen, read_power, same_view, fitting}
-use Rattle.stab_pauli.specs.Rows.{row_at}
+use Rattle.stab_pauli.proofs.Names.{arith, ◌≡◌, ◌∙◌, ◌*◌, ap, sym, length, ◌++◌, take, drop, chunk, common_steps, row_at}
+use Rattle.stab_pauli.proofs.Lemmas.{is_of, lies_of, view_of, same_numbers, written_view, IsView, counted_seen, seen_of, in_seen, row_seen, read_power, same_view, fitting}
 use Rattle.stab_pauli.proofs.rows.PauliRows.copy_row.Goals as goal
 use Rattle.stab_pauli.proofs.rows.PauliRows.copy_row.Goals.{After-index}
 

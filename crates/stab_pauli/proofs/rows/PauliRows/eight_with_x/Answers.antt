@@ -1,11 +1,5 @@
-use Rattle.std.proofs.Common.{arith, ◌≡◌, ℕ, ◌≤◌, ◌+◌, ◌*◌, ◌/◌, ◌<◌, ◌∙◌, ap, length, get_or}
-use Rattle.std.specs.Simd.Lanes.{chunk}
-use Rattle.stab_letters.specs.declared.letter.Letter.TheVariants.{I}
-use Rattle.stab_letters.specs.XParts.{has_x}
-use Rattle.stab_pauli.specs.Rows.{row_at}
-use Rattle.stab_pauli.specs.inner.Blocks.{row_letters}
-use Rattle.stab_pauli.proofs.SeenLemmas.{rows_seen, seen_of, letter_seen}
-use Rattle.stab_pauli.proofs.BlockLemmas.{part-inside, part-row}
+use Rattle.stab_pauli.proofs.Names.{arith, ◌≡◌, ℕ, ◌≤◌, ◌+◌, ◌*◌, ◌/◌, ◌<◌, ◌∙◌, ap, length, get_or, chunk, I, has_x, row_at, row_letters}
+use Rattle.stab_pauli.proofs.Lemmas.{rows_seen, seen_of, letter_seen, part-inside, part-row}
 use Rattle.stab_pauli.proofs.rows.PauliRows.eight_with_x.Goals as goal
 
 pub part_of-words-requires-clause-in_range : goal.part_of-words-requires-clause-in_range

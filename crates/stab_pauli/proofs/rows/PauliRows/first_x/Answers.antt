@@ -1,13 +1,5 @@
-use Rattle.std.proofs.Common.{arith, ◌≡◌, ◌∙◌, ◌*◌, ap, sym, subst, ℕ}
-use Rattle.std.specs.Simd.Lanes.{chunk}
-use Rattle.std.specs.List.{list_any}
-use Rattle.std.proofs.lemmas.Option.{IfSome_then}
-use Rattle.stab_letters.specs.XParts.{has_x}
-use Rattle.stab_pauli.specs.Rows.{row_at}
-use Rattle.stab_pauli.specs.inner.Blocks.{row_letters, HasNoXBefore, IsFirstX}
-use Rattle.stab_pauli.proofs.XPartLemmas.{none_here, none_in_row, found_in_row, any_none}
-use Rattle.stab_pauli.proofs.PaddedLemmas.{length-view}
-use Rattle.stab_pauli.proofs.SeenLemmas.{counted_seen, seen_of, qubits_seen, in_seen, row_seen}
+use Rattle.stab_pauli.proofs.Names.{arith, ◌≡◌, ◌∙◌, ◌*◌, ap, sym, subst, ℕ, chunk, list_any, IfSome_then, has_x, row_at, row_letters, HasNoXBefore, IsFirstX}
+use Rattle.stab_pauli.proofs.Lemmas.{none_here, none_in_row, found_in_row, any_none, length-view, counted_seen, seen_of, qubits_seen, in_seen, row_seen}
 use Rattle.stab_pauli.proofs.rows.PauliRows.first_x.Goals as goal
 
 pub row_of-words-requires-clause-in_range : goal.row_of-words-requires-clause-in_range

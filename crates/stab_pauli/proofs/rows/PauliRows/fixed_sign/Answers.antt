@@ -1,8 +1,5 @@
-use Rattle.std.proofs.Common.{◌∙◌, ap}
-use Rattle.stab_letters.specs.Phases.{sign_of_phase}
-use Rattle.stab_pauli.specs.Rows.{row_at}
-use Rattle.stab_pauli.proofs.PowerLemmas.{fixed_sign}
-use Rattle.stab_pauli.proofs.SeenLemmas.{seen_of, counted_seen, in_seen, row_seen, read_power}
+use Rattle.stab_pauli.proofs.Names.{◌∙◌, ap, sign_of_phase, row_at}
+use Rattle.stab_pauli.proofs.Lemmas.{fixed_sign, seen_of, counted_seen, in_seen, row_seen, read_power}
 use Rattle.stab_pauli.proofs.rows.PauliRows.fixed_sign.Goals as goal
 
 pub index-requires : goal.index-requires

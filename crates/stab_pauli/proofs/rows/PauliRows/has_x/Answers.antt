@@ -1,6 +1,5 @@
-use Rattle.std.proofs.Common.{arith, ◌∙◌, ap}
-use Rattle.stab_letters.specs.XParts.{has_x}
-use Rattle.stab_pauli.proofs.SeenLemmas.{counted_seen, seen_of, place_seen, letter_seen}
+use Rattle.stab_pauli.proofs.Names.{arith, ◌∙◌, ap, has_x}
+use Rattle.stab_pauli.proofs.Lemmas.{counted_seen, seen_of, place_seen, letter_seen}
 use Rattle.stab_pauli.proofs.rows.PauliRows.has_x.Goals as goal
 
 pub row_of-words-requires-clause-in_range : goal.row_of-words-requires-clause-in_range

@@ -1,10 +1,5 @@
-use Rattle.std.proofs.Common.{arith, ◌*◌, ◌∙◌}
-use Rattle.std.specs.Simd.Lanes.{chunk}
-use Rattle.stab_letters.specs.Phases.{sign_of_phase}
-use Rattle.stab_pauli.specs.inner.Powers.{sign_power}
-use Rattle.stab_pauli.specs.inner.Blocks.{row_letters}
-use Rattle.stab_pauli.proofs.PaddedLemmas.{sign_read}
-use Rattle.stab_pauli.proofs.SeenLemmas.{seen_of, counted_seen, in_seen, row_seen, read_power}
+use Rattle.stab_pauli.proofs.Names.{arith, ◌*◌, ◌∙◌, chunk, sign_of_phase, sign_power, row_letters}
+use Rattle.stab_pauli.proofs.Lemmas.{sign_read, seen_of, counted_seen, in_seen, row_seen, read_power}
 use Rattle.stab_pauli.proofs.rows.PauliRows.is_negative.Goals as goal
 
 pub row_of-words-requires-clause-in_range : goal.row_of-words-requires-clause-in_range

@@ -1,5 +1,5 @@
-use Rattle.std.proofs.Common.{arith}
-use Rattle.stab_pauli.proofs.SeenLemmas.{seen_of, rows_seen}
+use Rattle.stab_pauli.proofs.Names.{arith}
+use Rattle.stab_pauli.proofs.Lemmas.{seen_of, rows_seen}
 use Rattle.stab_pauli.proofs.rows.PauliRows.len.Goals as goal
 
 pub returns : goal.returns

@@ -1,5 +1,5 @@
-use Rattle.std.proofs.Common.{arith, ◌∙◌}
-use Rattle.stab_pauli.proofs.SeenLemmas.{counted_seen, seen_of, place_seen, letter_seen}
+use Rattle.stab_pauli.proofs.Names.{arith, ◌∙◌}
+use Rattle.stab_pauli.proofs.Lemmas.{counted_seen, seen_of, place_seen, letter_seen}
 use Rattle.stab_pauli.proofs.rows.PauliRows.letter.Goals as goal
 
 pub row_of-words-requires-clause-in_range : goal.row_of-words-requires-clause-in_range

@@ -1,9 +1,5 @@
-use Rattle.std.proofs.Common.{arith, ◌≡◌, ◌≤◌, ◌+◌, ◌-◌, ◌*◌, ◌/◌, ◌^◌, ◌<◌, ◌∙◌, ap, get_or, subst}
-use Rattle.stab_letters.specs.declared.letter.Letter.TheVariants.{I}
-use Rattle.stab_letters.specs.XParts.{has_x}
-use Rattle.stab_pauli.specs.Rows.{row_at}
-use Rattle.stab_pauli.proofs.MaskLemmas.{grown-eight}
-use Rattle.stab_pauli.proofs.XMaskLemmas.{gathered}
+use Rattle.stab_pauli.proofs.Names.{arith, ◌≡◌, ◌≤◌, ◌+◌, ◌-◌, ◌*◌, ◌/◌, ◌^◌, ◌<◌, ◌∙◌, ap, get_or, subst, I, has_x, row_at}
+use Rattle.stab_pauli.proofs.Lemmas.{grown-eight, gathered}
 use Rattle.stab_pauli.proofs.rows.PauliRows.mask_of_x.Goals as goal
 
 pub overflow_sub-a-in-loop-a : goal.overflow_sub-a-in-loop-a

@@ -1,9 +1,5 @@
-use Rattle.std.proofs.Common.{arith, ◌≡◌, ◌+◌, ◌-◌, ◌*◌, ◌/◌, ◌^◌, ◌<◌, ◌∙◌, get_or, subst}
-use Rattle.stab_letters.specs.declared.letter.Letter.TheVariants.{I}
-use Rattle.stab_letters.specs.XParts.{has_x}
-use Rattle.stab_pauli.specs.Rows.{row_at}
-use Rattle.stab_pauli.proofs.MaskLemmas.{grown}
-use Rattle.stab_pauli.proofs.XMaskLemmas.{x-at, gathered-one}
+use Rattle.stab_pauli.proofs.Names.{arith, ◌≡◌, ◌+◌, ◌-◌, ◌*◌, ◌/◌, ◌^◌, ◌<◌, ◌∙◌, get_or, subst, I, has_x, row_at}
+use Rattle.stab_pauli.proofs.Lemmas.{grown, x-at, gathered-one}
 use Rattle.stab_pauli.proofs.rows.PauliRows.mask_row_by_row.Goals as goal
 
 pub loop-a-preserved : goal.loop-a-preserved

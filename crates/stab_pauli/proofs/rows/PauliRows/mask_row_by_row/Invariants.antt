@@ -1,8 +1,4 @@
-use Rattle.std.proofs.Common.{◌≡◌, ℕ, ◌+◌, ◌-◌, ◌*◌, ◌/◌, ◌^◌, ◌<◌, ◌≤◌, true, get_or}
-use Rattle.stab_letters.specs.declared.letter.Letter.TheVariants.{I}
-use Rattle.stab_letters.specs.XParts.{has_x}
-use Rattle.stab_pauli.specs.Rows.{row_at}
-use Rattle.stab_pauli.specs.Masks.{chooses}
+use Rattle.stab_pauli.proofs.Names.{◌≡◌, ℕ, ◌+◌, ◌-◌, ◌*◌, ◌/◌, ◌^◌, ◌<◌, ◌≤◌, true, get_or, I, has_x, row_at, chooses}
 use Rattle.stab_pauli.proofs.rows.PauliRows.mask_row_by_row.Given as goal
 
 abbrev pub invariant-loop-a : goal.invariant-loop-a

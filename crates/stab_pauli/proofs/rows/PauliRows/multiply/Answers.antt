@@ -1,9 +1,5 @@
-use Rattle.std.proofs.Common.{arith, ◌*◌, ap, ℕ, List, ◌++◌, length, set, take, drop}
-use Rattle.std.specs.Simd.Lanes.{chunk}
-use Rattle.stab_pauli.specs.Paulis.{product}
-use Rattle.stab_pauli.specs.Rows.{row_at, with_row}
-use Rattle.stab_pauli.proofs.SeenLemmas.{IsSeen, read_power, counted_seen, seen_of, in_seen, row_seen}
-use Rattle.stab_pauli.proofs.RowProductLemmas.{product_seen}
+use Rattle.stab_pauli.proofs.Names.{arith, ◌*◌, ap, ℕ, List, ◌++◌, length, set, take, drop, chunk, product, row_at, with_row}
+use Rattle.stab_pauli.proofs.Lemmas.{IsSeen, read_power, counted_seen, seen_of, in_seen, row_seen, product_seen}
 use Rattle.stab_pauli.proofs.rows.PauliRows.multiply.Goals as goal
 use Rattle.stab_pauli.proofs.rows.PauliRows.multiply.Goals.{After-product_power}
 

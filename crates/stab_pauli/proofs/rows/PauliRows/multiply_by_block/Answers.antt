@@ -1,12 +1,5 @@
-use Rattle.std.proofs.Common.{arith, ◌≡◌, ◌*◌, refl, sym, ◌∙◌, ap, ◌++◌, length, set, take, drop}
-use Rattle.std.specs.Simd.Lanes.{chunk, put_chunk}
-use Rattle.stab_pauli.specs.Rows.{row_at, product_times_i, with_row}
-use Rattle.stab_pauli.specs.inner.Blocks.{row_letters, signed_row}
-use Rattle.stab_pauli.specs.inner.Powers.{strings_meet}
-use Rattle.stab_pauli.specs.inner.Words.{xor_words}
-use Rattle.stab_pauli.proofs.PaddedLemmas.{view_of, length-view}
-use Rattle.stab_pauli.proofs.SeenLemmas.{counted_seen, seen_of, in_seen, fitting, IsSeen}
-use Rattle.stab_pauli.proofs.RowProductLemmas.{times_i_seen}
+use Rattle.stab_pauli.proofs.Names.{arith, ◌≡◌, ◌*◌, refl, sym, ◌∙◌, ap, ◌++◌, length, set, take, drop, chunk, put_chunk, row_at, product_times_i, with_row, row_letters, signed_row, strings_meet, xor_words}
+use Rattle.stab_pauli.proofs.Lemmas.{view_of, length-view, counted_seen, seen_of, in_seen, fitting, IsSeen, times_i_seen}
 use Rattle.stab_pauli.proofs.rows.PauliRows.multiply_by_block.Goals as goal
 use Rattle.stab_pauli.proofs.rows.PauliRows.multiply_by_block.Goals.{After-times_i}
 

@@ -1,9 +1,5 @@
-use Rattle.std.proofs.Common.{arith, refl, length, ◌++◌, set, take, drop}
-use Rattle.stab_pauli.specs.Rows.{row_at, product_times_i, with_row}
-use Rattle.stab_pauli.specs.inner.Blocks.{blocks_of, row_letters, signed_row}
-use Rattle.stab_pauli.proofs.PaddedLemmas.{view_of, length-view}
-use Rattle.stab_pauli.proofs.SeenLemmas.{counted_seen, seen_of, in_seen, fitting, IsSeen}
-use Rattle.stab_pauli.proofs.RowProductLemmas.{times_i_seen}
+use Rattle.stab_pauli.proofs.Names.{arith, refl, length, ◌++◌, set, take, drop, row_at, product_times_i, with_row, blocks_of, row_letters, signed_row}
+use Rattle.stab_pauli.proofs.Lemmas.{view_of, length-view, counted_seen, seen_of, in_seen, fitting, IsSeen, times_i_seen}
 use Rattle.stab_pauli.proofs.rows.PauliRows.multiply_in_support.Goals as goal
 use Rattle.stab_pauli.proofs.rows.PauliRows.multiply_in_support.Goals.{After-times_i}
 

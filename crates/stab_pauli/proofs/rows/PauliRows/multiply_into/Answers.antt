@@ -1,10 +1,5 @@
-use Rattle.std.proofs.Common.{arith, ◌*◌, ◌∙◌, ap, length, ℕ, List, ◌++◌, take, drop}
-use Rattle.std.specs.Simd.Lanes.{chunk}
-use Rattle.stab_pauli.proofs.PaddedLemmas.{is_of, lies_of, view_of, IsView}
-use Rattle.stab_pauli.proofs.SeenLemmas.{counted_seen, seen_of, in_seen, fitting}
-use Rattle.stab_pauli.proofs.RowProductLemmas.{product_viewed}
-use Rattle.stab_pauli.specs.Paulis.{product}
-use Rattle.stab_pauli.specs.Rows.{row_at}
+use Rattle.stab_pauli.proofs.Names.{arith, ◌*◌, ◌∙◌, ap, length, ℕ, List, ◌++◌, take, drop, chunk, product, row_at}
+use Rattle.stab_pauli.proofs.Lemmas.{is_of, lies_of, view_of, IsView, counted_seen, seen_of, in_seen, fitting, product_viewed}
 use Rattle.stab_pauli.proofs.rows.PauliRows.multiply_into.Goals as goal
 use Rattle.stab_pauli.proofs.rows.PauliRows.multiply_into.Goals.{After-product_power-out-inside}
 

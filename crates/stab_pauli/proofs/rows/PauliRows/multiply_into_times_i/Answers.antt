@@ -1,10 +1,5 @@
-use Rattle.std.proofs.Common.{arith, ◌*◌, ◌∙◌, ap, length, ℕ, List, ◌++◌, take, drop}
-use Rattle.std.specs.Simd.Lanes.{chunk}
-use Rattle.stab_pauli.specs.Phaseds.{phased}
-use Rattle.stab_pauli.specs.Rows.{row_at, product_times_i}
-use Rattle.stab_pauli.proofs.PaddedLemmas.{is_of, lies_of, view_of, IsView}
-use Rattle.stab_pauli.proofs.SeenLemmas.{counted_seen, seen_of, in_seen, fitting, phased_product-times_phase}
-use Rattle.stab_pauli.proofs.RowProductLemmas.{times_i_viewed}
+use Rattle.stab_pauli.proofs.Names.{arith, ◌*◌, ◌∙◌, ap, length, ℕ, List, ◌++◌, take, drop, chunk, phased, row_at, product_times_i}
+use Rattle.stab_pauli.proofs.Lemmas.{is_of, lies_of, view_of, IsView, counted_seen, seen_of, in_seen, fitting, phased_product-times_phase, times_i_viewed}
 use Rattle.stab_pauli.proofs.rows.PauliRows.multiply_into_times_i.Goals as goal
 use Rattle.stab_pauli.proofs.rows.PauliRows.multiply_into_times_i.Goals.{After-times_i-out-inside}
 

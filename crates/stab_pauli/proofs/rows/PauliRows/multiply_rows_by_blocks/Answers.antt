@@ -1,12 +1,5 @@
-use Rattle.std.proofs.Common.{◌+◌, ◌∙◌, sym, ap, arith, subst}
-use Rattle.stab_pauli.specs.Masks.{AreChosen, CoversSupport}
-use Rattle.stab_pauli.specs.Paulis.{Signed, anticommute}
-use Rattle.stab_pauli.specs.Rows.{row_at, product_times_i_if}
-use Rattle.stab_pauli.specs.inner.Blocks.{blocks_of}
-use Rattle.stab_pauli.proofs.PaddedLemmas.{view_of, lies_of, is_of}
-use Rattle.stab_pauli.proofs.SeenLemmas.{seen_of}
-use Rattle.stab_pauli.proofs.RowProductLemmas.{string_viewed}
-use Rattle.stab_pauli.proofs.SupportMaskLemmas.{words-covered}
+use Rattle.stab_pauli.proofs.Names.{◌+◌, ◌∙◌, sym, ap, arith, subst, AreChosen, CoversSupport, Signed, anticommute, row_at, product_times_i_if, blocks_of}
+use Rattle.stab_pauli.proofs.Lemmas.{view_of, lies_of, is_of, seen_of, string_viewed, words-covered}
 use Rattle.stab_pauli.proofs.rows.PauliRows.multiply_rows_by_blocks.Goals as goal
 
 pub multiply_rows_in_support-requires-clause-support : goal.multiply_rows_in_support-requires-clause-support

@@ -1,5 +1,5 @@
-use Rattle.stab_pauli.specs.Rows.{product_times_i_if}
-use Rattle.stab_pauli.proofs.ChosenLemmas.{IsWalked}
+use Rattle.stab_pauli.proofs.Names.{product_times_i_if}
+use Rattle.stab_pauli.proofs.Lemmas.{IsWalked}
 use Rattle.stab_pauli.proofs.rows.PauliRows.multiply_rows_by_string.Given as goal
 
 abbrev pub invariant-loop-rest : goal.invariant-loop-rest

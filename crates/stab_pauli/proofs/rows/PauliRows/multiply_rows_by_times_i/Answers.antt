@@ -1,10 +1,5 @@
-use Rattle.std.proofs.Common.{◌+◌, ◌∙◌, ap, subst}
-use Rattle.stab_pauli.specs.Masks.{AreChosen}
-use Rattle.stab_pauli.specs.Paulis.{Signed, anticommute}
-use Rattle.stab_pauli.specs.Rows.{row_at, product_times_i_if}
-use Rattle.stab_pauli.proofs.PaddedLemmas.{view_of, lies_of, is_of}
-use Rattle.stab_pauli.proofs.SeenLemmas.{seen_of}
-use Rattle.stab_pauli.proofs.RowProductLemmas.{block_viewed}
+use Rattle.stab_pauli.proofs.Names.{◌+◌, ◌∙◌, ap, subst, AreChosen, Signed, anticommute, row_at, product_times_i_if}
+use Rattle.stab_pauli.proofs.Lemmas.{view_of, lies_of, is_of, seen_of, block_viewed}
 use Rattle.stab_pauli.proofs.rows.PauliRows.multiply_rows_by_times_i.Goals as goal
 
 pub multiply_rows_by_block-requires-clause-string : goal.multiply_rows_by_block-requires-clause-string

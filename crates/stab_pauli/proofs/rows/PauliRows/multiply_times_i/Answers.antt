@@ -1,9 +1,5 @@
-use Rattle.std.proofs.Common.{arith, ◌*◌, ◌∙◌, ap, ℕ, List, ◌++◌, length, set, take, drop}
-use Rattle.std.specs.Simd.Lanes.{chunk}
-use Rattle.stab_pauli.specs.Phaseds.{phased}
-use Rattle.stab_pauli.specs.Rows.{row_at, product_times_i, with_row}
-use Rattle.stab_pauli.proofs.SeenLemmas.{read_power, counted_seen, seen_of, in_seen, row_seen, phased_product-times_phase, row_at-with_row, IsSeen}
-use Rattle.stab_pauli.proofs.RowProductLemmas.{times_i_seen}
+use Rattle.stab_pauli.proofs.Names.{arith, ◌*◌, ◌∙◌, ap, ℕ, List, ◌++◌, length, set, take, drop, chunk, phased, row_at, product_times_i, with_row}
+use Rattle.stab_pauli.proofs.Lemmas.{read_power, counted_seen, seen_of, in_seen, row_seen, phased_product-times_phase, row_at-with_row, IsSeen, times_i_seen}
 use Rattle.stab_pauli.proofs.rows.PauliRows.multiply_times_i.Goals as goal
 use Rattle.stab_pauli.proofs.rows.PauliRows.multiply_times_i.Goals.{After-times_i}
 

@@ -1,5 +1,5 @@
-use Rattle.stab_pauli.specs.Paulis.{with_sign}
-use Rattle.stab_pauli.proofs.ChosenLemmas.{IsWalked}
+use Rattle.stab_pauli.proofs.Names.{with_sign}
+use Rattle.stab_pauli.proofs.Lemmas.{IsWalked}
 use Rattle.stab_pauli.proofs.rows.PauliRows.negate_rows.Given as goal
 
 abbrev pub invariant-loop-rest : goal.invariant-loop-rest

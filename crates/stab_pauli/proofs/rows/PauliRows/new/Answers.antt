@@ -1,6 +1,5 @@
-use Rattle.std.proofs.Common.{rules, ◌≡◌, ◌*◌, replicate}
-use Rattle.stab_letters.specs.declared.phase.Phase.TheVariants.{Zero}
-use Rattle.stab_pauli.proofs.BlankLemmas.{fits, IsTable-none, table-none}
+use Rattle.stab_pauli.proofs.Names.{rules, ◌≡◌, ◌*◌, replicate, Zero}
+use Rattle.stab_pauli.proofs.Lemmas.{fits, IsTable-none, table-none}
 use Rattle.stab_pauli.proofs.rows.PauliRows.new.Goals as goal
 
 pub invariant_of-result : goal.invariant_of-result

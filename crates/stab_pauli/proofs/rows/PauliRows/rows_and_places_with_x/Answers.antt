@@ -1,5 +1,5 @@
-use Rattle.std.proofs.Common.{arith, ℕ, ◌≤◌, ◌+◌, ◌<◌, length}
-use Rattle.stab_pauli.proofs.ChosenLemmas.{mask-with_x, places-with_x}
+use Rattle.stab_pauli.proofs.Names.{arith, ℕ, ◌≤◌, ◌+◌, ◌<◌, length}
+use Rattle.stab_pauli.proofs.Lemmas.{mask-with_x, places-with_x}
 use Rattle.stab_pauli.proofs.rows.PauliRows.rows_and_places_with_x.Goals as goal
 
 pub returns : goal.returns

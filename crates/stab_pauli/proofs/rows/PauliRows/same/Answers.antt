@@ -1,9 +1,5 @@
-use Rattle.std.proofs.Common.{◌∙◌, sym, refl, ap, true, false}
-use Rattle.std.proofs.lemmas.Slice.Eq.{slice_eq-Decides}
-use Rattle.stab_letters.proofs.PhaseLemmas.{tells_phases}
-use Rattle.stab_pauli.specs.Rows.{Rows, unsigned_rows}
-use Rattle.stab_pauli.proofs.TellLemmas.{powers_apart, all_told}
-use Rattle.stab_pauli.proofs.SeenLemmas.{seen_of}
+use Rattle.stab_pauli.proofs.Names.{◌∙◌, sym, refl, ap, true, false, slice_eq-Decides, tells_phases, Rows, unsigned_rows}
+use Rattle.stab_pauli.proofs.Lemmas.{powers_apart, all_told, seen_of}
 use Rattle.stab_pauli.proofs.rows.PauliRows.same.Goals as goal
 
 pub returns-then-not-same : goal.returns-then-not-same

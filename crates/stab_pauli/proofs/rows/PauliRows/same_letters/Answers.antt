@@ -1,6 +1,5 @@
-use Rattle.std.proofs.Common.{arith, ◌≡◌, ◌∙◌, sym, length}
-use Rattle.stab_pauli.proofs.TellLemmas.{AreShort-same, words_told, letters_told, same_number, no_false}
-use Rattle.stab_pauli.proofs.SeenLemmas.{seen_of, qubits_seen}
+use Rattle.stab_pauli.proofs.Names.{arith, ◌≡◌, ◌∙◌, sym, length}
+use Rattle.stab_pauli.proofs.Lemmas.{AreShort-same, words_told, letters_told, same_number, no_false, seen_of, qubits_seen}
 use Rattle.stab_pauli.proofs.rows.PauliRows.same_letters.Goals as goal
 
 pub same-requires-clause-are_short : goal.same-requires-clause-are_short

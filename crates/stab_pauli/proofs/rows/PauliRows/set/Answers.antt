@@ -1,10 +1,5 @@
-use Rattle.std.proofs.Common.{arith, ◌≡◌, ◌<◌, ◌*◌, ◌∙◌, subst, set, ℕ, List, ◌++◌, length, take, drop}
-use Rattle.std.specs.Simd.Lanes.{chunk}
-use Rattle.stab_letters.specs.Phases.{phase_add, phase_inverse}
-use Rattle.stab_letters.specs.Letters.{letter_power}
-use Rattle.stab_pauli.specs.inner.Blocks.{row_letters, IsRewritten}
-use Rattle.stab_pauli.proofs.SeenLemmas.{read_power, counted_seen, seen_of, qubits_seen, in_seen, place_seen, row_seen, put_seen, written_seen, letter_view, IsSeen}
-use Rattle.stab_pauli.specs.Rows.{row_at, with_row, with_letter}
+use Rattle.stab_pauli.proofs.Names.{arith, ◌≡◌, ◌<◌, ◌*◌, ◌∙◌, subst, set, ℕ, List, ◌++◌, length, take, drop, chunk, phase_add, phase_inverse, letter_power, row_letters, IsRewritten, row_at, with_row, with_letter}
+use Rattle.stab_pauli.proofs.Lemmas.{read_power, counted_seen, seen_of, qubits_seen, in_seen, place_seen, row_seen, put_seen, written_seen, letter_view, IsSeen}
 use Rattle.stab_pauli.proofs.rows.PauliRows.set.Goals as goal
 use Rattle.stab_pauli.proofs.rows.PauliRows.set.Goals.{After-power_with}
 

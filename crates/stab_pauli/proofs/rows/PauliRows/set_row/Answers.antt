@@ -1,8 +1,5 @@
-use Rattle.std.proofs.Common.{arith, ◌≡◌, ◌∙◌, ◌*◌, ap, subst, length, ℕ, List, ◌++◌, set, take, drop}
-use Rattle.std.specs.Simd.Lanes.{put_chunk}
-use Rattle.stab_pauli.proofs.PaddedLemmas.{view_of}
-use Rattle.stab_pauli.proofs.SeenLemmas.{counted_seen, seen_of, in_seen, put_seen, written_seen, fitting, IsSeen}
-use Rattle.stab_pauli.specs.Rows.{with_row}
+use Rattle.stab_pauli.proofs.Names.{arith, ◌≡◌, ◌∙◌, ◌*◌, ap, subst, length, ℕ, List, ◌++◌, set, take, drop, put_chunk, with_row}
+use Rattle.stab_pauli.proofs.Lemmas.{view_of, counted_seen, seen_of, in_seen, put_seen, written_seen, fitting, IsSeen}
 use Rattle.stab_pauli.proofs.rows.PauliRows.set_row.Goals as goal
 use Rattle.stab_pauli.proofs.rows.PauliRows.set_row.Goals.{After-copy_from}
 

@@ -1,9 +1,5 @@
-use Rattle.std.proofs.Common.{arith, ◌∙◌, ◌*◌, ap, sym, ◌++◌, length, take, drop}
-use Rattle.std.proofs.lemmas.List.Edits.{swap_is}
-use Rattle.stab_letters.specs.declared.phase.Phase.TheVariants.{Zero}
-use Rattle.stab_pauli.specs.inner.Words.{swapped_words}
-use Rattle.stab_pauli.proofs.SeenLemmas.{counted_seen, seen_of, in_seen, swapped_written, IsSeen}
-use Rattle.stab_pauli.specs.Rows.{swapped_rows}
+use Rattle.stab_pauli.proofs.Names.{arith, ◌∙◌, ◌*◌, ap, sym, ◌++◌, length, take, drop, swap_is, Zero, swapped_words, swapped_rows}
+use Rattle.stab_pauli.proofs.Lemmas.{counted_seen, seen_of, in_seen, swapped_written, IsSeen}
 use Rattle.stab_pauli.proofs.rows.PauliRows.swap.Goals as goal
 use Rattle.stab_pauli.proofs.rows.PauliRows.swap.Goals.{After-swap-2}
 

@@ -1,8 +1,4 @@
-use Rattle.std.proofs.Common.{◌≡◌, ℕ, ◌+◌, sym, ap, ◌∙◌, subst, List, length, map, arith, rules}
-use Rattle.std.specs.Vec.{with_items}
-use Rattle.std.proofs.lemmas.List.{with_items_is}
-use Rattle.std.proofs.lemmas.Fn.{filter_same}
-use Rattle.stab_regions.specs.inner.StoredRows.{rows_cut, Rises, kept_of, ends_kept}
+use Rattle.stab_regions.proofs.Names.{◌≡◌, ℕ, ◌+◌, sym, ap, ◌∙◌, subst, List, length, map, arith, rules, with_items, with_items_is, filter_same, rows_cut, Rises, kept_of, ends_kept}
 use Rattle.stab_regions.proofs.StoredRowLemmas.{cut-kept, rises-kept, length-kept}
 use Rattle.stab_regions.proofs.fault_rows.FaultRows.keep.Goals as goal
 use Rattle.stab_regions.proofs.fault_rows.FaultRows.keep.Goals.{After-retain}

@@ -1,5 +1,4 @@
-use Rattle.std.proofs.Common.{◌≡◌, ◌++◌, ◌∷◌, [], ◌∙◌, ap, length, List, ℕ}
-use Rattle.stab_regions.specs.inner.StoredRows.{rows_cut, Rises}
+use Rattle.stab_regions.proofs.Names.{◌≡◌, ◌++◌, ◌∷◌, [], ◌∙◌, ap, length, List, ℕ, rows_cut, Rises}
 use Rattle.stab_regions.proofs.StoredRowLemmas.{push-all}
 use Rattle.stab_regions.proofs.fault_rows.FaultRows.push.Goals as goal
 use Rattle.stab_regions.proofs.fault_rows.FaultRows.push.Goals.{In_ok-push}

@@ -1,4 +1,4 @@
-use Rattle.std.proofs.Common.{ap, arith, length}
+use Rattle.stab_regions.proofs.Names.{ap, arith, length}
 use Rattle.stab_regions.proofs.StoredRowLemmas.{length-cut}
 use Rattle.stab_regions.proofs.fault_rows.FaultRows.row.Goals as goal
 

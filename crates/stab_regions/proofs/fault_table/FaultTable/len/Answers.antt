@@ -1,5 +1,4 @@
-use Rattle.std.proofs.Common.{ap, sym, ◌∙◌, length}
-use Rattle.std.proofs.lemmas.List.{length-reverse}
+use Rattle.stab_regions.proofs.Names.{ap, sym, ◌∙◌, length, length-reverse}
 use Rattle.stab_regions.proofs.fault_table.FaultTable.len.Goals as goal
 
 pub returns : goal.returns

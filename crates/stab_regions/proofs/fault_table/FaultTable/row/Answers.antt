@@ -1,5 +1,4 @@
-use Rattle.std.proofs.Common.{◌<◌, ◌-◌, ap, sym, ◌∙◌, length, get_or, [], arith}
-use Rattle.std.proofs.lemmas.List.{length-reverse, get_or-reverse}
+use Rattle.stab_regions.proofs.Names.{◌<◌, ◌-◌, ap, sym, ◌∙◌, length, get_or, [], arith, length-reverse, get_or-reverse}
 use Rattle.stab_regions.proofs.fault_table.FaultTable.row.Goals as goal
 
 pub returns : goal.returns

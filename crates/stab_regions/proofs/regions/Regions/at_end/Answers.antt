@@ -1,4 +1,4 @@
-use Rattle.std.proofs.Common.{refl}
+use Rattle.stab_regions.proofs.Names.{refl}
 use Rattle.stab_regions.proofs.PlaceLemmas.{is-at-end}
 use Rattle.stab_regions.proofs.regions.Regions.at_end.Goals as goal
 

@@ -1,6 +1,4 @@
-use Rattle.std.proofs.Common.{ap}
-use Rattle.stab_circuit.specs.Steps.{collapse, product}
-use Rattle.stab_circuit.specs.Cursors.{step_shown}
+use Rattle.stab_regions.proofs.Names.{ap, collapse, product, step_shown}
 use Rattle.stab_regions.proofs.MoveLemmas.{arrives, arrives-whichever}
 use Rattle.stab_regions.proofs.regions.Regions.before.Goals as goal
 

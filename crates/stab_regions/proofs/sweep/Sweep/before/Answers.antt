@@ -1,10 +1,4 @@
-use Rattle.std.proofs.Common.{◌<◌, ◌++◌, sym, subst, reverse, arith}
-use Rattle.std.specs.Prelude.{All}
-use Rattle.std.specs.List.{flat_map}
-use Rattle.stab_circuit.specs.Cursors.{step_shown}
-use Rattle.stab_regions.specs.declared.sites.Sides.{Sides}
-use Rattle.stab_regions.specs.inner.Sites.{step_qubits, sites_asked}
-use Rattle.stab_regions.specs.inner.Sweeps.{inserted_by, inserted_from, HaveRows}
+use Rattle.stab_regions.proofs.Names.{◌<◌, ◌++◌, sym, subst, reverse, arith, All, flat_map, step_shown, Sides, step_qubits, sites_asked, inserted_by, inserted_from, HaveRows}
 use Rattle.stab_regions.proofs.SiteLemmas.{step-within}
 use Rattle.stab_regions.proofs.SweepLemmas.{swept-more}
 use Rattle.stab_regions.proofs.sweep.Sweep.before.Goals as goal

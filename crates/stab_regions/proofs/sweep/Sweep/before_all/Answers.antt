@@ -1,8 +1,4 @@
-use Rattle.std.proofs.Common.{◌≡◌, ◌-◌, sym, subst, List, ◌∷◌, ◌∙◌, ap, drop, map, arith}
-use Rattle.std.proofs.lemmas.List.{drop-map}
-use Rattle.stab_circuit.specs.Steps.{Step}
-use Rattle.stab_circuit.specs.Cursors.{step_shown}
-use Rattle.stab_regions.specs.inner.Sweeps.{Sweeps}
+use Rattle.stab_regions.proofs.Names.{◌≡◌, ◌-◌, sym, subst, List, ◌∷◌, ◌∙◌, ap, drop, map, arith, drop-map, Step, step_shown, Sweeps}
 use Rattle.stab_regions.proofs.SweepLemmas.{mapped-last, sweeps-more, stands-next}
 use Rattle.stab_regions.proofs.sweep.Sweep.before_all.Goals as goal
 

@@ -1,6 +1,4 @@
-use Rattle.std.proofs.Common.{◌≤◌, length, drop, map}
-use Rattle.stab_circuit.specs.Cursors.{step_shown}
-use Rattle.stab_regions.specs.inner.Sweeps.{Sweeps}
+use Rattle.stab_regions.proofs.Names.{◌≤◌, length, drop, map, step_shown, Sweeps}
 use Rattle.stab_regions.proofs.sweep.Sweep.before_all.Given as goal
 
 abbrev pub invariant-steps : goal.invariant-steps

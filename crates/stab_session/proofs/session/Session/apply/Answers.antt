@@ -1,11 +1,6 @@
-use Rattle.std.proofs.Common.{ap, sym, ◌∙◌, subst, ◌+◌, ◌≤◌, arith}
-use Rattle.stab_io.specs.Refusals.{whole, IsCallFault}
-use Rattle.stab_circuit.specs.Items.{listed}
-use Rattle.stab_circuit.specs.Steps.{unroll, observables_of}
-use Rattle.stab_session.specs.Sessions.{SessionState}
-use Rattle.stab_copies.specs.Checkpoints.{checkpoint_steps}
+use Rattle.stab_session.proofs.Names.{ap, sym, ◌∙◌, subst, ◌+◌, ◌≤◌, arith, whole, IsCallFault, listed, unroll, observables_of, SessionState, checkpoint_steps}
 use Rattle.stab_session.proofs.SessionLemmas.{statement, few-checkpoints}
-use Rattle.stab_session.proofs.EditedLemmas.{session-verdict, run-fault, followed, agreed, counted_same, new-run, edited-kept, session-edited, edited-applied, edited-counted, edited-early, refused-asks}
+use Rattle.stab_session.proofs.EditedLemmas.{session-verdict, run-fault, followed, agreed, counted_same, new-run, edited-recorded, session-edited, edited-applied, edited-counted, edited-early, refused-asks}
 use Rattle.stab_session.proofs.session.Session.apply.Goals as goal
 
 pub returns-in-Ok-follow-clause-applied : goal.returns-in-Ok-follow-clause-applied
@@ -13,7 +8,7 @@ returns-in-Ok-follow-clause-applied g c =
     let begun = c.in-Ok.ensures {u = tt} in
     let ran = c.in-Ok-follow.ensures {u = tt} in
     let coins = ap (λ (s : SessionState g.row.C.Denot). g.C.Coins.sequence s.coins) c.self.view_is in
-    let run = followed c.len-n.result c.self.inside.kept.tableau.qubits _ _ c.self.inside.stride _ _ c.follow.new.self c.len-n.ensures.value coins ran.kept in
+    let run = followed c.len-n.result c.self.inside.recording.tableau.qubits _ _ c.self.inside.stride _ _ c.follow.new.self c.len-n.ensures.value coins ran.kept in
     edited-applied g.C.Coins.sequence c.args.edit c.args.self.now c.len-n.result c.self.inside.circuit c.begin.new.circuit c.in-Ok.begun.0 c.in-Ok.begun.1 begun.begun
     (ap (λ (s : SessionState g.row.C.Denot). s.items) (sym c.self.view_is))
     (ap (λ (s : SessionState g.row.C.Denot). s.qubits) (sym c.self.view_is) ∙ sym c.len-n.ensures.value)
@@ -40,21 +35,21 @@ invariant_of-self-in-Ok-follow g c =
     let begun = c.in-Ok.ensures {u = tt} in
     let ran = c.in-Ok-follow.ensures {u = tt} in
     let coins = ap (λ (s : SessionState g.row.C.Denot). g.C.Coins.sequence s.coins) c.self.view_is in
-    let run = followed c.len-n.result c.self.inside.kept.tableau.qubits _ _ c.self.inside.stride _ _ c.follow.new.self c.len-n.ensures.value coins ran.kept in
-    let kept = c.self.invariant in
-    edited-kept g.C.Coins.sequence c.args.edit c.args.self.now c.len-n.result c.self.inside.circuit c.begin.new.circuit c.in-Ok.begun.0 c.in-Ok.begun.1 begun.begun
+    let run = followed c.len-n.result c.self.inside.recording.tableau.qubits _ _ c.self.inside.stride _ _ c.follow.new.self c.len-n.ensures.value coins ran.kept in
+    let recorded = c.self.invariant in
+    edited-recorded g.C.Coins.sequence c.args.edit c.args.self.now c.len-n.result c.self.inside.circuit c.begin.new.circuit c.in-Ok.begun.0 c.in-Ok.begun.1 begun.begun
     (ap (λ (s : SessionState g.row.C.Denot). s.items) (sym c.self.view_is))
     (ap (λ (s : SessionState g.row.C.Denot). s.qubits) (sym c.self.view_is) ∙ sym c.len-n.ensures.value)
     c.finish.new.circuit c.finish.ensures.value c.self.inside.stride c.follow.new.coins c.follow.new.self
     (ap (λ (s : SessionState g.row.C.Denot). s.stride) c.self.view_is) (ran.same_coins ∙ coins) run
-    ran.apart (subst (λ n. n ≤ 1024) (sym c.len-n.ensures.value) kept.few) kept.stride_above kept.stride_within
+    ran.apart (subst (λ n. n ≤ 1024) (sym c.len-n.ensures.value) recorded.few) recorded.stride_above recorded.stride_within
 
 pub returns-in-Ok-follow-clause-statement : goal.returns-in-Ok-follow-clause-statement
 returns-in-Ok-follow-clause-statement g c =
     let begun = c.in-Ok.ensures {u = tt} in
     let ran = c.in-Ok-follow.ensures {u = tt} in
     let coins = ap (λ (s : SessionState g.row.C.Denot). g.C.Coins.sequence s.coins) c.self.view_is in
-    let run = followed c.len-n.result c.self.inside.kept.tableau.qubits _ _ c.self.inside.stride _ _ c.follow.new.self c.len-n.ensures.value coins ran.kept in
+    let run = followed c.len-n.result c.self.inside.recording.tableau.qubits _ _ c.self.inside.stride _ _ c.follow.new.self c.len-n.ensures.value coins ran.kept in
     statement g.C.Coins.sequence (listed c.finish.new.circuit) c.self.inside.stride c.follow.new.coins c.follow.new.self c.len-n.result (g.C.Coins.sequence c.args.self.now.coins) (ran.same_coins ∙ coins)
     (new-run g.C.Coins.sequence c.args.edit c.args.self.now c.len-n.result c.self.inside.circuit c.begin.new.circuit c.in-Ok.begun.0 c.in-Ok.begun.1 begun.begun
     (ap (λ (s : SessionState g.row.C.Denot). s.items) (sym c.self.view_is))
@@ -67,7 +62,7 @@ returns-in-Ok-follow-clause-edited g c =
     let begun = c.in-Ok.ensures {u = tt} in
     let ran = c.in-Ok-follow.ensures {u = tt} in
     let coins = ap (λ (s : SessionState g.row.C.Denot). g.C.Coins.sequence s.coins) c.self.view_is in
-    let run = followed c.len-n.result c.self.inside.kept.tableau.qubits _ _ c.self.inside.stride _ _ c.follow.new.self c.len-n.ensures.value coins ran.kept in
+    let run = followed c.len-n.result c.self.inside.recording.tableau.qubits _ _ c.self.inside.stride _ _ c.follow.new.self c.len-n.ensures.value coins ran.kept in
     session-edited g.C.Coins.sequence c.args.edit c.args.self.now c.len-n.result c.self.inside.circuit c.begin.new.circuit c.in-Ok.begun.0 c.in-Ok.begun.1 begun.begun
     (ap (λ (s : SessionState g.row.C.Denot). s.items) (sym c.self.view_is))
     (ap (λ (s : SessionState g.row.C.Denot). s.qubits) (sym c.self.view_is) ∙ sym c.len-n.ensures.value)
@@ -79,7 +74,7 @@ returns-in-Ok-follow-clause-framed g c =
     let begun = c.in-Ok.ensures {u = tt} in
     let ran = c.in-Ok-follow.ensures {u = tt} in
     let coins = ap (λ (s : SessionState g.row.C.Denot). g.C.Coins.sequence s.coins) c.self.view_is in
-    let run = followed c.len-n.result c.self.inside.kept.tableau.qubits _ _ c.self.inside.stride _ _ c.follow.new.self c.len-n.ensures.value coins ran.kept in
+    let run = followed c.len-n.result c.self.inside.recording.tableau.qubits _ _ c.self.inside.stride _ _ c.follow.new.self c.len-n.ensures.value coins ran.kept in
     edited-applied g.C.Coins.sequence c.args.edit c.args.self.now c.len-n.result c.self.inside.circuit c.begin.new.circuit c.in-Ok.begun.0 c.in-Ok.begun.1 begun.begun
     (ap (λ (s : SessionState g.row.C.Denot). s.items) (sym c.self.view_is))
     (ap (λ (s : SessionState g.row.C.Denot). s.qubits) (sym c.self.view_is) ∙ sym c.len-n.ensures.value)
@@ -92,14 +87,14 @@ returns-in-Ok-follow-clause-counted g c =
     let begun = c.in-Ok.ensures {u = tt} in
     let ran = c.in-Ok-follow.ensures {u = tt} in
     let coins = ap (λ (s : SessionState g.row.C.Denot). g.C.Coins.sequence s.coins) c.self.view_is in
-    let run = followed c.len-n.result c.self.inside.kept.tableau.qubits _ _ c.self.inside.stride _ _ c.follow.new.self c.len-n.ensures.value coins ran.kept in
+    let run = followed c.len-n.result c.self.inside.recording.tableau.qubits _ _ c.self.inside.stride _ _ c.follow.new.self c.len-n.ensures.value coins ran.kept in
     edited-counted g.C.Coins.sequence c.args.edit c.args.self.now c.len-n.result c.self.inside.circuit c.begin.new.circuit c.in-Ok.begun.0 c.in-Ok.begun.1 begun.begun
     (ap (λ (s : SessionState g.row.C.Denot). s.items) (sym c.self.view_is))
     (ap (λ (s : SessionState g.row.C.Denot). s.qubits) (sym c.self.view_is) ∙ sym c.len-n.ensures.value)
     c.finish.new.circuit c.finish.ensures.value c.self.inside.stride c.follow.new.coins c.follow.new.self
     (ap (λ (s : SessionState g.row.C.Denot). s.stride) c.self.view_is) (ran.same_coins ∙ coins) run
-    (c.in-Ok-follow.followed.applied + c.in-Ok-follow.followed.framed) (checkpoint_steps c.self.inside.kept.checkpoints.items) (ap (λ (s : SessionState g.row.C.Denot). s.checkpoints) c.self.view_is)
-    (counted_same c.len-n.result c.self.inside.kept.tableau.qubits _ _ (unroll (listed c.self.inside.circuit)) (unroll (listed c.begin.new.circuit)) c.in-Ok.begun.1 _ _ _ c.len-n.ensures.value coins
+    (c.in-Ok-follow.followed.applied + c.in-Ok-follow.followed.framed) (checkpoint_steps c.self.inside.recording.checkpoints.items) (ap (λ (s : SessionState g.row.C.Denot). s.checkpoints) c.self.view_is)
+    (counted_same c.len-n.result c.self.inside.recording.tableau.qubits _ _ (unroll (listed c.self.inside.circuit)) (unroll (listed c.begin.new.circuit)) c.in-Ok.begun.1 _ _ _ c.len-n.ensures.value coins
     (ran.counted (unroll (listed c.self.inside.circuit)) (observables_of (listed c.self.inside.circuit)) c.self.invariant.run begun.begun.span.span))
 
 pub returns-in-Ok-follow-clause-early : goal.returns-in-Ok-follow-clause-early
@@ -107,7 +102,7 @@ returns-in-Ok-follow-clause-early g c =
     let begun = c.in-Ok.ensures {u = tt} in
     let ran = c.in-Ok-follow.ensures {u = tt} in
     let coins = ap (λ (s : SessionState g.row.C.Denot). g.C.Coins.sequence s.coins) c.self.view_is in
-    let run = followed c.len-n.result c.self.inside.kept.tableau.qubits _ _ c.self.inside.stride _ _ c.follow.new.self c.len-n.ensures.value coins ran.kept in
+    let run = followed c.len-n.result c.self.inside.recording.tableau.qubits _ _ c.self.inside.stride _ _ c.follow.new.self c.len-n.ensures.value coins ran.kept in
     λ far.
     edited-early g.C.Coins.sequence c.args.edit c.args.self.now c.len-n.result c.self.inside.circuit c.begin.new.circuit c.in-Ok.begun.0 c.in-Ok.begun.1 begun.begun
     (ap (λ (s : SessionState g.row.C.Denot). s.items) (sym c.self.view_is))
@@ -119,7 +114,7 @@ returns-in-Ok-follow-clause-early g c =
     omega (
       arith,
       ran.few (unroll (listed c.self.inside.circuit)) (observables_of (listed c.self.inside.circuit)) far c.self.invariant.run begun.begun.span.span
-          (agreed c.len-n.result c.self.inside.kept.tableau.qubits _ _ (unroll (listed c.self.inside.circuit)) (unroll (listed c.begin.new.circuit)) c.in-Ok.begun.1 far c.len-n.ensures.value coins agree),
+          (agreed c.len-n.result c.self.inside.recording.tableau.qubits _ _ (unroll (listed c.self.inside.circuit)) (unroll (listed c.begin.new.circuit)) c.in-Ok.begun.1 far c.len-n.ensures.value coins agree),
     ))
 
 pub returns-in-Ok-follow-clause-few_checkpoints : goal.returns-in-Ok-follow-clause-few_checkpoints
@@ -127,7 +122,7 @@ returns-in-Ok-follow-clause-few_checkpoints g c =
     let begun = c.in-Ok.ensures {u = tt} in
     let ran = c.in-Ok-follow.ensures {u = tt} in
     let coins = ap (λ (s : SessionState g.row.C.Denot). g.C.Coins.sequence s.coins) c.self.view_is in
-    let run = followed c.len-n.result c.self.inside.kept.tableau.qubits _ _ c.self.inside.stride _ _ c.follow.new.self c.len-n.ensures.value coins ran.kept in
+    let run = followed c.len-n.result c.self.inside.recording.tableau.qubits _ _ c.self.inside.stride _ _ c.follow.new.self c.len-n.ensures.value coins ran.kept in
     few-checkpoints g.C.Coins.sequence (listed c.finish.new.circuit) c.self.inside.stride c.follow.new.coins c.follow.new.self c.len-n.result (g.C.Coins.sequence c.args.self.now.coins) (ran.same_coins ∙ coins)
     (new-run g.C.Coins.sequence c.args.edit c.args.self.now c.len-n.result c.self.inside.circuit c.begin.new.circuit c.in-Ok.begun.0 c.in-Ok.begun.1 begun.begun
     (ap (λ (s : SessionState g.row.C.Denot). s.items) (sym c.self.view_is))

@@ -1,4 +1,4 @@
-use Rattle.std.proofs.Common.{◌≤◌, sym, subst}
+use Rattle.stab_session.proofs.Names.{◌≤◌, sym, subst}
 use Rattle.stab_session.proofs.session.Session.qubits.Goals as goal
 
 pub returns-clause-in_range : goal.returns-clause-in_range

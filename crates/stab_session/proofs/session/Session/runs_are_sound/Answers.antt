@@ -1,14 +1,10 @@
-use Rattle.std.proofs.Common.{subst}
-use Rattle.stab_circuit.specs.Views.{circuit_items}
-use Rattle.stab_run.specs.Laws.{IsSoundRun}
-use Rattle.stab_session.specs.Sessions.{SessionState}
-use Rattle.stab_laws.proofs.SoundLemmas.{sound-run}
+use Rattle.stab_session.proofs.Names.{subst, circuit_items, IsSoundRun, SessionState, sound-run}
 use Rattle.stab_session.proofs.session.Session.runs_are_sound.Goals as goal
 
 pub returns : goal.returns
-returns g c = (let kept = c.self.invariant in
+returns g c = (let recorded = c.self.invariant in
     record {
       law = λ coins.
           subst (λ (s : SessionState g.row.C.Denot). IsSoundRun s.qubits coins s.items) c.self.view_is
-          (sound-run c.self.inside.kept.tableau.qubits coins (circuit_items c.self.inside.circuit) kept.checked kept.apart);
+          (sound-run c.self.inside.recording.tableau.qubits coins (circuit_items c.self.inside.circuit) recorded.checked recorded.apart);
     })

@@ -1,27 +1,21 @@
-use Rattle.std.proofs.Common.{ap, sym, ◌∙◌, subst, IfErr}
-use Rattle.std.proofs.lemmas.Result.{on_ok_weaker}
-use Rattle.stab_io.specs.Refusals.{IsCallFault}
-use Rattle.stab_circuit.specs.Items.{entries}
-use Rattle.stab_circuit.specs.Splits.{split_refusal}
-use Rattle.stab_circuit.proofs.EditLemmas.{entries-listed}
-use Rattle.stab_session.specs.Sessions.{SessionState}
-use Rattle.stab_session.proofs.SplitLemmas.{still-kept, session-split}
+use Rattle.stab_session.proofs.Names.{ap, sym, ◌∙◌, subst, IfErr, on_ok_weaker, IsCallFault, entries, split_refusal, entries-listed, SessionState}
+use Rattle.stab_session.proofs.SplitLemmas.{still-recorded, session-split}
 use Rattle.stab_session.proofs.session.Session.split.Goals as goal
 
 pub invariant_of-self : goal.invariant_of-self
 invariant_of-self g c =
-    still-kept g.C.Coins.sequence c.self.inside.stride c.self.inside.coins c.self.inside.kept c.split.result c.args.path c.args.round c.self.inside.circuit c.split.new.self c.splits_leave_the_steps.ensures.law
+    still-recorded g.C.Coins.sequence c.self.inside.stride c.self.inside.coins c.self.inside.recording c.split.result c.args.path c.args.round c.self.inside.circuit c.split.new.self c.splits_leave_the_steps.ensures.law
     c.split.ensures.ok c.split.ensures.unchanged c.self.invariant
 
 pub returns-clause-statement : goal.returns-clause-statement
 returns-clause-statement g c =
-    (still-kept g.C.Coins.sequence c.self.inside.stride c.self.inside.coins c.self.inside.kept c.split.result c.args.path c.args.round c.self.inside.circuit c.split.new.self c.splits_leave_the_steps.ensures.law
+    (still-recorded g.C.Coins.sequence c.self.inside.stride c.self.inside.coins c.self.inside.recording c.split.result c.args.path c.args.round c.self.inside.circuit c.split.new.self c.splits_leave_the_steps.ensures.law
     c.split.ensures.ok c.split.ensures.unchanged c.self.invariant).statement
 
 pub returns-clause-split : goal.returns-clause-split
 returns-clause-split g c =
     on_ok_weaker c.split.result
-    (session-split g.C.Coins.sequence c.self.inside.stride c.self.inside.coins c.self.inside.kept c.args.path c.args.round c.self.inside.circuit c.split.new.self c.args.self.now c.self.view_is) c.split.ensures.ok
+    (session-split g.C.Coins.sequence c.self.inside.stride c.self.inside.coins c.self.inside.recording c.args.path c.args.round c.self.inside.circuit c.split.new.self c.args.self.now c.self.view_is) c.split.ensures.ok
 
 pub returns-clause-refused : goal.returns-clause-refused
 returns-clause-refused g c =

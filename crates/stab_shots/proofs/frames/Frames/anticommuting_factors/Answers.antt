@@ -1,10 +1,4 @@
-use Rattle.std.proofs.Common.{sym, ◌∙◌, ap}
-use Rattle.std.proofs.lemmas.List.{length-map, drop_all}
-use Rattle.stab_letters.specs.Letters.{◌⊕◌}
-use Rattle.stab_letters.proofs.ParityLemmas.{parity-false}
-use Rattle.stab_frames.specs.inner.Passes.{factors_anticommute}
-use Rattle.stab_frames.proofs.FactorLemmas.{factors-apart}
-use Rattle.stab_shots.specs.Lanes.{letter_in, lane_letters}
+use Rattle.stab_shots.proofs.Names.{sym, ◌∙◌, ap, length-map, drop_all, ◌⊕◌, parity-false, factors_anticommute, factors-apart, letter_in, lane_letters}
 use Rattle.stab_shots.proofs.frames.Frames.anticommuting_factors.Goals as goal
 
 pub returns : goal.returns

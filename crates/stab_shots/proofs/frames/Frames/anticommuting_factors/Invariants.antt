@@ -1,7 +1,4 @@
-use Rattle.std.proofs.Common.{◌≡◌, ℕ, ◌<◌, drop}
-use Rattle.stab_letters.specs.Letters.{◌⊕◌}
-use Rattle.stab_frames.specs.inner.Passes.{factors_anticommute}
-use Rattle.stab_shots.specs.Lanes.{lane_letters}
+use Rattle.stab_shots.proofs.Names.{◌≡◌, ℕ, ◌<◌, drop, ◌⊕◌, factors_anticommute, lane_letters}
 use Rattle.stab_shots.proofs.frames.Frames.anticommuting_factors.Given as goal
 
 abbrev pub invariant-loop-factor : goal.invariant-loop-factor

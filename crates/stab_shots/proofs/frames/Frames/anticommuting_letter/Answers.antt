@@ -1,11 +1,4 @@
-use Rattle.std.proofs.Common.{sym, ◌∙◌, ap}
-use Rattle.std.proofs.lemmas.List.{length-map}
-use Rattle.stab_letters.specs.Letters.{letters_anticommute}
-use Rattle.stab_letters.proofs.LetterLemmas.{letters_anticommute-comm}
-use Rattle.stab_pauli.proofs.StringLemmas.{strings_anticommute-comm}
-use Rattle.stab_tableau.specs.Gates.{letter_at}
-use Rattle.stab_tableau.proofs.OneLetterLemmas.{one_letter-anticommute}
-use Rattle.stab_shots.specs.Lanes.{letter_in, lane_letters}
+use Rattle.stab_shots.proofs.Names.{sym, ◌∙◌, ap, length-map, letters_anticommute, letters_anticommute-comm, strings_anticommute-comm, letter_at, one_letter-anticommute, letter_in, lane_letters}
 use Rattle.stab_shots.proofs.FrameLemmas.{letter-read}
 use Rattle.stab_shots.proofs.frames.Frames.anticommuting_letter.Goals as goal
 

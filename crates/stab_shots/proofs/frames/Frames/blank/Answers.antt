@@ -1,6 +1,4 @@
-use Rattle.std.proofs.Common.{◌∙◌, ap}
-use Rattle.stab_letters.specs.declared.letter.Letter.TheVariants.{I}
-use Rattle.stab_shots.specs.Lanes.{letter_in, lane_letters}
+use Rattle.stab_shots.proofs.Names.{◌∙◌, ap, I, letter_in, lane_letters}
 use Rattle.stab_shots.proofs.LaneLemmas.{map-replicate}
 use Rattle.stab_shots.proofs.frames.Frames.blank.Goals as goal
 

@@ -1,7 +1,4 @@
-use Rattle.std.proofs.Common.{rules, arith, refl, sym, ap, ◌<◌, ◌≤◌, ◌+◌, ◌∙◌, length}
-use Rattle.std.proofs.lemmas.List.{length-set, length-map, take_all}
-use Rattle.stab_frames.specs.Frames.{times_where}
-use Rattle.stab_shots.specs.Lanes.{letter_in, lane_letters}
+use Rattle.stab_shots.proofs.Names.{rules, arith, refl, sym, ap, ◌<◌, ◌≤◌, ◌+◌, ◌∙◌, length, length-set, length-map, take_all, times_where, letter_in, lane_letters}
 use Rattle.stab_shots.proofs.FrameLemmas.{product-put, times-none, times-blank}
 use Rattle.stab_shots.proofs.frames.Frames.multiply.Goals as goal
 

@@ -1,6 +1,4 @@
-use Rattle.std.proofs.Common.{◌≡◌, ℕ, ◌-◌, ◌<◌, ◌≤◌, take, length}
-use Rattle.stab_frames.specs.Frames.{times_where}
-use Rattle.stab_shots.specs.Lanes.{lane_letters}
+use Rattle.stab_shots.proofs.Names.{◌≡◌, ℕ, ◌-◌, ◌<◌, ◌≤◌, take, length, times_where, lane_letters}
 use Rattle.stab_shots.proofs.frames.Frames.multiply.Given as goal
 
 abbrev pub invariant-loop-qubit : goal.invariant-loop-qubit

@@ -1,5 +1,4 @@
-use Rattle.std.proofs.lemmas.List.{length-map}
-use Rattle.stab_shots.specs.Lanes.{letter_in}
+use Rattle.stab_shots.proofs.Names.{length-map, letter_in}
 use Rattle.stab_shots.proofs.FrameLemmas.{times-put}
 use Rattle.stab_shots.proofs.frames.Frames.multiply_letter.Goals as goal
 

@@ -1,24 +1,27 @@
-use Rattle.std.proofs.Common.{◌<◌, ◌≤◌, sym, ◌∙◌, subst}
-use Rattle.stab_circuit.specs.Views.{circuit_items}
-use Rattle.stab_run.specs.Records.{ones}
-use Rattle.stab_run.specs.Runs.{run_of}
-use Rattle.stab_shots.specs.Noted.{zero_coins, most_noted}
-use Rattle.stab_shots.proofs.NotedLemmas.{all-kept, are-few, are-many}
+use Rattle.stab_shots.proofs.Names.{◌≡◌, ◌+◌, ◌-◌, ◌∙◌, ap, length, arith, circuit_items, ones, run_of, most_strings, zero_coins}
+use Rattle.stab_shots.proofs.RecordedLemmas.{all-kept, are-few}
 use Rattle.stab_shots.proofs.reference.Reference.of_checked.Goals as goal
 
-pub returns-then-len-most_noted-clause-kept : goal.returns-then-len-most_noted-clause-kept
-returns-then-len-most_noted-clause-kept c =
-    let many : most_noted c.args.n < c.len.result = subst (λ k. k < c.len.result) c.most_noted.ensures.value c.if-len-most_noted.true in
-    sym (are-many c.args.n c.len.result (ones (run_of c.args.n zero_coins (circuit_items c.args.circuit.now)).free) (c.len.ensures.value ∙ c.in_ok-run.ensures.number) many)
+pub returns-then-own-most_pivots-clause-kept : goal.returns-then-own-most_pivots-clause-kept
+returns-then-own-most_pivots-clause-kept c few =
+    let n = c.args.n in
+    let strings = c.in_ok-run.run'.strings in
+    let free = ones (run_of n zero_coins (circuit_items c.args.circuit.now)).free in
+    let within = are-few n (length strings.strings) strings.most free c.in_ok-run.ensures.number c.in_ok-run.ensures.most few in
+    let own : c.own.result ≡ (length strings.strings + most_strings n) - strings.most =
+    c.own.ensures.value ∙ ap (λ k. (length strings.strings + most_strings k) - strings.most) c.in_ok-run.ensures.qubits in
+    absurd (omega (arith, own, within, c.most_pivots.ensures.value, c.if-own-most_pivots.true))
 
 pub returns-clause-reference : goal.returns-clause-reference
 returns-clause-reference c =
-    let within : c.len.result ≤ most_noted c.args.n = subst (λ k. c.len.result ≤ k) c.most_noted.ensures.value c.if-len-most_noted.false in
+    let n = c.args.n in
+    let strings = c.in_ok-run.run'.strings in
+    let free = ones (run_of n zero_coins (circuit_items c.args.circuit.now)).free in
+    let own : c.own.result ≡ (length strings.strings + most_strings n) - strings.most =
+    c.own.ensures.value ∙ ap (λ k. (length strings.strings + most_strings k) - strings.most) c.in_ok-run.ensures.qubits in
     c.in_ok-run.ensures.reference
-    (sym c.len.ensures.value
-    ∙ all-kept c.args.n c.len.result (ones (run_of c.args.n zero_coins (circuit_items c.args.circuit.now)).free) c.requires.in_range (c.len.ensures.value ∙ c.in_ok-run.ensures.number) within)
+    (all-kept n (length strings.strings) strings.most free c.in_ok-run.ensures.number c.requires.in_range
+    (omega (arith, own, c.most_pivots.ensures.value, c.if-own-most_pivots.false)))
 
-pub returns-clause-kept : goal.returns-clause-kept
-returns-clause-kept c =
-    let within : c.len.result ≤ most_noted c.args.n = subst (λ k. c.len.result ≤ k) c.most_noted.ensures.value c.if-len-most_noted.false in
-    sym (are-few c.args.n c.len.result (ones (run_of c.args.n zero_coins (circuit_items c.args.circuit.now)).free) c.requires.in_range (c.len.ensures.value ∙ c.in_ok-run.ensures.number) within)
+pub returns-clause-few : goal.returns-clause-few
+returns-clause-few c = omega (arith, c.own.ensures.value, c.most_pivots.ensures.value, c.if-own-most_pivots.false)

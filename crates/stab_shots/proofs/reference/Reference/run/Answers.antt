@@ -1,13 +1,5 @@
-use Rattle.std.proofs.Common.{◌≡◌, refl, sym, ◌∙◌, ap, subst, [], append-nil, min}
-use Rattle.stab_circuit.specs.Steps.{unroll}
-use Rattle.stab_circuit.specs.Views.{circuit_items}
-use Rattle.stab_steps.specs.Coins.{Listed, list_coin}
-use Rattle.stab_run.specs.Records.{ones}
-use Rattle.stab_run.specs.Points.{origin, outputs}
-use Rattle.stab_run.specs.Recorded.{IsRecorded}
-use Rattle.stab_frames.specs.Limits.{most_strings}
-use Rattle.stab_shots.specs.Noted.{zero_coins}
-use Rattle.stab_shots.proofs.NoteLemmas.{right-from}
+use Rattle.stab_shots.proofs.Names.{◌≡◌, refl, sym, ◌∙◌, ap, subst, [], append-nil, min, unroll, circuit_items, Listed, list_coin, ones, origin, outputs, IsRunWithPivots, zero_coins}
+use Rattle.stab_shots.proofs.PivotLemmas.{right-from}
 use Rattle.stab_shots.proofs.RecordingLemmas.{flags-run}
 use Rattle.stab_shots.proofs.reference.Reference.run.Goals as goal
 
@@ -17,10 +9,12 @@ returns c =
     let items = circuit_items c.args.circuit.now in
     let zero : list_coin c.new-coins.result.bits ≡ zero_coins = ap (λ (k : Listed). list_coin k.bits) c.new-coins.ensures.value in
     let recorded = c.in_ok-recorded.recorded in
-    let is = subst (λ coins. IsRecorded n coins items recorded) zero (c.in_ok-recorded.ensures {u = tt}).recorded in
+    let is = subst (λ coins. IsRunWithPivots n coins items recorded) zero (c.in_ok-recorded.ensures {u = tt}).recorded in
     let flags = is.free ∙ sym (flags-run n zero_coins items (outputs n zero_coins (unroll items) origin) refl) in
     record {
-      number = is.number ∙ ap (λ bits. min (ones bits) (most_strings n)) is.free;
+      most = is.most;
+      qubits = is.qubits;
+      number = is.number ∙ ap (λ bits. min (ones bits) recorded.strings.most) is.free;
       reference = λ each.
           let all = each ∙ ap ones (sym is.free) in
           record {

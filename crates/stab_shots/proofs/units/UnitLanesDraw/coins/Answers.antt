@@ -1,5 +1,4 @@
-use Rattle.std.proofs.Common.{◌∙◌, ap}
-use Rattle.stab_shots.specs.Units.{unit_coin}
+use Rattle.stab_shots.proofs.Names.{◌∙◌, ap, unit_coin}
 use Rattle.stab_shots.proofs.UnitLemmas.{unit-ok, unit-err}
 use Rattle.stab_shots.proofs.units.UnitLanesDraw.coins.Goals.{in-Ok, in-Err}
 use Rattle.stab_shots.proofs.units.UnitLanesDraw.coins.Goals as goal

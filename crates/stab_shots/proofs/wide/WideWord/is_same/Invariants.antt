@@ -1,4 +1,4 @@
-use Rattle.std.proofs.Common.{◌≡◌, ℕ, ◌<◌, slice_index_or}
+use Rattle.stab_shots.proofs.Names.{◌≡◌, ℕ, ◌<◌, slice_index_or}
 use Rattle.stab_shots.proofs.wide.WideWord.is_same.Given as goal
 
 abbrev pub invariant-loop-k : goal.invariant-loop-k

@@ -1,4 +1,4 @@
-use Rattle.std.proofs.Common.{arith}
+use Rattle.stab_shots.proofs.Names.{arith}
 use Rattle.stab_shots.proofs.WideLemmas.{wide_bit-xor}
 use Rattle.stab_shots.proofs.wide.WideWord.xor.Goals as goal
 

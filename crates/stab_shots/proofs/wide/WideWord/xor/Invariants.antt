@@ -1,5 +1,4 @@
-use Rattle.std.proofs.Common.{◌≡◌, ℕ, ◌<◌, ◌≤◌, length, slice_index_or}
-use Rattle.std.specs.Prelude.{bit_xor}
+use Rattle.stab_shots.proofs.Names.{◌≡◌, ℕ, ◌<◌, ◌≤◌, length, slice_index_or, bit_xor}
 use Rattle.stab_shots.proofs.wide.WideWord.xor.Given as goal
 
 abbrev pub invariant-loop-k : goal.invariant-loop-k

@@ -1,4 +1,4 @@
-use Rattle.std.proofs.Common.{sym, ◌∙◌}
+use Rattle.stab_shots.proofs.Names.{sym, ◌∙◌}
 use Rattle.stab_shots.proofs.WordLemmas.{word_bit-ones}
 use Rattle.stab_shots.proofs.word.U64Word.all.Goals as goal
 

@@ -1,7 +1,4 @@
-use Rattle.std.proofs.Common.{◌≡◌, ℕ, ◌+◌, ◌*◌, ◌<◌, true, get_or}
-use Rattle.stab_letters.specs.declared.letter.Letter.TheVariants.{I}
-use Rattle.stab_letters.specs.XParts.{has_x}
-use Rattle.stab_tableau.specs.inner.Supports.{has_place}
+use Rattle.stab_tableau.proofs.Names.{◌≡◌, ℕ, ◌+◌, ◌*◌, ◌<◌, true, get_or, I, has_x, has_place}
 use Rattle.stab_tableau.proofs.supports.XSupports.add_string.Given as goal
 
 abbrev pub invariant-loop-word : goal.invariant-loop-word

@@ -1,5 +1,4 @@
-use Rattle.std.proofs.Common.{◌≡◌, ◌<◌, ◌+◌, ◌*◌, ap, ◌∙◌, length, arith}
-use Rattle.stab_tableau.specs.inner.Supports.{Supports, has_place}
+use Rattle.stab_tableau.proofs.Names.{◌≡◌, ◌<◌, ◌+◌, ◌*◌, ap, ◌∙◌, length, arith, Supports, has_place}
 use Rattle.stab_tableau.proofs.SupportLemmas.{places-added, places-kept}
 use Rattle.stab_tableau.proofs.supports.XSupports.add_word.Goals as goal
 use Rattle.stab_tableau.proofs.supports.XSupports.add_word.Goals.{After-index}

@@ -1,4 +1,4 @@
-use Rattle.stab_pauli.specs.Rows.{row_at, with_row, swapped_rows}
+use Rattle.stab_tableau.proofs.Names.{row_at, with_row, swapped_rows}
 use Rattle.stab_tableau.proofs.SupportLemmas.{others-stay}
 use Rattle.stab_tableau.proofs.supports.XSupports.swap.Goals as goal
 

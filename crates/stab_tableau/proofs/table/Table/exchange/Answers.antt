@@ -1,6 +1,4 @@
-use Rattle.std.proofs.Common.{◌∙◌, sym, refl, subst}
-use Rattle.stab_pauli.specs.Rows.{row_at, with_row, swapped_rows}
-use Rattle.stab_tableau.specs.inner.Supports.{Covers}
+use Rattle.stab_tableau.proofs.Names.{◌∙◌, sym, refl, subst, row_at, with_row, swapped_rows, Covers}
 use Rattle.stab_tableau.proofs.PairedRowsLemmas.{kept-paired, seen-few, seen-place, seen-apart, seen-exchanged}
 use Rattle.stab_tableau.proofs.SupportLemmas.{row-group}
 use Rattle.stab_tableau.proofs.table.Table.exchange.Goals as goal

@@ -1,9 +1,4 @@
-use Rattle.std.proofs.Common.{◌∙◌, sym, ap, arith}
-use Rattle.std.specs.List.{list_any}
-use Rattle.stab_letters.specs.XParts.{has_x}
-use Rattle.stab_pauli.specs.Paulis.{Signed}
-use Rattle.stab_pauli.specs.Rows.{row_at}
-use Rattle.stab_tableau.specs.Gates.{letter_at}
+use Rattle.stab_tableau.proofs.Names.{◌∙◌, sym, ap, arith, list_any, has_x, Signed, row_at, letter_at}
 use Rattle.stab_tableau.proofs.PairedRowsLemmas.{seen-few, seen-place, seen-length, seen-read}
 use Rattle.stab_tableau.proofs.table.Table.fixed_sign.Goals as goal
 

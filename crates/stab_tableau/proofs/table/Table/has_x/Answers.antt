@@ -1,7 +1,4 @@
-use Rattle.std.proofs.Common.{◌∙◌, ap, arith}
-use Rattle.stab_letters.specs.XParts.{has_x}
-use Rattle.stab_pauli.specs.Paulis.{Signed}
-use Rattle.stab_tableau.specs.Gates.{letter_at}
+use Rattle.stab_tableau.proofs.Names.{◌∙◌, ap, arith, has_x, Signed, letter_at}
 use Rattle.stab_tableau.proofs.PairedRowsLemmas.{seen-few, seen-place, seen-length, seen-read}
 use Rattle.stab_tableau.proofs.table.Table.has_x.Goals as goal
 

@@ -1,5 +1,4 @@
-use Rattle.std.proofs.Common.{◌∙◌, ap}
-use Rattle.stab_pauli.specs.Paulis.{Signed}
+use Rattle.stab_tableau.proofs.Names.{◌∙◌, ap, Signed}
 use Rattle.stab_tableau.proofs.PairedRowsLemmas.{seen-few, seen-place, seen-read}
 use Rattle.stab_tableau.proofs.table.Table.is_negative.Goals as goal
 

@@ -1,4 +1,4 @@
-use Rattle.std.proofs.Common.{◌∙◌, sym}
+use Rattle.stab_tableau.proofs.Names.{◌∙◌, sym}
 use Rattle.stab_tableau.proofs.PairedRowsLemmas.{seen-length}
 use Rattle.stab_tableau.proofs.table.Table.len.Goals as goal
 

@@ -1,5 +1,4 @@
-use Rattle.std.proofs.Common.{◌∙◌, ap}
-use Rattle.stab_pauli.specs.Paulis.{anticommute, product}
+use Rattle.stab_tableau.proofs.Names.{◌∙◌, ap, anticommute, product}
 use Rattle.stab_tableau.proofs.PairedRowsLemmas.{seen-few, seen-place, seen-length, seen-read}
 use Rattle.stab_tableau.proofs.table.Table.multiply_into.Goals as goal
 

@@ -1,6 +1,4 @@
-use Rattle.std.proofs.Common.{◌∙◌, ap}
-use Rattle.stab_pauli.specs.Paulis.{anticommute}
-use Rattle.stab_pauli.specs.Rows.{product_times_i}
+use Rattle.stab_tableau.proofs.Names.{◌∙◌, ap, anticommute, product_times_i}
 use Rattle.stab_tableau.proofs.PairedRowsLemmas.{seen-few, seen-place, seen-length, seen-read}
 use Rattle.stab_tableau.proofs.table.Table.multiply_into_times_i.Goals as goal
 

@@ -1,7 +1,4 @@
-use Rattle.std.proofs.Common.{◌≡◌, ◌*◌, ◌/◌, Bool, arith, ◌∙◌, refl, subst}
-use Rattle.stab_pauli.specs.Paulis.{Signed, anticommute}
-use Rattle.stab_pauli.specs.Masks.{AreChosen}
-use Rattle.stab_pauli.specs.Rows.{product_times_i_if}
+use Rattle.stab_tableau.proofs.Names.{◌≡◌, ◌*◌, ◌/◌, Bool, arith, ◌∙◌, refl, subst, Signed, anticommute, AreChosen, product_times_i_if}
 use Rattle.stab_tableau.proofs.PairedRowsLemmas.{seen-length}
 use Rattle.stab_tableau.proofs.PairsChosenLemmas.{seen-chosen-in, seen-chosen-is, seen-chosen-paired, seen-chosen-written}
 use Rattle.stab_tableau.proofs.SupportLemmas.{row-group}

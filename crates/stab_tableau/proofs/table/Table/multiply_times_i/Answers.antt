@@ -1,7 +1,4 @@
-use Rattle.std.proofs.Common.{◌∙◌, sym, subst}
-use Rattle.stab_pauli.specs.Paulis.{anticommute}
-use Rattle.stab_pauli.specs.Rows.{product_times_i}
-use Rattle.stab_tableau.specs.inner.Supports.{OthersStay}
+use Rattle.stab_tableau.proofs.Names.{◌∙◌, sym, subst, anticommute, product_times_i, OthersStay}
 use Rattle.stab_tableau.proofs.PairedRowsLemmas.{kept-paired, seen-few, seen-place, seen-read, seen-written, seen-apart}
 use Rattle.stab_tableau.proofs.SupportLemmas.{row-group, made-others-stay}
 use Rattle.stab_tableau.proofs.table.Table.multiply_times_i.Goals as goal

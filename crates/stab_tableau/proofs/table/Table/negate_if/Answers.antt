@@ -1,7 +1,6 @@
-use Rattle.std.proofs.Common.{ap}
-use Rattle.stab_pauli.specs.Paulis.{with_sign}
+use Rattle.stab_tableau.proofs.Names.{ap, with_sign}
 use Rattle.stab_tableau.proofs.PairedRowsLemmas.{kept-paired, seen-few, seen-place, seen-read, seen-written}
-use Rattle.stab_tableau.proofs.SupportLemmas.{turned-covered}
+use Rattle.stab_tableau.proofs.SupportLemmas.{conjugated-covered}
 use Rattle.stab_tableau.proofs.table.Table.negate_if.Goals as goal
 
 pub place-requires : goal.place-requires
@@ -21,5 +20,5 @@ returns c =
 pub invariant_of-self : goal.invariant_of-self
 invariant_of-self c = (
   kept-paired c.self.inside.rows c.negate_if.new.self c.place.result _ c.self.invariant.0 c.negate_if.ensures.value,
-  turned-covered c.self.inside.supports c.self.inside.rows c.negate_if.new.self c.place.result c.args.bit (seen-place c.self.inside.rows c.self.invariant.0 c.args.self.now c.self.view_is c.args.row c.args.qubit c.place.result c.requires.in_range c.place.ensures.value) c.negate_if.ensures.value c.self.invariant.1,
+  conjugated-covered c.self.inside.supports c.self.inside.rows c.negate_if.new.self c.place.result c.args.bit (seen-place c.self.inside.rows c.self.invariant.0 c.args.self.now c.self.view_is c.args.row c.args.qubit c.place.result c.requires.in_range c.place.ensures.value) c.negate_if.ensures.value c.self.invariant.1,
 )

@@ -1,5 +1,4 @@
-use Rattle.std.proofs.Common.{◌*◌, arith, refl}
-use Rattle.stab_pauli.specs.Paulis.{with_sign}
+use Rattle.stab_tableau.proofs.Names.{◌*◌, arith, refl, with_sign}
 use Rattle.stab_tableau.proofs.PairedRowsLemmas.{seen-length}
 use Rattle.stab_tableau.proofs.PairsChosenLemmas.{seen-chosen-in, seen-chosen-paired, seen-chosen-written}
 use Rattle.stab_tableau.proofs.SupportLemmas.{chosen-covered}

@@ -1,8 +1,4 @@
-use Rattle.std.proofs.Common.{◌∙◌, ap, length}
-use Rattle.stab_letters.specs.declared.letter.Letter.TheVariants.{X, Z}
-use Rattle.stab_pauli.specs.Paulis.{single}
-use Rattle.stab_tableau.specs.declared.table.InverseRow.TheVariants.{OfX, OfZ}
-use Rattle.stab_tableau.specs.inner.Pairs.{put}
+use Rattle.stab_tableau.proofs.Names.{◌∙◌, ap, length, X, Z, single, OfX, OfZ, put}
 use Rattle.stab_tableau.proofs.PairedRowsLemmas.{length-put, put-again}
 use Rattle.stab_tableau.proofs.table.Table.reset.Goals as goal
 

@@ -1,8 +1,4 @@
-use Rattle.std.proofs.Common.{◌∙◌, ap, subst, sym, length, arith}
-use Rattle.std.proofs.lemmas.List.{length-set}
-use Rattle.stab_pauli.specs.Paulis.{identity}
-use Rattle.stab_pauli.specs.Rows.{Rows, row_at as string_at, with_row, with_letter}
-use Rattle.stab_tableau.specs.inner.Supports.{OthersStay}
+use Rattle.stab_tableau.proofs.Names.{◌∙◌, ap, subst, sym, length, arith, length-set, identity, Rows, string_at, with_row, with_letter, OthersStay}
 use Rattle.stab_tableau.proofs.PairedRowsLemmas.{kept-paired, seen-few, seen-place, seen-length, seen-reset}
 use Rattle.stab_tableau.proofs.SupportLemmas.{row-group, again-others-stay}
 use Rattle.stab_tableau.proofs.table.Table.reset_row.Goals as goal

@@ -1,11 +1,4 @@
-use Rattle.std.proofs.Common.{arith, ap, subst, ◌∙◌, ℕ, ◌≡◌, ◌*◌, ◌/◌, ◌+◌, ◌<◌, List}
-use Rattle.stab_letters.specs.XParts.{has_x}
-use Rattle.stab_pauli.specs.Masks.{chooses}
-use Rattle.stab_pauli.specs.Rows.{row_at}
-use Rattle.stab_tableau.specs.Gates.{letter_at}
-use Rattle.stab_tableau.specs.declared.table.InverseRow.{InverseRow}
-use Rattle.stab_tableau.specs.inner.InverseRows.{InverseRows, rows_at}
-use Rattle.stab_tableau.specs.inner.Pairs.{row_place, row_string}
+use Rattle.stab_tableau.proofs.Names.{arith, ap, subst, ◌∙◌, ℕ, ◌≡◌, ◌*◌, ◌/◌, ◌+◌, ◌<◌, List, has_x, chooses, row_at, letter_at, InverseRow, InverseRows, rows_at, row_place, row_string}
 use Rattle.stab_tableau.proofs.PairedRowsLemmas.{seen-length}
 use Rattle.stab_tableau.proofs.PairsChosenLemmas.{pairs-with_x}
 use Rattle.stab_tableau.proofs.table.Table.rows_with_x.Goals as goal

@@ -1,4 +1,4 @@
-use Rattle.std.proofs.Common.{sym, ◌∙◌}
+use Rattle.stab_tableau.proofs.Names.{sym, ◌∙◌}
 use Rattle.stab_tableau.proofs.FrameLemmas.{pairs-same, same-pairs}
 use Rattle.stab_tableau.proofs.table.Table.same.Goals as goal
 

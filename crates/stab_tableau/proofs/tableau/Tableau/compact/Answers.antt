@@ -1,6 +1,4 @@
-use Rattle.std.proofs.Common.{sym, subst, length}
-use Rattle.stab_tableau.specs.inner.InverseRows.{IsOver}
-use Rattle.stab_tableau.specs.inner.Tables.{IsTableau}
+use Rattle.stab_tableau.proofs.Names.{sym, subst, length, IsOver, IsTableau}
 use Rattle.stab_tableau.proofs.tableau.Tableau.compact.Goals as goal
 
 pub invariant_of-result : goal.invariant_of-result

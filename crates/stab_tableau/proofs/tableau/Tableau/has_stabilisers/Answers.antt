@@ -1,6 +1,4 @@
-use Rattle.std.proofs.Common.{◌≡◌, ◌≤◌, ◌<◌, ◌∙◌, Some, false, refl, sym, ap, length, arith, below_more}
-use Rattle.stab_pauli.specs.Paulis.{with_sign}
-use Rattle.stab_tableau.specs.Tableaus.{stabilises}
+use Rattle.stab_tableau.proofs.Names.{◌≡◌, ◌≤◌, ◌<◌, ◌∙◌, Some, false, refl, sym, ap, length, arith, below_more, with_sign, stabilises}
 use Rattle.stab_tableau.proofs.SameStateLemmas.{tells-yes, tells-no}
 use Rattle.stab_tableau.proofs.tableau.Tableau.has_stabilisers.Goals as goal
 

@@ -1,7 +1,4 @@
-use Rattle.std.proofs.Common.{◌≡◌, ℕ, ◌<◌, true, length}
-use Rattle.stab_tableau.specs.inner.Tables.{IsTableau}
-use Rattle.stab_tableau.specs.Tableaus.{stabilises}
-use Rattle.stab_tableau.specs.Columns.{stabiliser_of}
+use Rattle.stab_tableau.proofs.Names.{◌≡◌, ℕ, ◌<◌, true, length, IsTableau, stabilises, stabiliser_of}
 use Rattle.stab_tableau.proofs.tableau.Tableau.has_stabilisers.Given as goal
 
 abbrev pub invariant-loop-k : goal.invariant-loop-k

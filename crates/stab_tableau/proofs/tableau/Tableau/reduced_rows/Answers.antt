@@ -1,10 +1,4 @@
-use Rattle.std.proofs.Common.{◌∙◌, ap, length, arith}
-use Rattle.std.proofs.lemmas.List.{length-replicate}
-use Rattle.std.proofs.lemmas.Result.{IfOk-weaker}
-use Rattle.stab_pauli.specs.Paulis.{identity}
-use Rattle.stab_pauli.specs.Rows.{Rows}
-use Rattle.stab_tableau.specs.Reduced.{AreReduced}
-use Rattle.stab_tableau.specs.Tableaus.{stabilises}
+use Rattle.stab_tableau.proofs.Names.{◌∙◌, ap, length, arith, length-replicate, IfOk-weaker, identity, Rows, AreReduced, stabilises}
 use Rattle.stab_tableau.proofs.SameStateLemmas.{number-same, given-basis, state-reduced}
 use Rattle.stab_tableau.proofs.tableau.Tableau.reduced_rows.Goals as goal
 

@@ -1,8 +1,5 @@
-use Rattle.std.proofs.Common.{arith, rules, ◌∙◌, ◌+◌, ◌++◌, ◌*◌, refl, sym, IsTrue, true, List, ℕ}
-use Rattle.std.proofs.lemmas.List.{take-append-drop, take_all}
-use Rattle.stab_pauli.specs.inner.Sparse.{spread, words_from}
-use Rattle.stab_pauli.proofs.TellLemmas.{no_false}
-use Rattle.stab_pauli.proofs.SparsePlaceLemmas.{passed-more, passed-told, passed-all}
+use Rattle.stab_pauli.proofs.Names.{arith, rules, ◌∙◌, ◌+◌, ◌++◌, ◌*◌, refl, sym, IsTrue, true, List, ℕ, take-append-drop, take_all, spread, words_from}
+use Rattle.stab_pauli.proofs.Lemmas.{no_false, passed-more, passed-told, passed-all}
 use Rattle.stab_pauli.proofs.packed.sparse.SparseWords.are.Goals as goal
 
 pub returns-then-not-has_block : goal.returns-then-not-has_block

@@ -1,5 +1,4 @@
-use Rattle.std.proofs.Common.{◌≡◌, ◌*◌, ◌++◌, take}
-use Rattle.stab_pauli.specs.inner.Sparse.{spread, words_from}
+use Rattle.stab_pauli.proofs.Names.{◌≡◌, ◌*◌, ◌++◌, take, spread, words_from}
 use Rattle.stab_pauli.proofs.packed.sparse.SparseWords.are.Given as goal
 
 abbrev pub invariant-loop-block : goal.invariant-loop-block

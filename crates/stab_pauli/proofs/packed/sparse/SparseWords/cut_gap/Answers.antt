@@ -1,5 +1,5 @@
-use Rattle.std.proofs.Common.{arith, ◌-◌}
-use Rattle.stab_pauli.proofs.PackingLemmas.{sparse-cut}
+use Rattle.stab_pauli.proofs.Names.{arith, ◌-◌}
+use Rattle.stab_pauli.proofs.Lemmas.{sparse-cut}
 use Rattle.stab_pauli.proofs.packed.sparse.SparseWords.cut_gap.Goals as goal
 
 pub returns-clause-value : goal.returns-clause-value

@@ -1,4 +1,4 @@
-use Rattle.stab_pauli.specs.inner.Sparse.{spread, IsSparse}
+use Rattle.stab_pauli.proofs.Names.{spread, IsSparse}
 use Rattle.stab_pauli.proofs.packed.sparse.SparseWords.cut_gaps.Given as goal
 
 abbrev pub invariant-loop-self : goal.invariant-loop-self

@@ -1,5 +1,5 @@
-use Rattle.std.proofs.Common.{◌∙◌, sym}
-use Rattle.stab_pauli.proofs.SparsePlaceLemmas.{eight-blank}
+use Rattle.stab_pauli.proofs.Names.{◌∙◌, sym}
+use Rattle.stab_pauli.proofs.Lemmas.{eight-blank}
 use Rattle.stab_pauli.proofs.packed.sparse.SparseWords.has_block.Goals as goal
 
 pub returns-then-place-ge8 : goal.returns-then-place-ge8

@@ -1,6 +1,5 @@
-use Rattle.std.proofs.Common.{arith, ◌*◌, take}
-use Rattle.std.proofs.lemmas.List.{length-take}
-use Rattle.stab_pauli.proofs.PackingLemmas.{sparse-few, sparse-behind, blocks-next}
+use Rattle.stab_pauli.proofs.Names.{arith, ◌*◌, take, length-take}
+use Rattle.stab_pauli.proofs.Lemmas.{sparse-few, sparse-behind, blocks-next}
 use Rattle.stab_pauli.proofs.packed.sparse.SparseWords.of.Goals as goal
 
 pub push_block-requires-clause-fits : goal.push_block-requires-clause-fits

@@ -1,5 +1,4 @@
-use Rattle.std.proofs.Common.{◌*◌, take}
-use Rattle.stab_pauli.specs.inner.Sparse.{IsSparse}
+use Rattle.stab_pauli.proofs.Names.{◌*◌, take, IsSparse}
 use Rattle.stab_pauli.proofs.packed.sparse.SparseWords.of.Given as goal
 
 abbrev pub invariant-loop-block : goal.invariant-loop-block

@@ -1,5 +1,5 @@
-use Rattle.std.proofs.Common.{ap, ◌∷◌, []}
-use Rattle.stab_pauli.proofs.PackingLemmas.{sparse-kept, sparse-blank}
+use Rattle.stab_pauli.proofs.Names.{ap, ◌∷◌, []}
+use Rattle.stab_pauli.proofs.Lemmas.{sparse-kept, sparse-blank}
 use Rattle.stab_pauli.proofs.packed.sparse.SparseWords.push.Goals as goal
 
 pub returns-then-word-eq0-clause-value : goal.returns-then-word-eq0-clause-value

@@ -1,5 +1,5 @@
-use Rattle.std.proofs.Common.{rules, IsTrue, true}
-use Rattle.stab_pauli.proofs.PackingLemmas.{sparse-blank}
+use Rattle.stab_pauli.proofs.Names.{rules, IsTrue, true}
+use Rattle.stab_pauli.proofs.Lemmas.{sparse-blank}
 use Rattle.stab_pauli.proofs.packed.sparse.SparseWords.push_block.Goals as goal
 
 pub returns-then-is_blank : goal.returns-then-is_blank

@@ -1,5 +1,4 @@
-use Rattle.std.proofs.Common.{◌+◌, ◌++◌, ◌≤◌, take}
-use Rattle.stab_pauli.specs.inner.Sparse.{spread, IsSparse}
+use Rattle.stab_pauli.proofs.Names.{◌+◌, ◌++◌, ◌≤◌, take, spread, IsSparse}
 use Rattle.stab_pauli.proofs.packed.sparse.SparseWords.push_words.Given as goal
 
 abbrev pub invariant-loop-k : goal.invariant-loop-k

@@ -1,5 +1,5 @@
-use Rattle.std.proofs.Common.{arith, ◌≡◌, ◌<◌, sym, subst, length, get_or}
-use Rattle.stab_pauli.proofs.SparseLemmas.{writing-on, writing-none, writing-end}
+use Rattle.stab_pauli.proofs.Names.{arith, ◌≡◌, ◌<◌, sym, subst, length, get_or}
+use Rattle.stab_pauli.proofs.Lemmas.{writing-on, writing-none, writing-end}
 use Rattle.stab_pauli.proofs.packed.sparse.SparseWords.write_into.Goals as goal
 
 pub loop-k-init : goal.loop-k-init

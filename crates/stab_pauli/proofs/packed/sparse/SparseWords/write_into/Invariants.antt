@@ -1,4 +1,4 @@
-use Rattle.stab_pauli.proofs.SparseLemmas.{IsWriting}
+use Rattle.stab_pauli.proofs.Lemmas.{IsWriting}
 use Rattle.stab_pauli.proofs.packed.sparse.SparseWords.write_into.Given as goal
 
 abbrev pub invariant-loop-k : goal.invariant-loop-k

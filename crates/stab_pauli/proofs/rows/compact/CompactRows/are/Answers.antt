@@ -1,12 +1,5 @@
-use Rattle.std.proofs.Common.{◌∙◌, sym, refl, ap, subst, length, true, false}
-use Rattle.std.proofs.lemmas.Slice.Eq.{slice_eq-Decides}
-use Rattle.stab_pauli.specs.Rows.{Rows, unsigned_rows}
-use Rattle.stab_pauli.specs.inner.Words.{AreShort}
-use Rattle.stab_letters.proofs.PhaseLemmas.{tells_phases}
-use Rattle.stab_pauli.specs.declared.packed.sparse.SparseWords.{SparseWords}
-use Rattle.stab_pauli.proofs.SparseLemmas.{short-spread, told_by}
-use Rattle.stab_pauli.proofs.TellLemmas.{powers_apart, words_told, letters_told, all_told}
-use Rattle.stab_pauli.proofs.SeenLemmas.{seen_of, qubits_seen}
+use Rattle.stab_pauli.proofs.Names.{◌∙◌, sym, refl, ap, subst, length, true, false, slice_eq-Decides, Rows, unsigned_rows, AreShort, tells_phases, SparseWords}
+use Rattle.stab_pauli.proofs.Lemmas.{short-spread, told_by, powers_apart, words_told, letters_told, all_told, seen_of, qubits_seen}
 use Rattle.stab_pauli.proofs.rows.compact.CompactRows.are.Goals as goal
 
 pub returns-then-not-same : goal.returns-then-not-same

@@ -1,6 +1,5 @@
-use Rattle.std.proofs.Common.{◌∙◌, ap}
-use Rattle.stab_letters.specs.Phases.{phase_add}
-use Rattle.stab_pauli.proofs.SeenLemmas.{counted_seen, seen_of, in_seen, negated_seen}
+use Rattle.stab_pauli.proofs.Names.{◌∙◌, ap, phase_add}
+use Rattle.stab_pauli.proofs.Lemmas.{counted_seen, seen_of, in_seen, negated_seen}
 use Rattle.stab_pauli.proofs.rows.compact.CompactRows.negate_if.Goals as goal
 
 pub index-requires : goal.index-requires

@@ -1,10 +1,5 @@
-use Rattle.std.proofs.Common.{arith, ◌≡◌, ◌∙◌, ◌*◌, sym, subst, ap, length}
-use Rattle.stab_pauli.specs.inner.Words.{AreShort}
-use Rattle.stab_pauli.specs.inner.Blocks.{blocks_of}
-use Rattle.stab_pauli.specs.declared.packed.sparse.SparseWords.{SparseWords}
-use Rattle.stab_pauli.proofs.SparseLemmas.{short-spread, told_by}
-use Rattle.stab_pauli.proofs.TellLemmas.{words_told, letters_told, same_number, no_false}
-use Rattle.stab_pauli.proofs.SeenLemmas.{seen_of, qubits_seen}
+use Rattle.stab_pauli.proofs.Names.{arith, ◌≡◌, ◌∙◌, ◌*◌, sym, subst, ap, length, AreShort, blocks_of, SparseWords}
+use Rattle.stab_pauli.proofs.Lemmas.{short-spread, told_by, words_told, letters_told, same_number, no_false, seen_of, qubits_seen}
 use Rattle.stab_pauli.proofs.rows.compact.CompactRows.same_letters.Goals as goal
 
 pub returns-then-self-rows : goal.returns-then-self-rows

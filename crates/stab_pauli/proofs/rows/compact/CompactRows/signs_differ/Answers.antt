@@ -1,8 +1,5 @@
-use Rattle.std.proofs.Common.{◌∙◌, ap}
-use Rattle.stab_letters.specs.Phases.{phase_add, sign_of_phase, phase_inverse}
-use Rattle.stab_pauli.specs.Rows.{row_at}
-use Rattle.stab_pauli.proofs.PowerLemmas.{powers_differ}
-use Rattle.stab_pauli.proofs.SeenLemmas.{counted_seen, seen_of, in_seen, row_seen, read_power}
+use Rattle.stab_pauli.proofs.Names.{◌∙◌, ap, phase_add, sign_of_phase, phase_inverse, row_at}
+use Rattle.stab_pauli.proofs.Lemmas.{powers_differ, counted_seen, seen_of, in_seen, row_seen, read_power}
 use Rattle.stab_pauli.proofs.rows.compact.CompactRows.signs_differ.Goals as goal
 
 pub index-requires : goal.index-requires

@@ -1,6 +1,5 @@
-use Rattle.std.proofs.Common.{◌∙◌, ap, sym, length}
-use Rattle.stab_pauli.proofs.SparseLemmas.{told_by}
-use Rattle.stab_pauli.proofs.SeenLemmas.{seen_of, both_seen}
+use Rattle.stab_pauli.proofs.Names.{◌∙◌, ap, sym, length}
+use Rattle.stab_pauli.proofs.Lemmas.{told_by, seen_of, both_seen}
 use Rattle.stab_pauli.proofs.rows.compact.CompactRows.write_into.Goals as goal
 
 pub write_into-requires-clause-size : goal.write_into-requires-clause-size

@@ -1,5 +1,4 @@
-use Rattle.std.proofs.Common.{ap}
-use Rattle.stab_pauli.specs.Paulis.{with_sign}
+use Rattle.stab_tableau.proofs.Names.{ap, with_sign}
 use Rattle.stab_tableau.proofs.PairedRowsLemmas.{seen-few, seen-place, seen-read, seen-written}
 use Rattle.stab_tableau.proofs.table.compact.CompactTable.negate_if.Goals as goal
 

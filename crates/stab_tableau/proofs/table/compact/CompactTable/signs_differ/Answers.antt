@@ -1,9 +1,7 @@
-use Rattle.std.proofs.Common.{Bool, ◌∙◌, sym, ap, ◌<◌, subst}
-use Rattle.stab_letters.specs.Letters.{◌⊕◌}
-use Rattle.stab_pauli.specs.Paulis.{Signed}
+use Rattle.stab_tableau.proofs.Names.{Bool, ◌∙◌, sym, ap, ◌<◌, subst, ◌⊕◌, Signed}
 use Rattle.stab_tableau.proofs.PairedRowsLemmas.{seen-few, seen-place, seen-read}
 use Rattle.stab_tableau.proofs.FrameLemmas.{length-same}
-use Rattle.stab_tableau.proofs.TurnedRowLemmas.{same-letters_at}
+use Rattle.stab_tableau.proofs.ConjugatedRowLemmas.{same-letters_at}
 use Rattle.stab_tableau.proofs.table.compact.CompactTable.signs_differ.Goals as goal
 
 pub place-requires : goal.place-requires

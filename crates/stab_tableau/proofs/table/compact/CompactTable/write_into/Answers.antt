@@ -1,7 +1,5 @@
-use Rattle.std.proofs.Common.{◌≡◌, ◌∙◌, ◌*◌, sym, ap, subst, length, arith}
+use Rattle.stab_tableau.proofs.Names.{◌≡◌, ◌∙◌, ◌*◌, sym, ap, subst, length, arith, Rows, IsPaired}
 use Rattle.stab_tableau.proofs.PairedRowsLemmas.{seen-length}
-use Rattle.stab_pauli.specs.Rows.{Rows}
-use Rattle.stab_tableau.specs.inner.Pairs.{IsPaired}
 use Rattle.stab_tableau.proofs.table.compact.CompactTable.write_into.Goals as goal
 
 pub write_into-requires-clause-same_qubits : goal.write_into-requires-clause-same_qubits

@@ -1,9 +1,6 @@
-use Rattle.std.proofs.Common.{rules, ◌≡◌, ◌∙◌, sym, ap, length}
-use Rattle.stab_pauli.specs.Paulis.{Signed}
-use Rattle.stab_tableau.specs.Tableaus.{TableauState}
-use Rattle.stab_tableau.specs.inner.Frames.{SameLetters}
+use Rattle.stab_tableau.proofs.Names.{rules, ◌≡◌, ◌∙◌, sym, ap, length, Signed, TableauState, SameLetters}
 use Rattle.stab_tableau.proofs.SignFrameLemmas.{length-frame}
-use Rattle.stab_tableau.proofs.TurnedRowLemmas.{told-turned}
+use Rattle.stab_tableau.proofs.ConjugatedRowLemmas.{told-conjugated}
 use Rattle.stab_tableau.proofs.tableau.compact.CompactTableau.frame_to.Goals as goal
 
 pub returns-clause-length : goal.returns-clause-length
@@ -12,8 +9,8 @@ returns-clause-length c =
     let size : length c.self.inside.table ≡ c.args.self.now.qubits = ap (λ (t : TableauState). t.qubits) c.self.view_is in
     ap (λ (p : Signed). length p.letters) c.write_kept_frame.ensures.value ∙ length-frame c.self.inside.table c.tableau.inside.table same ∙ size ∙ sym c.requires.same_length
 
-pub returns-clause-turned : goal.returns-clause-turned
-returns-clause-turned c _ =
+pub returns-clause-conjugated : goal.returns-clause-conjugated
+returns-clause-conjugated c _ =
     let same : SameLetters c.self.inside.table c.tableau.inside.table = c.same_letters.ensures.value.0 (search rules) in
-    told-turned c.self.inside.table c.tableau.inside.table same c.args.self.now c.args.tableau.now c.self.view_is c.tableau.view_is c.write_kept_frame.new.out.letters
+    told-conjugated c.self.inside.table c.tableau.inside.table same c.args.self.now c.args.tableau.now c.self.view_is c.tableau.view_is c.write_kept_frame.new.out.letters
     (ap (λ (p : Signed). p.letters) c.write_kept_frame.ensures.value)

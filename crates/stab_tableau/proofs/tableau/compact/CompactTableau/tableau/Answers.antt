@@ -1,9 +1,4 @@
-use Rattle.std.proofs.Common.{◌≡◌, ◌∙◌, ap, sym, subst, length}
-use Rattle.std.proofs.lemmas.List.{length-replicate}
-use Rattle.stab_letters.specs.declared.letter.Letter.TheVariants.{I}
-use Rattle.stab_pauli.specs.Paulis.{Signed}
-use Rattle.stab_tableau.specs.inner.InverseRows.{InverseRows, IsOver}
-use Rattle.stab_tableau.specs.inner.Tables.{IsTableau}
+use Rattle.stab_tableau.proofs.Names.{◌≡◌, ◌∙◌, ap, sym, subst, length, length-replicate, I, Signed, InverseRows, IsOver, IsTableau}
 use Rattle.stab_tableau.proofs.tableau.compact.CompactTableau.tableau.Goals as goal
 
 pub invariant_of-tableau : goal.invariant_of-tableau

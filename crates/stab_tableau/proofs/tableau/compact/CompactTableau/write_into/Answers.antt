@@ -1,7 +1,4 @@
-use Rattle.std.proofs.Common.{◌≡◌, sym, ap, subst, length, arith}
-use Rattle.stab_tableau.specs.Tableaus.{TableauState}
-use Rattle.stab_tableau.specs.inner.InverseRows.{InverseRows, IsOver}
-use Rattle.stab_tableau.specs.inner.Tables.{IsTableau}
+use Rattle.stab_tableau.proofs.Names.{◌≡◌, sym, ap, subst, length, arith, TableauState, InverseRows, IsOver, IsTableau}
 use Rattle.stab_tableau.proofs.tableau.compact.CompactTableau.write_into.Goals as goal
 
 pub invariant_of-tableau : goal.invariant_of-tableau

@@ -1,0 +1,224 @@
+//! The command that finds the least number of errors that flip an observable and no detector.
+ghost use Rattle.std.specs.Prelude.{◌≡◌, ℕ, None, IfOk, IfErr};
+ghost use Rattle.stab_io.specs.Devices.{WritesAll};
+ghost use Rattle.stab_io.specs.declared.refusal.Refusal.TheVariants.{OutOfMemory};
+ghost use Rattle.stab_circuit.specs.Items.{Items};
+ghost use Rattle.stab_circuit.specs.Steps.{check_of};
+ghost use Rattle.stab_circuit.specs.Views.{circuit_items};
+ghost use Rattle.stab_errors.specs.ErrorTables.{IsErrorTable, StepsInside};
+ghost use Rattle.stab_errors.specs.Unseen.{IsDistance};
+ghost use Rattle.stab_analysis.specs.FaultTables.{GoesOn, fault_of, random_of};
+ghost use Rattle.stab_analysis.specs.Distances.{EndsDistance, IsDistanceOf, IsDistanceText, IsRefusedFor, answer_text, distance_line, if_graphlike, none_line, of_errors};
+ghost use Rattle.stab_analysis.specs.inner.Faults.{SendsAtOnce};
+
+use crate::deterministic::kinds_of;
+use crate::ending::finish;
+use crate::error_lines::write_errors;
+use crate::fault_line::write_texts;
+use crate::faults::refused_for;
+use crate::random::FaultsRefused;
+use itoa::Buffer;
+use stab_circuit::{Circuit, read_circuit};
+use stab_errors::{Answer, ErrorTable, Progress, distance, errors, graphlike_distance};
+use stab_io::{Fault, Input, Output, Refusal};
+use stab_jobs::DistanceOptions;
+use std::alloc::Global;
+
+/// The errors of a circuit, and what a search found among them.
+#[derive(Drop)]
+pub struct Distance {
+    errors: ErrorTable,
+    answer: Answer,
+}
+
+/// Searches the errors of a circuit as the options ask for.
+fn search<P: Progress>(
+    alloc: Global,
+    errors: &ErrorTable,
+    options: DistanceOptions,
+    progress: &mut P,
+) -> Result<Answer, Refusal>
+    ensures distance { IfOk result (λ a. (n : ℕ) (items : Items) → IsErrorTable n items errors.now → IsDistance options.graphlike n items errors.now.errors options.most a) }
+    ensures err { IfErr result (λ r. r ≡ OutOfMemory) }
+{
+    if options.graphlike {
+        graphlike_distance(alloc, errors, options.most, progress)
+    } else {
+        distance(alloc, errors, options.most, progress)
+    }
+}
+
+/// The least number of a circuit's errors that flip an observable and no detector.
+///
+/// Refused with `NotDeterministic`, and the first detector or observable that is not the same for all
+/// random bits, if there is such a one and `deterministic_only` doesn't leave it out; else with `OutOfMemory` alone.
+pub fn find_distance<P: Progress>(
+    alloc: Global,
+    circuit: &Circuit,
+    options: DistanceOptions,
+    progress: &mut P,
+) -> Result<Distance, FaultsRefused>
+    requires checked { check_of (circuit_items circuit.now) ≡ None }
+    ensures found { IfOk result (IsDistanceOf options (circuit_items circuit.now)) }
+    ensures steps { IfOk result (λ d. StepsInside (circuit_items circuit.now) d.errors.errors) }
+    ensures refused { IfErr result (λ r. IsRefusedFor options.deterministic_only (circuit_items circuit.now) r.random r.fault) }
+{
+    let n = circuit.qubits();
+    let errors = errors(
+        alloc,
+        circuit,
+        n,
+        options.everywhere,
+        options.letters,
+        options.graphlike,
+    )?;
+    match refused_for(
+        alloc,
+        circuit,
+        errors.deterministic(),
+        options.deterministic_only,
+    ) {
+        Ok(None) => match search(alloc, &errors, options, progress) {
+            Ok(answer) => Ok(Distance { errors, answer }),
+            Err(refusal) => Err(FaultsRefused::from(Fault::whole(refusal))),
+        },
+        Ok(Some(random)) => Err(FaultsRefused {
+            fault: Fault::whole(Refusal::NotDeterministic),
+            random: Some(random),
+        }),
+        Err(refusal) => Err(FaultsRefused::from(Fault::whole(refusal))),
+    }
+}
+
+/// Of which errors a distance is.
+fn of_errors(graphlike: bool) -> &'static [u8]
+    ensures value { result.now ≡ of_errors graphlike }
+{
+    if graphlike {
+        b" of graph-like errors"
+    } else {
+        b" of all errors"
+    }
+}
+
+/// Of which errors there is no set, if not of all.
+fn if_graphlike(graphlike: bool) -> &'static [u8]
+    ensures value { result.now ≡ if_graphlike graphlike }
+{
+    if graphlike { of_errors(true) } else { b"" }
+}
+
+/// Writes the line of this number of errors.
+fn write_count<O: Output>(out: &mut O, count: usize, graphlike: bool) -> Result<(), Refusal>
+    ensures writes { WritesAll (O.seen out.old) (O.seen out.new) (distance_line count graphlike) result }
+{
+    let mut digits = Buffer::new();
+    let count = digits.format(count).as_bytes();
+    write_texts(out, &[b"distance ", count, of_errors(graphlike), b"\n"])
+}
+
+/// Writes that there is no set, of at most this many errors if a number is given.
+fn write_none<O: Output>(out: &mut O, most: Option<usize>, graphlike: bool) -> Result<(), Refusal>
+    ensures writes { WritesAll (O.seen out.old) (O.seen out.new) (none_line most graphlike) result }
+{
+    let errors = if_graphlike(graphlike);
+    match most {
+        None => write_texts(out, &[b"none", errors, b"\n"]),
+        Some(most) => {
+            let mut digits = Buffer::new();
+            let most = digits.format(most).as_bytes();
+            write_texts(out, &[b"none", b" up to ", most, errors, b"\n"])
+        }
+    }
+}
+
+/// Writes an answer: `distance W of all errors` and a line for each of the errors, such as
+/// `1207 3/0/2 X17*Z4 D24 L0`, or `none`, or `none up to W`.
+///
+/// Refusal `WriteFault` after a prefix of the lines.
+pub fn write_distance<O: Output>(
+    out: &mut O,
+    circuit: &Circuit,
+    options: DistanceOptions,
+    found: &Distance,
+) -> Result<(), Refusal>
+    requires checked { check_of (circuit_items circuit.now) ≡ None }
+    requires found { IsDistanceOf options (circuit_items circuit.now) found.now }
+    requires steps { StepsInside (circuit_items circuit.now) found.now.errors.errors }
+    ensures writes { WritesAll (O.seen out.old) (O.seen out.new) (answer_text options (circuit_items circuit.now) found.now.errors found.now.answer) result }
+{
+    match &found.answer {
+        Answer::Least(numbers) => {
+            let kinds = kinds_of(circuit, found.errors.deterministic().len());
+            write_count(out, numbers.len(), options.graphlike)?;
+            write_errors(out, circuit, kinds, &found.errors, numbers.as_slice())
+        }
+        Answer::NoneWithin => write_none(out, options.most, options.graphlike),
+        Answer::NoneAtAll => write_none(out, None, options.graphlike),
+    }
+}
+
+/// Writes an answer, and flushes.
+fn send_answer<O: Output>(
+    out: &mut O,
+    circuit: &Circuit,
+    options: DistanceOptions,
+    found: &Distance,
+) -> Result<(), Fault>
+    requires checked { check_of (circuit_items circuit.now) ≡ None }
+    requires found { IsDistanceOf options (circuit_items circuit.now) found.now }
+    requires steps { StepsInside (circuit_items circuit.now) found.now.errors.errors }
+    ensures sends { SendsAtOnce (answer_text options (circuit_items circuit.now) found.now.errors found.now.answer) (O.seen out.old) (O.seen out.new) result }
+{
+    write_distance(out, circuit, options, found).map_err(Fault::whole)?;
+    finish(out)
+}
+
+/// Writes the distance of a circuit, and flushes; or names a bit that is not deterministic.
+fn send_distance<O: Output, P: Progress>(
+    alloc: Global,
+    circuit: &Circuit,
+    out: &mut O,
+    options: DistanceOptions,
+    progress: &mut P,
+) -> Result<(), FaultsRefused>
+    requires checked { check_of (circuit_items circuit.now) ≡ None }
+    ensures goes_on { GoesOn (IsDistanceText options (circuit_items circuit.now)) options.deterministic_only (circuit_items circuit.now) (random_of result) (O.seen out.old) (O.seen out.new) (fault_of result) }
+{
+    let found = find_distance(alloc, circuit, options, progress)?;
+    Ok(send_answer(out, circuit, options, &found)?)
+}
+
+/// Reads a circuit, and writes a least set of its errors that are unseen together: with all of them put in,
+/// a run has each detector as it is without them, and some observable different, for all random bits, on as many
+/// qubits as the circuit names. No set of fewer of these errors is unseen.
+///
+/// The errors are those that the circuit marks by the gate `I`: X, Y and Z at each target, or those that
+/// its tag leaves (`X`, `Y`, `Z`, `XZ`), or with the tag `pairs` all products of two letters on each two
+/// targets. With `everywhere` they are those letters after each gate and reset and before what is
+/// measured, all products after a gate on two qubits, and each record wrong by itself. Letters
+/// `XAndZ` leave out Y, and products that have both kinds. With `graphlike`, the X and the Z of its letters take
+/// the place of an error that flips more than two detectors, and only errors are taken that flip at most two.
+///
+/// The first line is `distance W of all errors`, or `distance W of graph-like errors`. Then each of the W errors
+/// has a line, such as `1207 3/0/2 X17*Z4 D24 L0`: the number of steps in front of it, the path of its item, its
+/// letters and qubits, or `M17` for a wrong record, and what it flips. If no set is unseen, there is one line,
+/// `none`; with `most`, if none of at most `most` errors is, `none up to W`. Both end in ` of graph-like errors`
+/// with `graphlike`.
+///
+/// If a detector or observable is not the same for all random bits, refusal `NotDeterministic`, before anything
+/// is written or searched, names the first; `deterministic_only` leaves out such ones. Reading, the flush and the
+/// other faults are those of `run_faults`. `progress` hears of the number of errors, and then of each number of
+/// them that no unseen set has.
+pub fn run_distance<I: Input, O: Output, P: Progress>(
+    alloc: Global,
+    input: &mut I,
+    out: &mut O,
+    options: DistanceOptions,
+    progress: &mut P,
+) -> Result<(), FaultsRefused>
+    ensures ends { EndsDistance options (I.seen input.old) (I.seen input.new) (O.seen out.old) (O.seen out.new) (fault_of result) (random_of result) }
+{
+    let circuit = read_circuit(alloc, input)?;
+    send_distance(alloc, &circuit, out, options, progress)
+}

@@ -1,0 +1,67 @@
+//! What a command writes of a circuit in one go, and how it ends and says its fault.
+//!
+//! In the order in which data flows; each module uses only those before it:
+//!
+//! - `random`: why nothing was written of faults or errors, with the bit that is not the same for all coins and a coin that decides it.
+//! - `ending`: the flush that ends a run.
+//! - `fault_line`: the lines that say a fault.
+//! - `check`: the command that writes the numbers of a circuit, or what is wrong with it.
+//! - `deterministic`: the command that says which detectors and observables are the same for all random bits.
+//! - `row_head`: the front of a row's line.
+//! - `fault_sites`: the places for faults at a step.
+//! - `fault_lines`, `fault_bits`: a table of faults as lines, and as shots.
+//! - `coin_rows`: the rows of a table of coins.
+//! - `deciders`: the coins that decide each detector and observable.
+//! - `faults`: the command that writes which detectors and observables each fault flips.
+//! - `error_lines`: errors as lines.
+//! - `distance`: the command that finds the least number of errors that flip an observable and no detector.
+//! - `coins`: the command that writes which bits of a run each coin decides.
+//! - `reasons`: the command that names the coins which decide those that are not the same for all coins.
+//! - `laws`: lines of reduced rows tell their group, and what `check` counts is what a run gives.
+//!
+//! Source: this project's own.
+//!
+//! Proved: a call ends by cases. The text was refused, by its own fault or unread, and the output is
+//! untouched; or it was given whole, and the output took what is written of its circuit, and one flush;
+//! or it failed once; or memory was refused before the first byte. So `run_deterministic`, `run_faults`
+//! and `run_distance` end, over the bits that are the same for all random bits; over what each fault flips, by
+//! runs with it and without it, for all random bits (`specs/FaultTables.antt`); and over a least set of errors
+//! that no detector sees and an observable does, by runs with them and without them
+//! (`specs/Distances.antt`). If a bit is not the same for all coins, `run_faults` and `run_distance` name the
+//! first such, and the first coin that decides it, before they write anything. `run_coins` and `run_explain` write the table of the coins that decide,
+//! by row and by column, as its lines come: memory may be refused after some first bytes
+//! (`specs/CoinTables.antt`, `specs/Reasons.antt`); and a bit is the same for all random bits if and only if no coin is
+//! named for it (`laws::deterministic_has_no_decider`). `run_check` writes the numbers of the circuit, by cases of its
+//! own (`specs/Checks.antt`): if a text was refused, the fault is that of the text, and some bytes were sent, of
+//! which nothing more is claimed.
+#![tactic(auto)]
+
+mod check;
+mod coin_rows;
+mod coins;
+mod deciders;
+mod deterministic;
+mod distance;
+mod ending;
+mod error_lines;
+mod fault_bits;
+mod fault_line;
+mod fault_lines;
+mod fault_sites;
+mod faults;
+pub mod laws;
+mod random;
+mod reasons;
+mod row_head;
+
+pub use check::run_check;
+pub use coins::{run_coins, write_coins};
+pub use deterministic::run_deterministic;
+pub use distance::{Distance, find_distance, run_distance, write_distance};
+pub use ending::finish;
+pub use fault_line::{write_fault, write_refused, write_texts};
+pub use faults::run_faults;
+pub use random::{Bit, Decider, FaultsRefused, Random};
+pub use reasons::{has_bit, run_explain, write_why};
+pub use stab_errors::{Progress, Unwatched};
+pub use stab_jobs::{DistanceOptions, ErrorLetters, FaultLayout, Source};

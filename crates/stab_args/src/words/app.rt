@@ -1,0 +1,281 @@
+//! The commands of the program and their options, as the command line reader is given them.
+ghost use Rattle.std.specs.Prelude.{IfOk};
+ghost use Rattle.clap.specs.Words.{App};
+ghost use Rattle.stab_args.specs.Options.{alone, bare, check, coins, detect, deterministic, deterministic_only, distance, edit, faults, flag, most_errors, named, numbered, one_name, ranged, shot_command, stabilisers, stabsim, valued};
+ghost use Rattle.stab_args.specs.inner.Parts.{IsApp, IsOption, with_common, with_files};
+
+use crate::words::help;
+use clap::builder::ValueParser;
+use clap::{Arg, ArgAction, Command};
+use stab_jobs::{QubitCount, Shots, Stride};
+use std::alloc::{AllocError, Global};
+
+/// The names of the result formats.
+pub(crate) static FORMATS: [&str; 5] = ["01", "b8", "r8", "hits", "dets"];
+
+/// The names of the letters of errors.
+pub(crate) static LETTERS: [&str; 2] = ["all", "XZ"];
+
+/// The greatest number of errors up to which a distance is asked for.
+pub(crate) const MOST_ERRORS: u64 = 1_000_000_000;
+
+/// An option `--id` with a value.
+fn valued<'a>(alloc: Global, id: &'a str, value: &'a str, help: &'a str) -> Arg<'a>
+    ensures rule { IsOption (valued id.entry.now) result }
+{
+    Arg::new(alloc, id).long(id).value_name(value).help(help)
+}
+
+/// An option `--id` with a number within these limits.
+fn ranged<'a>(alloc: Global, id: &'a str, least: u64, most: u64, help: &'a str) -> Arg<'a>
+    ensures rule { IsOption (ranged id.entry.now least most) result }
+{
+    valued(alloc, id, "NUMBER", help).value_parser(ValueParser::unsigned(least, most))
+}
+
+/// The same with a default.
+fn numbered<'a>(
+    alloc: Global,
+    id: &'a str,
+    least: u64,
+    most: u64,
+    default: &'a str,
+    help: &'a str,
+) -> Arg<'a>
+    ensures rule { IsOption (numbered id.entry.now least most default.entry.now) result }
+{
+    ranged(alloc, id, least, most, help).default_value(default)
+}
+
+/// An option `--id` with one of these names.
+fn one_name<'a>(alloc: Global, id: &'a str, names: &'a [&'a str], help: &'a str) -> Arg<'a>
+    ensures rule { IsOption (one_name id.entry.now names.entry) result }
+{
+    valued(alloc, id, "NAME", help).value_parser(names)
+}
+
+/// The same with a default.
+fn named<'a>(
+    alloc: Global,
+    id: &'a str,
+    names: &'a [&'a str],
+    default: &'a str,
+    help: &'a str,
+) -> Arg<'a>
+    ensures rule { IsOption (named id.entry.now names.entry default.entry.now) result }
+{
+    one_name(alloc, id, names, help).default_value(default)
+}
+
+/// An option `--id` without a value.
+fn flag<'a>(alloc: Global, id: &'a str, help: &'a str) -> Arg<'a>
+    ensures rule { IsOption (flag id.entry.now) result }
+{
+    Arg::new(alloc, id)
+        .long(id)
+        .action(ArgAction::SetTrue)
+        .help(help)
+}
+
+/// The flag that leaves out what is not the same for all random bits, which has another name.
+fn deterministic_only<'a>(alloc: Global) -> Result<Arg<'a>, AllocError>
+    ensures rule { IfOk result (IsOption deterministic_only) }
+{
+    flag(alloc, "deterministic_only", help::DETERMINISTIC_ONLY).alias("sure_only")
+}
+
+/// A command with the options of every command after its own; `help_in` is the help of `--in`.
+fn with_files<'a>(
+    alloc: Global,
+    command: Command<'a>,
+    help_in: &'a str,
+) -> Result<Command<'a>, AllocError>
+    ensures app { (app : App) → IsApp app command.entry → IfOk result (IsApp (with_files app)) }
+{
+    command
+        .arg(valued(alloc, "in", "FILE", help_in))?
+        .arg(valued(alloc, "out", "FILE", help::OUT))
+}
+
+/// A command with the options of one that runs a circuit after its own; `help_in` is the help of `--in`.
+fn with_common<'a>(
+    alloc: Global,
+    command: Command<'a>,
+    help_in: &'a str,
+) -> Result<Command<'a>, AllocError>
+    ensures app { (app : App) → IsApp app command.entry → IfOk result (IsApp (with_common app)) }
+{
+    let command = command
+        .arg(numbered(alloc, "seed", 0, u64::MAX, "0", help::SEED))?
+        .arg(valued(alloc, "coins", "TEXT", help::COINS))?
+        .arg(valued(alloc, "coins_in", "FILE", help::COINS_IN))?;
+    with_files(alloc, command, help_in)
+}
+
+/// A command that takes shots, with the options of all such commands.
+fn shot_command<'a>(
+    alloc: Global,
+    name: &'a str,
+    about: &'a str,
+    after_help: &'a str,
+    formats: &'a [&'a str],
+) -> Result<Command<'a>, AllocError>
+    ensures app { IfOk result (IsApp (alone (shot_command name.entry.now formats.entry))) }
+{
+    let command = Command::new(alloc, name)
+        .about(about)
+        .after_help(after_help)
+        .arg(numbered(alloc, "shots", 0, Shots::MOST as u64, "1", help::SHOTS))?
+        .arg(ranged(alloc, "first_shot", 0, u64::MAX, help::FIRST_SHOT))?
+        .arg(named(alloc, "out_format", formats, "01", help::FORMAT))?;
+    with_common(alloc, command, help::IN)
+}
+
+/// The command `stabilisers`, which takes no shots, and which is found by another spelling too.
+fn stabilisers_command<'a>(alloc: Global) -> Result<Command<'a>, AllocError>
+    ensures app { IfOk result (IsApp (alone stabilisers)) }
+{
+    let command = Command::new(alloc, "stabilisers")
+        .about(help::ABOUT_STABILISERS)
+        .after_help(help::AFTER_STABILISERS)
+        .alias("stabilizers")?;
+    with_common(alloc, command, help::IN)
+}
+
+/// The command `edit`.
+fn edit_command<'a>(alloc: Global) -> Result<Command<'a>, AllocError>
+    ensures app { IfOk result (IsApp (alone edit)) }
+{
+    let command = Command::new(alloc, "edit")
+        .about(help::ABOUT_EDIT)
+        .after_help(help::AFTER_EDIT)
+        .arg(ranged(alloc, "qubits", 0, QubitCount::MOST as u64, help::QUBITS))?
+        .arg(numbered(
+            alloc,
+            "stride",
+            1,
+            Stride::MOST as u64,
+            "8192",
+            help::STRIDE,
+        ))?
+        .arg(flag(alloc, "framed", help::FRAMED))?;
+    with_common(alloc, command, help::IN_OF_EDIT)
+}
+
+/// The command `check`, which takes no coins.
+fn check_command<'a>(alloc: Global) -> Result<Command<'a>, AllocError>
+    ensures app { IfOk result (IsApp (alone check)) }
+{
+    let command = Command::new(alloc, "check")
+        .about(help::ABOUT_CHECK)
+        .after_help(help::AFTER_CHECK);
+    with_files(alloc, command, help::IN)
+}
+
+/// The command `deterministic`, which takes no coins.
+fn deterministic_command<'a>(
+    alloc: Global,
+    formats: &'a [&'a str],
+) -> Result<Command<'a>, AllocError>
+    ensures app { IfOk result (IsApp (alone (deterministic formats.entry))) }
+{
+    let command = Command::new(alloc, "deterministic")
+        .about(help::ABOUT_DETERMINISTIC)
+        .after_help(help::AFTER_DETERMINISTIC)
+        .arg(named(alloc, "out_format", formats, "01", help::FORMAT))?
+        .arg(flag(alloc, "explain", help::EXPLAIN))?;
+    with_files(alloc, command, help::IN)
+}
+
+/// The command `faults`, which takes no coins.
+fn faults_command<'a>(alloc: Global, formats: &'a [&'a str]) -> Result<Command<'a>, AllocError>
+    ensures app { IfOk result (IsApp (alone (faults formats.entry))) }
+{
+    let command = Command::new(alloc, "faults")
+        .about(help::ABOUT_FAULTS)
+        .after_help(help::AFTER_FAULTS)
+        .arg(one_name(alloc, "out_format", formats, help::FAULT_LAYOUT))?
+        .arg(flag(alloc, "everywhere", help::EVERYWHERE))?
+        .arg(deterministic_only(alloc)?)?;
+    with_files(alloc, command, help::IN)
+}
+
+/// The command `coins`, which takes no coins.
+fn coins_command<'a>(alloc: Global, formats: &'a [&'a str]) -> Result<Command<'a>, AllocError>
+    ensures app { IfOk result (IsApp (alone (coins formats.entry))) }
+{
+    let command = Command::new(alloc, "coins")
+        .about(help::ABOUT_COINS)
+        .after_help(help::AFTER_COINS)
+        .arg(one_name(alloc, "out_format", formats, help::COIN_LAYOUT))?;
+    with_files(alloc, command, help::IN)
+}
+
+/// The command `distance`, which takes no coins.
+fn distance_command<'a>(alloc: Global, letters: &'a [&'a str]) -> Result<Command<'a>, AllocError>
+    ensures app { IfOk result (IsApp (alone (distance letters.entry))) }
+{
+    let command = Command::new(alloc, "distance")
+        .about(help::ABOUT_DISTANCE)
+        .after_help(help::AFTER_DISTANCE)
+        .arg(flag(alloc, "everywhere", help::NOISE))?
+        .arg(named(alloc, "letters", letters, "all", help::LETTERS))?
+        .arg(ranged(alloc, "most", 0, MOST_ERRORS, help::MOST))?
+        .arg(flag(alloc, "graphlike", help::GRAPHLIKE))?
+        .arg(deterministic_only(alloc)?)?
+        .arg(flag(alloc, "progress", help::PROGRESS))?;
+    with_files(alloc, command, help::IN)
+}
+
+/// The command `detect`.
+fn detect_command<'a>(alloc: Global, formats: &'a [&'a str]) -> Result<Command<'a>, AllocError>
+    ensures app { IfOk result (IsApp (alone (detect formats.entry))) }
+{
+    let append = flag(alloc, "append_observables", help::APPEND);
+    shot_command(
+        alloc,
+        "detect",
+        help::ABOUT_DETECT,
+        help::AFTER_DETECT,
+        formats,
+    )?
+    .arg(append)
+}
+
+/// The program without its commands.
+fn bare_command<'a>(alloc: Global) -> Command<'a>
+    ensures app { IsApp bare result }
+{
+    Command::new(alloc, "stabsim")
+        .version(help::VERSION)
+        .about(help::ABOUT)
+        .after_help(help::AFTER)
+        .subcommand_required(true)
+}
+
+/// The program with its commands. Each is made when the one before it has been put in, so that there are never more than two
+/// to be let go.
+pub(crate) fn app<'a>(
+    alloc: Global,
+    formats: &'a [&'a str],
+    letters: &'a [&'a str],
+) -> Result<Command<'a>, AllocError>
+    ensures app { IfOk result (IsApp (stabsim (record { formats = formats.entry; letters = letters.entry }))) }
+{
+    bare_command(alloc)
+        .subcommand(shot_command(
+            alloc,
+            "sample",
+            help::ABOUT_SAMPLE,
+            help::AFTER_SAMPLE,
+            formats,
+        )?)?
+        .subcommand(detect_command(alloc, formats)?)?
+        .subcommand(stabilisers_command(alloc)?)?
+        .subcommand(edit_command(alloc)?)?
+        .subcommand(check_command(alloc)?)?
+        .subcommand(deterministic_command(alloc, formats)?)?
+        .subcommand(faults_command(alloc, formats)?)?
+        .subcommand(coins_command(alloc, formats)?)?
+        .subcommand(distance_command(alloc, letters)?)
+}

@@ -1,0 +1,33 @@
+use Rattle.stab_commands.proofs.Names.{◌≡◌, ◌∙◌, ◌*◌, ap, sym, length, take, arith, subst, length-row, written, Took, of_shots, sends_none, sent_shot, shots_break_off, cut_off_as}
+use Rattle.stab_commands.proofs.packed.send_rows.Goals as goal
+
+pub loop-lane-preserved : goal.loop-lane-preserved
+loop-lane-preserved g c =
+    let long : length c.write_row.new.bytes ≡ 8 * length c.args.blocks.now = ap length c.write_row.ensures.value ∙ length-row c.loop-lane.lane c.args.blocks.now in
+    let has = written c.loop-lane.bytes.len c.write_row.new.bytes _ (c.loop-lane.bytes.ok.0 ∙ c.loop-lane.invariant.0 ∙ sym long) in (
+      ap length has ∙ long,
+      λ first bytes_of are.
+          let same = ap (take c.args.count) (c.as_slice.ensures.value ∙ has ∙ c.write_row.ensures.value) ∙ are c.loop-lane.lane c.loop-lane-test.true in
+          sent_shot bytes_of first c.loop-lane.lane (c.loop-lane.invariant.1 first bytes_of are)
+          (subst (λ l. Took (g.O.Output.seen c.loop-lane.out) (g.O.Output.seen c.send_bytes.new.out) l) same c.in_ok-send_bytes.ensures.writes),
+    )
+
+pub returns-in_err-send_bytes : goal.returns-in_err-send_bytes
+returns-in_err-send_bytes g c =
+    let long : length c.write_row.new.bytes ≡ 8 * length c.args.blocks.now = ap length c.write_row.ensures.value ∙ length-row c.loop-lane.lane c.args.blocks.now in
+    let has = written c.loop-lane.bytes.len c.write_row.new.bytes _ (c.loop-lane.bytes.ok.0 ∙ c.loop-lane.invariant.0 ∙ sym long) in record {
+      sends = λ first bytes_of are.
+          let same = ap (take c.args.count) (c.as_slice.ensures.value ∙ has ∙ c.write_row.ensures.value) ∙ are c.loop-lane.lane c.loop-lane-test.true in
+          shots_break_off bytes_of first c.loop-lane.lane c.args.lanes c.in_err-send_bytes.field-0.0 c.from_residual-in_err-send_bytes.result
+          c.loop-lane-test.true (c.loop-lane.invariant.1 first bytes_of are) (cut_off_as _ _ c.in_err-send_bytes.field-0.0 same c.in_err-send_bytes.ensures.writes) c.from_residual-in_err-send_bytes.ensures.1;
+    }
+
+pub returns-in_err-bytes : goal.returns-in_err-bytes
+returns-in_err-bytes g c = record { sends = λ first bytes_of are. sends_none (g.O.Output.seen c.args.out.now) _ c.from_residual.result c.from_residual.ensures.1 }
+
+pub returns : goal.returns
+returns g c = record {
+  sends = λ first bytes_of are.
+      let end : c.loop-lane.lane ≡ c.args.lanes = omega (arith, c.loop-lane-test.false, c.loop-lane.auto.lane-end) in
+      subst (λ n. Took (g.O.Output.seen c.args.out.now) (g.O.Output.seen c.loop-lane.out) (of_shots bytes_of first n)) end (c.loop-lane.invariant.1 first bytes_of are);
+}

@@ -1,9 +1,0 @@
--- Parts: what a run gave between some lengths of its lists and others.
--- Source: this project's own.
-use Rattle.stab_steps.specs.declared.records.Lengths.{Lengths}
-use Rattle.stab_steps.specs.Points.{RunOutput}
-use Rattle.stab_steps.specs.Cuts.{front_of, rest_of}
-
--- what an output has between some lengths and others
-abbrev pub between : Lengths → Lengths → RunOutput → RunOutput
-between from to o = rest_of from (front_of to o)

@@ -1,0 +1,33 @@
+use Rattle.stab_frames.proofs.Names.{subst, length, take, drop, arith, all_coins_of, coins_from, record_of, differing, GoesOver}
+use Rattle.stab_frames.proofs.FreeLemmas.{ones-split}
+use Rattle.stab_frames.proofs.StillPropagationLemmas.{ones-within}
+use Rattle.stab_frames.proofs.OtherCoinLemmas.{propagation-others, propagation-whole}
+use Rattle.stab_frames.proofs.other_coins.propagate_with_coins.Goals as goal
+
+pub returns-in_err-propagate-clause-asks : goal.returns-in_err-propagate-clause-asks
+returns-in_err-propagate-clause-asks g c =
+    let count = all_coins_of (take c.args.most c.args.cursor.now.left) in
+    omega (arith, c.propagate.ensures.asks, ones-split c.args.propagation.now.coin count c.args.free.now, ones-within count (drop c.args.propagation.now.coin c.args.free.now))
+
+pub returns-clause-asks : goal.returns-clause-asks
+returns-clause-asks g c =
+    let count = all_coins_of (take c.args.most c.args.cursor.now.left) in
+    omega (arith, c.propagate.ensures.asks, ones-split c.args.propagation.now.coin count c.args.free.now, ones-within count (drop c.args.propagation.now.coin c.args.free.now))
+
+pub returns-clause-asks_free : goal.returns-clause-asks_free
+returns-clause-asks_free g c =
+    omega (arith, c.propagate.ensures.asks, ones-split c.args.propagation.now.coin (all_coins_of (take c.args.most c.args.cursor.now.left)) c.args.free.now)
+
+pub returns-clause-propagated : goal.returns-clause-propagated
+returns-clause-propagated g c =
+    let n = length c.args.propagation.now.letters in
+    let xs = c.args.cursor.now.left in
+    let others = coins_from c.args.ahead (g.C.Coins.sequence c.args.coins.now) in
+    let done = c.in_ok-propagate.ensures {u = tt} in
+    let whole =
+    propagation-whole n 0 c.in_ok-propagate.field-0.steps c.args.most _ c.args.strings.now.strings c.args.free.now xs c.propagate.new.propagation c.in_ok-propagate.field-0.stop
+    done.stop done.gone done.missing c.requires.kept in
+    propagation-others n c.args.strings.now.strings c.args.free.now c.args.records.now others (take c.args.most xs) c.args.propagation.now c.propagate.new.propagation
+    (subst (λ ys. GoesOver n c.args.strings.now.strings c.args.free.now (differing (record_of c.args.records.now c.args.propagation.now.coin) others) ys c.args.propagation.now c.propagate.new.propagation) whole
+    (subst (λ k. GoesOver n c.args.strings.now.strings c.args.free.now (differing (record_of c.args.records.now k) others) (take c.in_ok-propagate.field-0.steps xs)
+    c.args.propagation.now c.propagate.new.propagation) c.coin.ensures.value done.goes))

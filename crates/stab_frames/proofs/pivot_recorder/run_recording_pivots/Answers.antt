@@ -1,0 +1,112 @@
+use Rattle.stab_frames.proofs.Names.{◌-◌, arith, refl, ap, sym, ◌∙◌, length, take, length-append, steps_shown, all_coins_of, program_state, output_of, fits-steps, take-steps, drop-steps, take-none, drop-none, take-empty, drop-empty, coins-append}
+use Rattle.stab_frames.proofs.PivotsStepsLemmas.{pivots-all, pivots-steps}
+use Rattle.stab_frames.proofs.pivot_recorder.run_recording_pivots.Goals as goal
+
+pub run_steps-requires-clause-same_length : goal.run_steps-requires-clause-same_length
+run_steps-requires-clause-same_length g c = c.loop-left.invariant.string ∙ c.requires.same_length ∙ sym c.loop-left.invariant.qubits
+
+pub run_steps-requires-clause-pivots_length : goal.run_steps-requires-clause-pivots_length
+run_steps-requires-clause-pivots_length g c = c.loop-left.invariant.pivots_length ∙ sym c.loop-left.invariant.qubits
+
+pub run_steps-requires-clause-strings_length : goal.run_steps-requires-clause-strings_length
+run_steps-requires-clause-strings_length g c = c.loop-left.invariant.strings_length ∙ sym c.loop-left.invariant.qubits
+
+pub run_steps-requires-clause-fits : goal.run_steps-requires-clause-fits
+run_steps-requires-clause-fits g c =
+    (fits-steps c.loop-left.tableau.qubits c.loop-left.tableau.qubits c.loop-left.cursor.left (steps_shown c.in-Some.steps) c.next_steps.new.self.left
+    c.in-Some.ensures.some refl c.loop-left.invariant.fits).0
+
+pub run_steps-requires-clause-few : goal.run_steps-requires-clause-few
+run_steps-requires-clause-few g c =
+    let parts = ap length c.in-Some.ensures.some ∙ length-append (steps_shown c.in-Some.steps) c.next_steps.new.self.left in
+    omega (arith, parts, c.loop-left.invariant.few, c.requires.few)
+
+pub loop-left-smaller : goal.loop-left-smaller
+loop-left-smaller g c = omega (arith, c.in-Some.ensures.within, c.len-left.ensures.value)
+
+pub loop-left-preserved : goal.loop-left-preserved
+loop-left-preserved g c =
+    let inv = c.loop-left.invariant in
+    let more = c.in-Some.ensures.some in
+    let done = c.in_ok-run_steps.ensures {u = tt} in
+    let shown = steps_shown c.in-Some.steps in
+    let left = c.loop-left.left in
+    let count = c.len-left.result in
+    let before = c.loop-left.cursor.left in
+    let behind = c.next_steps.new.self.left in
+    let front = take-steps left count before shown behind more c.len-left.ensures.value c.in-Some.ensures.within.1 in
+    let then = take (left - count) behind in
+    let parts = ap length more ∙ length-append shown behind in
+    let taken = ap length front ∙ length-append shown then in
+    let asked = ap all_coins_of front ∙ coins-append shown then in
+    record {
+      fits = (fits-steps c.loop-left.tableau.qubits c.run_steps.new.tableau.qubits before shown behind more done.qubits inv.fits).1;
+      few = omega (arith, parts, done.counted, inv.few);
+      counted = omega (arith, taken, done.counted, inv.counted);
+      rest = sym (drop-steps left count before shown behind more c.len-left.ensures.value c.in-Some.ensures.within.1) ∙ inv.rest;
+      all = c.next_steps.ensures.all ∙ inv.all;
+      qubits = done.qubits ∙ inv.qubits;
+      string = done.string ∙ inv.string;
+      same_coins = done.same_coins ∙ inv.same_coins;
+      asks = omega (arith, asked, done.asks, inv.asks);
+      asks_free = omega (arith, done.asks_free, inv.asks_free);
+      pivots_length = done.pivots_length ∙ inv.qubits;
+      strings_length = done.strings_length ∙ inv.qubits;
+      most = done.most ∙ inv.most;
+      raised = omega (arith, done.raised, inv.raised);
+      has_pivots = λ window new kept le rest. inv.has_pivots window new kept (omega (arith, done.raised, le))
+          (pivots-steps c.args.tableau.now.qubits c.loop-left.tableau.qubits (g.C.Coins.sequence c.args.coins.now) (g.C.Coins.sequence c.loop-left.coins)
+          (take left before) shown then c.run_steps.new.self.window window c.loop-left.pivots.strings c.run_steps.new.self.strings kept
+          (program_state c.loop-left.tableau (output_of c.loop-left.outputs)) (program_state c.run_steps.new.tableau (output_of c.run_steps.new.outputs)) new
+          front inv.qubits inv.same_coins le done.has_pivots rest);
+    }
+
+pub returns-clause-counted : goal.returns-clause-counted
+returns-clause-counted g c = omega (arith, ap length (take-none c.loop-left.left c.loop-left.cursor.left c.loop-left-test.false), c.loop-left.invariant.counted)
+
+pub returns-clause-left : goal.returns-clause-left
+returns-clause-left g c = sym (drop-none c.loop-left.left c.loop-left.cursor.left c.loop-left-test.false) ∙ c.loop-left.invariant.rest
+
+pub returns-clause-asks : goal.returns-clause-asks
+returns-clause-asks g c = omega (arith, c.loop-left.invariant.asks)
+
+pub returns-clause-run : goal.returns-clause-run
+returns-clause-run g c = (pivots-all (take-none c.loop-left.left c.loop-left.cursor.left c.loop-left-test.false) c.loop-left.invariant.has_pivots).run
+
+pub returns-clause-window : goal.returns-clause-window
+returns-clause-window g c = (pivots-all (take-none c.loop-left.left c.loop-left.cursor.left c.loop-left-test.false) c.loop-left.invariant.has_pivots).within
+
+pub returns-clause-has_pivots : goal.returns-clause-has_pivots
+returns-clause-has_pivots g c = (pivots-all (take-none c.loop-left.left c.loop-left.cursor.left c.loop-left-test.false) c.loop-left.invariant.has_pivots).has_pivots
+
+pub returns-in_default-clause-counted : goal.returns-in_default-clause-counted
+returns-in_default-clause-counted g c =
+    omega (arith, ap length (take-empty c.loop-left.left c.loop-left.cursor.left c.in_default.ensures.none.0), c.loop-left.invariant.counted)
+
+pub returns-in_default-clause-left : goal.returns-in_default-clause-left
+returns-in_default-clause-left g c =
+    c.in_default.ensures.none.1
+    ∙ sym (drop-empty c.loop-left.left c.loop-left.cursor.left c.in_default.ensures.none.0)
+    ∙ c.loop-left.invariant.rest
+
+pub returns-in_default-clause-asks : goal.returns-in_default-clause-asks
+returns-in_default-clause-asks g c = omega (arith, c.loop-left.invariant.asks)
+
+pub returns-in_default-clause-run : goal.returns-in_default-clause-run
+returns-in_default-clause-run g c = (pivots-all (take-empty c.loop-left.left c.loop-left.cursor.left c.in_default.ensures.none.0) c.loop-left.invariant.has_pivots).run
+
+pub returns-in_default-clause-window : goal.returns-in_default-clause-window
+returns-in_default-clause-window g c = (pivots-all (take-empty c.loop-left.left c.loop-left.cursor.left c.in_default.ensures.none.0) c.loop-left.invariant.has_pivots).within
+
+pub returns-in_default-clause-has_pivots : goal.returns-in_default-clause-has_pivots
+returns-in_default-clause-has_pivots g c = (pivots-all (take-empty c.loop-left.left c.loop-left.cursor.left c.in_default.ensures.none.0) c.loop-left.invariant.has_pivots).has_pivots
+
+pub returns-in_err-run_steps-clause-asks : goal.returns-in_err-run_steps-clause-asks
+returns-in_err-run_steps-clause-asks g c =
+    let shown = steps_shown c.in-Some.steps in
+    let left = c.loop-left.left in
+    let behind = c.next_steps.new.self.left in
+    let count = c.len-left.result in
+    let front = take-steps left count c.loop-left.cursor.left shown behind c.in-Some.ensures.some c.len-left.ensures.value c.in-Some.ensures.within.1 in
+    let asked = ap all_coins_of front ∙ coins-append shown (take (left - count) behind) in
+    omega (arith, asked, c.run_steps.ensures.asks, c.loop-left.invariant.asks)

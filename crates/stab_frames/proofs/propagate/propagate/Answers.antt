@@ -1,0 +1,108 @@
+use Rattle.stab_frames.proofs.Names.{◌≡◌, ◌+◌, ◌≤◌, ◌∙◌, ap, sym, subst, arith, length, take, drop, length-take, take-length, steps_shown, all_coins_of, coins-few, frame_at, IsGone}
+use Rattle.stab_frames.proofs.FreeLemmas.{asks-later, asks-further, missing-later}
+use Rattle.stab_frames.proofs.GoesOverLemmas.{goes-same}
+use Rattle.stab_frames.proofs.StepsPropagatedLemmas.{left-over, left-none, drop-over, fits-over, coins-within, coins-less, goes-over}
+use Rattle.stab_frames.proofs.propagate.propagate.Goals as goal
+
+pub returns-then-is_gone-clause-stop : goal.returns-then-is_gone-clause-stop
+returns-then-is_gone-clause-stop g c = λ base.
+    subst (λ m. IsGone m c.args.window (frame_at base c.loop-steps.propagation)) c.loop-steps.invariant.goes.size (c.is_gone.ensures.gone c.if-is_gone.true base)
+
+pub returns-in_default-clause-stop : goal.returns-in_default-clause-stop
+returns-in_default-clause-stop g c =
+    let none = left-none c.loop-steps.steps c.args.cursor.now.left (sym c.loop-steps.invariant.left ∙ c.in_default.ensures.none.0) in
+    omega (arith, length-take c.args.most c.args.cursor.now.left, c.loop-steps.invariant.most, c.loop-steps.invariant.within, none)
+
+pub propagate_instruction-requires-clause-fits : goal.propagate_instruction-requires-clause-fits
+propagate_instruction-requires-clause-fits g c =
+    fits-over (length c.args.propagation.now.letters) (length c.loop-steps.propagation.letters) c.loop-steps.steps c.args.cursor.now.left (steps_shown c.in-Some.next) c.next_steps.new.self.left
+    (sym c.loop-steps.invariant.left ∙ c.in-Some.ensures.some) c.loop-steps.invariant.goes.size c.requires.fits
+
+pub propagate_instruction-requires-clause-few : goal.propagate_instruction-requires-clause-few
+propagate_instruction-requires-clause-few g c =
+    let le = left-over c.loop-steps.steps c.args.cursor.now.left (steps_shown c.in-Some.next) c.next_steps.new.self.left (sym c.loop-steps.invariant.left ∙ c.in-Some.ensures.some) c.in-Some.ensures.within.0 in
+    omega (arith, c.loop-steps.invariant.goes.coin, coins-few c.loop-steps.steps c.args.cursor.now.left, le, c.requires.few)
+
+pub returns-then-went-len-clause-within : goal.returns-then-went-len-clause-within
+returns-then-went-len-clause-within g c =
+    let le = left-over c.loop-steps.steps c.args.cursor.now.left (steps_shown c.in-Some.next) c.next_steps.new.self.left (sym c.loop-steps.invariant.left ∙ c.in-Some.ensures.some) c.in-Some.ensures.within.0 in
+    let few : c.in_ok-went.went ≤ length (steps_shown c.in-Some.next) = c.in_ok-went.ensures.within in
+    omega (arith, length-take c.args.most c.args.cursor.now.left, le, few, c.in-Some.ensures.within.1, c.loop-steps-test.true)
+
+pub returns-then-is_gone-clause-asks : goal.returns-then-is_gone-clause-asks
+returns-then-is_gone-clause-asks g c =
+    asks-later c.args.known.free.now c.args.propagation.now.coin c.loop-steps.propagation.coin (c.args.propagation.now.coin + all_coins_of (take c.args.most c.args.cursor.now.left))
+    (g.C.Coins.asks c.args.coins.now) (g.C.Coins.asks c.loop-steps.coins) c.loop-steps.invariant.asks
+    (omega (arith, c.loop-steps.invariant.goes.coin, coins-less c.loop-steps.steps c.args.most c.args.cursor.now.left c.loop-steps.invariant.most))
+
+pub returns-in_default-clause-asks : goal.returns-in_default-clause-asks
+returns-in_default-clause-asks g c =
+    asks-later c.args.known.free.now c.args.propagation.now.coin c.loop-steps.propagation.coin (c.args.propagation.now.coin + all_coins_of (take c.args.most c.args.cursor.now.left))
+    (g.C.Coins.asks c.args.coins.now) (g.C.Coins.asks c.loop-steps.coins) c.loop-steps.invariant.asks
+    (omega (arith, c.loop-steps.invariant.goes.coin, coins-less c.loop-steps.steps c.args.most c.args.cursor.now.left c.loop-steps.invariant.most))
+
+pub returns-in_err-went-clause-asks : goal.returns-in_err-went-clause-asks
+returns-in_err-went-clause-asks g c =
+    let coins =
+    coins-within c.loop-steps.steps c.args.most c.args.cursor.now.left (steps_shown c.in-Some.next) _ (sym c.loop-steps.invariant.left ∙ c.in-Some.ensures.some)
+    (omega (arith, c.in-Some.ensures.within.1, c.loop-steps-test.true)) in
+    asks-further c.args.known.free.now c.args.propagation.now.coin c.loop-steps.propagation.coin (c.loop-steps.propagation.coin + all_coins_of (steps_shown c.in-Some.next))
+    (c.args.propagation.now.coin + all_coins_of (take c.args.most c.args.cursor.now.left)) (g.C.Coins.asks c.args.coins.now) (g.C.Coins.asks c.loop-steps.coins) (g.C.Coins.asks c.propagate_instruction.new.coins)
+    c.loop-steps.invariant.asks c.propagate_instruction.ensures.asks (omega (arith, c.loop-steps.invariant.goes.coin, coins))
+
+pub returns-then-went-len-clause-asks : goal.returns-then-went-len-clause-asks
+returns-then-went-len-clause-asks g c =
+    let coins =
+    coins-within c.loop-steps.steps c.args.most c.args.cursor.now.left (steps_shown c.in-Some.next) _ (sym c.loop-steps.invariant.left ∙ c.in-Some.ensures.some)
+    (omega (arith, c.in-Some.ensures.within.1, c.loop-steps-test.true)) in
+    asks-further c.args.known.free.now c.args.propagation.now.coin c.loop-steps.propagation.coin (c.loop-steps.propagation.coin + all_coins_of (steps_shown c.in-Some.next))
+    (c.args.propagation.now.coin + all_coins_of (take c.args.most c.args.cursor.now.left)) (g.C.Coins.asks c.args.coins.now) (g.C.Coins.asks c.loop-steps.coins) (g.C.Coins.asks c.propagate_instruction.new.coins)
+    c.loop-steps.invariant.asks c.propagate_instruction.ensures.asks (omega (arith, c.loop-steps.invariant.goes.coin, coins))
+
+pub returns-then-went-len-clause-goes : goal.returns-then-went-len-clause-goes
+returns-then-went-len-clause-goes g c =
+    let xs = c.args.cursor.now.left in
+    let ys = steps_shown c.in-Some.next in
+    let rest = c.next_steps.new.self.left in
+    let inv = c.loop-steps.invariant in
+    let done = c.in_ok-went.ensures {u = tt} in
+    let left = sym inv.left ∙ c.in-Some.ensures.some in
+    let over =
+    goes-over (length c.args.propagation.now.letters) _ _ _ c.loop-steps.steps c.in_ok-went.went xs ys rest _ _ _ left done.within inv.goes
+    (goes-same _ _ _ _ _ _ _ _ _ inv.goes.size (ap (g.D.Draw.changes c.args.known.draw.now) inv.same_coins) done.goes) in
+    over
+
+pub returns-then-went-len-clause-missing : goal.returns-then-went-len-clause-missing
+returns-then-went-len-clause-missing g c = λ is.
+    let coins =
+    coins-within c.loop-steps.steps c.args.most c.args.cursor.now.left (steps_shown c.in-Some.next) _ (sym c.loop-steps.invariant.left ∙ c.in-Some.ensures.some)
+    (omega (arith, c.in-Some.ensures.within.1, c.loop-steps-test.true)) in
+    missing-later c.args.known.strings.now.strings c.args.known.free.now (c.loop-steps.propagation.coin + all_coins_of (steps_shown c.in-Some.next))
+    (c.args.propagation.now.coin + all_coins_of (take c.args.most c.args.cursor.now.left)) (omega (arith, c.loop-steps.invariant.goes.coin, coins))
+    ((c.in_ok-went.ensures {u = tt}).missing (omega (arith, c.if-went-len.true, c.len.ensures.value)))
+
+pub loop-steps-preserved : goal.loop-steps-preserved
+loop-steps-preserved g c =
+    let xs = c.args.cursor.now.left in
+    let ys = steps_shown c.in-Some.next in
+    let rest = c.next_steps.new.self.left in
+    let inv = c.loop-steps.invariant in
+    let done = c.in_ok-went.ensures {u = tt} in
+    let left = sym inv.left ∙ c.in-Some.ensures.some in
+    let over =
+    goes-over (length c.args.propagation.now.letters) _ _ _ c.loop-steps.steps c.in_ok-went.went xs ys rest _ _ _ left done.within inv.goes
+    (goes-same _ _ _ _ _ _ _ _ _ inv.goes.size (ap (g.D.Draw.changes c.args.known.draw.now) inv.same_coins) done.goes) in
+    let few : c.in_ok-went.went ≤ length ys = done.within in
+    let all : length ys ≡ c.in_ok-went.went = omega (arith, few, c.len.ensures.value, c.if-went-len.false) in
+    let coins = ap (λ j. all_coins_of (take j ys)) (sym all) ∙ ap all_coins_of (take-length ys) in
+    record {
+      most = omega (arith, few, c.in-Some.ensures.within.1, c.loop-steps-test.true);
+      within = omega (arith, few, left-over c.loop-steps.steps xs ys rest left c.in-Some.ensures.within.0);
+      left = drop-over c.loop-steps.steps xs ys rest left ∙ ap (λ j. drop (c.loop-steps.steps + j) xs) all;
+      all = c.next_steps.ensures.all ∙ inv.all;
+      same_coins = done.same_coins ∙ inv.same_coins;
+      asks = asks-further c.args.known.free.now c.args.propagation.now.coin c.loop-steps.propagation.coin (c.loop-steps.propagation.coin + all_coins_of (steps_shown c.in-Some.next))
+          c.propagate_instruction.new.propagation.coin (g.C.Coins.asks c.args.coins.now) (g.C.Coins.asks c.loop-steps.coins) (g.C.Coins.asks c.propagate_instruction.new.coins)
+          inv.asks done.asks (omega (arith, done.goes.coin, coins));
+      goes = over;
+    }

@@ -1,9 +1,0 @@
-use Rattle.std.proofs.Common.{◌≡◌, ◌*◌}
-use Rattle.stab_frames.proofs.ProductLemmas.{IsMultipliedTo}
-use Rattle.stab_frames.proofs.walk.FrameWalk.multiply.Given as goal
-
-abbrev pub invariant-loop-word : goal.invariant-loop-word
-invariant-loop-word l = record {
-  alone : l.self ≡ record l.initial.self { letters = l.self.letters };
-  so : IsMultipliedTo (64 * l.word) l.string.letters l.initial.self.letters l.self.letters;
-}

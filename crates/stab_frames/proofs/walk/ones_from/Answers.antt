@@ -1,6 +1,0 @@
-use Rattle.std.proofs.Common.{arith}
-use Rattle.stab_frames.proofs.StillWalkLemmas.{ones-within}
-use Rattle.stab_frames.proofs.walk.ones_from.Goals as goal
-
-pub returns-clause-few : goal.returns-clause-few
-returns-clause-few c = grind (arith, c.count_ones.ensures.value, c.split_at-2.ensures.front, ones-within)

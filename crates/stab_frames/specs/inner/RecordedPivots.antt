@@ -1,0 +1,34 @@
+-- Recorded pivots: what a run keeps of a step that it comes to.
+-- Source: this project's own.
+use Rattle.std.specs.Prelude.{◌≡◌, ℕ, Bool, true, false, List, [], ◌∷◌, Option, Some, None, All}
+use Rattle.stab_gates.specs.declared.letter.Letter.{Letter}
+use Rattle.stab_pauli.specs.Paulis.{Signed}
+use Rattle.stab_tableau.specs.Rules.{is_free_by}
+use Rattle.stab_tableau.specs.Pivots.{IsPivot}
+use Rattle.stab_circuit.specs.Steps.{Step}
+use Rattle.stab_run.specs.Runs.{measured_by}
+use Rattle.stab_run.specs.ProgramStates.{ProgramState, IsRun}
+use Rattle.stab_frames.specs.Lookbacks.{LooksWithin}
+use Rattle.stab_frames.specs.Pivots.{PivotsState, kept_with, KeepsTrue}
+
+-- another string was put after those that are kept: a pivot of what is measured
+pub record IsAdded (n : ℕ) (member : Signed → Bool) (m : Signed) (old new : PivotsState) : Type 0 where
+  pub string : List Letter
+  pub is_pivot : IsPivot n member m string
+  pub strings : new.strings ≡ kept_with old.most old.strings (string ∷ [])
+
+-- if the outcome of what is measured is free, a string is added, and else none
+abbrev pub KeepsPivotsOf : ℕ → (Signed → Bool) → Option Signed → PivotsState → PivotsState → Type 0
+KeepsPivotsOf n member None old new = new.strings ≡ old.strings
+KeepsPivotsOf n member (Some m) old new =
+    (is_free_by member m ≡ true → IsAdded n member m old new) × (is_free_by member m ≡ false → new.strings ≡ old.strings)
+
+-- the same for a step
+abbrev pub KeepsPivots : ℕ → (Signed → Bool) → Step → PivotsState → PivotsState → Type 0
+KeepsPivots n member x old new = KeepsPivotsOf n member (measured_by n x) old new
+
+-- a run passed steps and recorded them: its strings are kept as they are to be, and no step looks further back than is recorded
+pub record PivotsSteps (n : ℕ) (coins : ℕ → Bool) (xs : List Step) (window : ℕ) (kept behind : PivotsState) (old new : ProgramState) : Type 0 where
+  pub run : IsRun n coins xs old new
+  pub has_pivots : KeepsTrue n coins xs kept behind old new
+  pub within : All (LooksWithin window) xs

@@ -1,0 +1,235 @@
+ghost use Rattle.std.specs.Prelude.{◌≡◌, ◌+◌, ◌<◌, ◌≤◌, ◌^◌, All, length, take, drop, OnOk, IfErr};
+ghost use Rattle.stab_io.specs.declared.refusal.Refusal.TheVariants.{OutOfMemory};
+ghost use Rattle.stab_run.specs.Records.{ones};
+ghost use Rattle.stab_run.specs.Points.{all_coins_of};
+ghost use Rattle.stab_run.specs.ProgramStates.{StepFits, IsRun, program_state, output_of};
+ghost use Rattle.stab_frames.specs.Pivots.{KeepsTrue};
+ghost use Rattle.stab_frames.specs.Lookbacks.{LooksWithin};
+
+use crate::pivots::Pivots;
+use stab_circuit::{Cursor, MeasureTarget, Measurement, Step, Steps, measured_step};
+use stab_io::Refusal;
+use stab_pauli::Pauli;
+use stab_rounds::{furthest, furthest_detector, furthest_of};
+use stab_run::{Coins, Outputs, apply_step, apply_step_with_pivot, apply_steps};
+use stab_tableau::Tableau;
+use std::alloc::Global;
+
+/// What a run records on its way, for frames to be propagated over its steps.
+#[derive(Drop)]
+pub struct PivotRecorder {
+    /// Pivots of its random outcomes, the first of them in their order.
+    pub strings: Pivots,
+    /// No step so far looks back further than this many records.
+    pub window: u32,
+    /// A string on the run's qubits, for the tableau to write into.
+    pub string: Pauli,
+}
+
+/// Carries out the steps that a cursor has left, up to this many, and counts them. It records the
+/// strings of free outcomes and how far the steps look back. The string is for products to be written into.
+///
+/// Refusal `OutOfMemory` alone.
+pub fn run_recording_pivots<C: Coins>(
+    alloc: Global,
+    tableau: &mut Tableau,
+    string: &mut Pauli,
+    coins: &mut C,
+    outputs: &mut Outputs,
+    cursor: &mut Cursor,
+    most: usize,
+    applied: &mut u64,
+    pivots: &mut PivotRecorder,
+) -> Result<(), Refusal>
+    requires same_length { length string.old.letters ≡ tableau.old.qubits }
+    requires fits { All (StepFits tableau.old.qubits) cursor.old.left }
+    requires few { applied.old + length cursor.old.left < 2 ^ 63 }
+    requires pivots_length { length pivots.old.string.letters ≡ tableau.old.qubits }
+    requires strings_length { pivots.old.strings.qubits ≡ tableau.old.qubits }
+    ensures counted { OnOk result (applied.new ≡ applied.old + length (take most cursor.old.left)) }
+    ensures all { cursor.new.all ≡ cursor.old.all }
+    ensures left { OnOk result (cursor.new.left ≡ drop most cursor.old.left) }
+    ensures qubits { tableau.new.qubits ≡ tableau.old.qubits }
+    ensures string { length string.new.letters ≡ length string.old.letters }
+    ensures same_coins { C.sequence coins.new ≡ C.sequence coins.old }
+    ensures asks { C.asks coins.new ≤ C.asks coins.old + all_coins_of (take most cursor.old.left) }
+    ensures asks_free { OnOk result (C.asks coins.new + ones outputs.old.free.items ≤ C.asks coins.old + ones outputs.new.free.items) }
+    ensures run { OnOk result (IsRun tableau.old.qubits (C.sequence coins.old) (take most cursor.old.left) (program_state tableau.old (output_of outputs.old)) (program_state tableau.new (output_of outputs.new))) }
+    ensures pivots_length { length pivots.new.string.letters ≡ tableau.old.qubits }
+    ensures strings_length { pivots.new.strings.qubits ≡ tableau.old.qubits }
+    ensures most { pivots.new.strings.most ≡ pivots.old.strings.most }
+    ensures raised { pivots.old.window ≤ pivots.new.window }
+    ensures window { OnOk result (All (LooksWithin pivots.new.window) (take most cursor.old.left)) }
+    ensures has_pivots { OnOk result (KeepsTrue tableau.old.qubits (C.sequence coins.old) (take most cursor.old.left) pivots.old.strings pivots.new.strings (program_state tableau.old (output_of outputs.old)) (program_state tableau.new (output_of outputs.new))) }
+    ensures err { IfErr result (λ r. r ≡ OutOfMemory) }
+{
+    let mut left = most;
+    while left > 0 {
+        let Some(steps) = cursor.next_steps(left) else {
+            return Ok(());
+        };
+        left -= steps.len();
+        pivots.run_steps(alloc, tableau, string, coins, outputs, steps, applied)?;
+    }
+    Ok(())
+}
+
+impl PivotRecorder {
+    ghost use Rattle.std.specs.Prelude.{◌≡◌, ◌+◌, ◌<◌, ◌≤◌, ◌^◌, ◌∷◌, [], if◌then◌else◌, All, length, map, OnOk, IfErr};
+    ghost use Rattle.stab_io.specs.declared.refusal.Refusal.TheVariants.{OutOfMemory};
+    ghost use Rattle.stab_circuit.specs.Steps.{measured};
+    ghost use Rattle.stab_circuit.specs.Cursors.{step_shown, steps_shown};
+    ghost use Rattle.stab_run.specs.Records.{ones};
+    ghost use Rattle.stab_run.specs.Points.{coins_of, all_coins_of};
+    ghost use Rattle.stab_run.specs.ProgramStates.{StepFits, program_state, output_of};
+    ghost use Rattle.stab_frames.specs.inner.RecordedPivots.{PivotsSteps};
+
+    /// Carries out steps, and records them. The other string is for products to be written into.
+    fn run_steps<C: Coins>(
+        &mut self,
+        alloc: Global,
+        tableau: &mut Tableau,
+        string: &mut Pauli,
+        coins: &mut C,
+        outputs: &mut Outputs,
+        steps: Steps,
+        applied: &mut u64,
+    ) -> Result<(), Refusal>
+        requires same_length { length string.old.letters ≡ tableau.old.qubits }
+        requires pivots_length { length self.old.string.letters ≡ tableau.old.qubits }
+        requires strings_length { self.old.strings.qubits ≡ tableau.old.qubits }
+        requires fits { All (StepFits tableau.old.qubits) (steps_shown steps) }
+        requires few { applied.old + length (steps_shown steps) < 2 ^ 63 }
+        ensures counted { OnOk result (applied.new ≡ applied.old + length (steps_shown steps.entry)) }
+        ensures qubits { tableau.new.qubits ≡ tableau.old.qubits }
+        ensures string { length string.new.letters ≡ length string.old.letters }
+        ensures same_coins { C.sequence coins.new ≡ C.sequence coins.old }
+        ensures asks { C.asks coins.new ≤ C.asks coins.old + all_coins_of (steps_shown steps.entry) }
+        ensures asks_free { OnOk result (C.asks coins.new + ones outputs.old.free.items ≤ C.asks coins.old + ones outputs.new.free.items) }
+        ensures pivots_length { length self.new.string.letters ≡ tableau.old.qubits }
+        ensures strings_length { self.new.strings.qubits ≡ tableau.old.qubits }
+        ensures most { self.new.strings.most ≡ self.old.strings.most }
+        ensures raised { self.old.window ≤ self.new.window }
+        ensures has_pivots { OnOk result (PivotsSteps tableau.old.qubits (C.sequence coins.old) (steps_shown steps.entry) self.new.window self.old.strings self.new.strings (program_state tableau.old (output_of outputs.old)) (program_state tableau.new (output_of outputs.new))) }
+        ensures err { IfErr result (λ r. r ≡ OutOfMemory) }
+    {
+        match steps {
+            Steps::Gates(..) => apply_steps(tableau, string, coins, outputs, steps, applied)?,
+            Steps::Pairs(_, pairs) => {
+                self.window = furthest(self.window, pairs);
+                apply_steps(tableau, string, coins, outputs, steps, applied)?;
+            }
+            Steps::Detectors(detectors) => {
+                self.window = furthest_detector(self.window, detectors);
+                apply_steps(tableau, string, coins, outputs, steps, applied)?;
+            }
+            Steps::Measurements(measurement, targets) => {
+                self.run_targets(
+                    alloc,
+                    tableau,
+                    string,
+                    coins,
+                    outputs,
+                    measurement,
+                    targets,
+                    applied,
+                )?;
+            }
+            Steps::Single(step) => {
+                self.run_step(alloc, tableau, string, coins, outputs, step, applied)?;
+            }
+        }
+        Ok(())
+    }
+
+    /// Carries out the measurements of targets, and records them: all at once if no further string is kept.
+    fn run_targets<C: Coins>(
+        &mut self,
+        alloc: Global,
+        tableau: &mut Tableau,
+        string: &mut Pauli,
+        coins: &mut C,
+        outputs: &mut Outputs,
+        measurement: Measurement,
+        targets: &[MeasureTarget],
+        applied: &mut u64,
+    ) -> Result<(), Refusal>
+        requires same_length { length string.old.letters ≡ tableau.old.qubits }
+        requires pivots_length { length self.old.string.letters ≡ tableau.old.qubits }
+        requires strings_length { self.old.strings.qubits ≡ tableau.old.qubits }
+        requires fits { All (StepFits tableau.old.qubits) (map (measured measurement) targets.now) }
+        requires few { applied.old + length targets.now < 2 ^ 63 }
+        ensures counted { OnOk result (applied.new ≡ applied.old + length targets.now) }
+        ensures qubits { tableau.new.qubits ≡ tableau.old.qubits }
+        ensures string { length string.new.letters ≡ length string.old.letters }
+        ensures same_coins { C.sequence coins.new ≡ C.sequence coins.old }
+        ensures asks { C.asks coins.new ≤ C.asks coins.old + length targets.now }
+        ensures asks_free { OnOk result (C.asks coins.new + ones outputs.old.free.items ≤ C.asks coins.old + ones outputs.new.free.items) }
+        ensures pivots_length { length self.new.string.letters ≡ tableau.old.qubits }
+        ensures strings_length { self.new.strings.qubits ≡ tableau.old.qubits }
+        ensures most { self.new.strings.most ≡ self.old.strings.most }
+        ensures raised { self.old.window ≤ self.new.window }
+        ensures has_pivots { OnOk result (PivotsSteps tableau.old.qubits (C.sequence coins.old) (map (measured measurement) targets.now) self.new.window self.old.strings self.new.strings (program_state tableau.old (output_of outputs.old)) (program_state tableau.new (output_of outputs.new))) }
+        ensures err { IfErr result (λ r. r ≡ OutOfMemory) }
+    {
+        if self.strings.is_full() {
+            let steps = Steps::Measurements(measurement, targets);
+            apply_steps(tableau, string, coins, outputs, steps, applied)?;
+            return Ok(());
+        }
+        for target in targets {
+            let step = measured_step(measurement, *target);
+            self.run_step(alloc, tableau, string, coins, outputs, step, applied)?;
+        }
+        Ok(())
+    }
+
+    /// Carries out a step, and records it. If no further string is kept, none is looked for.
+    fn run_step<C: Coins>(
+        &mut self,
+        alloc: Global,
+        tableau: &mut Tableau,
+        string: &mut Pauli,
+        coins: &mut C,
+        outputs: &mut Outputs,
+        step: Step,
+        applied: &mut u64,
+    ) -> Result<(), Refusal>
+        requires same_length { length string.old.letters ≡ tableau.old.qubits }
+        requires pivots_length { length self.old.string.letters ≡ tableau.old.qubits }
+        requires strings_length { self.old.strings.qubits ≡ tableau.old.qubits }
+        requires fits { StepFits tableau.old.qubits (step_shown step) }
+        requires few { applied.old < 2 ^ 63 }
+        ensures counted { OnOk result (applied.new ≡ applied.old + 1) }
+        ensures qubits { tableau.new.qubits ≡ tableau.old.qubits }
+        ensures string { length string.new.letters ≡ length string.old.letters }
+        ensures same_coins { C.sequence coins.new ≡ C.sequence coins.old }
+        ensures asks { C.asks coins.new ≤ C.asks coins.old + coins_of (step_shown step.entry) }
+        ensures asks_free { OnOk result (C.asks coins.new + ones outputs.old.free.items ≤ C.asks coins.old + ones outputs.new.free.items) }
+        ensures pivots_length { length self.new.string.letters ≡ tableau.old.qubits }
+        ensures strings_length { self.new.strings.qubits ≡ tableau.old.qubits }
+        ensures most { self.new.strings.most ≡ self.old.strings.most }
+        ensures raised { self.old.window ≤ self.new.window }
+        ensures has_pivots { OnOk result (PivotsSteps tableau.old.qubits (C.sequence coins.old) (step_shown step.entry ∷ []) self.new.window self.old.strings self.new.strings (program_state tableau.old (output_of outputs.old)) (program_state tableau.new (output_of outputs.new))) }
+        ensures err { IfErr result (λ r. r ≡ OutOfMemory) }
+    {
+        self.window = furthest_of(self.window, step);
+        if self.strings.is_full() {
+            apply_step(tableau, string, coins, outputs, step, applied)?;
+            return Ok(());
+        }
+        let free = apply_step_with_pivot(
+            tableau,
+            string,
+            &mut self.string,
+            coins,
+            outputs,
+            step,
+            applied,
+        )?;
+        if free {
+            self.strings.push(alloc, &self.string)?;
+        }
+        Ok(())
+    }
+}

@@ -1,0 +1,132 @@
+//! Steps on the way of a frame, until all are past, the frame is gone, or a string is missing.
+
+ghost use Rattle.std.specs.Prelude.{◌≡◌, ◌≢◌, ℕ, ◌+◌, ◌^◌, ◌<◌, ◌≤◌, Bool, true, All, length, take, drop, OnOk, IfOk};
+ghost use Rattle.stab_circuit.specs.Steps.{Step};
+ghost use Rattle.stab_run.specs.Points.{Point, outputs, all_coins_of};
+ghost use Rattle.stab_run.specs.ProgramStates.{StepFits};
+ghost use Rattle.stab_frames.specs.RunPivots.{same_coins};
+ghost use Rattle.stab_frames.specs.PivotsOfSteps.{AreEnough};
+ghost use Rattle.stab_frames.specs.Pivots.{pivot_at, AreTrue};
+ghost use Rattle.stab_frames.specs.Propagations.{PropagationState, frame_at, IsPlaced, PropagatesOver};
+ghost use Rattle.stab_frames.specs.Stops.{IsStop};
+ghost use Rattle.stab_frames.specs.declared.propagate.Stop.TheVariants.{Gone, NoString};
+ghost use Rattle.stab_frames.specs.inner.Draws.{AsksFree};
+ghost use Rattle.stab_frames.specs.inner.Propagates.{GoesOver, IsMissing};
+
+use crate::draw::{Draw, SameCoins};
+use crate::pivots::Pivots;
+use crate::propagate_instruction::propagate_instruction;
+use crate::propagate_step::Known;
+use crate::propagation::Propagation;
+use stab_circuit::Cursor;
+use stab_run::{Coins, ListCoins};
+use std::alloc::AllocError;
+
+/// Why a propagation ended.
+#[derive(Clone, Copy, Debug, PartialEq, Eq)]
+pub enum Stop {
+    /// It passed as many steps as were asked for, or there are no more.
+    Behind,
+    /// The frame is gone: what comes after is as it was.
+    Gone,
+    /// It can't go on: the string of a free outcome wasn't kept, and the frame anticommutes with what is measured. No clause says that
+    /// it stops for that reason alone.
+    NoString,
+}
+
+/// How a propagation ended, and how many steps it passed.
+#[derive(Clone, Copy, Debug, PartialEq, Eq)]
+pub struct Propagated {
+    pub stop: Stop,
+    pub steps: usize,
+}
+
+/// Propagates a frame over the steps that a cursor has left, up to this many, to a run with these coins, none of the steps looking back
+/// further than `window` records. It ends if the frame is gone, if it may, and else goes on without one.
+pub fn propagate<D: Draw, C: Coins>(
+    propagation: &mut Propagation,
+    known: Known<D>,
+    coins: &mut C,
+    cursor: &mut Cursor,
+    most: usize,
+    window: u32,
+    may_end: bool,
+) -> Result<Propagated, AllocError>
+    requires same_length { known.strings.now.qubits ≡ length propagation.old.letters }
+    requires fits { All (StepFits (length propagation.old.letters)) cursor.old.left }
+    requires placed { IsPlaced known.free.now propagation.old }
+    requires few { D.ahead known.draw.now + (propagation.old.coin + length cursor.old.left) < 2 ^ 63 }
+    ensures all { cursor.new.all ≡ cursor.old.all }
+    ensures length { length propagation.new.letters ≡ length propagation.old.letters }
+    ensures same_coins { C.sequence coins.new ≡ C.sequence coins.old }
+    ensures asks { AsksFree known.entry.free.now propagation.old.coin (propagation.old.coin + all_coins_of (take most cursor.old.left)) (C.asks coins.old) (C.asks coins.new) }
+    ensures within { IfOk result (λ w. w.steps ≤ length (take most cursor.old.left)) }
+    ensures left { IfOk result (λ w. w.stop ≢ NoString → cursor.new.left ≡ drop w.steps cursor.old.left) }
+    ensures goes { IfOk result (λ w. GoesOver (length propagation.old.letters) known.entry.strings.now.strings known.entry.free.now (D.changes known.entry.draw.now (C.sequence coins.old)) (take w.steps cursor.old.left) propagation.old propagation.new) }
+    ensures stop { IfOk result (λ w. IsStop (length propagation.old.letters) window w.steps (length (take most cursor.old.left)) propagation.new w.stop) }
+    ensures gone { IfOk result (λ w. w.stop ≡ Gone → may_end ≡ true) }
+    ensures missing { IfOk result (λ w. w.stop ≡ NoString → IsMissing known.entry.strings.now.strings known.entry.free.now (propagation.old.coin + all_coins_of (take most cursor.old.left))) }
+{
+    let window = window as usize;
+    let mut steps = 0;
+    while steps < most {
+        if may_end && propagation.is_gone(window) {
+            return Ok(Propagated {
+                stop: Stop::Gone,
+                steps,
+            });
+        }
+        let Some(next) = cursor.next_steps(most - steps) else {
+            return Ok(Propagated {
+                stop: Stop::Behind,
+                steps,
+            });
+        };
+        let went = propagate_instruction(propagation, known, coins, next)?;
+        steps += went;
+        if went < next.len() {
+            return Ok(Propagated {
+                stop: Stop::NoString,
+                steps,
+            });
+        }
+    }
+    Ok(Propagated {
+        stop: Stop::Behind,
+        steps,
+    })
+}
+
+/// Propagates a frame over the steps that a cursor has left, up to this many, of a run with these kept
+/// strings and flags, none of whose steps looks back further than `window` records. It ends if the frame is gone,
+/// if it may, and else goes on without one.
+pub fn propagate_steps(
+    propagation: &mut Propagation,
+    strings: &Pivots,
+    free: &[bool],
+    cursor: &mut Cursor,
+    most: usize,
+    window: u32,
+    may_end: bool,
+) -> Result<Propagated, AllocError>
+    requires same_length { strings.now.qubits ≡ length propagation.old.letters }
+    requires fits { All (StepFits (length propagation.old.letters)) cursor.old.left }
+    requires placed { IsPlaced free.now propagation.old }
+    requires few { propagation.old.coin + length cursor.old.left < 2 ^ 63 }
+    ensures all { cursor.new.all ≡ cursor.old.all }
+    ensures length { length propagation.new.letters ≡ length propagation.old.letters }
+    ensures placed { OnOk result (IsPlaced free.now propagation.new) }
+    ensures within { IfOk result (λ w. w.steps ≤ length (take most cursor.old.left)) }
+    ensures left { IfOk result (λ w. w.stop ≢ NoString → cursor.new.left ≡ drop w.steps cursor.old.left) }
+    ensures propagated { IfOk result (λ w. PropagatesOver (length propagation.old.letters) (pivot_at strings.now.strings free.now) (take w.steps cursor.old.left) propagation.old propagation.new) }
+    ensures stop { IfOk result (λ w. IsStop (length propagation.old.letters) window w.steps (length (take most cursor.old.left)) propagation.new w.stop) }
+    ensures enough { IfOk result (λ w. (coins : ℕ → Bool) (a : Point) (base : ℕ) → a.coin ≡ propagation.old.coin → AreTrue (length propagation.old.letters) coins (pivot_at strings.now.strings free.now) cursor.old.left a → (outputs (length propagation.old.letters) coins cursor.old.left a).free ≡ drop propagation.old.coin free.now → AreEnough (length propagation.old.letters) coins (same_coins (pivot_at strings.now.strings free.now)) (take w.steps cursor.old.left) (frame_at base propagation.old) a) }
+{
+    let known = Known {
+        strings,
+        free,
+        draw: &SameCoins,
+    };
+    let mut none = ListCoins::new(&[]);
+    propagate(propagation, known, &mut none, cursor, most, window, may_end)
+}

@@ -1,5 +1,0 @@
-use Rattle.stab_laws.proofs.FixedLemmas.{fixed-future}
-use Rattle.stab_laws.proofs.laws.fixed_outcomes_need_no_coins.Goals as goal
-
-pub returns : goal.returns
-returns c = record { law = fixed-future }

@@ -1,5 +1,0 @@
-use Rattle.stab_laws.proofs.RoundLemmas.{rounds-again}
-use Rattle.stab_laws.proofs.laws.rounds_come_again.Goals as goal
-
-pub returns : goal.returns
-returns c = record { law = rounds-again }

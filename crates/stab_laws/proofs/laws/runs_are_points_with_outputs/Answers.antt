@@ -1,5 +1,0 @@
-use Rattle.stab_laws.proofs.StateLemmas.{run-state}
-use Rattle.stab_laws.proofs.laws.runs_are_points_with_outputs.Goals as goal
-
-pub returns : goal.returns
-returns c = record { law = run-state }

@@ -1,5 +1,0 @@
-use Rattle.stab_laws.proofs.FutureLemmas.{same-future}
-use Rattle.stab_laws.proofs.laws.same_future.Goals as goal
-
-pub returns : goal.returns
-returns c = record { law = same-future }

@@ -1,5 +1,0 @@
-use Rattle.stab_laws.proofs.FutureBackLemmas.{same-future-back}
-use Rattle.stab_laws.proofs.laws.same_future_back.Goals as goal
-
-pub returns : goal.returns
-returns c = record { law = same-future-back }

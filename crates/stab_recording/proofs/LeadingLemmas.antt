@@ -1,0 +1,308 @@
+-- Frames over the rest: a frame propagated over some of the steps, then some more, and the next copy.
+use Rattle.stab_recording.proofs.Names.{◌≡◌, ◌≢◌, ℕ, suc, ◌+◌, ◌-◌, ◌^◌, ◌<◌, ◌≤◌, refl, sym, ◌∙◌, ap, subst, Bool, true, false, List, [], ◌∷◌, ◌++◌, append-nil, length, replicate, take, drop, slice_get, get_or, All, Option, Some, ◌⊎◌, inl, inr, arith, take-add, take-suc, drop-cons, drop-append_seam, take-append-drop, length-take, length-drop, length-append, drop-drop, slice_get_read, All-nil, All-cons, All-get_or, Letter, I, Signed, TableauState, stabilises, IsConjugated, Step, looked_up, ones, Point, RunOutput, all_coins_of, given, next_point, point_after, outputs, outputs-append, coins-steps, coins-are, flags-given, same_coins, frame_over, AreEnough, pivot_at, AreTrue, Stop, Gone, NoString, IsStop, PropagationState, frame_at, IsPlaced, IsGone, PropagatesOver, enough-append, true-rest, over-append, Checkpoint, AreEnoughBy, AreInOrder, IsFramedBehind, AreFramedCheckpoints, Stabilise, FramesSome, Ending, IsLastApart, IsRestFrame}
+use Rattle.stab_frames.specs.declared.propagate.Stop.TheVariants.{Behind}
+use Rattle.stab_recording.proofs.LetterStateLemmas.{conjugated-apart}
+use Rattle.stab_recording.proofs.QuietLemmas.{quiet-gone, flips-more}
+
+-- copies in order
+
+order-end : (at end : ℕ) (cs : List Checkpoint) → AreInOrder at end cs → at ≤ end
+order-end at end [] order = order
+order-end at end (c ∷ more) order = let later = order-end c.step end more order.1 in omega (arith, order.0, later)
+
+pub order-first : (at end j : ℕ) (cs : List Checkpoint) (c : Checkpoint) → c ≡ get_or cs j c → j < length cs → AreInOrder at end (drop j cs)
+    → (at ≤ c.step) × (c.step ≤ end) × AreInOrder c.step end (drop (j + 1) cs)
+order-first at end j cs c is lt order =
+    let here : (at ≤ c.step) × AreInOrder c.step end (drop (suc j) cs) =
+    subst (λ d. (at ≤ d.step) × AreInOrder d.step end (drop (suc j) cs)) (sym is) (subst (AreInOrder at end) (drop-cons cs j c lt) order) in
+    (here.0, order-end c.step end (drop (suc j) cs) here.1, subst (λ k. AreInOrder c.step end (drop k cs)) {x = suc j} (omega arith) here.1)
+
+pub next-copy : (j k : ℕ) (cs : List Checkpoint) (c : Checkpoint) → k ≡ length (take j cs) → c ≡ get_or cs j c → j < length cs → slice_get cs k ≡ Some c
+next-copy j k cs c count is lt = ap (slice_get cs) {y = j} (omega (arith, count, length-take j cs, lt)) ∙ slice_get_read cs (length cs) j c refl lt is
+
+-- copies after a step are past what was passed before
+order-behind : (from steps at end : ℕ) (cs : List Checkpoint) → from + steps ≤ at → AreInOrder at end cs → All (λ c. steps ≤ c.step - from) cs
+order-behind from steps at end [] le order = All-nil (λ c. steps ≤ c.step - from)
+order-behind from steps at end (c ∷ more) le order =
+    All-cons (λ d. steps ≤ d.step - from) c more (omega (arith, le, order.0)) (order-behind from steps c.step end more (omega (arith, le, order.0)) order.1)
+
+pub behind-copy : (from at end j m : ℕ) (left : List Step) (cs : List Checkpoint) (c : Checkpoint) → c ≡ get_or cs j c → j < length cs → from ≤ at
+    → m ≤ length (take (c.step - at) left) → AreInOrder at end (drop j cs) → All (λ d. (at - from) + m ≤ d.step - from) (drop j cs)
+behind-copy from at end j m left cs c is lt le few order =
+    subst (All (λ d. (at - from) + m ≤ d.step - from)) (sym (drop-cons cs j c lt))
+    (order-behind from ((at - from) + m) (get_or cs j c).step end (get_or cs j c ∷ drop (suc j) cs)
+    (subst (λ d. from + ((at - from) + m) ≤ d.step) is (omega (arith, le, few, length-take (c.step - at) left, first.0)))
+    (omega arith, (subst (AreInOrder at end) (drop-cons cs j c lt) order).1))
+  where
+    first : (at ≤ c.step) × (c.step ≤ end) × AreInOrder c.step end (drop (j + 1) cs)
+    first = order-first at end j cs c is lt order
+
+-- a propagation that is after what it was to pass is there
+
+pub steps-there : (from at m i window : ℕ) (left back : List Step) (c : Checkpoint) (new : PropagationState) (stop : Stop) → left ≡ drop (at - from) back → from ≤ at → at ≤ c.step
+    → c.step ≤ from + length back → IsStop i window m (length (take (c.step - at) left)) new stop → stop ≡ Behind → (at - from) + m ≡ c.step - from
+steps-there from at m i window left back c new stop rest le there within stops behind =
+    omega (arith, le, there, within, all, length-take (c.step - at) left, ap length rest, length-drop (at - from) back)
+  where
+    all : m ≡ length (take (c.step - at) left)
+    all = subst (IsStop i window m (length (take (c.step - at) left)) new) behind stops
+
+pub behind-told : (stop : Stop) → stop ≡ Behind → stop ≢ NoString
+behind-told stop behind told = cc
+
+-- flags of steps, one a coin
+
+pub flags-counted : (n : ℕ) (coins : ℕ → Bool) (xs : List Step) (a : Point) → length (outputs n coins xs a).free ≡ all_coins_of xs
+flags-counted n coins [] a = refl
+flags-counted n coins (x ∷ xs) a =
+    let later = flags-counted n coins xs (next_point n coins x a) in
+    omega (arith, later, flags-given n coins x a, length-append (given n coins x a).free (outputs n coins xs (next_point n coins x a)).free)
+
+pub rest-flags : (front rest flags : List Bool) (coin some later : ℕ) → front ++ rest ≡ drop coin flags → length front ≡ some → later ≡ coin + some → rest ≡ drop later flags
+rest-flags front rest flags coin some later e long at =
+    sym (drop-append_seam front rest)
+    ∙ (λ i. drop (long i) (e i))
+    ∙ drop-drop some coin flags
+    ∙ ap (λ k. drop k flags) (sym at)
+
+-- pivots that are enough over some steps, and then over some more
+
+enough-more : (n : ℕ) (strings : ℕ → Option (List Letter)) (free : List Bool) (back : List Step) (k m : ℕ) (old now : PropagationState)
+    → PropagatesOver n strings (take k back) old now → AreEnoughBy n strings free back k old → AreEnoughBy n strings free (drop k back) m now
+    → (coins : ℕ → Bool) (a : Point) (base : ℕ) → a.coin ≡ old.coin → AreTrue n coins strings back a → (outputs n coins back a).free ≡ drop old.coin free
+    → AreEnough n coins (same_coins strings) (take (k + m) back) (frame_at base old) a
+enough-more n strings free back k m old now over first next coins a base same is flags =
+    subst (λ xs. AreEnough n coins (same_coins strings) xs (frame_at base old) a) (sym (take-add k m back))
+    (enough-append n coins (same_coins strings) (take k back) (take m (drop k back)) (frame_at base old) a (first coins a base same is flags)
+    (subst (λ f. AreEnough n coins (same_coins strings) (take m (drop k back)) f there) frame_is
+    (next coins there base coin_is
+    (true-rest n coins strings (take k back) (drop k back) a (subst (λ ys. AreTrue n coins strings ys a) (sym (take-append-drop k back)) is))
+    (rest-flags (outputs n coins (take k back) a).free (outputs n coins (drop k back) there).free free old.coin (all_coins_of (take k back)) now.coin
+    (sym (ap (λ (o : RunOutput). o.free) (outputs-append n coins (take k back) (drop k back) a))
+    ∙ ap (λ ys. (outputs n coins ys a).free) (take-append-drop k back)
+    ∙ flags)
+    (flags-counted n coins (take k back) a) over.coin))))
+  where
+    there : Point
+    there = point_after n coins (take k back) a
+
+    frame_is : frame_at base now ≡ frame_over n (same_coins strings) (take k back) a.coin (frame_at base old)
+    frame_is = over.frame base ∙ ap (λ c. frame_over n (same_coins strings) (take k back) c (frame_at base old)) (sym same)
+
+    coin_is : (point_after n coins (take k back) a).coin ≡ now.coin
+    coin_is = coins-are n coins (take k back) a ∙ ap (λ c. c + all_coins_of (take k back)) same ∙ sym over.coin
+
+module _ (n : ℕ) (strings : List (List Letter)) (free : List Bool) (back : List Step) (from : ℕ) (old : PropagationState) where
+  -- conjugated copies
+
+  conjugated-further : (steps later : ℕ) (cs : List Checkpoint) (ts : List TableauState) → steps ≤ later → length ts ≡ length cs
+      → AreFramedCheckpoints n strings free back from steps old cs ts → AreFramedCheckpoints n strings free back from later old cs ts
+  conjugated-further steps later [] [] le count are = All-nil (λ c. later ≤ c.step - from)
+  conjugated-further steps later (c ∷ cs) [] le count are = absurd (omega (arith, count))
+  conjugated-further steps later [] (t ∷ ts) le count are = are
+  conjugated-further steps later (c ∷ cs) (t ∷ ts) le count are =
+      (omega (arith, le, are.0), are.1, conjugated-further steps later cs ts le (omega (arith, count)) are.2)
+
+  conjugated-with : (steps : ℕ) (cs : List Checkpoint) (ts : List TableauState) (c : Checkpoint) (t : TableauState) → length ts ≡ length cs → c.step - from ≤ steps
+      → IsFramedBehind n strings free back (c.step - from) old c.tableau t → AreFramedCheckpoints n strings free back from steps old cs ts
+      → AreFramedCheckpoints n strings free back from steps old (cs ++ c ∷ []) (ts ++ t ∷ [])
+  conjugated-with steps [] [] c t count le is are = (le, is, All-nil (λ d. steps ≤ d.step - from))
+  conjugated-with steps (b ∷ cs) [] c t count le is are = absurd (omega (arith, count))
+  conjugated-with steps [] (u ∷ ts) c t count le is are = absurd are
+  conjugated-with steps (b ∷ cs) (u ∷ ts) c t count le is are = (are.0, are.1, conjugated-with steps cs ts c t (omega (arith, count)) le is are.2)
+
+  conjugated-before : (steps : ℕ) (cs rest : List Checkpoint) (ts : List TableauState) → length ts ≡ length cs → All (λ c. steps ≤ c.step - from) rest
+      → AreFramedCheckpoints n strings free back from steps old cs ts → AreFramedCheckpoints n strings free back from steps old (cs ++ rest) ts
+  conjugated-before steps [] rest [] count behind are = behind
+  conjugated-before steps (b ∷ cs) rest [] count behind are = absurd (omega (arith, count))
+  conjugated-before steps [] rest (u ∷ ts) count behind are = absurd are
+  conjugated-before steps (b ∷ cs) rest (u ∷ ts) count behind are = (are.0, are.1, conjugated-before steps cs rest ts (omega (arith, count)) behind are.2)
+
+-- the last conjugated copy
+
+apart-with : (n : ℕ) (cs : List Checkpoint) (ts : List TableauState) (c : Checkpoint) (t : TableauState) → length ts ≡ length cs
+    → (p : Signed) × (length p.letters ≡ n) × (stabilises c.tableau p ≡ true) × (stabilises t p ≡ false) → IsLastApart n (cs ++ c ∷ []) (ts ++ t ∷ [])
+apart-with n [] [] c t count apart = apart
+apart-with n (b ∷ cs) [] c t count apart = absurd (omega (arith, count))
+apart-with n [] (u ∷ ts) c t count apart = absurd (omega (arith, count))
+apart-with n (b ∷ []) (u ∷ []) c t count apart = apart
+apart-with n (b ∷ d ∷ cs) (u ∷ []) c t count apart = absurd (omega (arith, count))
+apart-with n (b ∷ cs) (u ∷ v ∷ ts) c t count apart = apart-with n cs (v ∷ ts) c t (omega (arith, count)) apart
+
+apart-before : (n : ℕ) (cs rest : List Checkpoint) (ts : List TableauState) → IsLastApart n cs ts → IsLastApart n (cs ++ rest) ts
+apart-before n [] rest [] apart = absurd apart
+apart-before n (c ∷ cs) rest [] apart = absurd apart
+apart-before n [] rest (t ∷ ts) apart = absurd apart
+apart-before n (c ∷ cs) rest (t ∷ []) apart = apart
+apart-before n (c ∷ cs) rest (t ∷ u ∷ ts) apart = apart-before n cs rest (u ∷ ts) apart
+
+-- a frame was propagated over this many steps, past these copies, which were conjugated; if there are any, it flips a record, or flips the sign of a stabiliser of
+-- the last of them
+pub record IsPast (n : ℕ) (strings : List (List Letter)) (free : List Bool) (back : List Step) (from steps : ℕ) (cs : List Checkpoint) (ts : List TableauState) (old new : PropagationState) : Type 0 where
+  pub within : steps ≤ length back
+  pub size : length new.letters ≡ n
+  pub placed : IsPlaced free new
+  pub propagated : PropagatesOver n (pivot_at strings free) (take steps back) old new
+  pub enough : AreEnoughBy n (pivot_at strings free) free back steps old
+  pub count : length ts ≡ length cs
+  pub copies : AreFramedCheckpoints n strings free back from steps old cs ts
+  pub differs : 1 ≤ length ts → (1 ≤ ones new.flips.records) ⊎ IsLastApart n cs ts
+
+-- with the state of the copy at its place conjugated
+
+past-copy : {n : ℕ} {strings : List (List Letter)} {free : List Bool} {back : List Step} {from steps : ℕ} {cs : List Checkpoint} {ts : List TableauState} {old new : PropagationState}
+    → IsPast n strings free back from steps cs ts old new → (c : Checkpoint) (t : TableauState) → steps ≡ c.step - from → c.tableau.qubits ≡ n → t.qubits ≡ c.tableau.qubits
+    → IsConjugated c.tableau.qubits new.letters (stabilises c.tableau) (stabilises t) → (1 ≤ ones new.flips.records) ⊎ FramesSome new.letters c.tableau
+    → IsPast n strings free back from (c.step - from) (cs ++ c ∷ []) (ts ++ t ∷ []) old new
+past-copy {n} {strings} {free} {back} {from} {steps} {cs} {ts} {old} {new} past c t at same qubits conjugated conjugates =
+    subst (λ k. IsPast n strings free back from k (cs ++ c ∷ []) (ts ++ t ∷ []) old new) at
+    (record {
+      within = past.within;
+      size = past.size;
+      placed = past.placed;
+      propagated = past.propagated;
+      enough = past.enough;
+      count = omega (arith, length-append ts (t ∷ []), length-append cs (c ∷ []), past.count);
+      copies =
+          conjugated-with n strings free back from old steps cs ts c t past.count (omega (arith, at))
+          (record {
+            propagation = new;
+            propagated = subst (λ k. PropagatesOver n (pivot_at strings free) (take k back) old new) at past.propagated;
+            qubits = qubits;
+            conjugated = subst (λ m. IsConjugated m new.letters (stabilises c.tableau) (stabilises t)) same conjugated;
+          }) past.copies;
+      differs = λ some. differs conjugates;
+    })
+  where
+    differs : (1 ≤ ones new.flips.records) ⊎ FramesSome new.letters c.tableau → (1 ≤ ones new.flips.records) ⊎ IsLastApart n (cs ++ c ∷ []) (ts ++ t ∷ [])
+    differs (inl flips) = inl flips
+    differs (inr some) = inr (apart-with n cs ts c t past.count (conjugated-apart n new.letters c.tableau t same some conjugated))
+
+pub past-next : {n : ℕ} {strings : List (List Letter)} {free : List Bool} {back : List Step} {from steps : ℕ} {ts : List TableauState} {old new : PropagationState} (j : ℕ) (copies : List Checkpoint)
+    → IsPast n strings free back from steps (take j copies) ts old new → (c : Checkpoint) (t : TableauState) (after : PropagationState) (us : List TableauState) → c ≡ get_or copies j c → j < length copies
+    → us ≡ ts ++ t ∷ [] → steps ≡ c.step - from → after ≡ new → All (λ d. d.tableau.qubits ≡ n) copies → t.qubits ≡ c.tableau.qubits
+    → (letters : List Letter) → letters ≡ after.letters → IsConjugated c.tableau.qubits letters (stabilises c.tableau) (stabilises t) → (1 ≤ ones new.flips.records) ⊎ FramesSome new.letters c.tableau
+    → IsPast n strings free back from (c.step - from) (take (j + 1) copies) us old after
+past-next {n} {strings} {free} {back} {from} {steps} {ts} {old} {new} j copies past c t after us is lt with_it at same_walk same qubits letters read conjugated conjugates =
+    subst (λ w. IsPast n strings free back from (c.step - from) (take (j + 1) copies) us old w) (sym same_walk)
+    (subst (λ vs. IsPast n strings free back from (c.step - from) (take (j + 1) copies) vs old new) (sym with_it)
+    (subst (λ ds. IsPast n strings free back from (c.step - from) ds (ts ++ t ∷ []) old new) (sym front)
+    (past-copy past c t at (subst (λ d. d.tableau.qubits ≡ n) (sym is) (All-get_or (λ d. d.tableau.qubits ≡ n) copies j c lt same)) qubits
+    (subst (λ l. IsConjugated c.tableau.qubits l (stabilises c.tableau) (stabilises t)) (read ∙ ap (λ (w : PropagationState). w.letters) same_walk) conjugated) conjugates)))
+  where
+    front : take (j + 1) copies ≡ take j copies ++ c ∷ []
+    front = ap (λ k. take k copies) {y = suc j} (omega arith) ∙ take-suc copies j c lt ∙ ap (λ d. take j copies ++ d ∷ []) (sym is)
+
+-- a propagation over some of the steps that are left
+
+module _ {n : ℕ} {strings : List (List Letter)} {free : List Bool} {back : List Step} {from k : ℕ} {cs : List Checkpoint} {ts : List TableauState} {old now : PropagationState}
+    (past : IsPast n strings free back from k cs ts old now) (left : List Step) (rest : left ≡ drop k back) where
+  pub short-left : length left ≤ length back
+  short-left = omega (arith, ap length rest, length-drop k back)
+
+  pub few-left : old.coin + length back < 2 ^ 63 → now.coin + length left < 2 ^ 63
+  few-left few =
+      omega (arith, few, past.propagated.coin, coins-steps (take k back), length-take k back, ap length rest, length-drop k back, past.within)
+
+  module _ (m most : ℕ) (new : PropagationState) (few : m ≤ length (take most left)) (size : length new.letters ≡ length now.letters) (placed : IsPlaced free new)
+      (propagated : PropagatesOver (length now.letters) (pivot_at strings free) (take m left) now new)
+      (enough : AreEnoughBy (length now.letters) (pivot_at strings free) free left m now) where
+    walked_rest : PropagatesOver n (pivot_at strings free) (take m (drop k back)) now new
+    walked_rest = subst (λ i. PropagatesOver i (pivot_at strings free) (take m (drop k back)) now new) past.size
+        (subst (λ xs. PropagatesOver (length now.letters) (pivot_at strings free) (take m xs) now new) rest propagated)
+
+    enough_rest : AreEnoughBy n (pivot_at strings free) free (drop k back) m now
+    enough_rest = subst (λ i. AreEnoughBy i (pivot_at strings free) free (drop k back) m now) past.size
+        (subst (λ xs. AreEnoughBy (length now.letters) (pivot_at strings free) free xs m now) rest enough)
+
+    pub past-more : IsPast n strings free back from (k + m) cs ts old new
+    past-more = record {
+      within = omega (arith, few, length-take most left, ap length rest, length-drop k back, past.within);
+      size = size ∙ past.size;
+      placed = placed;
+      propagated =
+          subst (λ xs. PropagatesOver n (pivot_at strings free) xs old new) (sym (take-add k m back))
+          (over-append n (same_coins (pivot_at strings free)) (take k back) (take m (drop k back)) old now new past.propagated walked_rest);
+      enough = enough-more n (pivot_at strings free) free back k m old now past.propagated past.enough enough_rest;
+      count = past.count;
+      copies = conjugated-further n strings free back from old k (k + m) cs ts (omega arith) past.count past.copies;
+      differs = λ some. differs (past.differs some);
+    }
+      where
+        differs : (1 ≤ ones now.flips.records) ⊎ IsLastApart n cs ts → (1 ≤ ones new.flips.records) ⊎ IsLastApart n cs ts
+        differs (inl flips) = inl (flips-more n (pivot_at strings free) (take m (drop k back)) now new walked_rest flips)
+        differs (inr apart) = inr apart
+
+    module _ (window : ℕ) (copies others : List Checkpoint) (all : cs ++ others ≡ copies) (behind : All (λ c. k + m ≤ c.step - from) others) where
+      -- where it ends, of all copies
+      conjugated_all : AreFramedCheckpoints n strings free back from (k + m) old copies ts
+      conjugated_all = subst (λ ds. AreFramedCheckpoints n strings free back from (k + m) old ds ts) all (conjugated-before n strings free back from old (k + m) cs others ts past.count behind past-more.copies)
+
+      differs_all : 1 ≤ length ts → (1 ≤ ones new.flips.records) ⊎ IsLastApart n copies ts
+      differs_all some = of-all (past-more.differs some)
+        where
+          of-all : (1 ≤ ones new.flips.records) ⊎ IsLastApart n cs ts → (1 ≤ ones new.flips.records) ⊎ IsLastApart n copies ts
+          of-all (inl flips) = inl flips
+          of-all (inr apart) = inr (subst (λ ds. IsLastApart n ds ts) all (apart-before n cs others ts apart))
+
+      advanced-there : Ending n window back from (k + m) copies ts new new → IsRestFrame n strings free window back from copies ts old new
+      advanced-there ends = record {
+        steps = k + m;
+        within = past-more.within;
+        last = new;
+        propagated = past-more.propagated;
+        enough = past-more.enough;
+        ends = ends;
+        copies = conjugated_all;
+        differs = differs_all;
+      }
+
+      -- it is dropped at the next copy
+      pub advanced-dropped : (c : Checkpoint) (left-over : PropagationState) → slice_get copies (length ts) ≡ Some c → k + m ≡ c.step - from → Stabilise new.letters c.tableau
+          → left-over ≡ record new { letters = replicate (length new.letters) I } → ((i : ℕ) → i ≤ window → looked_up new.flips.records i ≡ false)
+          → IsRestFrame n strings free window back from copies ts old left-over
+      advanced-dropped c left-over here at stabilise blank quiet = record {
+        steps = k + m;
+        within = past-more.within;
+        last = new;
+        propagated = past-more.propagated;
+        enough = past-more.enough;
+        ends =
+            Ending.dropped c here (sym at)
+            (record {
+              stabilise = stabilise;
+              left = blank_there;
+              gone = λ base.
+                  quiet-gone n window base left-over (ap (λ (w : PropagationState). w.letters) blank_there)
+                  (subst (λ (w : PropagationState). (i : ℕ) → i ≤ window → looked_up w.flips.records i ≡ false) (sym blank_there) quiet);
+            });
+        copies = conjugated_all;
+        differs = subst (λ (w : PropagationState). 1 ≤ length ts → (1 ≤ ones w.flips.records) ⊎ IsLastApart n copies ts) (sym blank_there) differs_all;
+      }
+        where
+          blank_there : left-over ≡ record new { letters = replicate n I }
+          blank_there = blank ∙ ap (λ i. record new { letters = replicate i I }) past-more.size
+
+      -- it is gone before the next copy
+      pub advanced-gone : (stop : Stop) → IsStop (length now.letters) window m (length (take most left)) new stop → stop ≡ Gone → IsRestFrame n strings free window back from copies ts old new
+      advanced-gone stop stops is =
+          advanced-there
+          (Ending.gone (λ base. subst (λ i. IsGone i window (frame_at base new)) past.size (subst (IsStop (length now.letters) window m (length (take most left)) new) is stops base)) refl)
+
+    -- after the last copy it passed all that is left, or is gone there
+    pub advanced-behind : (window : ℕ) (copies : List Checkpoint) → cs ≡ copies → length left ≤ most → (stop : Stop) → IsStop (length now.letters) window m (length (take most left)) new stop
+        → stop ≢ NoString → IsRestFrame n strings free window back from copies ts old new
+    advanced-behind window copies all long stop stops told = by-stop stop refl
+      where
+        none-behind : All (λ (c : Checkpoint). k + m ≤ c.step - from) []
+        none-behind = All-nil (λ (c : Checkpoint). k + m ≤ c.step - from)
+
+        whole : stop ≡ Behind → k + m ≡ length back
+        whole is =
+            let steps_all : m ≡ length (take most left) = subst (IsStop (length now.letters) window m (length (take most left)) new) is stops in
+            omega (arith, steps_all, length-take most left, long, ap length rest, length-drop k back, past.within)
+
+        by-stop : (s : Stop) → stop ≡ s → IsRestFrame n strings free window back from copies ts old new
+        by-stop Behind e = advanced-there window copies [] (append-nil cs ∙ all) none-behind (Ending.over (whole e) (past.count ∙ ap length all) refl)
+        by-stop Gone e = advanced-gone window copies [] (append-nil cs ∙ all) none-behind stop stops e
+        by-stop NoString e = absurd (told e)

@@ -1,0 +1,192 @@
+-- Pivots: what is recorded of a coin if strings and flags are cut, or others are put after them, and strings of a run that are recorded again.
+use Rattle.stab_recording.proofs.Names.{◌≡◌, ℕ, zero, suc, ◌+◌, ◌<◌, ◌≤◌, refl, sym, ◌∙◌, ap, subst, Bool, true, false, ◌⊎◌, inl, inr, List, [], ◌∷◌, ◌++◌, length, take, drop, slice_get, get_or, Option, None, arith, IfSome, if◌then◌else◌, cases_lt, length-append, length-take, length-drop, get_or-take, get_or_append_left, take-append-le, get_or-append-add, get_or-drop, take-take, take-append-add, Letter, Step, one, two, controlled, collapse, product, detector, observable, ones, Point, origin, coins_of, all_coins_of, next_point, point_after, outputs, ones-append, with_coin, flags-are-coins, coins-are, PivotsState, IsNumbered, IsTrueAt, AreTrue, pivot_at, kept_with, AreFramedOver, true-conjugated-at, true-append, true-same, true-none, ones-split, get-append, get-behind, pivot-equal, pivot-past}
+use Rattle.stab_recording.proofs.BitLemmas.{counted}
+use Rattle.stab_recording.proofs.CutLemmas.{get-take, get-beyond, get-drop, ones-take}
+
+-- pivots that are none, or the same
+
+abbrev pub IsNoneOr : Option (List Letter) → Option (List Letter) → Type 0
+IsNoneOr o p = (o ≡ None) ⊎ (o ≡ p)
+
+none-or : (P : List Letter → Type 0) (o p : Option (List Letter)) → IsNoneOr o p → IfSome p P → IfSome o P
+none-or P o p (inl e) h = subst (λ q. IfSome q P) (sym e) tt
+none-or P o p (inr e) h = subst (λ q. IfSome q P) (sym e) h
+
+pub at-changed : (n : ℕ) (strings others : ℕ → Option (List Letter)) (x : Step) (a : Point) → (coins_of x ≡ 1 → IsNoneOr (others a.coin) (strings a.coin))
+    → IsTrueAt n strings x a → IsTrueAt n others x a
+at-changed n strings others (one g q) a h is = tt
+at-changed n strings others (two g q r) a h is = tt
+at-changed n strings others (controlled l k q) a h is = tt
+at-changed n strings others (collapse l q recorded inverted resets) a h is = none-or _ (others a.coin) (strings a.coin) (h refl) is
+at-changed n strings others (product factors inverted) a h is = none-or _ (others a.coin) (strings a.coin) (h refl) is
+at-changed n strings others (detector ks) a h is = tt
+at-changed n strings others (observable j ks) a h is = tt
+
+pub true-changed : (n : ℕ) (coins : ℕ → Bool) (strings others : ℕ → Option (List Letter)) (xs : List Step) (a : Point)
+    → ((t : ℕ) → a.coin ≤ t → t < a.coin + all_coins_of xs → IsNoneOr (others t) (strings t)) → AreTrue n coins strings xs a → AreTrue n coins others xs a
+true-changed n coins strings others [] a h is = tt
+true-changed n coins strings others (x ∷ xs) a h is = (
+  at-changed n strings others x a (λ e. h a.coin (omega arith) (omega (arith, e))) is.0,
+  true-changed n coins strings others xs (next_point n coins x a) (λ t le lt. h t (omega (arith, le)) (omega (arith, lt))) is.1,
+)
+
+-- a pivot when strings and flags are cut
+
+choose : (b c : Bool) (o p : Option (List Letter)) → b ≡ c → (c ≡ true → IsNoneOr o p) → IsNoneOr (if b then o else None) (if c then p else None)
+choose b true o p e h = subst (λ d. IsNoneOr (if d then o else None) p) (sym e) (h refl)
+choose b false o p e h = inl (ap (λ d. if d then o else None) e)
+
+pub pivot-front : (strings : List (List Letter)) (free : List Bool) (k m t : ℕ) → t < m → IsNoneOr (pivot_at (take k strings) (take m free) t) (pivot_at strings free t)
+pivot-front strings free k m t lt =
+    choose (get_or (take m free) t false) (get_or free t false) (slice_get (take k strings) (ones (take t (take m free)))) (slice_get strings (ones (take t free)))
+    (get_or-take m free t false lt)
+    (λ is. subst (λ bits. IsNoneOr (slice_get (take k strings) (ones bits)) (slice_get strings (ones (take t free)))) (sym (take-take t m free (omega (arith, lt))))
+    (get-take k (ones (take t free)) strings))
+
+-- and where others are put after them
+
+module _ (s : PivotsState) (flags : List Bool) (numbered : IsNumbered s flags) (others : List (List Letter)) (more : List Bool) where
+  pub pivot-left : (t : ℕ) → t < length flags → IsNoneOr (pivot_at (take s.most (s.strings ++ others)) (flags ++ more) t) (pivot_at s.strings flags t)
+  pivot-left t lt =
+      choose (get_or (flags ++ more) t false) (get_or flags t false) (slice_get (take s.most (s.strings ++ others)) (ones (take t (flags ++ more))))
+      (slice_get s.strings (ones (take t flags))) (get_or_append_left flags more false t lt)
+      (λ is. subst (λ bits. IsNoneOr (slice_get (take s.most (s.strings ++ others)) (ones bits)) (slice_get s.strings (ones (take t flags)))) (sym (take-append-le t flags more (omega (arith, lt))))
+      (by_place (counted t flags is) (cases_lt (ones (take t flags)) (length s.strings))))
+    where
+      by_place : ones (take t flags) < ones flags → (ones (take t flags) < length s.strings) ⊎ (length s.strings ≤ ones (take t flags))
+          → IsNoneOr (slice_get (take s.most (s.strings ++ others)) (ones (take t flags))) (slice_get s.strings (ones (take t flags)))
+      by_place counted (inl there) =
+          elim (get-take s.most (ones (take t flags)) (s.strings ++ others)) [
+            | inl e ↦ inl e
+            | inr e ↦ inr (e ∙ get-append s.strings others (ones (take t flags)) there)
+          ]
+      by_place counted (inr beyond) = inl (get-beyond s.most (ones (take t flags)) (s.strings ++ others) (omega (arith, numbered, counted, beyond)))
+
+module _ (s : PivotsState) (flags : List Bool) (numbered : IsNumbered s flags) (strings : List (List Letter)) (free : List Bool) (c : ℕ) where
+  pub pivot-beyond : (u : ℕ)
+      → IsNoneOr (pivot_at (take s.most (s.strings ++ drop (ones (take c free)) strings)) (flags ++ drop c free) (length flags + u)) (pivot_at strings free (c + u))
+  pivot-beyond u =
+      choose (get_or (flags ++ drop c free) (length flags + u) false) (get_or free (c + u) false)
+      (slice_get (take s.most (s.strings ++ drop (ones (take c free)) strings)) (ones (take (length flags + u) (flags ++ drop c free))))
+      (slice_get strings (ones (take (c + u) free)))
+      (get_or-append-add flags (drop c free) u false ∙ get_or-drop c free u false)
+      (λ is. subst (λ k. IsNoneOr (slice_get (take s.most (s.strings ++ drop (ones (take c free)) strings)) k) (slice_get strings (ones (take (c + u) free)))) (sym place)
+      (subst (λ k. IsNoneOr (slice_get (take s.most (s.strings ++ drop (ones (take c free)) strings)) (ones flags + ones (take u (drop c free)))) (slice_get strings k))
+      (sym (ones-split c u free))
+      (by_place (cases_lt (length s.strings) (ones flags)))))
+    where
+      place : ones (take (length flags + u) (flags ++ drop c free)) ≡ ones flags + ones (take u (drop c free))
+      place =
+          ap ones (take-append-add flags (drop c free) u)
+          ∙ ones-append flags (take u (drop c free))
+
+      by_place : (length s.strings < ones flags) ⊎ (ones flags ≤ length s.strings)
+          → IsNoneOr (slice_get (take s.most (s.strings ++ drop (ones (take c free)) strings)) (ones flags + ones (take u (drop c free))))
+          (slice_get strings (ones (take c free) + ones (take u (drop c free))))
+      by_place (inl short) = inl (get-beyond s.most (ones flags + ones (take u (drop c free))) (s.strings ++ drop (ones (take c free)) strings) (omega (arith, numbered, short)))
+      by_place (inr all) =
+          elim (get-take s.most (ones flags + ones (take u (drop c free))) (s.strings ++ drop (ones (take c free)) strings)) [
+            | inl e ↦ inl e
+            | inr e ↦ inr (
+                e
+                ∙ ap (λ k. slice_get (s.strings ++ drop (ones (take c free)) strings) (k + ones (take u (drop c free)))) (omega (arith, numbered, all))
+                ∙ get-behind s.strings (drop (ones (take c free)) strings) (ones (take u (drop c free)))
+                ∙ get-drop (ones (take c free)) (ones (take u (drop c free))) strings
+                )
+          ]
+
+none-or-both : (o p q : Option (List Letter)) → IsNoneOr o p → IsNoneOr p q → IsNoneOr o q
+none-or-both o p q (inl e) h = inl e
+none-or-both o p q (inr e) (inl f) = inl (e ∙ f)
+none-or-both o p q (inr e) (inr f) = inr (e ∙ f)
+
+-- pivots of what steps measure at one point are true at another, by their places after the number of the next coin
+true-shifted : (n : ℕ) (coins : ℕ → Bool) (strings others : ℕ → Option (List Letter)) (xs : List Step) (a b : Point)
+    → ((j : ℕ) → j < all_coins_of xs → IsNoneOr (others (b.coin + j)) (strings (a.coin + j))) → AreFramedOver n coins xs a b
+    → AreTrue n coins strings xs a → AreTrue n coins others xs b
+true-shifted n coins strings others [] a b pivots conjugated is = tt
+true-shifted n coins strings others (x ∷ xs) a b pivots conjugated is = (
+  at-changed n (λ t. strings a.coin) others x b
+      (λ e. subst (λ x. x) (λ i. IsNoneOr (others (first i)) (strings (second i))) (pivots 0 (omega (arith, e))))
+      (true-conjugated-at n (λ t. strings a.coin) x a (with_coin a.coin b) (conjugated 0).0 (conjugated 0).1 refl is.0),
+  true-shifted n coins strings others xs (next_point n coins x a) (next_point n coins x b)
+      (λ j lt. subst (λ x. x) (λ i. IsNoneOr (others (on b.coin j i)) (strings (on a.coin j i))) (pivots (coins_of x + j) (omega (arith, lt))))
+      (λ m. conjugated (suc m)) is.1,
+)
+  where
+    first : b.coin + 0 ≡ b.coin
+    first = omega arith
+
+    second : a.coin + 0 ≡ a.coin
+    second = omega arith
+
+    on : (k j : ℕ) → k + (coins_of x + j) ≡ (k + coins_of x) + j
+    on k j = omega arith
+
+-- a run that goes on again over steps, from a point that differs by letters alone, records their pivots again
+module _ (n : ℕ) (coins : ℕ → Bool) (xs part : List Step) (s u : PivotsState) (flags : List Bool) (c d : ℕ) (a : Point) (numbered : IsNumbered s flags)
+    (is : flags ≡ (outputs n coins xs origin).free) (at : a.coin ≡ c) (last : d ≡ c + all_coins_of part) (kept : ones (take d flags) ≤ length s.strings)
+    (new : u ≡ record s { strings = kept_with s.most s.strings (drop (ones (take c flags)) (take (ones (take d flags)) s.strings)) }) where
+  abbrev others : List (List Letter)
+  others = drop (ones (take c flags)) (take (ones (take d flags)) s.strings)
+
+  first : take c (take d flags) ≡ take c flags
+  first = take-take c d flags (omega (arith, last))
+
+  count : length flags ≡ (point_after n coins xs origin).coin
+  count = ap length is ∙ flags-are-coins n coins xs
+
+  pub numbered-again : IsNumbered u (flags ++ drop c (take d flags))
+  numbered-again =
+      omega (
+        arith,
+        ap (λ (t : PivotsState). t.most) new,
+        ap (λ (t : PivotsState). length t.strings) new,
+        length-take s.most (s.strings ++ others),
+        length-append s.strings others,
+        length-drop (ones (take c flags)) (take (ones (take d flags)) s.strings),
+        length-take (ones (take d flags)) s.strings,
+        ones-append flags (drop c (take d flags)),
+        ones-take c (take d flags),
+        ap ones first,
+        numbered,
+        kept,
+      )
+
+  pivots : (j : ℕ) → j < all_coins_of part
+      → IsNoneOr (pivot_at (take s.most (s.strings ++ others)) (flags ++ drop c (take d flags)) ((point_after n coins xs origin).coin + j)) (pivot_at s.strings flags (a.coin + j))
+  pivots j lt =
+      subst (λ x. x)
+      (λ i. IsNoneOr (pivot_at (take s.most (s.strings ++ drop (ones (first i)) (take (ones (take d flags)) s.strings))) (flags ++ drop c (take d flags)) (count i + j))
+      (pivot_at s.strings flags (sym at i + j)))
+      (none-or-both _ (pivot_at (take (ones (take d flags)) s.strings) (take d flags) (c + j)) _
+      (pivot-beyond s flags numbered (take (ones (take d flags)) s.strings) (take d flags) c j)
+      (pivot-front s.strings flags (ones (take d flags)) d (c + j) (omega (arith, lt, last))))
+
+  pub true-again : AreTrue n coins (pivot_at s.strings flags) xs origin → AreTrue n coins (pivot_at s.strings flags) part a
+      → AreFramedOver n coins part a (point_after n coins xs origin) → AreTrue n coins (pivot_at u.strings (flags ++ drop c (take d flags))) (xs ++ part) origin
+  true-again are_true true_then conjugated =
+      subst (λ l. AreTrue n coins (pivot_at l (flags ++ drop c (take d flags))) (xs ++ part) origin) (sym (ap (λ (t : PivotsState). t.strings) new))
+      (true-append n coins (pivot_at (take s.most (s.strings ++ others)) (flags ++ drop c (take d flags))) xs part origin
+      (true-changed n coins (pivot_at s.strings flags) (pivot_at (take s.most (s.strings ++ others)) (flags ++ drop c (take d flags))) xs origin
+      (λ t le lt. pivot-left s flags numbered others (drop c (take d flags)) t (omega (arith, lt, count, coins-are n coins xs origin))) are_true)
+      (true-shifted n coins (pivot_at s.strings flags) (pivot_at (take s.most (s.strings ++ others)) (flags ++ drop c (take d flags))) part a (point_after n coins xs origin) pivots conjugated true_then))
+
+-- a run that goes on, and records no more
+
+pivot-stays : (strings : List (List Letter)) (free more : List Bool) (t : ℕ) → t < length free → pivot_at strings free t ≡ pivot_at strings (free ++ more) t
+pivot-stays strings free more t lt =
+    sym (pivot-equal strings strings (free ++ more) free t t (get_or_append_left free more false t lt)
+    (λ is. ap (λ bits. slice_get strings (ones bits)) (take-append-le t free more (omega (arith, lt)))))
+
+pub true-left : (n : ℕ) (coins : ℕ → Bool) (xs zs : List Step) (strings : List (List Letter)) (flags more : List Bool) → flags ≡ (outputs n coins xs origin).free
+    → length strings ≤ ones flags → AreTrue n coins (pivot_at strings flags) xs origin → AreTrue n coins (pivot_at strings (flags ++ more)) (xs ++ zs) origin
+true-left n coins xs zs strings flags more is few are_true =
+    true-append n coins (pivot_at strings (flags ++ more)) xs zs origin
+    (true-same n coins (pivot_at strings flags) (pivot_at strings (flags ++ more)) xs origin
+    (λ t lt. pivot-stays strings flags more (0 + t) (omega (arith, lt, free_coins, coins-are n coins xs origin))) are_true)
+    (true-none n coins (pivot_at strings (flags ++ more)) zs (point_after n coins xs origin)
+    (λ t le. pivot-past strings flags more t (omega (arith, le, free_coins)) few))
+  where
+    free_coins : length flags ≡ (point_after n coins xs origin).coin
+    free_coins = ap length is ∙ flags-are-coins n coins xs

@@ -1,0 +1,337 @@
+-- Replays: a run that goes on from a copy of an earlier one, what it asks of coins, and where it meets another copy.
+use Rattle.stab_recording.proofs.Names.{◌≡◌, ◌≢◌, ℕ, zero, suc, ◌+◌, ◌-◌, ◌<◌, ◌≤◌, refl, sym, ◌∙◌, ap, subst, Bool, ◌⊎◌, inl, inr, List, [], ◌∷◌, ◌++◌, All, IsSomeAnd, Option, None, Some, slice_get, length, take, drop, arith, option_map, length-take, take-append-drop, take_at, take-take, drop-drop, map-append, All-push, cases_lt, IfSome_then, take-add, TableauState, Step, Lengths, Checkpoint, Replay, Plan, Between, RunOutput, origin, all_coins_of, point_after, outputs, AgreeAt, ProgramState, IsAt, IsRun, program_state, output_of, Near, last_of, lengths_of, IsRunFromStart, IsCheckpoint, checkpoint_steps, KeepsTrue, LooksWithin, KeepsPivots, IsAtStep, Ascending, MeetsAt, IsPlacedAt, Misses, EndsSoon, step_among_new, spacing_of, copy_of, IsAtStop, IsOnWay, StopsAt, IsArrival, Meets, flags-are-coins, records-are-records, coins-append}
+use Rattle.std.proofs.Common.{IfSome}
+use Rattle.stab_recording.proofs.RecordedReplayLemmas.{has_pivots-on}
+use Rattle.stab_recording.proofs.PointLemmas.{resumed, shows-from-start}
+
+-- the coins that steps use up from one step to another are, with those after the other, all after the one
+pub coins-cut : (i j : ℕ) (ys xs : List Step) → i ≤ j → xs ≡ drop i ys
+    → all_coins_of (take (j - i) xs) + all_coins_of (drop j ys) ≡ all_coins_of (drop i ys)
+coins-cut i j ys xs le left =
+    (λ k. all_coins_of (take (j - i) (left k)) + all_coins_of (behind k))
+    ∙ sym (coins-append (take (j - i) (drop i ys)) (drop (j - i) (drop i ys)))
+    ∙ ap all_coins_of (take-append-drop (j - i) (drop i ys))
+  where
+    behind : drop j ys ≡ drop (j - i) (drop i ys)
+    behind = ap (λ k. drop k ys) (omega arith) ∙ sym (drop-drop (j - i) i ys)
+
+-- a run on from a step
+
+-- it leaves the records that there were
+pub records-stay : (n : ℕ) (coins : ℕ → Bool) (xs zs : List Step) (old new : ProgramState) → IsRunFromStart n coins xs old → IsRun n coins zs old new
+    → old.output.records ≡ take (length old.output.records) new.output.records
+records-stay n coins xs zs old new h run =
+    let p = point_after n coins xs origin in
+    let advanced = run p (shows-from-start n coins xs old h) in
+    sym
+    (ap (λ (o : RunOutput). take (length old.output.records) o.records) advanced.output
+    ∙ take_at old.output.records (outputs n coins zs p).records (length old.output.records) refl)
+
+-- and comes to the other
+pub run-on : (n : ℕ) (coins : ℕ → Bool) (ys : List Step) (old new : Replay) → IsAtStep n coins ys old → old.step ≤ new.step → new.step ≤ length ys
+    → new.tableau.qubits ≡ old.tableau.qubits → length new.string.letters ≡ length old.string.letters
+    → new.cursor.all ≡ old.cursor.all → new.cursor.left ≡ drop (new.step - old.step) old.cursor.left
+    → IsRun n coins (take (new.step - old.step) old.cursor.left) (program_state old.tableau (output_of old.outputs)) (program_state new.tableau (output_of new.outputs))
+    → length new.pivots.string.letters ≡ n → new.pivots.strings.qubits ≡ n → new.pivots.strings.most ≡ old.pivots.strings.most → old.pivots.window ≤ new.pivots.window
+    → All (LooksWithin new.pivots.window) (take (new.step - old.step) old.cursor.left)
+    → KeepsTrue n coins (take (new.step - old.step) old.cursor.left) old.pivots.strings new.pivots.strings
+    (program_state old.tableau (output_of old.outputs)) (program_state new.tableau (output_of new.outputs))
+    → IsAtStep n coins ys new
+run-on n coins ys old new h order within qubits string all left run scratch size most raised near keeps = record {
+  qubits = qubits ∙ h.qubits;
+  string = string ∙ h.string;
+  all = all ∙ h.all;
+  left = left ∙ ap (drop (new.step - old.step)) h.left ∙ drop-drop (new.step - old.step) old.step ys ∙ ap (λ k. drop k ys) further;
+  within = within;
+  run =
+      subst (λ xs. IsRunFromStart n coins xs now) (sym (take-add old.step (new.step - old.step) ys) ∙ ap (λ k. take k ys) further)
+      (resumed n coins (take old.step ys) (take (new.step - old.step) (drop old.step ys)) before now h.run
+      (subst (λ xs. IsRun n coins (take (new.step - old.step) xs) before now) h.left run));
+  scratch = scratch;
+  has_pivots =
+      subst (λ xs. KeepsPivots n coins xs new.pivots.strings new.outputs.free.items new.pivots.window) (sym (take-add old.step (new.step - old.step) ys) ∙ ap (λ k. take k ys) further)
+      (has_pivots-on n coins (take old.step ys) (take (new.step - old.step) (drop old.step ys)) old.pivots.strings new.pivots.strings before now old.pivots.window new.pivots.window h.has_pivots
+      (shows-from-start n coins (take old.step ys) before h.run) size most raised
+      (subst (λ xs. All (LooksWithin new.pivots.window) (take (new.step - old.step) xs)) h.left near)
+      (subst (λ xs. KeepsTrue n coins (take (new.step - old.step) xs) old.pivots.strings new.pivots.strings before now) h.left keeps));
+}
+  where
+    before : ProgramState
+    before = program_state old.tableau (output_of old.outputs)
+
+    now : ProgramState
+    now = program_state new.tableau (output_of new.outputs)
+
+    further : old.step + (new.step - old.step) ≡ new.step
+    further = omega arith
+
+-- copies laid on the way
+
+copy-laid : (n : ℕ) (coins : ℕ → Bool) (ys : List Step) (r : Replay) → IsAtStep n coins ys r → IsCheckpoint n coins ys (copy_of r)
+copy-laid n coins ys r h = record {
+  within = h.within;
+  qubits = h.qubits;
+  group = h.run.group;
+  lengths = ap lengths_of h.run.output;
+}
+
+near-end : (K a e d : ℕ) (xs : List ℕ) → Near K (a ∷ xs ++ d ∷ []) → last_of a xs ≤ e → e ≤ last_of a xs + K → Near K (a ∷ xs ++ e ∷ [])
+near-end K a e d [] h le near = (le, near, tt)
+near-end K a e d (b ∷ xs) h le near = (h.0, h.1, near-end K b e d xs h.2 le near)
+
+last-more : (a e : ℕ) (xs : List ℕ) → last_of a (xs ++ e ∷ []) ≡ e
+last-more a e [] = refl
+last-more a e (b ∷ xs) = last-more b e xs
+
+near-more : (K a e : ℕ) (xs : List ℕ) → Near K (a ∷ xs ++ e ∷ []) → Near K (a ∷ (xs ++ e ∷ []) ++ e ∷ [])
+near-more K a e [] h = (h.0, h.1, (omega arith, omega arith, tt))
+near-more K a e (b ∷ xs) h = (h.0, h.1, near-more K b e xs h.2)
+
+-- if a run agrees with an old one at a copy, it meets that copy
+
+agree-meets : (n window : ℕ) (coins : ℕ → Bool) (xs zs : List Step) (c : Checkpoint) (t : TableauState) (o : RunOutput) (records free : List Bool) → IsRunFromStart n coins zs (program_state t o)
+    → IsCheckpoint n coins xs c → take c.lengths.records records ≡ (outputs n coins (take c.step xs) origin).records
+    → AgreeAt n (point_after n coins (take c.step xs) origin) (point_after n coins zs origin) → Meets n window t o records free c
+agree-meets n window coins xs zs c t o records free run h kept agree = record {
+  group = λ p size. run.group p size ∙ sym (agree.group p size) ∙ sym (h.group p size);
+  coin =
+      inl (now.coin
+      ∙ sym agree.coin
+      ∙ sym (flags-are-coins n coins (take c.step xs))
+      ∙ sym (ap (λ (l : Lengths). l.free) h.lengths));
+  records = ap (λ bits. drop (length bits - window) bits) (same ∙ sym kept);
+}
+  where
+    now : IsAt n (program_state t o) (point_after n coins zs origin)
+    now = shows-from-start n coins zs (program_state t o) run
+
+    same : o.records ≡ (outputs n coins (take c.step xs) origin).records
+    same = now.records ∙ sym agree.records ∙ sym (records-are-records n coins (take c.step xs))
+
+-- a replay on its way
+
+-- where the next copy is
+
+pub ascending-end : (p : Plan) (step : ℕ) (cs : List Checkpoint) → Ascending p step cs → step ≤ p.total
+ascending-end p step [] h = h
+ascending-end p step (c ∷ cs) h = let le = ascending-end p (step_among_new p c) cs h.1 in omega arith
+
+-- a replay at a step is not after the place of the next copy
+next-behind : (p : Plan) (step k : ℕ) (cs : List Checkpoint) → Ascending p step (drop k cs) → IfSome (option_map (step_among_new p) (slice_get cs k)) (λ q. step ≤ q)
+next-behind p step zero [] h = tt
+next-behind p step (suc k) [] h = tt
+next-behind p step zero (c ∷ cs) h = h.0
+next-behind p step (suc k) (c ∷ cs) h = next-behind p step k cs h
+
+pub place-behind : (p : Plan) (step k : ℕ) (cs : List Checkpoint) (place : Option ℕ) → place ≡ option_map (step_among_new p) (slice_get cs k) → Ascending p step (drop k cs)
+    → IfSome place (λ q. step ≤ q)
+place-behind p step k cs place e h = subst (λ o. IfSome o (λ q. step ≤ q)) (sym e) (next-behind p step k cs h)
+
+-- and may stop there at the latest
+pub ascending-stop : (p : Plan) (step stop k : ℕ) (cs : List Checkpoint) → Ascending p step (drop k cs) → stop ≤ p.total
+    → IfSome (option_map (step_among_new p) (slice_get cs k)) (λ q. stop ≤ q) → Ascending p stop (drop k cs)
+ascending-stop p step stop zero [] h within before = within
+ascending-stop p step stop (suc k) [] h within before = within
+ascending-stop p step stop zero (c ∷ cs) h within before = (before, h.1)
+ascending-stop p step stop (suc k) (c ∷ cs) h within before = ascending-stop p step stop k cs h within before
+
+-- nor is it after those of later ones
+later-places : (p : Plan) (step k : ℕ) (cs : List Checkpoint) → Ascending p step cs → IfSome (slice_get cs k) (λ c. step ≤ step_among_new p c)
+later-places p step zero [] h = tt
+later-places p step (suc k) [] h = tt
+later-places p step zero (c ∷ cs) h = h.0
+later-places p step (suc k) (c ∷ cs) h =
+    IfSome_then (slice_get cs k) (later-places p (step_among_new p c) k cs h.1) (λ d le. let first = h.0 in omega (arith, first, le))
+
+all-later : (p : Plan) (step next k : ℕ) (cs : List Checkpoint) → Ascending p step (drop next cs) → next ≤ k
+    → IfSome (slice_get cs k) (λ c. step ≤ step_among_new p c)
+all-later p step zero k cs h le = later-places p step k cs h
+all-later p step (suc next) zero cs h le = absurd (omega arith)
+all-later p step (suc next) (suc k) [] h le = tt
+all-later p step (suc next) (suc k) (c ∷ cs) h le = all-later p step next k cs h (omega arith)
+
+-- after the place of the next copy the one after it comes next
+later-within : (copies : List Checkpoint) (k : ℕ) (P : Checkpoint → Type 0) → IsSomeAnd (slice_get copies k) P → k < length copies
+later-within [] k P h = absurd h
+later-within (c ∷ cs) zero P h = omega arith
+later-within (c ∷ cs) (suc k) P h = let le = later-within cs k P h in omega arith
+
+pub later-ascending : (p : Plan) (step k : ℕ) (cs : List Checkpoint) → Ascending p step (drop k cs) → IsPlacedAt p cs k step → Ascending p step (drop (k + 1) cs)
+later-ascending p step zero [] h place = absurd place
+later-ascending p step (suc k) [] h place = absurd place
+later-ascending p step zero (c ∷ cs) h place = subst (λ m. Ascending p m cs) place h.1
+later-ascending p step (suc k) (c ∷ cs) h place =
+    let e : suc (k + 1) ≡ suc k + 1 = omega arith in
+    subst (λ m. Ascending p step (drop m (c ∷ cs))) e (later-ascending p step k cs h place)
+
+if-some : {X : Type 0} (o : Option X) (P : X → Type 0) → IsSomeAnd o P → IfSome o P
+if-some None P h = tt
+if-some (Some x) P h = h
+
+module _ (n : ℕ) (coins : ℕ → Bool) (begin : ℕ) (p : Plan) (ys : List Step) (copies : List Checkpoint) (old : List Bool) where
+  -- at the next stop
+  pub on-stop : (others : ℕ → Bool) (next stop : ℕ) (place : Option ℕ) (r s : Replay) → IsOnWay n coins begin p ys copies old next r → others ≡ coins
+      → IsAtStep r.tableau.qubits others r.cursor.all s → s.laid.items ≡ r.laid.items
+      → r.outputs.records.items ≡ take (length r.outputs.records.items) s.outputs.records.items → (s.applied + s.framed) + r.step ≡ (r.applied + r.framed) + stop → s.step ≡ stop
+      → r.step ≤ stop → stop ≤ p.total → stop ≤ r.step + p.stride → place ≡ option_map (step_among_new p) (slice_get copies next) → IfSome place (λ q. stop ≤ q)
+      → IsAtStop n coins begin p ys copies old next s
+  on-stop others next stop place r s h same_coins at laid records counted step order within near place_is before = record {
+    replay = record {
+      at_step =
+          subst (λ m. IsAtStep m coins ys s) was.qubits
+          (subst (λ xs. IsAtStep r.tableau.qubits coins xs s) was.all (subst (λ c. IsAtStep r.tableau.qubits c r.cursor.all s) same_coins at));
+      checkpoints = subst (All (IsCheckpoint n coins ys)) (sym laid) h.stop.replay.checkpoints;
+      near =
+          subst (λ cs. Near p.stride (begin ∷ checkpoint_steps cs ++ s.step ∷ [])) (sym laid)
+          (near-end p.stride begin s.step r.step (checkpoint_steps r.laid.items) h.stop.replay.near (let e = h.last in omega arith) (let e = h.last in omega arith));
+    };
+    counted = let e = h.stop.counted in omega arith;
+    order = h.stop.order;
+    within = h.stop.within;
+    ascending =
+        subst (λ k. Ascending p k (drop next copies)) (sym step)
+        (ascending-stop p r.step stop next copies h.stop.ascending within (subst (λ o. IfSome o (λ q. stop ≤ q)) place_is before));
+    base = let e = h.stop.base in omega (arith, ap length records, length-take (length r.outputs.records.items) s.outputs.records.items);
+    same =
+        sym (take-take p.base (length r.outputs.records.items) s.outputs.records.items h.stop.base)
+        ∙ ap (take p.base) (sym records)
+        ∙ h.stop.same;
+    missed = h.stop.missed;
+  }
+    where
+      was : IsAtStep n coins ys r
+      was = h.stop.replay.at_step
+
+  -- if it does not meet a copy at its place, the runs do not agree there
+  misses : (r : Replay) (free : List Bool) (c : Checkpoint) → IsAtStep n coins ys r → step_among_new p c ≡ r.step → (MeetsAt n p r old free c → ⊥) → Misses n coins p ys old c
+  misses r free c h place apart xs is_copy kept agree =
+      apart (
+        place,
+        agree-meets n p.window coins xs (take r.step ys) c r.tableau (output_of r.outputs) old free h.run is_copy kept
+            (subst (λ k. AgreeAt n (point_after n coins (take c.step xs) origin) (point_after n coins (take k ys) origin)) place agree),
+      )
+
+  missed : (r : Replay) (free : List Bool) (o : Option Checkpoint) → IsAtStep n coins ys r → IfSome o (λ c. step_among_new p c ≡ r.step)
+      → IfSome o (λ c. MeetsAt n p r old free c → ⊥) → IfSome o (Misses n coins p ys old)
+  missed r free None h place apart = tt
+  missed r free (Some c) h place apart = misses r free c h place apart
+
+  -- so that one was missed as those before it were
+  all-missed : (next : ℕ) (r : Replay) → IsAtStop n coins begin p ys copies old next r → IfSome (slice_get copies next) (Misses n coins p ys old)
+      → (number : ℕ) → p.next ≤ number → number < next + 1 → IfSome (slice_get copies number) (Misses n coins p ys old)
+  all-missed next r h apart number from before =
+      elim (cases_lt number next) [
+        | inl lt ↦ h.missed number from lt
+        | inr le ↦ subst (λ k. IfSome (slice_get copies k) (Misses n coins p ys old)) (omega (arith, le, before)) apart
+      ]
+
+  -- and wherever it ends, it missed each copy that is before its step
+  pub ends-soon : (next : ℕ) (r : Replay) → IsAtStop n coins begin p ys copies old next r → EndsSoon n coins p ys copies old r.step
+  ends-soon next r h number from =
+      elim (cases_lt number next) [
+        | inl lt ↦ IfSome_then (slice_get copies number) (h.missed number from lt) (λ c missed before. missed)
+        | inr le ↦ IfSome_then (slice_get copies number) (all-later p r.step next number copies h.ascending le) (λ c later before. absurd (omega (arith, later, before)))
+      ]
+
+  -- before it the replay goes on, if it passed a copy with the one after it next
+  pub past : (next : ℕ) (r : Replay) → IsAtStop n coins begin p ys copies old next r → IsPlacedAt p copies next r.step
+      → IfSome (slice_get copies next) (Misses n coins p ys old) → IsAtStop n coins begin p ys copies old (next + 1) r
+  past next r h placed apart = record {
+    replay = h.replay;
+    counted = h.counted;
+    order = let le = h.order in omega arith;
+    within = let le = later-within copies next (λ c. step_among_new p c ≡ r.step) placed in omega arith;
+    ascending = later-ascending p r.step next copies h.ascending placed;
+    base = h.base;
+    same = h.same;
+    missed = all-missed next r h apart;
+  }
+
+  -- with a copy laid at its step
+  pub with-laid : (next : ℕ) (r s : Replay) → IsAtStop n coins begin p ys copies old next r → s.laid.items ≡ r.laid.items ++ copy_of r ∷ []
+      → IsOnWay n coins begin p ys copies old next (record r { laid = s.laid })
+  with-laid next r s h laid = record {
+    stop = record {
+      replay = record {
+        at_step = record {
+          qubits = h.replay.at_step.qubits;
+          string = h.replay.at_step.string;
+          all = h.replay.at_step.all;
+          left = h.replay.at_step.left;
+          within = h.replay.at_step.within;
+          run = h.replay.at_step.run;
+          scratch = h.replay.at_step.scratch;
+          has_pivots = h.replay.at_step.has_pivots;
+        };
+        checkpoints =
+            subst (All (IsCheckpoint n coins ys)) (sym laid)
+            (All-push (IsCheckpoint n coins ys) r.laid.items (copy_of r) h.replay.checkpoints (copy-laid n coins ys r h.replay.at_step));
+        near =
+            subst (λ ks. Near p.stride (begin ∷ ks ++ r.step ∷ [])) (sym steps)
+            (near-more p.stride begin r.step (checkpoint_steps r.laid.items) h.replay.near);
+      };
+      counted = h.counted;
+      order = h.order;
+      within = h.within;
+      ascending = h.ascending;
+      base = h.base;
+      same = h.same;
+      missed = h.missed;
+    };
+    last = ap (last_of begin) steps ∙ last-more begin r.step (checkpoint_steps r.laid.items);
+  }
+    where
+      steps : checkpoint_steps s.laid.items ≡ checkpoint_steps r.laid.items ++ r.step ∷ []
+      steps = ap checkpoint_steps laid ∙ map-append (λ (c : Checkpoint). c.step) r.laid.items (copy_of r ∷ [])
+
+  pub on-further : (free : List Bool) (next later : ℕ) (r s : Replay) → IsAtStop n coins begin p ys copies old next r → IsArrival n p r copies old free next (Between later)
+      → s ≡ record r { laid = s.laid } → s.laid.items ≡ r.laid.items ++ copy_of r ∷ [] → IsOnWay n coins begin p ys copies old later s
+  on-further free next later r s h arrival unchanged laid = subst (IsOnWay n coins begin p ys copies old later) (sym unchanged) (with-laid later r s there laid)
+    where
+      there : IsAtStop n coins begin p ys copies old later r
+      there =
+          elim arrival.2 [
+            | inl same ↦ subst (λ k. IsAtStop n coins begin p ys copies old k r) (sym same.0) h
+            | inr placed ↦ subst (λ k. IsAtStop n coins begin p ys copies old k r) (sym placed.0)
+                (past next r h placed.1
+                (missed r free (slice_get copies next) h.replay.at_step (if-some (slice_get copies next) (λ c. step_among_new p c ≡ r.step) placed.1) arrival.1))
+          ]
+
+-- if it goes on it went a spacing, or passed the copy
+
+not-there : (p : Plan) (copies : List Checkpoint) (next step : ℕ) → step ≢ p.total → (IsPlacedAt p copies next step → ⊥) → (step ≡ p.total) ⊎ IsPlacedAt p copies next step → ⊥
+not-there p copies next step further unplaced at =
+    elim at [
+      | inl e ↦ further e
+      | inr e ↦ unplaced e
+    ]
+
+pub went-on : (n : ℕ) (p : Plan) (copies : List Checkpoint) (old free : List Bool) (next later from : ℕ) (r : Replay) → StopsAt p copies next from r.step
+    → IsArrival n p r copies old free next (Between later) → ((later ≡ next) × (from + spacing_of p.stride ≤ r.step)) ⊎ ((later ≡ next + 1) × (next < length copies))
+went-on n p copies old free next later from r stops arrival =
+    elim arrival.2 [
+      | inl same ↦
+          elim stops [
+            | inl far ↦ inl (same.0, far)
+            | inr at ↦ absurd (not-there p copies next r.step arrival.0 same.1 at)
+          ]
+      | inr placed ↦ inr (placed.0, later-within copies next (λ c. step_among_new p c ≡ r.step) placed.1)
+    ]
+
+-- and fewer steps or fewer copies are left
+pub fewer-left : (n : ℕ) (p : Plan) (copies : List Checkpoint) (old free : List Bool) (first next later from : ℕ) (r : Replay) → 1 ≤ p.stride → from ≤ r.step → r.step ≤ p.total
+    → first ≤ next → next ≤ length copies → StopsAt p copies next from r.step → IsArrival n p r copies old free next (Between later)
+    → (p.total - r.step) + (length copies - later) < (p.total - from) + (length copies - first)
+fewer-left n p copies old free first next later from r stride further within order among stops arrival =
+    elim (went-on n p copies old free next later from r stops arrival) [
+      | inl far ↦ let same = far.0 in let more = far.1 in omega (arith, same, more, stride, within, order, among)
+      | inr passed ↦ let one = passed.0 in let lt = passed.1 in omega (arith, one, lt, further, within, order)
+    ]
+
+-- however it went on
+
+pub went-so : {n m : ℕ} {coins others : ℕ → Bool} {ys zs : List Step} (begin : ℕ) (p : Plan) (copies : List Checkpoint) (old : List Bool) (next later : ℕ) (r s : Replay) → m ≡ n → others ≡ coins
+    → zs ≡ ys → (IsOnWay m others begin p zs copies old next r → IsAtStop m others begin p zs copies old later s) → IsOnWay n coins begin p ys copies old next r
+    → IsAtStop n coins begin p ys copies old later s
+went-so begin p copies old next later r s qubits coins all =
+    subst (λ t. t) (λ i. IsOnWay (qubits i) (coins i) begin p (all i) copies old next r → IsAtStop (qubits i) (coins i) begin p (all i) copies old later s)

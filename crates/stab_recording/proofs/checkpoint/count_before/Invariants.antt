@@ -1,0 +1,11 @@
+use Rattle.stab_recording.proofs.Names.{length, ◌-◌, ◌<◌, ◌≤◌, All, take}
+use Rattle.stab_recording.proofs.checkpoint.count_before.Given as goal
+
+abbrev pub invariant-loop-count : goal.invariant-loop-count
+invariant-loop-count l = record {
+  within : l.count ≤ length l.copies;
+  before : All (λ c. c.step < l.step) (take l.count l.copies);
+}
+
+abbrev pub decreases-loop-count : goal.decreases-loop-count
+decreases-loop-count l = length l.copies - l.count

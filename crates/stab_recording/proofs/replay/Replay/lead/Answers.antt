@@ -1,0 +1,53 @@
+use Rattle.stab_recording.proofs.Names.{◌≡◌, ◌+◌, refl, sym, ◌∙◌, ap, subst, All, Some, slice_get, length, drop, arith, All-drop, slice_get_read, slice_get_within, StepFits, output_of, Checkpoint, AreInOrder, IsRestFrame, BeginsAt}
+use Rattle.stab_recording.proofs.PropagatedWayLemmas.{some-of}
+use Rattle.stab_recording.proofs.OldRunLemmas.{order-behind, coins-behind, advanced-framed}
+use Rattle.stab_recording.proofs.replay.Replay.lead.Goals as goal
+use Rattle.stab_recording.proofs.replay.Replay.lead.Goals.{In_ok-cursor, After-index-copies-number}
+
+begins : (c : In_ok-cursor) → (d : Checkpoint) × (slice_get c.args.copies.now c.args.number ≡ Some d) × BeginsAt c.args.plan c.args.self.now (output_of c.args.old.now) c.args.propagation d
+begins c = some-of (slice_get c.args.copies.now c.args.number) (BeginsAt c.args.plan c.args.self.now (output_of c.args.old.now) c.args.propagation) c.requires.begins
+
+left : (c : In_ok-cursor) → c.in_ok-cursor.cursor.left ≡ drop c.args.self.now.step c.args.self.now.cursor.all
+left c = c.in_ok-cursor.ensures.steps ∙ ap (drop c.args.self.now.step) c.requires.same_circuit
+
+-- the copy that is read is that one
+read : (c : After-index-copies-number) (d : Checkpoint) → slice_get c.args.copies.now c.args.number ≡ Some d → d ≡ c.index-copies-number.result
+read c d here =
+    let also : slice_get c.args.copies.now c.args.number ≡ Some c.index-copies-number.result =
+    slice_get_read c.args.copies.now (length c.args.copies.now) c.args.number c.index-copies-number.result refl (slice_get_within c.args.copies.now c.args.number d here) c.index-copies-number.is in
+    let same : Some d ≡ Some c.index-copies-number.result = sym here ∙ also in
+    cc
+
+pub propagate_rest-requires-clause-fits : goal.propagate_rest-requires-clause-fits
+propagate_rest-requires-clause-fits c =
+    let at = goal.at.propagate_rest-requires-clause-fits c in
+    subst (λ n. All (StepFits n) c.in_ok-cursor.cursor.left) (sym (begins at.In_ok-cursor).2.frame.size)
+    (subst (All (StepFits c.args.self.now.tableau.qubits)) (sym (left at.In_ok-cursor)) (All-drop (StepFits c.args.self.now.tableau.qubits) c.args.self.now.step c.args.self.now.cursor.all c.requires.fits))
+
+pub propagate_rest-requires-clause-few : goal.propagate_rest-requires-clause-few
+propagate_rest-requires-clause-few c =
+    let at = goal.at.propagate_rest-requires-clause-few c in
+    let b = begins at.In_ok-cursor in
+    omega (arith, coins-behind c.requires.old.1 c.args.number b.0 b.1 b.2.behind c.args.self.now.step b.2.place c.requires.few, b.2.frame.coin, ap length (left at.In_ok-cursor))
+
+pub propagate_rest-requires-clause-order : goal.propagate_rest-requires-clause-order
+propagate_rest-requires-clause-order c =
+    let at = goal.at.propagate_rest-requires-clause-order c in
+    let b = begins at.In_ok-cursor in
+    subst (λ x. x)
+    (λ i. AreInOrder ((read at.After-index-copies-number b.0 b.1 ∙ c.index-copies-number.is) i).step
+    (((read at.After-index-copies-number b.0 b.1 ∙ c.index-copies-number.is) i).step + length (sym (left at.In_ok-cursor) i)) (sym c.split_at.ensures.back i))
+    (order-behind c.requires.old.1 c.args.number b.0 b.1 b.2.behind c.args.self.now.step b.2.place c.requires.few)
+
+pub returns-clause-framed : goal.returns-clause-framed
+returns-clause-framed c =
+    let at = goal.at.returns-clause-framed c in
+    let b = begins at.In_ok-cursor in (
+      refl,
+      advanced-framed c.args.plan c.args.self.now c.args.copies.now (output_of c.args.old.now) c.args.strings.now _ c.args.propagation b.0 b.1 b.2 (ap length c.records-compared.ensures.value)
+          (c.propagate_rest.ensures.length ∙ b.2.frame.size)
+          (subst (λ x. x)
+          (λ i. IsRestFrame (b.2.frame.size i) c.args.strings.now.strings (c.as_slice.ensures.value i) c.args.plan.window (left at.In_ok-cursor i)
+          (sym (read at.After-index-copies-number b.0 b.1 ∙ c.index-copies-number.is) i).step (c.split_at.ensures.back i) c.propagate_rest.new.conjugated.items c.args.propagation c.propagate_rest.new.propagation)
+          (c.in_ok-advanced.ensures.advanced c.if-not-advanced.false)),
+    )

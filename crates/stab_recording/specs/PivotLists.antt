@@ -1,0 +1,21 @@
+-- Pivots kept: what is kept of a run beside its state, so that frames can be propagated over its steps.
+-- Source: this project's own.
+use Rattle.std.specs.Prelude.{◌≡◌, ℕ, ◌≤◌, min, Bool, List, All, length, drop}
+use Rattle.stab_circuit.specs.Steps.{Step}
+use Rattle.stab_run.specs.Points.{origin}
+use Rattle.stab_frames.specs.Pivots.{PivotsState, IsNumbered, AreTrue, pivot_at, kept_with}
+use Rattle.stab_frames.specs.Lookbacks.{LooksWithin}
+
+-- strings that were kept of the run of these steps, which has these flags, exchange its free outcomes; and the steps look back to
+-- no more records than the lookback window
+pub record KeepsPivots (n : ℕ) (coins : ℕ → Bool) (xs : List Step) (strings : PivotsState) (free : List Bool) (window : ℕ) : Type 0 where
+  pub size : strings.qubits ≡ n
+  pub numbered : IsNumbered strings free
+  pub are_true : AreTrue n coins (pivot_at strings.strings free) xs origin
+  pub near : All (LooksWithin window) xs
+
+-- strings with others after them, from one of these on, if this many outcomes are free in all
+pub record IsSpliced (front others : PivotsState) (from count : ℕ) (new : PivotsState) : Type 0 where
+  pub size : new.qubits ≡ front.qubits
+  pub strings : new.strings ≡ kept_with front.most front.strings (drop from others.strings)
+  pub numbered : length new.strings ≤ count → length new.strings ≡ min count new.most

@@ -1,0 +1,10 @@
+pub mod ReadySamplers
+pub mod Shots
+pub mod Advanced
+pub mod Arrivals
+pub mod RestFrameStates
+pub mod FoldedReplays
+pub mod Runs
+pub mod OldRests
+pub mod Prepared
+pub mod FramedRecordings

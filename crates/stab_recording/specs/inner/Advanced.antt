@@ -1,0 +1,8 @@
+-- Rounds: where they end among a circuit's steps.
+-- Source: this project's own.
+use Rattle.std.specs.Prelude.{ℕ, ◌+◌, ◌*◌}
+use Rattle.stab_circuit.specs.declared.circuit.repeats.Repeat.{Repeat}
+
+-- the step after this many rounds
+abbrev pub behind_rounds : Repeat → ℕ → ℕ
+behind_rounds r k = r.first + k * r.length

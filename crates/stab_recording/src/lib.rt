@@ -1,0 +1,92 @@
+//! Recorded runs: loops that fold, checkpoints on the way, and edits as a splice and a frame.
+//!
+//! In the order in which data flows; each module uses only those before it, except that `rest_frame`, `moved`, `laying`, `rhythm`,
+//! `earlier`, `folding_again` and `runs` add calls to the replay of `replay`:
+//!
+//! - `bits`: whether there is a 1 among bits.
+//! - `checkpoint`: checkpoints, which are copies of the state before a step; when they are kept, and how they move.
+//! - `meeting`: whether another run agrees with a checkpoint, or a run with one of its own again.
+//! - `folding`: what a run gave, given again.
+//! - `frames_between`: the frame by which a run differs from a checkpoint.
+//! - `framed_copies`: what a run gave, given again as a frame changes it.
+//! - `run`: what a run gives.
+//! - `states`, `rest_of_run`: states that a frame changes, and a frame over the rest of a run.
+//! - `rest_frame`, `moved`, `laying`, `rhythm`, `earlier`, `folding_again`, `replay`: a run from a checkpoint on, up to a
+//!   checkpoint of an older run at which they agree, or from which a frame goes on; where its checkpoints are, and
+//!   loop folding: rounds of a block that come again in it, exactly or up to a frame.
+//! - `together`, `runs`: short rounds, of which some are taken as one; runs, which are replays of all steps with no older run.
+//! - `whole`, `with_pivots`, `sampler`: what a run gives; the same with a pivot for each random outcome; one circuit made ready for
+//!   many runs.
+//! - `counting`, `past_places`, `flips`: for edits by Pauli gates, how long a run's lists are after some steps, a frame
+//!   past the changed places, and lists changed in place.
+//! - `recording`, `rest`, `conjugating`, `opening`: the recording of a circuit with its checkpoints, how it follows an edit, and how it
+//!   is made for the first time.
+//!
+//! Coins, one step and the laws of runs are `stab_run`'s, frames `stab_frames`'. What edits are, and which steps they change, is
+//! `stab_circuit`'s: here an edit is a span of steps that changed.
+//!
+//! Sources: Stim's circuit file format, for what the steps of a circuit do to records, detectors and observables;
+//! D. Gottesman, Stabilizer codes and quantum error correction (1997), and S. Aaronson and D. Gottesman, Improved
+//! simulation of stabilizer circuits (2004), section III, for its qubits; C. Gidney, Stim: a fast stabilizer circuit
+//! simulator (2021), for Pauli frames. When checkpoints are kept, how loops fold and how a recording follows an edit is this
+//! project's own.
+//!
+//! Proved: a run gives the records, flags, detectors and observables that the group rules of `stab_run`
+//! (`specs/Runs.antt`) give for the circuit's unrolled steps, and depends on no coin but those that decide; its trace is
+//! sound. Each shot of a sampler is such a run, whatever became of the shots before it. What is recorded is the run of the
+//! circuit's steps from the first one on, whatever edits it followed, with checkpoints at most a stride apart
+//! (`specs/Recordings.antt`); if memory is refused it is as before. How many steps an edit takes, and between which
+//! checkpoints, is in `specs/Counts.antt`, and how many coins it asks for in the contract of `Recording::follow`. `meets`
+//! answers yes exactly if the other run comes to the state of the checkpoint, with the same records as far back as is
+//! looked, and with the same coin to come unless none decides any more (`specs/Meets.antt`). `specs/inner/` has what only
+//! private contracts cite.
+#![tactic(auto)]
+
+mod bits;
+mod checkpoint;
+mod conjugating;
+mod counting;
+mod earlier;
+mod flips;
+mod folding;
+mod folding_again;
+mod framed_copies;
+mod frames_between;
+mod laying;
+mod meeting;
+mod moved;
+mod opening;
+mod past_places;
+mod recording;
+mod replay;
+mod rest;
+mod rest_frame;
+mod rest_of_run;
+mod rhythm;
+mod run;
+mod runs;
+mod sampler;
+mod states;
+mod together;
+mod whole;
+mod with_pivots;
+
+pub use bits::has_one;
+pub use checkpoint::{Checkpoint, Meeting, count_before, lay_all, shifted, take_moved};
+pub use counting::lengths_behind;
+pub use flips::{flip_outputs, sum_additions};
+pub use folding::{give_again, part_between};
+pub use framed_copies::{all_recorded, append_framed, lengths_propagated, pivot_again};
+pub use frames_between::frame_between;
+pub use meeting::{are_fixed, comes_again, may_have_coin, meets};
+pub use opening::record_run;
+pub use past_places::{PauliChange, propagate_places};
+pub use recording::{Followed, Recording};
+pub use replay::{End, Plan, Replay};
+pub use rest_frame::RestFrame;
+pub use rest_of_run::propagate_rest;
+pub use run::Shot;
+pub use sampler::{Sampler, run_once};
+pub use states::{apply_frame, framed_checkpoint};
+pub use together::taken_together;
+pub use with_pivots::{RunWithPivots, run_with_pivots};

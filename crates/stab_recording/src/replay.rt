@@ -1,0 +1,340 @@
+ghost use Rattle.std.specs.Prelude.{◌≡◌, ℕ, ◌+◌, ◌-◌, ◌*◌, ◌<◌, ◌≤◌, ◌^◌, [], None, All, OnOk, IfOk, IfErr, length, take, drop};
+ghost use Rattle.stab_io.specs.declared.refusal.Refusal.TheVariants.{OutOfMemory};
+ghost use Rattle.stab_circuit.specs.Steps.{most_steps, unroll, check_of};
+ghost use Rattle.stab_circuit.specs.Views.{circuit_items};
+ghost use Rattle.stab_circuit.specs.Repeats.{AreRepeats};
+ghost use Rattle.stab_run.specs.Records.{ones};
+ghost use Rattle.stab_run.specs.Points.{all_coins_of};
+ghost use Rattle.stab_run.specs.ProgramStates.{StepFits, output_of};
+ghost use Rattle.stab_recording.specs.Replays.{IsAtStep, IsReplay, Ascending, spacing_of, IsEnd, EndsSoon, IsAtStop, IsOnWay, StopsAt, checkpoints_skipped};
+ghost use Rattle.stab_frames.specs.Pivots.{PivotsState};
+ghost use Rattle.stab_recording.specs.inner.Arrivals.{IsArrival};
+ghost use Rattle.stab_recording.specs.FramedReplays.{IsOldRun};
+
+use crate::checkpoint::{Checkpoint, shifted};
+use crate::meeting::meets;
+use crate::rest_frame::RestFrame;
+use stab_circuit::{Circuit, Cursor, Repeat};
+use stab_frames::{PivotRecorder, Pivots, run_recording_pivots};
+use stab_io::Refusal;
+use stab_pauli::Pauli;
+use stab_run::{Coins, Outputs};
+use stab_tableau::Tableau;
+use std::alloc::Global;
+
+/// A run from some step on, on its way.
+#[derive(Drop)]
+pub struct Replay<'a> {
+    pub tableau: Tableau,
+    // A string on the tableau's qubits, for products to be written into.
+    pub string: Pauli,
+    pub outputs: Outputs,
+    /// What it pivots of its steps, from the first on.
+    pub pivots: PivotRecorder,
+    pub cursor: Cursor<'a>,
+    /// How many steps of the circuit are past.
+    pub step: usize,
+    /// How many steps were carried out.
+    pub applied: u64,
+    /// How many a frame was propagated over.
+    pub framed: u64,
+    /// The copies laid on the way.
+    pub laid: Vec<Checkpoint>,
+}
+
+/// How far a replay may go, and what it may meet.
+#[derive(Clone, Copy)]
+pub struct Plan {
+    /// The number of steps of the circuit.
+    pub total: usize,
+    pub stride: usize,
+    /// The end of what was changed, in the old steps and in the new ones.
+    pub old_end: usize,
+    pub new_end: usize,
+    /// The first old copy that may be met.
+    pub next: usize,
+    /// This many records are those of the old run.
+    pub base: usize,
+    /// The old steps look back to no more records than this many.
+    pub window: u32,
+}
+
+/// How a replay ended.
+#[derive(Drop)]
+pub enum End {
+    /// After the last step.
+    Last,
+    /// At the old copy with this number, from which on the old run went on as the new one would.
+    Joined(usize),
+    /// At the old copy where a frame begins that was propagated over the rest of the old run.
+    Framed(RestFrame),
+}
+
+/// What a replay comes to where it stops.
+enum Arrival {
+    /// The old copy that might be met next, and it meets it.
+    Met,
+    /// The end: it is after the last step.
+    Behind,
+    /// Neither, and the old copy with this number may be met next.
+    Between(usize),
+}
+
+impl Plan {
+    ghost use Rattle.std.specs.Prelude.{◌≡◌, ◌+◌, ◌≤◌, ◌<◌, ◌⊎◌, Option, Some, IfSome, slice_get};
+    ghost use Rattle.std.specs.Option.{option_map};
+    ghost use Rattle.stab_recording.specs.Replays.{step_among_new, spacing_of, next_stop};
+
+    /// Where the old copy with a number is among the new steps, if there is one.
+    pub(crate) fn place(self, copies: &[Checkpoint], number: usize) -> Option<usize>
+        ensures value { result ≡ option_map (step_among_new self) (slice_get copies.now number) }
+    {
+        match copies.get(number) {
+            Some(copy) => Some(shifted(self.old_end, self.new_end, copy.step)),
+            None => None,
+        }
+    }
+
+    /// How far apart a replay lays copies at least.
+    pub(crate) fn spacing(self) -> usize
+        requires stride { 1 ≤ self.stride }
+        ensures value { result ≡ spacing_of self.stride }
+        ensures above { 1 ≤ result }
+        ensures within { result ≤ self.stride }
+    {
+        self.stride - self.stride / 8
+    }
+
+    /// Where a replay that is at a step stops next, before the place of an old copy or at it.
+    pub(crate) fn stop(self, step: usize, place: Option<usize>) -> usize
+        requires stride { 1 ≤ self.stride }
+        requires within { step ≤ self.total }
+        requires behind { IfSome place (λ p. step ≤ p) }
+        ensures value { result ≡ next_stop self step place }
+        ensures order { step ≤ result }
+        ensures within { result ≤ self.total }
+        ensures near { result ≤ step + self.stride }
+        ensures before { IfSome place (λ p. result ≤ p) }
+        ensures further { (step < result) ⊎ ((result ≡ self.total) ⊎ (place ≡ Some result)) }
+    {
+        let further = step.saturating_add(self.spacing()).min(self.total);
+        match place {
+            Some(place) => {
+                if place.saturating_sub(step) <= self.stride {
+                    place.min(self.total)
+                } else {
+                    further
+                }
+            }
+            None => further,
+        }
+    }
+}
+
+impl<'a> Replay<'a> {
+    /// Carries out the steps up to one.
+    ///
+    /// Refusal `OutOfMemory` alone.
+    pub(crate) fn run_to<C: Coins>(
+        &mut self,
+        alloc: Global,
+        coins: &mut C,
+        stop: usize,
+    ) -> Result<(), Refusal>
+        requires begun { IsAtStep self.old.tableau.qubits (C.sequence coins.old) self.old.cursor.all self.old }
+        requires fits { All (StepFits self.old.tableau.qubits) self.old.cursor.all }
+        requires order { self.old.step ≤ stop }
+        requires within { stop ≤ length self.old.cursor.all }
+        requires few { self.old.applied + length self.old.cursor.all < 2 ^ 63 }
+        ensures all { self.new.cursor.all ≡ self.old.cursor.all }
+        ensures qubits { self.new.tableau.qubits ≡ self.old.tableau.qubits }
+        ensures laid { self.new.laid.items ≡ self.old.laid.items }
+        ensures same_coins { C.sequence coins.new ≡ C.sequence coins.old }
+        ensures at_step { OnOk result (IsAtStep self.old.tableau.qubits (C.sequence coins.old) self.old.cursor.all self.new) }
+        ensures step { self.new.step ≡ stop }
+        ensures raised { self.old.pivots.window ≤ self.new.pivots.window }
+        ensures records { OnOk result (self.old.outputs.records.items ≡ take (length self.old.outputs.records.items) self.new.outputs.records.items) }
+        ensures counted { OnOk result (self.new.applied + self.old.step ≡ self.old.applied + stop) }
+        ensures framed { self.new.framed ≡ self.old.framed }
+        ensures most { self.new.pivots.strings.most ≡ self.old.pivots.strings.most }
+        ensures asks { C.asks coins.new + self.old.step ≤ C.asks coins.old + stop }
+        ensures asks_free { OnOk result (C.asks coins.new + ones self.old.outputs.free.items ≤ C.asks coins.old + ones self.new.outputs.free.items) }
+        ensures asked { C.asks coins.new + all_coins_of (drop stop self.old.cursor.all) ≤ C.asks coins.old + all_coins_of (drop self.old.step self.old.cursor.all) }
+        ensures err { IfErr result (λ r. r ≡ OutOfMemory) }
+    {
+        let most = stop - self.step;
+        self.step = stop;
+        run_recording_pivots(
+            alloc,
+            &mut self.tableau,
+            &mut self.string,
+            coins,
+            &mut self.outputs,
+            &mut self.cursor,
+            most,
+            &mut self.applied,
+            &mut self.pivots,
+        )?;
+        Ok(())
+    }
+
+    /// What the replay comes to at its step, if this old copy may be met next.
+    ///
+    /// Refusal `OutOfMemory` alone.
+    fn arrive(
+        &mut self,
+        alloc: Global,
+        copies: &[Checkpoint],
+        old: &Outputs,
+        plan: Plan,
+        next: usize,
+        spare: &mut Option<Tableau>,
+        telling: &mut usize,
+    ) -> Result<Arrival, Refusal>
+        requires same_qubits { All (λ c. c.tableau.qubits ≡ self.old.tableau.qubits) copies.now }
+        requires next { next ≤ length copies.now }
+        ensures unchanged { self.new ≡ self.old }
+        ensures value { IfOk result (IsArrival self.old.tableau.qubits plan self.old copies.now old.now.records.items old.now.free.items next) }
+        ensures err { IfErr result (λ r. r ≡ OutOfMemory) }
+    {
+        let placed = plan.place(copies, next) == Some(self.step);
+        if placed
+            && meets(
+                alloc,
+                &mut self.tableau,
+                &self.outputs,
+                &copies[next],
+                old,
+                plan.window,
+                spare,
+                telling,
+            )?
+        {
+            Ok(Arrival::Met)
+        } else if self.step == plan.total {
+            Ok(Arrival::Behind)
+        } else {
+            Ok(Arrival::Between(next + usize::from(placed)))
+        }
+    }
+
+    /// Carries out steps up to the next stop. Says which old copy may be met next.
+    ///
+    /// Refusal `OutOfMemory` alone.
+    fn advance<C: Coins>(
+        &mut self,
+        alloc: Global,
+        repeats: &[Repeat],
+        copies: &[Checkpoint],
+        old: &Outputs,
+        plan: Plan,
+        next: usize,
+        coins: &mut C,
+    ) -> Result<usize, Refusal>
+        requires old { (s : PivotsState) × IsOldRun self.old.tableau.qubits (C.sequence coins.old) plan self.old.cursor.all copies.now (output_of old.now) s }
+        requires fits { All (StepFits self.old.tableau.qubits) self.old.cursor.all }
+        requires total { plan.total ≡ length self.old.cursor.all }
+        requires few { plan.total ≤ most_steps }
+        requires few_applied { (self.old.applied + self.old.framed) ≤ self.old.step }
+        requires stride { 1 ≤ plan.stride }
+        requires at_step { IsAtStep self.old.tableau.qubits (C.sequence coins.old) self.old.cursor.all self.old }
+        requires next { next ≤ length copies.now }
+        requires ascending { Ascending plan self.old.step (drop next copies.now) }
+        ensures same_coins { C.sequence coins.new ≡ C.sequence coins.old }
+        ensures all { self.new.cursor.all ≡ self.old.cursor.all }
+        ensures qubits { self.new.tableau.qubits ≡ self.old.tableau.qubits }
+        ensures raised { OnOk result (self.old.pivots.window ≤ self.new.pivots.window) }
+        ensures way { IfOk result (λ later. (begin : ℕ) → IsOnWay self.old.tableau.qubits (C.sequence coins.old) begin plan self.old.cursor.all copies.now (old.now.records.items) next self.old → IsAtStop self.old.tableau.qubits (C.sequence coins.old) begin plan self.old.cursor.all copies.now (old.now.records.items) later self.new) }
+        ensures asks { OnOk result (C.asks coins.new + self.old.applied ≤ C.asks coins.old + self.new.applied) }
+        ensures asks_free { OnOk result (C.asks coins.new + ones self.old.outputs.free.items ≤ C.asks coins.old + ones self.new.outputs.free.items) }
+        ensures asked { C.asks coins.new + all_coins_of (drop self.new.step self.old.cursor.all) ≤ C.asks coins.old + all_coins_of (drop self.old.step self.old.cursor.all) }
+        ensures few_laid { IfOk result (λ later. spacing_of plan.stride * length self.new.laid.items + spacing_of plan.stride * next ≤ spacing_of plan.stride * length self.old.laid.items + spacing_of plan.stride * later) }
+        ensures stops { IfOk result (λ later. StopsAt plan copies.now later self.old.step self.new.step) }
+        ensures order { IfOk result (λ later. next ≤ later) }
+        ensures further { self.old.step ≤ self.new.step }
+        ensures err { IfErr result (λ r. r ≡ OutOfMemory) }
+    {
+        let next = self.skip_apart(repeats, plan, copies, old, next);
+        let place = plan.place(copies, next);
+        let stops = self.stops(repeats, plan, place);
+        self.run_past(alloc, coins, stops.least, stops.most)?;
+        Ok(next)
+    }
+
+    /// Carries out steps until the replay meets an old copy, or a frame goes from one over the rest of the old run, or it is after the
+    /// last step, and lays copies on the way: one for each spacing, and one for each old copy that it passes, at most. In repeats of the
+    /// circuit's steps it gives again what it gave if it is as it was rounds before.
+    pub fn follow<C: Coins>(
+        &mut self,
+        alloc: Global,
+        circuit: &'a Circuit,
+        repeats: &[Repeat],
+        copies: &[Checkpoint],
+        old: &Outputs,
+        strings: &Pivots,
+        plan: Plan,
+        coins: &mut C,
+    ) -> Result<End, Refusal>
+        requires begun { IsReplay self.old.tableau.qubits (C.sequence coins.old) plan.stride self.old.step self.old.cursor.all self.old }
+        requires nothing_laid { self.old.laid.items ≡ [] }
+        requires fits { All (StepFits self.old.tableau.qubits) self.old.cursor.all }
+        requires total { plan.total ≡ length self.old.cursor.all }
+        requires few { plan.total ≤ most_steps }
+        requires stride { 1 ≤ plan.stride }
+        requires nothing_applied { self.old.applied ≡ 0 }
+        requires nothing_framed { self.old.framed ≡ 0 }
+        requires old { IsOldRun self.old.tableau.qubits (C.sequence coins.old) plan self.old.cursor.all copies.now (output_of old.now) strings.now }
+        requires same_circuit { unroll (circuit_items circuit.now) ≡ self.old.cursor.all }
+        requires repeats { AreRepeats 0 self.old.cursor.all repeats.now }
+        requires checked { check_of (circuit_items circuit.now) ≡ None }
+        requires next { plan.next ≤ length copies.now }
+        requires ascending { Ascending plan self.old.step (drop plan.next copies.now) }
+        requires same_qubits { All (λ c. c.tableau.qubits ≡ self.old.tableau.qubits) copies.now }
+        requires base { plan.base ≤ length self.old.outputs.records.items }
+        requires same_records { take plan.base self.old.outputs.records.items ≡ take plan.base old.now.records.items }
+        ensures same_coins { C.sequence coins.new ≡ C.sequence coins.old }
+        ensures all { self.new.cursor.all ≡ self.old.cursor.all }
+        ensures qubits { self.new.tableau.qubits ≡ self.old.tableau.qubits }
+        ensures replay { OnOk result (IsReplay self.old.tableau.qubits (C.sequence coins.old) plan.stride self.old.step self.old.cursor.all self.new) }
+        ensures raised { OnOk result (self.old.pivots.window ≤ self.new.pivots.window) }
+        ensures counted { OnOk result ((self.new.applied + self.new.framed) + self.old.step ≡ self.new.step) }
+        ensures asks { OnOk result (C.asks coins.new ≤ C.asks coins.old + self.new.applied) }
+        ensures asks_free { OnOk result (C.asks coins.new + ones self.old.outputs.free.items ≤ C.asks coins.old + ones self.new.outputs.free.items) }
+        ensures asked { C.asks coins.new ≤ C.asks coins.old + all_coins_of (drop self.old.step self.old.cursor.all) }
+        ensures end { IfOk result (IsEnd self.old.tableau.qubits plan self.new copies.now (output_of old.now) strings.now) }
+        ensures soon { OnOk result (EndsSoon self.old.tableau.qubits (C.sequence coins.old) plan self.old.cursor.all copies.now old.now.records.items self.new.step) }
+        ensures few_laid { IfOk result (λ end. spacing_of plan.stride * length self.new.laid.items + self.old.step ≤ self.new.step + spacing_of plan.stride * checkpoints_skipped plan (length copies.now) end) }
+        ensures err { IfErr result (λ r. r ≡ OutOfMemory) }
+    {
+        let mut next = plan.next;
+        // The stabiliser that distinguished the state from a copy last, which most likely distinguishes it from the next one too.
+        let mut telling = 0;
+        // What copies are expanded into, so that memory for it is asked for once at most.
+        let mut spare: Option<Tableau> = None;
+        // Whether frames are propagated, which is so until a string is missing for one.
+        let mut leads = true;
+        'following: loop {
+            let reached = self.advance(alloc, repeats, copies, old, plan, next, coins)?;
+            match self.arrive(alloc, copies, old, plan, reached, &mut spare, &mut telling)? {
+                Arrival::Met => return Ok(End::Joined(reached)),
+                Arrival::Behind => return Ok(End::Last),
+                Arrival::Between(later) => next = later,
+            }
+            let framed = self.frame_rest(
+                alloc, circuit, copies, old, strings, plan, reached, &mut spare, &mut leads,
+            )?;
+            if let Some(framed) = framed {
+                return Ok(End::Framed(framed));
+            }
+            self.lay(alloc)?;
+            self.come_again(
+                alloc,
+                circuit,
+                repeats,
+                plan,
+                plan.place(copies, next),
+                coins,
+            )?;
+        }
+    }
+}

@@ -1,0 +1,180 @@
+ghost use Rattle.std.specs.Prelude.{◌≡◌, ℕ, ◌≤◌, Bool, None, All, length, take, slice_get, IsSomeAnd, IfOk, IfErr, IfSome};
+ghost use Rattle.stab_io.specs.declared.refusal.Refusal.TheVariants.{OutOfMemory};
+ghost use Rattle.stab_circuit.specs.Steps.{most_steps, unroll, check_of};
+ghost use Rattle.stab_circuit.specs.Views.{circuit_items};
+ghost use Rattle.stab_run.specs.ProgramStates.{StepFits, output_of};
+ghost use Rattle.stab_frames.specs.Pivots.{PivotsState};
+ghost use Rattle.stab_recording.specs.FramedReplays.{IsOldRun};
+ghost use Rattle.stab_recording.specs.Replays.{BeginsAt, IsFramed};
+
+use crate::checkpoint::{Checkpoint, shifted};
+use crate::frames_between::frame_between;
+use crate::meeting::may_have_coin;
+use crate::replay::{Plan, Replay};
+use crate::rest_of_run::propagate_rest;
+use stab_circuit::{Circuit, Cursor};
+use stab_frames::{Pivots, Propagation};
+use stab_io::Refusal;
+use stab_pauli::Pauli;
+use stab_run::Outputs;
+use stab_tableau::{CompactTableau, Tableau};
+use std::alloc::Global;
+
+/// A frame that was propagated over the rest of an old run, from the place of one of its copies on.
+#[derive(Drop)]
+pub struct RestFrame {
+    /// The number of that copy.
+    pub number: usize,
+    /// Of this many records before that place it says whether they differ.
+    pub compared: usize,
+    /// The frame, with what it flipped since.
+    pub propagation: Propagation,
+    /// The copies from that one on, conjugated, as far as it was propagated.
+    pub conjugated: Vec<CompactTableau>,
+}
+
+impl<'a> Replay<'a> {
+    /// The frame by which the replay differs from the old copy with a number, if it is at the place of that and differs by one, and the
+    /// coins of the old run serve it from there on.
+    ///
+    /// Refusal `OutOfMemory` alone.
+    fn frame_at(
+        &self,
+        alloc: Global,
+        copies: &[Checkpoint],
+        old: &Outputs,
+        plan: Plan,
+        number: usize,
+    ) -> Result<Option<Propagation>, Refusal>
+        requires old { (coins : ℕ → Bool) × (s : PivotsState) × IsOldRun self.now.tableau.qubits coins plan self.now.cursor.all copies.now (output_of old.now) s }
+        requires base { plan.base ≤ length self.now.outputs.records.items }
+        requires same_records { take plan.base self.now.outputs.records.items ≡ take plan.base old.now.records.items }
+        ensures found { IfOk result (λ found. IfSome found (λ propagation. IsSomeAnd (slice_get copies.now number) (BeginsAt plan self.now (output_of old.now) propagation))) }
+        ensures err { IfErr result (λ r. r ≡ OutOfMemory) }
+    {
+        if number >= copies.len() {
+            return Ok(None);
+        }
+        let copy = &copies[number];
+        if copy.step < plan.old_end
+            || shifted(plan.old_end, plan.new_end, copy.step) != self.step
+            || !may_have_coin(copy, old.free.as_slice(), self.outputs.free.len())
+        {
+            return Ok(None);
+        }
+        let mut string = Pauli::identity(alloc, self.tableau.len())?;
+        let found = frame_between(
+            alloc,
+            &self.tableau,
+            &mut string,
+            &self.outputs,
+            copy,
+            old,
+            plan.base,
+            plan.window,
+        )?;
+        Ok(found)
+    }
+
+    /// Propagates a frame that begins at the old copy with a number, at whose place the replay is, over the rest of the old run. `None` if a
+    /// string is missing. Copies are looked at in the memory of a spare tableau if there is one.
+    ///
+    /// Refusal `OutOfMemory` alone.
+    fn lead(
+        &self,
+        alloc: Global,
+        circuit: &Circuit,
+        copies: &[Checkpoint],
+        old: &Outputs,
+        strings: &Pivots,
+        plan: Plan,
+        number: usize,
+        propagation: Propagation,
+        spare: &mut Option<Tableau>,
+    ) -> Result<Option<RestFrame>, Refusal>
+        requires old { (coins : ℕ → Bool) × IsOldRun self.now.tableau.qubits coins plan self.now.cursor.all copies.now (output_of old.now) strings.now }
+        requires same_circuit { unroll (circuit_items circuit.now) ≡ self.now.cursor.all }
+        requires checked { check_of (circuit_items circuit.now) ≡ None }
+        requires fits { All (StepFits self.now.tableau.qubits) self.now.cursor.all }
+        requires within { self.now.step ≤ length self.now.cursor.all }
+        requires few { length self.now.cursor.all ≤ most_steps }
+        requires begins { IsSomeAnd (slice_get copies.now number) (BeginsAt plan self.now (output_of old.now) propagation) }
+        ensures framed { IfOk result (λ found. IfSome found (λ f. (f.number ≡ number) × IsSomeAnd (slice_get copies.now number) (IsFramed plan self.now copies.now (output_of old.now) strings.now f))) }
+        ensures err { IfErr result (λ r. r ≡ OutOfMemory) }
+    {
+        let mut propagation = propagation;
+        let compared = propagation.records().len();
+        let mut cursor = Cursor::at(alloc, circuit, self.step)?;
+        let (_, behind) = copies.split_at(number);
+        let mut conjugated = Vec::new(alloc);
+        let advanced = propagate_rest(
+            alloc,
+            behind,
+            copies[number].step,
+            strings,
+            old.free.as_slice(),
+            plan.window,
+            &mut cursor,
+            &mut propagation,
+            &mut conjugated,
+            spare,
+        )?;
+        if !advanced {
+            return Ok(None);
+        }
+        Ok(Some(RestFrame {
+            number,
+            compared,
+            propagation,
+            conjugated,
+        }))
+    }
+
+    /// The frame that is propagated over the rest of the old run from the copy with a number on, if the replay is at its place and there is one.
+    /// If a string is missing for it, no other one is to be propagated.
+    ///
+    /// Refusal `OutOfMemory` alone.
+    pub(crate) fn frame_rest(
+        &self,
+        alloc: Global,
+        circuit: &Circuit,
+        copies: &[Checkpoint],
+        old: &Outputs,
+        strings: &Pivots,
+        plan: Plan,
+        number: usize,
+        spare: &mut Option<Tableau>,
+        leads: &mut bool,
+    ) -> Result<Option<RestFrame>, Refusal>
+        requires old { (coins : ℕ → Bool) × IsOldRun self.now.tableau.qubits coins plan self.now.cursor.all copies.now (output_of old.now) strings.now }
+        requires same_circuit { unroll (circuit_items circuit.now) ≡ self.now.cursor.all }
+        requires checked { check_of (circuit_items circuit.now) ≡ None }
+        requires fits { All (StepFits self.now.tableau.qubits) self.now.cursor.all }
+        requires within { self.now.step ≤ length self.now.cursor.all }
+        requires few { length self.now.cursor.all ≤ most_steps }
+        requires base { plan.base ≤ length self.now.outputs.records.items }
+        requires same_records { take plan.base self.now.outputs.records.items ≡ take plan.base old.now.records.items }
+        ensures framed { IfOk result (λ found. IfSome found (λ f. (f.number ≡ number) × IsSomeAnd (slice_get copies.now number) (IsFramed plan self.now copies.now (output_of old.now) strings.now f))) }
+        ensures err { IfErr result (λ r. r ≡ OutOfMemory) }
+    {
+        if !*leads {
+            return Ok(None);
+        }
+        let Some(propagation) = self.frame_at(alloc, copies, old, plan, number)? else {
+            return Ok(None);
+        };
+        let framed = self.lead(
+            alloc,
+            circuit,
+            copies,
+            old,
+            strings,
+            plan,
+            number,
+            propagation,
+            spare,
+        )?;
+        *leads = framed.is_some();
+        Ok(framed)
+    }
+}

@@ -1,0 +1,147 @@
+ghost use Rattle.std.specs.Prelude.{◌≡◌, ◌⊎◌, ℕ, ◌+◌, ◌<◌, ◌≤◌, ◌^◌, [], true, false, All, length, replicate, IfOk, IfErr};
+ghost use Rattle.stab_io.specs.declared.refusal.Refusal.TheVariants.{OutOfMemory};
+ghost use Rattle.stab_gates.specs.declared.letter.Letter.TheVariants.{I};
+ghost use Rattle.stab_run.specs.Records.{looked_up, ones};
+ghost use Rattle.stab_run.specs.ProgramStates.{StepFits};
+ghost use Rattle.stab_frames.specs.Propagations.{IsPlaced};
+ghost use Rattle.stab_recording.specs.RestFrames.{AreInOrder, Stabilise, FramesSome, IsRestFrame};
+
+use crate::bits::has_one;
+use crate::checkpoint::Checkpoint;
+use crate::states::framed_checkpoint;
+use stab_circuit::Cursor;
+use stab_frames::{Pivots, Propagation, Stop, propagate_steps};
+use stab_io::Refusal;
+use stab_pauli::{Letter, Pauli};
+use stab_tableau::{CompactTableau, Tableau};
+use std::alloc::Global;
+
+/// How many steps are passed together at most: as many as are left.
+const MOST_TOGETHER: usize = usize::MAX;
+
+/// Propagates a frame over the steps that a cursor has left, from the place of one step of a run on, past
+/// copies of that run's state in order, until it is gone or after the last step. At each copy that it
+/// comes to it makes that copy, conjugated by the frame. If it flipped no record that later steps look
+/// back to, and its letters stabilise the copy with one of their signs, it flips no sign from there on,
+/// and ends; the copy is looked at in the memory of a spare tableau if there is one.
+///
+/// False if a string is missing. What it made so far is then irrelevant.
+///
+/// Refusal `OutOfMemory` alone.
+pub fn propagate_rest(
+    alloc: Global,
+    copies: &[Checkpoint],
+    from: usize,
+    strings: &Pivots,
+    free: &[bool],
+    window: u32,
+    cursor: &mut Cursor,
+    propagation: &mut Propagation,
+    conjugated: &mut Vec<CompactTableau>,
+    spare: &mut Option<Tableau>,
+) -> Result<bool, Refusal>
+    requires same_length { strings.now.qubits ≡ length propagation.old.letters }
+    requires fits { All (StepFits (length propagation.old.letters)) cursor.old.left }
+    requires placed { IsPlaced free.now propagation.old }
+    requires few { propagation.old.coin + length cursor.old.left < 2 ^ 63 }
+    requires same_qubits { All (λ c. c.tableau.qubits ≡ length propagation.old.letters) copies.now }
+    requires order { AreInOrder from (from + length cursor.old.left) copies.now }
+    requires nothing_conjugated { conjugated.old.items ≡ [] }
+    ensures length { length propagation.new.letters ≡ length propagation.old.letters }
+    ensures advanced { IfOk result (λ advanced. advanced ≡ true → IsRestFrame (length propagation.old.letters) strings.now.strings free.now window cursor.old.left from copies.now conjugated.new.items propagation.old propagation.new) }
+    ensures err { IfErr result (λ r. r ≡ OutOfMemory) }
+{
+    let mut at = from;
+    for copy in copies {
+        let propagated = propagate_steps(
+            propagation,
+            strings,
+            free,
+            cursor,
+            copy.step - at,
+            window,
+            true,
+        )?;
+        match propagated.stop {
+            Stop::NoString => return Ok(false),
+            Stop::Gone => return Ok(true),
+            Stop::Behind => {}
+        }
+        if drop_letters(alloc, copy, window, propagation, spare)? {
+            return Ok(true);
+        }
+        conjugated.push(framed_checkpoint(alloc, &copy.tableau, propagation.letters())?)?;
+        at = copy.step;
+    }
+    let propagated = propagate_steps(
+        propagation,
+        strings,
+        free,
+        cursor,
+        MOST_TOGETHER,
+        window,
+        true,
+    )?;
+    Ok(propagated.stop != Stop::NoString)
+}
+
+/// Whether a frame flips none of the newest records, as many as steps look back to.
+fn is_quiet(propagation: &Propagation, window: u32) -> bool
+    ensures quiet { result ≡ true → (k : ℕ) → k ≤ window → looked_up propagation.now.flips.records k ≡ false }
+    ensures flips { result ≡ false → 1 ≤ ones propagation.now.flips.records }
+{
+    let records = propagation.records();
+    let (_, newest) = records.split_at(records.len().saturating_sub(window as usize));
+    !has_one(newest)
+}
+
+/// Makes all letters of a frame I if it flipped none of the newest records, as many as steps look back to, and
+/// its letters stabilise the state of a copy with one of their signs; and says whether that is so. The copy is looked
+/// at in the memory of a spare tableau if there is one, which is the spare then.
+///
+/// Refusal `OutOfMemory` alone.
+fn drop_letters(
+    alloc: Global,
+    copy: &Checkpoint,
+    window: u32,
+    propagation: &mut Propagation,
+    spare: &mut Option<Tableau>,
+) -> Result<bool, Refusal>
+    requires same_qubits { copy.now.tableau.qubits ≡ length propagation.old.letters }
+    ensures length { length propagation.new.letters ≡ length propagation.old.letters }
+    ensures quiet { IfOk result (λ dropped. dropped ≡ true → (k : ℕ) → k ≤ window → looked_up propagation.old.flips.records k ≡ false) }
+    ensures stabilise { IfOk result (λ dropped. dropped ≡ true → Stabilise propagation.old.letters copy.now.tableau) }
+    ensures value { IfOk result (λ dropped. dropped ≡ true → propagation.new ≡ record propagation.old { letters = replicate (length propagation.old.letters) I }) }
+    ensures unchanged { IfOk result (λ dropped. dropped ≡ false → propagation.new ≡ propagation.old) }
+    ensures conjugate { IfOk result (λ dropped. dropped ≡ false → (1 ≤ ones propagation.old.flips.records) ⊎ FramesSome propagation.old.letters copy.now.tableau) }
+    ensures err { IfErr result (λ r. r ≡ OutOfMemory) }
+{
+    if !is_quiet(propagation, window) {
+        return Ok(false);
+    }
+    let string = string_of(alloc, propagation.letters())?;
+    let mut tableau = copy.tableau.tableau(alloc, spare.take())?;
+    tableau.stabilises_a_group();
+    tableau.stabilisers_generate();
+    let sign = tableau.sign_of(&string);
+    *spare = Some(tableau);
+    let Some(_) = sign else {
+        return Ok(false);
+    };
+    propagation.multiply(&string);
+    Ok(true)
+}
+
+/// The string of these letters, one a qubit.
+///
+/// Refusal `OutOfMemory` alone.
+fn string_of(alloc: Global, letters: &[Letter]) -> Result<Pauli, Refusal>
+    ensures value { IfOk result (λ p. p ≡ record { negative = false; letters = letters.now }) }
+    ensures err { IfErr result (λ r. r ≡ OutOfMemory) }
+{
+    let mut string = Pauli::identity(alloc, letters.len())?;
+    for qubit in 0..letters.len() {
+        string.set(qubit, letters[qubit]);
+    }
+    Ok(string)
+}

@@ -1,0 +1,219 @@
+//! Runs of all steps of a circuit: replays from the first step on, which lay copies in long blocks alone, while rounds of these are
+//! carried out one by one to see whether they come again.
+
+ghost use Rattle.std.specs.Prelude.{◌≡◌, ℕ, ◌+◌, ◌*◌, ◌≤◌, Bool, [], None, All, length, drop, OnOk, IfOk, IfErr};
+ghost use Rattle.stab_io.specs.declared.refusal.Refusal.TheVariants.{OutOfMemory};
+ghost use Rattle.stab_gates.specs.Limits.{most_qubits};
+ghost use Rattle.stab_circuit.specs.Steps.{most_steps, unroll, check_of, check_within};
+ghost use Rattle.stab_circuit.specs.Views.{circuit_items};
+ghost use Rattle.stab_circuit.specs.Repeats.{IsRepeat, AreRepeats};
+ghost use Rattle.stab_circuit.specs.Cursors.{IsApart};
+ghost use Rattle.stab_run.specs.Records.{ones};
+ghost use Rattle.stab_run.specs.Points.{all_coins_of};
+ghost use Rattle.stab_run.specs.ProgramStates.{StepFits};
+ghost use Rattle.stab_recording.specs.inner.Runs.{IsOwnRun};
+
+use crate::meeting::are_fixed;
+use crate::replay::Replay;
+use crate::rhythm::end_of;
+use crate::together::taken_together;
+use stab_circuit::{Circuit, Cursor, Repeat};
+use stab_frames::{PivotRecorder, Pivots};
+use stab_io::Refusal;
+use stab_pauli::Pauli;
+use stab_run::{Coins, Outputs};
+use stab_tableau::Tableau;
+use std::alloc::Global;
+
+/// How many rounds of a block are carried out one by one. All others are carried out in one go.
+const MOST_SINGLE: usize = 64;
+
+/// How many steps a block has at least for its rounds to be looked at.
+const LEAST_STEPS: usize = 2048;
+
+/// How many rounds a block has at least for a frame to be propagated over some.
+const LEAST_FRAMED: usize = 4;
+
+/// If no coin decided, a run waits this many rounds for a state that comes again with its signs: what is given again then costs
+/// nothing.
+const MOST_AWAITED: usize = 8;
+
+/// Whether a block has enough steps that it is worth looking whether its rounds come again: each look finds its place in
+/// the steps anew.
+fn is_long(repeat: Repeat) -> bool {
+    repeat.rounds.saturating_mul(repeat.length) >= LEAST_STEPS
+}
+
+/// Whether a frame can come to be propagated over rounds of a block.
+fn can_have_frame(repeats: &[Repeat]) -> bool {
+    for repeat in repeats {
+        if is_long(*repeat) && repeat.rounds >= LEAST_FRAMED {
+            return true;
+        }
+    }
+    false
+}
+
+/// What strings a run on n qubits keeps before its first step, if only its own frames need some. If no frame can come to be propagated
+/// over rounds of a block, none will be kept, since to find them costs up to a seventh of a run.
+pub fn pivots_of_frames(alloc: Global, n: usize, repeats: &[Repeat]) -> Pivots
+    ensures size { result.qubits ≡ n }
+    ensures none { result.strings ≡ [] }
+{
+    let mut strings = Pivots::new(alloc, n);
+    if !can_have_frame(repeats) {
+        strings.close();
+    }
+    strings
+}
+
+impl<'a> Replay<'a> {
+    /// A run on n qubits before the first step, with room for this many records.
+    pub fn new(
+        alloc: Global,
+        circuit: &'a Circuit,
+        n: usize,
+        strings: Pivots,
+        records: usize,
+    ) -> Result<Replay<'a>, Refusal>
+        requires in_range { n ≤ most_qubits }
+        requires checked { check_of (circuit_items circuit.now) ≡ None }
+        requires size { strings.qubits ≡ n }
+        requires none { strings.strings ≡ [] }
+        ensures own { (coins : ℕ → Bool) → IfOk result (IsOwnRun n coins (unroll (circuit_items circuit.now))) }
+        ensures apart { IfOk result (λ r. All IsApart r.cursor.all) }
+        ensures step { IfOk result (λ r. r.step ≡ 0) }
+        ensures free { IfOk result (λ r. r.outputs.free.items ≡ []) }
+        ensures strings { IfOk result (λ r. r.pivots.strings ≡ strings) }
+        ensures err { IfErr result (λ r. r ≡ OutOfMemory) }
+    {
+        Ok(Replay {
+            tableau: Tableau::new(alloc, n)?,
+            string: Pauli::identity(alloc, n)?,
+            outputs: Outputs::with_capacity(alloc, records)?,
+            pivots: PivotRecorder {
+                strings,
+                window: 0,
+                string: Pauli::identity(alloc, n)?,
+            },
+            cursor: Cursor::at(alloc, circuit, 0)?,
+            step: 0,
+            applied: 0,
+            framed: 0,
+            laid: Vec::new(alloc),
+        })
+    }
+
+    /// Whether a frame may be propagated over rounds of a block, of which this many were carried out.
+    fn may_frame(&self, round: usize) -> bool {
+        let Some(first) = self.laid.first() else {
+            return false;
+        };
+        round > MOST_AWAITED || !are_fixed(self.outputs.free.as_slice(), first.lengths.free)
+    }
+
+    /// Carries out a round of a block, with this number, if one is left, and gives what those after it give that come again. It keeps a
+    /// copy of the state after the first, second, fourth, eighth one and so on.
+    fn run_round<C: Coins>(
+        &mut self,
+        alloc: Global,
+        circuit: &'a Circuit,
+        block: Repeat,
+        round: usize,
+        coins: &mut C,
+    ) -> Result<(), Refusal>
+        requires same_circuit { unroll (circuit_items circuit.now) ≡ self.old.cursor.all }
+        requires checked { check_of (circuit_items circuit.now) ≡ None }
+        requires fits { All (StepFits self.old.tableau.qubits) self.old.cursor.all }
+        requires few { length self.old.cursor.all ≤ most_steps }
+        requires repeat { IsRepeat self.old.cursor.all block }
+        requires own { IsOwnRun self.old.tableau.qubits (C.sequence coins.old) self.old.cursor.all self.old }
+        ensures all { self.new.cursor.all ≡ self.old.cursor.all }
+        ensures qubits { self.new.tableau.qubits ≡ self.old.tableau.qubits }
+        ensures same_coins { C.sequence coins.new ≡ C.sequence coins.old }
+        ensures asks_free { OnOk result (C.asks coins.new + ones self.old.outputs.free.items ≤ C.asks coins.old + ones self.new.outputs.free.items) }
+        ensures asked { C.asks coins.new + all_coins_of (drop self.new.step self.old.cursor.all) ≤ C.asks coins.old + all_coins_of (drop self.old.step self.old.cursor.all) }
+        ensures most { OnOk result (self.old.pivots.strings.most ≤ self.new.pivots.strings.most) }
+        ensures own { OnOk result (IsOwnRun self.old.tableau.qubits (C.sequence coins.old) self.old.cursor.all self.new) }
+        ensures further { OnOk result (self.old.step ≤ self.new.step) }
+        ensures err { IfErr result (λ r. r ≡ OutOfMemory) }
+    {
+        let end = end_of(block);
+        if end.saturating_sub(self.step) < block.length {
+            return Ok(());
+        }
+        self.run_to(alloc, coins, self.step + block.length)?;
+        self.lay(alloc)?;
+        let framed = self.may_frame(round);
+        self.fold(alloc, circuit, block, framed, 1, end, coins)?;
+        let spare = usize::from(!round.is_power_of_two());
+        self.laid.truncate(self.laid.len().saturating_sub(spare));
+        Ok(())
+    }
+
+    /// Carries out the steps up to a long block, and its rounds one by one, until they come again or some were carried out.
+    fn run_block<C: Coins>(
+        &mut self,
+        alloc: Global,
+        circuit: &'a Circuit,
+        block: Repeat,
+        coins: &mut C,
+    ) -> Result<(), Refusal>
+        requires same_circuit { unroll (circuit_items circuit.now) ≡ self.old.cursor.all }
+        requires checked { check_of (circuit_items circuit.now) ≡ None }
+        requires fits { All (StepFits self.old.tableau.qubits) self.old.cursor.all }
+        requires few { length self.old.cursor.all ≤ most_steps }
+        requires repeat { IsRepeat self.old.cursor.all block }
+        requires own { IsOwnRun self.old.tableau.qubits (C.sequence coins.old) self.old.cursor.all self.old }
+        ensures all { self.new.cursor.all ≡ self.old.cursor.all }
+        ensures qubits { self.new.tableau.qubits ≡ self.old.tableau.qubits }
+        ensures same_coins { C.sequence coins.new ≡ C.sequence coins.old }
+        ensures asks_free { OnOk result (C.asks coins.new + ones self.old.outputs.free.items ≤ C.asks coins.old + ones self.new.outputs.free.items) }
+        ensures asked { C.asks coins.new + all_coins_of (drop self.new.step self.old.cursor.all) ≤ C.asks coins.old + all_coins_of (drop self.old.step self.old.cursor.all) }
+        ensures most { OnOk result (self.old.pivots.strings.most ≤ self.new.pivots.strings.most) }
+        ensures own { OnOk result (IsOwnRun self.old.tableau.qubits (C.sequence coins.old) self.old.cursor.all self.new) }
+        ensures err { IfErr result (λ r. r ≡ OutOfMemory) }
+    {
+        if !is_long(block) || self.step > block.first {
+            return Ok(());
+        }
+        self.run_to(alloc, coins, block.first)?;
+        for round in 1..=MOST_SINGLE {
+            self.run_round(alloc, circuit, block, round, coins)?;
+        }
+        self.laid.truncate(0);
+        Ok(())
+    }
+
+    /// Carries out all steps of a circuit. Rounds of long blocks that come again are given again, up to a frame if they come again so.
+    ///
+    /// Refusal `OutOfMemory` alone.
+    pub fn run_all<C: Coins>(
+        &mut self,
+        alloc: Global,
+        circuit: &'a Circuit,
+        repeats: &[Repeat],
+        coins: &mut C,
+    ) -> Result<(), Refusal>
+        requires same_circuit { unroll (circuit_items circuit.now) ≡ self.old.cursor.all }
+        requires checked { check_within self.old.tableau.qubits (circuit_items circuit.now) ≡ None }
+        requires fits { All (StepFits self.old.tableau.qubits) self.old.cursor.all }
+        requires repeats { AreRepeats 0 self.old.cursor.all repeats.now }
+        requires own { IsOwnRun self.old.tableau.qubits (C.sequence coins.old) self.old.cursor.all self.old }
+        ensures all { self.new.cursor.all ≡ self.old.cursor.all }
+        ensures qubits { self.new.tableau.qubits ≡ self.old.tableau.qubits }
+        ensures same_coins { C.sequence coins.new ≡ C.sequence coins.old }
+        ensures asks_free { OnOk result (C.asks coins.new + ones self.old.outputs.free.items ≤ C.asks coins.old + ones self.new.outputs.free.items) }
+        ensures asked { C.asks coins.new + all_coins_of (drop self.new.step self.old.cursor.all) ≤ C.asks coins.old + all_coins_of (drop self.old.step self.old.cursor.all) }
+        ensures most { OnOk result (self.old.pivots.strings.most ≤ self.new.pivots.strings.most) }
+        ensures own { OnOk result (IsOwnRun self.old.tableau.qubits (C.sequence coins.old) self.old.cursor.all self.new) }
+        ensures step { OnOk result (self.new.step ≡ length self.old.cursor.all) }
+        ensures err { IfErr result (λ r. r ≡ OutOfMemory) }
+    {
+        for repeat in repeats {
+            self.run_block(alloc, circuit, taken_together(*repeat), coins)?;
+        }
+        self.run_to(alloc, coins, circuit.steps())?;
+        Ok(())
+    }
+}

@@ -1,6 +1,0 @@
-use Rattle.std.specs.Cmp.{booleans_Decides}
-use Rattle.std.proofs.lemmas.Slice.Eq.{slice_eq-Decides}
-use Rattle.stab_replay.proofs.moved.are_same.Goals as goal
-
-pub returns : goal.returns
-returns c = record { value = slice_eq-Decides booleans_Decides c.args.bits.now c.args.others.now c.eq.result c.eq.ensures }

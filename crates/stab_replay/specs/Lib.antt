@@ -1,5 +1,0 @@
-pub mod NotedStrings
-pub mod LedFrames
-pub mod FramedReplays
-pub mod Replays
-pub mod inner

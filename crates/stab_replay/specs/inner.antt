@@ -1,4 +1,0 @@
-pub mod Arrivals
-pub mod LedReplays
-pub mod AgainReplays
-pub mod TurnedReplays

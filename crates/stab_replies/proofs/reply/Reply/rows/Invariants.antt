@@ -1,6 +1,0 @@
-use Rattle.std.proofs.Common.{◌≡◌, take}
-use Rattle.stab_tables.specs.Rows.{lines_of}
-use Rattle.stab_replies.proofs.reply.Reply.rows.Given as goal
-
-abbrev pub invariant-loop-row : goal.invariant-loop-row
-invariant-loop-row l = l.reply.written ≡ lines_of (take l.row-index l.rows)

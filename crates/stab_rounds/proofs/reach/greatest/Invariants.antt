@@ -1,9 +1,0 @@
-use Rattle.std.proofs.Common.{◌≡◌, ◌≤◌, false, nat_lt, take}
-use Rattle.std.specs.List.{list_any}
-use Rattle.stab_rounds.proofs.reach.greatest.Given as goal
-
-abbrev pub invariant-loop-number : goal.invariant-loop-number
-invariant-loop-number l = record {
-  more : l.least ≤ l.greatest;
-  within : list_any (nat_lt l.greatest) (take l.number-index l.numbers) ≡ false;
-}

@@ -1,0 +1,8 @@
+use Rattle.stab_rounds.proofs.Names.{◌≤◌, All, map, take, detector, lookbacks_of, LooksWithin}
+use Rattle.stab_rounds.proofs.window.furthest_detector.Given as goal
+
+abbrev pub invariant-loop-place : goal.invariant-loop-place
+invariant-loop-place l = record {
+  more : l.least ≤ l.window;
+  within : All (LooksWithin l.window) (map detector (take l.place (lookbacks_of l.detectors)));
+}

@@ -1,0 +1,8 @@
+use Rattle.stab_rounds.proofs.Names.{◌≡◌, ◌≤◌, false, nat_lt, take, list_any}
+use Rattle.stab_rounds.proofs.window.greatest.Given as goal
+
+abbrev pub invariant-loop-number : goal.invariant-loop-number
+invariant-loop-number l = record {
+  more : l.least ≤ l.greatest;
+  within : list_any (nat_lt l.greatest) (take l.number-index l.numbers) ≡ false;
+}

@@ -1,0 +1,49 @@
+-- Steps left: as many of the first ones as are asked for, as they are carried out one after another.
+use Rattle.stab_run.proofs.Names.{◌≡◌, ℕ, zero, suc, ◌+◌, ◌-◌, ◌≤◌, refl, ◌∙◌, ap, arith, List, [], ◌∷◌, ◌++◌, length, take, drop, take-append-add, drop-append-add, Step, all_coins_of}
+
+-- the first of the steps that are left, and the others
+
+pub take-steps : (k m : ℕ) (xs ys rest : List Step) → xs ≡ ys ++ rest → m ≡ length ys → length ys ≤ k → take k xs ≡ ys ++ take (k - m) rest
+take-steps k m xs ys rest e count l = ap (take k) e ∙ ap (λ t. take t (ys ++ rest)) whole ∙ take-append-add ys rest (k - m)
+  where
+    whole : k ≡ length ys + (k - m)
+    whole = omega arith
+
+pub drop-steps : (k m : ℕ) (xs ys rest : List Step) → xs ≡ ys ++ rest → m ≡ length ys → length ys ≤ k → drop k xs ≡ drop (k - m) rest
+drop-steps k m xs ys rest e count l = ap (drop k) e ∙ ap (λ t. drop t (ys ++ rest)) whole ∙ drop-append-add ys rest (k - m)
+  where
+    whole : k ≡ length ys + (k - m)
+    whole = omega arith
+
+-- if none are to be carried out, or none are left
+
+pub take-none : (k : ℕ) (xs : List Step) → k ≤ 0 → take k xs ≡ []
+take-none zero xs l = refl
+take-none (suc k) xs l = absurd (omega arith)
+
+pub drop-none : (k : ℕ) (xs : List Step) → k ≤ 0 → drop k xs ≡ xs
+drop-none zero xs l = refl
+drop-none (suc k) xs l = absurd (omega arith)
+
+pub take-empty : (k : ℕ) (xs : List Step) → xs ≡ [] → take k xs ≡ []
+take-empty zero xs e = refl
+take-empty (suc k) xs e = ap (take (suc k)) e
+
+pub drop-empty : (k : ℕ) (xs : List Step) → xs ≡ [] → drop k xs ≡ []
+drop-empty zero xs e = e
+drop-empty (suc k) xs e = ap (drop (suc k)) e
+
+take-whole : (k : ℕ) (xs : List Step) → length xs ≤ k → take k xs ≡ xs
+take-whole zero [] l = refl
+take-whole (suc k) [] l = refl
+take-whole zero (x ∷ xs) l = absurd (omega arith)
+take-whole (suc k) (x ∷ xs) l = ap (λ t. x ∷ t) (take-whole k xs (omega arith))
+
+-- all steps, if as many are to be carried out as are left
+
+pub take-all : (from count : ℕ) (all : List Step) → length all ≤ from + count → take (from + count) all ≡ all
+take-all from count all enough = take-whole (from + count) all enough
+
+pub asks-all : (from count old mid new : ℕ) (all : List Step) → length all ≤ from + count → mid ≤ old + all_coins_of (take from all)
+    → new + all_coins_of (take from all) ≤ mid + all_coins_of (take (from + count) all) → new ≤ old + all_coins_of all
+asks-all from count old mid new all enough before behind = omega (arith, before, behind, ap all_coins_of (take-all from count all enough))

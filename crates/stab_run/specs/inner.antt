@@ -1,5 +1,0 @@
-pub mod ReadySamplers
-pub mod Shots
-pub mod Led
-pub mod Noted
-pub mod Turned

@@ -1,3 +1,0 @@
-pub mod ShotLaws
-pub mod PackingLaws
-pub mod LineLaws

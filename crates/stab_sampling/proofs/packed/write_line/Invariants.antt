@@ -1,9 +1,0 @@
-use Rattle.std.proofs.Common.{◌≡◌, ◌+◌, take, length}
-use Rattle.stab_sampling.proofs.LineLaws.{digits}
-use Rattle.stab_sampling.proofs.packed.write_line.Given as goal
-
-abbrev pub invariant-loop-k : goal.invariant-loop-k
-invariant-loop-k l = record {
-  size : length l.text ≡ length l.column + 1;
-  made : take l.k l.text ≡ digits l.lane (take l.k l.column);
-}

@@ -1,3 +1,0 @@
-pub mod Outputs
-pub mod Sendings
-pub mod inner

@@ -1,0 +1,107 @@
+-- Laws of place counts: counts grow by one step after another, and the steps before a place and at it are parts of the unrolled circuit.
+use Rattle.stab_script.proofs.Names.{◌≡◌, ℕ, zero, suc, ◌-◌, ◌≤◌, min, List, [], ◌∷◌, length, take, drop, refl, sym, ap, ◌∙◌, subst, arith, None, Ok, Err, Result, inl, inr, length-take, IfOk, IfErr, IsErrAnd, Refusal, OutOfMemory, Fault, Items, OneItem, listed, entries, Step, unroll, check_of, check_within, steps_cap, Path, item_at, steps_before, entries-listed, check-whole, few_steps, StepCounts, ReplyBytes, GivesText, counts_of, place_behind, steps_up_to, steps_at, place_line, place_text, text_found}
+
+none_taken : (k : ℕ) → take {A = Step} k [] ≡ []
+none_taken zero = refl
+none_taken (suc k) = refl
+
+none_dropped : (k : ℕ) → drop {A = Step} k [] ≡ []
+none_dropped zero = refl
+none_dropped (suc k) = refl
+
+-- a cut number of steps is that of all if no more are cut off than there are
+taken_capped : (n c : ℕ) (xs : List Step) → length xs ≤ c → take (min n c) xs ≡ take n xs
+taken_capped n c [] few = none_taken (min n c) ∙ sym (none_taken n)
+taken_capped zero c (x ∷ xs) few = ap (λ k. take k (x ∷ xs)) {x = min zero c} {y = zero} (omega arith)
+taken_capped (suc n) zero (x ∷ xs) few = absurd (omega (arith, few))
+taken_capped (suc n) (suc c) (x ∷ xs) few = ap (λ k. take k (x ∷ xs)) {x = min (suc n) (suc c)} {y = suc (min n c)} (omega arith) ∙ ap (λ l. x ∷ l) (taken_capped n c xs (omega (arith, few)))
+
+dropped_capped : (n c : ℕ) (xs : List Step) → length xs ≤ c → drop (min n c) xs ≡ drop n xs
+dropped_capped n c [] few = none_dropped (min n c) ∙ sym (none_dropped n)
+dropped_capped zero c (x ∷ xs) few = ap (λ k. drop k (x ∷ xs)) {x = min zero c} {y = zero} (omega arith)
+dropped_capped (suc n) zero (x ∷ xs) few = absurd (omega (arith, few))
+dropped_capped (suc n) (suc c) (x ∷ xs) few = ap (λ k. drop k (x ∷ xs)) {x = min (suc n) (suc c)} {y = suc (min n c)} (omega arith) ∙ dropped_capped n c xs (omega (arith, few))
+
+-- what lies between two places of a list
+between : (n m : ℕ) (xs : List Step) → take (m - n) (drop n xs) ≡ drop n (take m xs)
+between zero m xs = ap (λ k. take k xs) {x = m - zero} {y = m} (omega arith)
+between (suc n) zero xs = ap (λ k. take k (drop (suc n) xs)) {x = 0 - suc n} {y = 0} (omega arith)
+between (suc n) (suc m) [] = none_taken (suc m - suc n)
+between (suc n) (suc m) (x ∷ xs) = ap (λ k. take k (drop n xs)) {x = suc m - suc n} {y = m - n} (omega arith) ∙ between n m xs
+
+taken_few : (n : ℕ) (xs : List Step) → length (take n xs) ≤ length xs
+taken_few n xs = omega (arith, length-take n xs)
+
+-- and the same if the places are cut
+between_capped : (n m c : ℕ) (xs : List Step) → length xs ≤ c → take (min m c - min n c) (drop (min n c) xs) ≡ drop n (take m xs)
+between_capped n m c xs few =
+    between (min n c) (min m c) xs
+    ∙ ap (drop (min n c)) (taken_capped m c xs few)
+    ∙ dropped_capped n c (take m xs) (omega (arith, taken_few m xs, few))
+
+within_cap : (circuit : List OneItem) → check_of (listed circuit) ≡ None → length (unroll (listed circuit)) ≤ steps_cap
+within_cap circuit checked = let few = few_steps (listed circuit) checked in omega (arith, few)
+
+-- the steps before a place are counted, of a circuit that nothing refuses
+pub counted_before : (circuit : List OneItem) (path : Path) (first : ℕ) (left : List Step) (before : StepCounts) → check_of (listed circuit) ≡ None
+    → first ≡ min (length (steps_before path circuit)) steps_cap → left ≡ unroll (listed circuit) → before ≡ counts_of (take first left)
+    → before ≡ counts_of (steps_up_to path (listed circuit))
+counted_before circuit path first left before checked at all counted =
+    let steps = unroll (listed circuit) in
+    let n = length (steps_before path circuit) in
+    counted
+    ∙ ap (λ l. counts_of (take first l)) all
+    ∙ ap (λ k. counts_of (take k steps)) at
+    ∙ ap counts_of (taken_capped n steps_cap steps (within_cap circuit checked))
+    ∙ ap (λ l. counts_of (take (length (steps_before path l)) steps)) (sym (entries-listed circuit))
+
+-- and those of the item at it
+pub counted_own : (circuit : List OneItem) (path behind : Path) (first end : ℕ) (all left : List Step) (own : StepCounts) → check_of (listed circuit) ≡ None → behind ≡ place_behind path
+    → first ≡ min (length (steps_before path circuit)) steps_cap → end ≡ min (length (steps_before behind circuit)) steps_cap → all ≡ unroll (listed circuit)
+    → left ≡ drop first all → own ≡ counts_of (take (end - first) left)
+    → own ≡ counts_of (steps_at path (listed circuit))
+counted_own circuit path behind first end all left own checked next at until same passed counted =
+    let steps = unroll (listed circuit) in
+    let n = length (steps_before path circuit) in
+    let ends : end ≡ min (length (steps_before (place_behind path) circuit)) steps_cap = until ∙ ap (λ (p : Path). min (length (steps_before p circuit)) steps_cap) next in
+    let m = length (steps_before (place_behind path) circuit) in
+    counted
+    ∙ ap (λ l. counts_of (take (end - first) l)) passed
+    ∙ ap (λ l. counts_of (take (end - first) (drop first l))) same
+    ∙ ap (λ k. counts_of (take (end - k) (drop k steps))) at
+    ∙ ap (λ k. counts_of (take (k - min n steps_cap) (drop (min n steps_cap) steps))) ends
+    ∙ ap counts_of (between_capped n m steps_cap steps (within_cap circuit checked))
+    ∙ ap (λ l. counts_of (drop (length (steps_before path l)) (take (length (steps_before (place_behind path) l)) steps))) (sym (entries-listed circuit))
+
+-- if there is no item at a place, no line is shown
+pub no_place : (circuit : List OneItem) (place : Path) (r : Refusal) (result : Result ReplyBytes Refusal) → IsErrAnd result (λ x. x ≡ r) → item_at place circuit ≡ Err r
+    → GivesText result (text_found (λ (x : OneItem). place_text place (listed circuit)) (item_at place circuit))
+no_place circuit place r (Ok reply) is found = absurd is
+no_place circuit place r (Err x) is found = inr (ap (text_found (λ (x : OneItem). place_text place (listed circuit))) found ∙ ap Err (sym is))
+
+-- lack of memory
+pub place_unshown : (given : Result (List ℕ) Refusal) (r : Refusal) (result : Result ReplyBytes Refusal) → IsErrAnd result (λ x. x ≡ r) → r ≡ OutOfMemory → GivesText result given
+place_unshown given r (Ok reply) is memory = absurd is
+place_unshown given r (Err x) is memory = inl (is ∙ memory)
+
+-- if there is one, its line is
+pub place_told : (circuit : List OneItem) (place : Path) (x : OneItem) (before own : StepCounts) (made : Result ReplyBytes Fault) (result : Result ReplyBytes Refusal) → item_at place circuit ≡ Ok x
+    → before ≡ counts_of (steps_up_to place (listed circuit)) → own ≡ counts_of (steps_at place (listed circuit)) → IfOk made (λ r. r.written ≡ place_line before own)
+    → IfOk result (λ r. made ≡ Ok r) → IfErr result (λ r. r ≡ OutOfMemory) → GivesText result (text_found (λ (x : OneItem). place_text place (listed circuit)) (item_at place circuit))
+place_told circuit place x before own made (Ok reply) found is_before is_own written same err =
+    let text : reply.written ≡ place_line before own = subst (λ (m : Result ReplyBytes Fault). IfOk m (λ r. r.written ≡ place_line before own)) same written in
+    let counted : place_line before own ≡ place_line (counts_of (steps_up_to place (listed circuit))) (counts_of (steps_at place (listed circuit))) =
+    ap (λ b. place_line b own) is_before ∙ ap (λ o. place_line (counts_of (steps_up_to place (listed circuit))) o) is_own in
+    ap (text_found (λ (x : OneItem). place_text place (listed circuit))) found ∙ ap Ok (sym (text ∙ counted))
+place_told circuit place x before own made (Err r) found is_before is_own written same err = inl err
+
+-- the items of a session are those of its circuit
+pub place_of_session : (circuit : List OneItem) (items : Items) (place : Path) (result : Result ReplyBytes Refusal) → listed circuit ≡ items
+    → GivesText result (text_found (λ (x : OneItem). place_text place (listed circuit)) (item_at place circuit)) → GivesText result (text_found (λ (x : OneItem). place_text place items) (item_at place (entries items)))
+place_of_session circuit items place result same shown =
+    subst (λ (x : Items). GivesText result (text_found (λ (y : OneItem). place_text place x) (item_at place (entries x)))) same
+    (subst (λ (xs : List OneItem). GivesText result (text_found (λ (x : OneItem). place_text place (listed circuit)) (item_at place xs))) (sym (entries-listed circuit)) shown)
+
+-- nothing refuses the circuit of a session
+pub session_checked : (n : ℕ) (items others : Items) → others ≡ items → check_within n items ≡ None → check_of others ≡ None
+session_checked n items others same checked = ap check_of same ∙ check-whole n items checked

@@ -1,0 +1,43 @@
+-- Changes: which bits of a run differ from those at the mark.
+-- Source: this project's own; the notation is that of Stim's result format `dets`.
+use Rattle.std.specs.Prelude.{ℕ, ◌==◌, Bool, List, [], ◌∷◌, ◌++◌, length, drop, codes, decimal, if◌then◌else◌}
+use Rattle.std.specs.List.{flat_map}
+use Rattle.stab_gates.specs.Letters.{◌⊕◌}
+use Rattle.stab_run.specs.Runs.{State}
+use Rattle.stab_coins.specs.Coins.{ShotBits}
+use Rattle.stab_results.specs.declared.format.Kinds.{Kinds}
+use Rattle.stab_results.specs.declared.format.Kinds.TheVariants.{Measurements, Detectors}
+use Rattle.stab_results.specs.Formats.{entry, one_places}
+use Rattle.stab_script.specs.declared.changes.MarkedBits.{MarkedBits}
+
+-- a mark that nothing is compared with
+abbrev pub no_mark : ShotBits
+no_mark = record { records = []; detectors = []; observables = [] }
+
+-- the mark that the code's bits are
+abbrev pub mark_shown : MarkedBits → ShotBits
+mark_shown m = record { records = m.records.items; detectors = m.detectors.items; observables = m.observables.items }
+
+-- for each place that both lists have, whether their bits differ there
+abbrev pub changes : (old new : List Bool) → List Bool
+changes [] new = []
+changes (a ∷ old) [] = []
+changes (a ∷ old) (b ∷ new) = (a ⊕ b) ∷ changes old new
+
+-- a line of the entries of 1 bits with spaces between them
+abbrev pub entries_line : Kinds → List Bool → List ℕ
+entries_line kinds bits = drop 1 (flat_map (entry kinds) (one_places bits)) ++ codes "\n"
+
+-- if there are more or fewer bits of a name than before, a line of both numbers
+abbrev pub count_line : (name : List ℕ) → (old new : List Bool) → List ℕ
+count_line name old new = if length old == length new then [] else name ++ (codes " " ++ (decimal (length old) ++ (codes " " ++ (decimal (length new) ++ codes "\n"))))
+
+-- what changed of detectors and observables
+abbrev pub changed_text : ShotBits → State → List ℕ
+changed_text mark run =
+    entries_line (Detectors (length (changes mark.detectors run.detectors))) (changes mark.detectors run.detectors ++ changes mark.observables run.observables)
+    ++ (count_line (codes "detectors") mark.detectors run.detectors ++ count_line (codes "observables") mark.observables run.observables)
+
+-- what changed of records
+abbrev pub changed_records_text : ShotBits → State → List ℕ
+changed_records_text mark run = entries_line Measurements (changes mark.records run.records) ++ count_line (codes "records") mark.records run.records

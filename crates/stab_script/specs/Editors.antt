@@ -1,0 +1,64 @@
+-- Editors: what a call leaves that answers requests, one after another, and writes each reply.
+-- Source: this project's own.
+use Rattle.std.specs.Prelude.{◌≡◌, Bool, ◌||◌, List, ◌++◌, ◌⊎◌, Result, Ok, Err}
+use Rattle.stab_io.specs.Devices.{OutputView, Took, CutOff}
+use Rattle.stab_io.specs.declared.refusal.Fault.{Fault}
+use Rattle.stab_io.specs.declared.refusal.Refusal.TheVariants.{WriteFault}
+use Rattle.stab_io.specs.Refusals.{whole}
+use Rattle.stab_analysis.specs.Endings.{TookAndFlushed, TookAndFlushFailed}
+use Rattle.stab_script.specs.declared.editor.Editor.{Editor}
+use Rattle.stab_script.specs.Scripts.{Setting, Request, Held, Answer, IsAnswerToAll}
+
+-- what answers are made from: the setting, what is held now, and whether a line was refused so far
+pub record Sitting : Type 0 where
+  pub setting : Setting
+  pub held : Held
+  pub refused : Bool
+
+-- the sitting of an editor
+abbrev pub sitting : {A : Type 0} → (A → Setting) → (A → Held) → Editor A → Sitting
+sitting setting_of held_of e = record { setting = setting_of e.answers; held = held_of e.answers; refused = e.refused }
+
+-- a sitting after an answer
+abbrev pub after_answer : Sitting → Answer → Sitting
+after_answer old a = record { setting = old.setting; held = a.held; refused = old.refused || a.refused }
+
+-- the requests were answered, and the replies written
+pub record Told (old new : Sitting) (requests : List Request) (o o' : OutputView) : Type 0 where
+  pub answer : Answer
+  pub answers : IsAnswerToAll old.setting old.held requests answer
+  pub took : Took o o' answer.reply
+  pub leaves : new ≡ after_answer old answer
+
+-- the replies to some first requests were written, or cut off: the output failed, or memory was refused
+pub record ToldSome (old : Sitting) (requests : List Request) (o o' : OutputView) (f : Fault) : Type 0 where
+  pub first : List Request
+  pub rest : List Request
+  pub split : requests ≡ first ++ rest
+  pub answer : Answer
+  pub answers : IsAnswerToAll old.setting old.held first answer
+  pub cut : CutOff o o' answer.reply f
+
+-- a call answers requests
+abbrev pub AnswersRequests : {T : Type 0} → Sitting → Sitting → List Request → OutputView → OutputView → Result T Fault → Type 0
+AnswersRequests old new requests o o' (Ok x) = Told old new requests o o'
+AnswersRequests old new requests o o' (Err f) = ToldSome old requests o o' f
+
+-- the requests were answered and the replies written, and the one flush after them failed
+pub record FlushFails (old : Sitting) (requests : List Request) (o o' : OutputView) (f : Fault) : Type 0 where
+  pub answer : Answer
+  pub answers : IsAnswerToAll old.setting old.held requests answer
+  pub fault : f ≡ whole WriteFault
+  pub failed : TookAndFlushFailed o o' answer.reply
+
+-- the requests were answered, and the replies written and flushed once
+pub record Sent (old : Sitting) (requests : List Request) (o o' : OutputView) (refused : Bool) : Type 0 where
+  pub answer : Answer
+  pub answers : IsAnswerToAll old.setting old.held requests answer
+  pub sent : TookAndFlushed o o' answer.reply
+  pub flag : refused ≡ old.refused || answer.refused
+
+-- a call answers the last requests, flushes, and says whether a line was refused
+abbrev pub Finishes : Sitting → List Request → OutputView → OutputView → Result Bool Fault → Type 0
+Finishes old requests o o' (Ok refused) = Sent old requests o o' refused
+Finishes old requests o o' (Err f) = ToldSome old requests o o' f ⊎ FlushFails old requests o o' f

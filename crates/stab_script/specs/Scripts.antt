@@ -1,0 +1,384 @@
+-- Scripts: what an edit script asks for, and what it is answered.
+-- Source: this project's own.
+use Rattle.std.specs.Prelude.{◌≡◌, ℕ, ◌+◌, ◌-◌, Bool, true, false, ◌||◌, ◌==◌, List, [], ◌∷◌, ◌++◌, length, codes, bytes_eq, Option, Some, None, Result, Ok, Err, if◌then◌else◌, ◌⊎◌}
+use Rattle.stab_io.specs.declared.refusal.Refusal.{Refusal}
+use Rattle.stab_io.specs.declared.refusal.Refusal.TheVariants.{BadCommand, TooLong, NotDeterministic}
+use Rattle.stab_io.specs.declared.refusal.Fault.{Fault}
+use Rattle.stab_tableau.specs.Traces.{member}
+use Rattle.stab_lines.specs.Lines.{content_of, ends_with_byte}
+use Rattle.stab_lines.specs.Meanings.{is_close}
+use Rattle.stab_circuit.specs.Items.{Items, OneItem, done, before, listed, entries}
+use Rattle.stab_circuit.specs.Paths.{Path}
+use Rattle.stab_circuit.specs.declared.edit.Edit.{Edit}
+use Rattle.stab_circuit.specs.declared.edit.Edit.TheVariants as circuit_edit
+use Rattle.stab_circuit.specs.Edits.{edited, list_verdict}
+use Rattle.stab_circuit.specs.Circuits.{most_bytes, item_fault, StandsForOne}
+use Rattle.stab_circuit.specs.Prints.{printed}
+use Rattle.stab_run.specs.Runs.{State, run_of}
+use Rattle.stab_coins.specs.Coins.{ShotBits, bits_of}
+use Rattle.stab_results.specs.Formats.{f01_bytes}
+use Rattle.stab_analysis.specs.FaultLines.{refused_text}
+use Rattle.stab_results.specs.declared.format.Format.TheVariants.{F01}
+use Rattle.stab_analysis.specs.Rows.{IsStabilisersText}
+use Rattle.stab_analysis.specs.Deterministic.{IsDeterministicText}
+use Rattle.stab_analysis.specs.declared.random.Random.{Random}
+use Rattle.stab_analysis.specs.FaultTables.{IsFirstRandom}
+use Rattle.stab_analysis.specs.Distances.{IsDistanceText}
+use Rattle.stab_jobs.specs.declared.job.DistanceOptions.{DistanceOptions}
+use Rattle.stab_jobs.specs.declared.job.ErrorLetters.TheVariants.{All}
+use Rattle.stab_circuit.specs.Places.{item_at}
+use Rattle.stab_circuit.specs.Splits.{split}
+use Rattle.stab_script.specs.ScriptWords.{first_word, behind_word, place_of, Gathered, more, is_nothing}
+use Rattle.stab_script.specs.FramedRequests as framed_asks
+use Rattle.stab_script.specs.FramedRequests.{FramedRequest, alone, mark, numbers, changed, changed_records, sign, round_of, framed_split, framed_show}
+use Rattle.stab_script.specs.FramedReplies.{text_found, reply_text, made_text, greeting, session_numbers, numbers_line}
+use Rattle.stab_script.specs.Changes.{no_mark, changed_text, changed_records_text}
+use Rattle.stab_script.specs.PlaceCounts.{place_text}
+use Rattle.stab_script.specs.CoinReplies.{coins_shown, why_shown}
+use Rattle.stab_script.specs.Signs.{string_of_word, sign_in, sign_line}
+use Rattle.stab_script.specs.declared.request.ItemEdit.{ItemEdit}
+use Rattle.stab_script.specs.declared.request.ItemEdit.TheVariants.{Insert, Replace}
+use Rattle.stab_script.specs.declared.request.Show.{Show}
+use Rattle.stab_script.specs.declared.request.Show.TheVariants.{Measurements, Free, Detectors, Observables, Stabilisers, Circuit}
+
+-- what a script asks for: that it begins; that the item of a text is put in at a place, or that the item at a place is deleted, or that
+-- something is shown; what only a framed script asks for, which may be the bits that are the same for all random bits, or the distance up to
+-- this many errors; or nothing, if a line is refused
+pub data Request : Type 0 where
+  begin : Request
+  put : ItemEdit → (place : Path) → (text : List ℕ) → Request
+  delete : (place : Path) → Request
+  show : Show → Request
+  ask : FramedRequest → Request
+  deterministic : Request
+  distance : (everywhere : Bool) → (most : ℕ) → Request
+  refuse : Refusal → Request
+
+-- an edit that puts in an item, if there are a place and a text
+abbrev pub put_at : ItemEdit → Option Path → (text : List ℕ) → Request
+put_at edit None text = refuse BadCommand
+put_at edit (Some place) text = if length text == 0 then refuse BadCommand else put edit place text
+
+-- a deletion, if there are a place and nothing after it
+abbrev pub delete_at : Option Path → (text : List ℕ) → Request
+delete_at None text = refuse BadCommand
+delete_at (Some place) text = if length text == 0 then delete place else refuse BadCommand
+
+-- what only a framed script asks for, if it asks for anything
+abbrev pub framed_of : Option FramedRequest → Request
+framed_of None = refuse BadCommand
+framed_of (Some request) = ask request
+
+-- the distance up to a number of errors: where the circuit marks them, or everywhere
+abbrev pub distance_of : Option ℕ → (rest : List ℕ) → Request
+distance_of None rest = refuse BadCommand
+distance_of (Some most) rest = if length rest == 0 then distance false most else if bytes_eq rest (codes "everywhere") then distance true most else refuse BadCommand
+
+-- what only a framed script may be shown, by the first word after `show` and the rest after that
+abbrev pub show_by : (word rest : List ℕ) → Request
+show_by word rest = if bytes_eq word (codes "distance") then distance_of (round_of (first_word rest)) (behind_word rest) else framed_of (framed_show word rest)
+
+-- what the words after `show` ask for
+abbrev pub show_of : List ℕ → Request
+show_of word =
+    if bytes_eq word (codes "measurements") then show Measurements
+    else if bytes_eq word (codes "free") then show Free
+    else if bytes_eq word (codes "detectors") then show Detectors
+    else if bytes_eq word (codes "observables") then show Observables
+    else if bytes_eq word (codes "stabilisers") then show Stabilisers
+    else if bytes_eq word (codes "circuit") then show Circuit
+    else if bytes_eq word (codes "deterministic") then deterministic
+    else show_by (first_word word) (behind_word word)
+
+-- what a first word and the rest after it ask for
+abbrev pub request_by : (word rest : List ℕ) → Request
+request_by word rest =
+    if bytes_eq word (codes "insert") then put_at Insert (place_of (first_word rest)) (behind_word rest)
+    else if bytes_eq word (codes "replace") then put_at Replace (place_of (first_word rest)) (behind_word rest)
+    else if bytes_eq word (codes "delete") then delete_at (place_of (first_word rest)) (behind_word rest)
+    else if bytes_eq word (codes "show") then show_of rest
+    else if bytes_eq word (codes "mark") then framed_of (alone rest mark)
+    else if bytes_eq word (codes "split") then framed_of (framed_split rest)
+    else refuse BadCommand
+
+-- what a content asks for that is not blank
+unfoldable pub request_of : List ℕ → Request
+request_of content = request_by (first_word content) (behind_word content)
+
+-- the most bytes of a line
+abbrev pub most_line : ℕ
+most_line = 65536
+
+-- the most bytes of a script
+abbrev pub most_script : ℕ
+most_script = 67108864
+
+-- an edit whose item's text is gathered: how many blocks are open, and the text so far
+pub record Gathering : Type 0 where
+  pub edit : ItemEdit
+  pub place : Path
+  pub opened : ℕ
+  pub text : Gathered
+
+-- what is known between two bytes of a script: what is gathered, if anything is, and the line so far
+pub record ScriptReader : Type 0 where
+  pub gathering : Option Gathering
+  pub line : Gathered
+
+-- the reader after some bytes, and what they asked for
+pub record Reading : Type 0 where
+  pub reader : ScriptReader
+  pub requests : List Request
+
+-- nothing was asked for
+abbrev pub silent : ScriptReader → Reading
+silent reader = record { reader = reader; requests = [] }
+
+-- a line ended: this is gathered, and these are the requests
+abbrev pub line_ended : Option Gathering → List Request → Reading
+line_ended gathering requests = record { reader = record { gathering = gathering; line = Some [] }; requests = requests }
+
+-- what an edit with a gathered text asks for
+abbrev pub put_gathered : ItemEdit → (place : Path) → Gathered → Request
+put_gathered edit place None = refuse TooLong
+put_gathered edit place (Some text) = put edit place text
+
+-- what is gathered ends
+abbrev pub gathering_ended : Gathering → Reading
+gathering_ended g = line_ended None (put_gathered g.edit g.place g.text ∷ [])
+
+-- a request of a line of its own, or the begin of an item's text of several lines: one that ends in {
+abbrev pub begun : Request → Reading
+begun (put edit place text) =
+    if ends_with_byte text 123 then line_ended (Some (record { edit = edit; place = place; opened = 1; text = Some text })) []
+    else line_ended None (put edit place text ∷ [])
+begun request = line_ended None (request ∷ [])
+
+-- a line that is alone; a blank one asks for nothing
+abbrev pub line_alone : Gathered → Reading
+line_alone None = line_ended None (refuse TooLong ∷ [])
+line_alone (Some line) = if length (content_of line) == 0 then line_ended None [] else begun (request_of (content_of line))
+
+-- how many blocks are open after a content
+abbrev pub opened_behind : ℕ → List ℕ → ℕ
+opened_behind opened content = if is_close content then opened - 1 else if ends_with_byte content 123 then opened + 1 else opened
+
+-- what is gathered with one more line after it; a line over its limit neither opens nor closes, and the text is over its limit
+abbrev pub gathered_with : Gathering → Gathered → Gathering
+gathered_with g None = record g { text = None }
+gathered_with g (Some line) = record g { opened = opened_behind g.opened (content_of line); text = more most_bytes (more most_bytes g.text (10 ∷ [])) (content_of line) }
+
+-- what is gathered ends if its last block is closed
+abbrev pub line_gathered : Gathering → Reading
+line_gathered g = if g.opened == 0 then gathering_ended g else line_ended (Some g) []
+
+-- a line, if this is gathered
+abbrev pub line_behind : Option Gathering → Gathered → Reading
+line_behind None line = line_alone line
+line_behind (Some g) line = line_gathered (gathered_with g line)
+
+-- the line so far ends
+unfoldable pub read_line : ScriptReader → Reading
+read_line reader = line_behind reader.gathering reader.line
+
+-- a byte: LF ends the line, and any other is of it
+abbrev pub read_byte : ScriptReader → ℕ → Reading
+read_byte reader b = if b == 10 then read_line reader else silent (record reader { line = more most_line reader.line (b ∷ []) })
+
+-- first one, then the other
+abbrev pub then_read : Reading → (ScriptReader → Reading) → Reading
+then_read first next = record { reader = (next first.reader).reader; requests = first.requests ++ (next first.reader).requests }
+
+-- bytes, one after another
+unfoldable pub read : ScriptReader → List ℕ → Reading
+read reader [] = silent reader
+read reader (b ∷ bs) = then_read (read_byte reader b) (λ after. read after bs)
+
+-- a last line without LF is a line
+abbrev pub read_last : ScriptReader → Reading
+read_last reader = if is_nothing reader.line then silent reader else read_line reader
+
+-- the end of a script ends what is gathered
+abbrev pub closed : Option Gathering → ScriptReader → Reading
+closed None reader = silent reader
+closed (Some g) reader = gathering_ended g
+
+-- the end of a script
+abbrev pub read_end : ScriptReader → Reading
+read_end reader = then_read (read_last reader) (λ after. closed after.gathering after)
+
+-- the reader before a script
+abbrev pub empty_reader : ScriptReader
+empty_reader = record { gathering = None; line = Some [] }
+
+-- what the first bytes of a script ask for: that it begins, and what is in them
+abbrev pub requests_in : List ℕ → List Request
+requests_in bytes = begin ∷ (read empty_reader bytes).requests
+
+-- what a whole script asks for
+abbrev pub requests_of : List ℕ → List Request
+requests_of script = begin ∷ (then_read (read empty_reader script) read_end).requests
+
+-- what requests are answered by: whether the script is framed, the number of qubits and the coins
+pub record Setting : Type 0 where
+  pub framed : Bool
+  pub qubits : ℕ
+  pub coins : ℕ → Bool
+
+-- what requests change: the items, and the bits that changes are counted from
+pub record Held : Type 0 where
+  pub items : Items
+  pub mark : ShotBits
+
+-- the run of what is held
+abbrev pub run_held : Setting → Held → State
+run_held s held = run_of s.qubits s.coins held.items
+
+-- the mark before a script, which only a framed one has
+abbrev pub first_mark : (framed : Bool) → State → ShotBits
+first_mark false run = no_mark
+first_mark true run = bits_of run
+
+-- what is held before a script
+abbrev pub opened : Setting → Items → Held
+opened s items = record { items = items; mark = first_mark s.framed (run_of s.qubits s.coins items) }
+
+-- the edit that puts an item in at a place
+abbrev pub edit_of : ItemEdit → Path → OneItem → Edit
+edit_of Insert place item = circuit_edit.Insert place item
+edit_of Replace place item = circuit_edit.Replace place item
+
+-- the items, unless something refuses them
+abbrev pub unless : Option Refusal → Items → Result Items Refusal
+unless None items = Ok items
+unless (Some r) items = Err r
+
+-- the items of an edited list on n qubits, or the verdict that refuses it
+abbrev pub judged : ℕ → Result (List OneItem) Refusal → Result Items Refusal
+judged n (Ok list) = unless (list_verdict n (Ok list)) (listed list)
+judged n (Err r) = Err r
+
+-- what an edit makes of items on n qubits, or what refuses it
+abbrev pub edited_items : ℕ → Edit → Items → Result Items Refusal
+edited_items n e items = judged n (edited e (entries items))
+
+-- what a request is answered: what is held after it, the reply, and whether a line was refused
+pub record Answer : Type 0 where
+  pub held : Held
+  pub reply : List ℕ
+  pub refused : Bool
+
+-- a reply that leaves what is held as it is
+abbrev pub replying : Held → List ℕ → Answer
+replying held reply = record { held = held; reply = reply; refused = false }
+
+-- a refusal leaves what is held as it is
+abbrev pub refusing : Held → Refusal → Answer
+refusing held r = record { held = held; reply = refused_text r; refused = true }
+
+-- an edit is made, or refused
+abbrev pub decided : (framed : Bool) → Held → Result Items Refusal → Answer
+decided framed held (Ok after) = record { held = record held { items = after }; reply = made_text framed; refused = false }
+decided framed held (Err r) = refusing held r
+
+-- the item's text has a fault, or it stands for an item, and the edit with that is made or refused
+abbrev pub IsPut : (framed : Bool) → Held → (OneItem → Result Items Refusal) → (text : List ℕ) → Answer → Type 0
+IsPut framed held after text a =
+    ((fault : Fault) × (item_fault text ≡ Some fault) × (a ≡ refusing held fault.refusal))
+    ⊎ ((item : OneItem) × StandsForOne text item × (a ≡ decided framed held (after item)))
+
+-- what is shown of items and their run
+abbrev pub Shows : ℕ → State → Items → Show → List ℕ → Type 0
+Shows n run items Measurements text = text ≡ f01_bytes run.records
+Shows n run items Free text = text ≡ f01_bytes run.free
+Shows n run items Detectors text = text ≡ f01_bytes run.detectors
+Shows n run items Observables text = text ≡ f01_bytes run.observables
+Shows n run items Stabilisers text = IsStabilisersText n run text
+Shows n run items Circuit text = text ≡ printed items
+
+-- what only a framed script is shown of what is held and its run, or why not
+abbrev pub framed_shown : ℕ → State → Held → FramedRequest → Result (List ℕ) Refusal
+framed_shown n run held mark = Ok []
+framed_shown n run held (framed_asks.split place round) = text_found (λ list. []) (split place round (entries held.items))
+framed_shown n run held numbers = Ok (numbers_line (session_numbers n run held.items))
+framed_shown n run held changed = Ok (changed_text held.mark run)
+framed_shown n run held changed_records = Ok (changed_records_text held.mark run)
+framed_shown n run held (sign word) = text_found (λ p. sign_line (sign_in (member run.trace) p)) (string_of_word n word)
+framed_shown n run held (framed_asks.item place) = text_found (λ x. printed (before x done)) (item_at place (entries held.items))
+framed_shown n run held (framed_asks.counts place) = text_found (λ x. place_text place held.items) (item_at place (entries held.items))
+framed_shown n run held framed_asks.coin_table = Ok (coins_shown held.items)
+framed_shown n run held (framed_asks.why bit) = why_shown held.items bit
+
+-- what is held with such a list, or as before if the split was refused
+abbrev pub held_split : Held → Result (List OneItem) Refusal → Held
+held_split held (Ok list) = record held { items = listed list }
+held_split held (Err r) = held
+
+-- what is held after it: `mark` and a split alone change that
+abbrev pub held_behind : State → Held → FramedRequest → Held
+held_behind run held mark = record held { mark = bits_of run }
+held_behind run held (framed_asks.split place round) = held_split held (split place round (entries held.items))
+held_behind run held request = held
+
+-- a text is shown, or refused
+abbrev pub shown_or_refused : (framed : Bool) → (held behind : Held) → Result (List ℕ) Refusal → Answer
+shown_or_refused framed held behind (Ok text) = record { held = behind; reply = reply_text framed text; refused = false }
+shown_or_refused framed held behind (Err r) = refusing held r
+
+-- the answer to what only a framed script may ask for
+abbrev pub framed_answer : (framed : Bool) → ℕ → State → Held → FramedRequest → Answer
+framed_answer false n run held request = refusing held BadCommand
+framed_answer true n run held request = shown_or_refused true held (held_behind run held request) (framed_shown n run held request)
+
+-- the answer to what says which detectors and observables are the same for all random bits, as the command `deterministic` does: a framed
+-- script is shown them, and no other
+abbrev pub IsDeterministicAnswer : (framed : Bool) → Held → Answer → Type 0
+IsDeterministicAnswer false held a = a ≡ refusing held BadCommand
+IsDeterministicAnswer true held a = (text : List ℕ) × IsDeterministicText F01 held.items text × (a ≡ replying held (reply_text true text))
+
+-- what a script asks about a distance: all errors, up to this many, if each bit is the same for all random bits
+abbrev pub options_asked : (everywhere : Bool) → (most : ℕ) → DistanceOptions
+options_asked everywhere most = record { everywhere = everywhere; letters = All; graphlike = false; most = Some most; deterministic_only = false; progress = false }
+
+-- the answer to what asks for a distance, as the command `distance` does: a framed script is shown it, or refused for a bit that is not the
+-- same for all random bits
+abbrev pub IsDistanceAnswer : (framed : Bool) → Held → DistanceOptions → Answer → Type 0
+IsDistanceAnswer false held options a = a ≡ refusing held BadCommand
+IsDistanceAnswer true held options a =
+    ((text : List ℕ) × IsDistanceText options held.items text × (a ≡ replying held (reply_text true text)))
+    ⊎ ((u : Random) × IsFirstRandom held.items u × (a ≡ refusing held NotDeterministic))
+
+-- the answer to a request of a script that is not framed, if this is held: nothing is said before it, and what only a framed one may ask for
+-- is refused
+abbrev pub IsPlainAnswer : Setting → Held → Request → Answer → Type 0
+IsPlainAnswer s held begin a = a ≡ replying held []
+IsPlainAnswer s held (put how place text) a = IsPut s.framed held (λ item. edited_items s.qubits (edit_of how place item) held.items) text a
+IsPlainAnswer s held (delete place) a = a ≡ decided s.framed held (edited_items s.qubits (circuit_edit.Delete place) held.items)
+IsPlainAnswer s held (show what) a = (text : List ℕ) × Shows s.qubits (run_held s held) held.items what text × (a ≡ replying held (reply_text s.framed text))
+IsPlainAnswer s held (refuse r) a = a ≡ refusing held r
+IsPlainAnswer s held request a = a ≡ refusing held BadCommand
+
+-- the answer to a request of either kind of script: a framed one is greeted, and may ask for more
+abbrev pub IsAnswer : Setting → Held → Request → Answer → Type 0
+IsAnswer s held begin a = a ≡ replying held (greeting s.framed (session_numbers s.qubits (run_held s held) held.items))
+IsAnswer s held (ask request) a = a ≡ framed_answer s.framed s.qubits (run_held s held) held request
+IsAnswer s held deterministic a = IsDeterministicAnswer s.framed held a
+IsAnswer s held (distance everywhere most) a = IsDistanceAnswer s.framed held (options_asked everywhere most) a
+IsAnswer s held request a = IsPlainAnswer s held request a
+
+-- first one answer, then the other
+abbrev pub both : Answer → Answer → Answer
+both first second = record { held = second.held; reply = first.reply ++ second.reply; refused = first.refused || second.refused }
+
+-- the answer to requests, one after another, of which each is answered so
+abbrev pub AreAnswers : (Held → Request → Answer → Type 0) → Held → List Request → Answer → Type 0
+AreAnswers answers held [] a = a ≡ replying held []
+AreAnswers answers held (r ∷ rs) a = (first rest : Answer) × answers held r first × AreAnswers answers first.held rs rest × (a ≡ both first rest)
+
+-- the answer to requests of either kind of script
+abbrev pub IsAnswerToAll : Setting → Held → List Request → Answer → Type 0
+IsAnswerToAll s held requests a = AreAnswers (IsAnswer s) held requests a
+
+-- the answer to a whole script, if these are the items at first
+abbrev pub IsAnswerToScript : Setting → Items → (script : List ℕ) → Answer → Type 0
+IsAnswerToScript s items script a = IsAnswerToAll s (opened s items) (requests_of script) a

@@ -1,0 +1,66 @@
+//! The bits at a mark, and what changed since.
+ghost use Rattle.std.specs.Prelude.{◌≡◌, ◌++◌, OnOk};
+ghost use Rattle.stab_gates.specs.Letters.{◌⊕◌};
+ghost use Rattle.stab_script.specs.Changes.{changes as changes_of};
+
+use std::alloc::{AllocError, Global};
+
+/// The bits at a mark.
+#[derive(Drop)]
+pub struct MarkedBits {
+    pub records: Vec<bool>,
+    pub detectors: Vec<bool>,
+    pub observables: Vec<bool>,
+}
+
+impl MarkedBits {
+    ghost use Rattle.std.specs.Prelude.{◌≡◌, IfOk};
+    ghost use Rattle.stab_script.specs.Changes.{mark_shown, no_mark};
+
+    /// A mark that nothing is compared with.
+    pub fn none(alloc: Global) -> MarkedBits
+        ensures value { mark_shown result ≡ no_mark }
+    {
+        MarkedBits {
+            records: Vec::new(alloc),
+            detectors: Vec::new(alloc),
+            observables: Vec::new(alloc),
+        }
+    }
+
+    /// A mark at these bits.
+    pub fn of(
+        alloc: Global,
+        records: &[bool],
+        detectors: &[bool],
+        observables: &[bool],
+    ) -> Result<MarkedBits, AllocError>
+        ensures value { IfOk result (λ m. mark_shown m ≡ record { records = records.now; detectors = detectors.now; observables = observables.now }) }
+    {
+        Ok(MarkedBits {
+            records: Vec::from_slice(alloc, records)?,
+            detectors: Vec::from_slice(alloc, detectors)?,
+            observables: Vec::from_slice(alloc, observables)?,
+        })
+    }
+}
+
+/// Whether two bits differ.
+fn differ(first: bool, second: bool) -> bool
+    ensures value { result ≡ first ⊕ second }
+{
+    first ^ second
+}
+
+/// Appends, for each place that both lists have, whether their bits differ there.
+#[tactic(auto, using(crate::proofs::ChangeLaws::changes_more, crate::proofs::ChangeLaws::changes_all))]
+pub fn push_changes(bits: &mut Vec<bool>, old: &[bool], new: &[bool]) -> Result<(), AllocError>
+    ensures value { OnOk result (bits.new.items ≡ bits.old.items ++ changes_of old.now new.now) }
+{
+    let places = old.len().min(new.len());
+    bits.reserve(places)?;
+    'places: for place in 0..places {
+        bits.push(differ(old[place], new[place]))?;
+    }
+    Ok(())
+}

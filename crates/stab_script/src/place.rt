@@ -1,0 +1,66 @@
+//! Words of a script, and the paths that they stand for.
+ghost use Rattle.std.specs.Prelude.{◌≡◌, ◌≤◌, true, false, length, Some, None, MatchOption};
+ghost use Rattle.std.specs.List.{position_or_len};
+ghost use Rattle.stab_lines.specs.Lines.{is_spacing as spacing};
+ghost use Rattle.stab_lines.specs.Words.{value};
+ghost use Rattle.stab_script.specs.ScriptWords.{first_word as first_of, behind_word, is_place_number, place_of};
+
+use stab_circuit::Path;
+use stab_lines::{capped_value, first_piece, is_number, is_spacing, without_spacing_in_front};
+
+/// The most numbers of a place.
+const MOST_NUMBERS: usize = 17;
+
+fn word_len(text: &[u8]) -> usize
+    ensures value { result ≡ position_or_len spacing text.now }
+    ensures within { result ≤ length text.now }
+{
+    text.iter().take_while(|b| !is_spacing(**b)).count()
+}
+
+/// The first word of a text that does not begin with spacing, and what follows it, without the
+/// spacing in front.
+pub(crate) fn first_word(text: &[u8]) -> (&[u8], &[u8])
+    ensures word { result.0.now ≡ first_of text.now }
+    ensures rest { result.1.now ≡ behind_word text.now }
+{
+    let (word, rest) = text.split_at(word_len(text));
+    (word, without_spacing_in_front(rest))
+}
+
+/// The number of a place that a word stands for: 1 to 18 digits.
+#[tactic(auto, using(stab_lines::proofs::WordLemmas::eighteen_digits))]
+pub(crate) fn place_number(word: &[u8]) -> Option<usize>
+    ensures value { MatchOption result (is_place_number word.now ≡ false) (λ n. (is_place_number word.now ≡ true) × (n ≡ value word.now)) }
+{
+    if is_number(word) && word.len() <= 18 {
+        Some(capped_value(word, 1_000_000_000_000_000_000) as usize)
+    } else {
+        None
+    }
+}
+
+/// The place that a word stands for.
+#[tactic(auto, unfolding(crate::specs::ScriptWords::place_of))]
+pub(crate) fn read_place(word: &[u8]) -> Option<Path>
+    ensures value { MatchOption result (place_of word.now ≡ None) (λ p. place_of word.now ≡ Some p) }
+{
+    let mut numbers = [0; MOST_NUMBERS];
+    let mut count = 0;
+    let mut rest = Some(word);
+    while let Some(text) = rest {
+        let (part, after) = first_piece(text, b'/');
+        match place_number(part) {
+            None => return None,
+            Some(number) => {
+                if count == MOST_NUMBERS {
+                    return None;
+                }
+                numbers[count] = number;
+                count += 1;
+            }
+        }
+        rest = after;
+    }
+    Some(Path::new(numbers.split_at(count).0))
+}

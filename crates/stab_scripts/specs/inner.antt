@@ -1,2 +1,0 @@
-pub mod SessionAnswers
-pub mod Distances

@@ -1,8 +1,0 @@
-use Rattle.std.proofs.Common.{◌≡◌, ℕ, ◌<◌, slice_index_or}
-use Rattle.stab_letters.specs.declared.letter.Letter.TheVariants.{I}
-use Rattle.stab_shots.specs.Lanes.{lane_letters}
-use Rattle.stab_shots.proofs.marks.same_letters.Given as goal
-
-abbrev pub invariant-loop-qubit : goal.invariant-loop-qubit
-invariant-loop-qubit g l = (j : ℕ) → j < g.W.Word.lanes → (q : ℕ) → q < l.qubit
-    → slice_index_or (lane_letters g.W.Word.at j l.letters) q I ≡ slice_index_or (lane_letters g.W.Word.at j l.others) q I

@@ -1,4 +1,0 @@
-pub mod RecordLemmas
-pub mod ProductLemmas
-pub mod RunLemmas
-pub mod TargetLemmas

@@ -1,6 +1,0 @@
-use Rattle.std.proofs.Common.{◌≡◌, take}
-use Rattle.stab_tables.specs.inner.CoinRows.{places_in}
-use Rattle.stab_tables.proofs.coin_rows.write_places.Given as goal
-
-abbrev pub invariant-loop-word : goal.invariant-loop-word
-invariant-loop-word l = l.places.items ≡ places_in l.lane (take l.word-index l.found)

@@ -1,9 +1,0 @@
-use Rattle.std.proofs.Common.{◌≡◌, length, drop}
-use Rattle.stab_tables.specs.FaultTables.{set_all}
-use Rattle.stab_tables.proofs.fault_bits.set_all.Given as goal
-
-abbrev pub invariant-loop-place : goal.invariant-loop-place
-invariant-loop-place l = record {
-  same : length l.bits ≡ length l.initial.bits;
-  left : set_all (drop l.place-index l.places) l.value l.bits ≡ set_all l.places l.value l.initial.bits;
-}

@@ -1,6 +1,0 @@
-use Rattle.std.proofs.Common.{◌≡◌, take}
-use Rattle.stab_frames.specs.Flips.{flipped_additions}
-use Rattle.stab_turns.proofs.flips.flip_additions.Given as goal
-
-abbrev pub invariant-loop-place : goal.invariant-loop-place
-invariant-loop-place l = l.additions ≡ flipped_additions l.initial.additions (take l.place l.flips)

@@ -1,3 +1,0 @@
-pub mod LongerLists
-pub mod PauliSpans
-pub mod PassedPlaces

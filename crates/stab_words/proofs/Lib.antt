@@ -1,5 +1,0 @@
-pub mod OptionLaws
-pub mod CoinLaws
-pub mod CommandLaws
-pub mod EndingLaws
-pub mod NameLaws

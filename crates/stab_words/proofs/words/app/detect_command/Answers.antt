@@ -1,8 +1,0 @@
-use Rattle.std.proofs.lemmas.Result.{IfOk-weaker}
-use Rattle.stab_words.proofs.CommandLaws.{with_option}
-use Rattle.stab_words.proofs.words.app.detect_command.Goals as goal
-
-pub returns : goal.returns
-returns c = record {
-  app = IfOk-weaker c.arg.result _ _ (λ command adds. with_option _ command c.flag-append.result _ _ adds c.flag-append.ensures.rule c.in_ok-shot_command.ensures.app) c.arg.ensures;
-}
