@@ -51,7 +51,8 @@ class Page:
 
     def open(self):
         self.browser.get(self.address)
-        self.wait(lambda: self.find("numbers").text)
+        # Until the browser has told the panes their sizes, nothing in them can be pointed at.
+        self.wait(lambda: self.find("numbers").text and self.ask("page.views.layout.isThere"))
 
     def close(self):
         self.server.send_signal(signal.SIGINT)
@@ -140,14 +141,14 @@ class Page:
 
     def spot(self, qubit):
         """Where a qubit is seen on the picture."""
-        return self.ask("page.views.layout.at(words[0])", qubit)
+        return self.wait(lambda: self.ask("page.views.layout.at(words[0])", qubit))
 
     def choose_qubit(self, *numbers):
         """Clicks qubits, those after the first with Shift, by one chain of events."""
         picture = self.find("picture")
         width, height = picture.rect["width"], picture.rect["height"]
         chain = ActionChains(self.browser, duration=0)
-        for place, (left, top) in enumerate(self.ask("words.map((it) => page.views.layout.at(it))", *numbers)):
+        for place, (left, top) in enumerate([self.spot(number) for number in numbers]):
             chain.move_to_element_with_offset(picture, round(left - width / 2), round(top - height / 2)).click()
             if place == 0:
                 chain.key_down(Keys.SHIFT)
