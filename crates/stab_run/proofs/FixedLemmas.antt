@@ -19,10 +19,12 @@ module _ (n : ℕ) (coins : ℕ → Bool) (c : ℕ) (a : Point) where
   given-fixed (collapse l q recorded inverted resets) none = λ i. record nothing {
     records = when recorded (inverted ⊕ outcome-fixed coins (single n q l) a.trace c a.coin none i);
     free = is_free a.trace (single n q l) ∷ [];
+    outcomes = outcome-fixed coins (single n q l) a.trace c a.coin none i ∷ [];
   }
   given-fixed (product factors inverted) none = λ i. record nothing {
     records = (inverted ⊕ outcome-fixed coins (string_of n factors) a.trace c a.coin none i) ∷ [];
     free = is_free a.trace (string_of n factors) ∷ [];
+    outcomes = outcome-fixed coins (string_of n factors) a.trace c a.coin none i ∷ [];
   }
   given-fixed (detector ks) none = refl
   given-fixed (observable j ks) none = refl

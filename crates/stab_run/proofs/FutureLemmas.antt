@@ -29,10 +29,12 @@ module _ (n : ℕ) (coins : ℕ → Bool) (a b : Point) (group : SameGroup n (me
   given-same (collapse l q recorded inverted resets) read = λ i. record nothing {
     records = when recorded (inverted ⊕ outcome-same (single n q l) (length-one_letter n q l) i);
     free = free-same (single n q l) (length-one_letter n q l) i ∷ [];
+    outcomes = outcome-same (single n q l) (length-one_letter n q l) i ∷ [];
   }
   given-same (product factors inverted) read = λ i. record nothing {
     records = (inverted ⊕ outcome-same (string_of n factors) (length-string_of n factors) i) ∷ [];
     free = free-same (string_of n factors) (length-string_of n factors) i ∷ [];
+    outcomes = outcome-same (string_of n factors) (length-string_of n factors) i ∷ [];
   }
   given-same (detector ks) read = λ i. record nothing { detectors = read i ∷ [] }
   given-same (observable j ks) read = λ i. record nothing { additions = record { observable = j; bit = read i } ∷ [] }

@@ -32,20 +32,41 @@ flags-are-coins n coins xs = omega (arith, flags-counted n coins xs origin)
 pub records-are-records : (n : ℕ) (coins : ℕ → Bool) (xs : List Step) → (outputs n coins xs origin).records ≡ (point_after n coins xs origin).records
 records-are-records n coins xs = sym (records-gathered n coins xs origin)
 
+-- an outcome for each flag
+
+outcomes-given : (n : ℕ) (coins : ℕ → Bool) (x : Step) (p : Point) → length (given n coins x p).outcomes ≡ length (given n coins x p).free
+outcomes-given n coins (one g q) p = refl
+outcomes-given n coins (two g a b) p = refl
+outcomes-given n coins (controlled l k q) p = refl
+outcomes-given n coins (collapse l q recorded inverted resets) p = refl
+outcomes-given n coins (product factors inverted) p = refl
+outcomes-given n coins (detector ks) p = refl
+outcomes-given n coins (observable j ks) p = refl
+
+pub outcomes-counted : (n : ℕ) (coins : ℕ → Bool) (xs : List Step) (p : Point) → length (outputs n coins xs p).outcomes ≡ length (outputs n coins xs p).free
+outcomes-counted n coins [] p = refl
+outcomes-counted n coins (x ∷ xs) p =
+    let later = outputs n coins xs (next_point n coins x p) in
+    length-append (given n coins x p).outcomes later.outcomes
+    ∙ (λ i. outcomes-given n coins x p i + outcomes-counted n coins xs (next_point n coins x p) i)
+    ∙ sym (length-append (given n coins x p).free later.free)
+
 -- what is given in two parts
 
-front-joined : (a b : RunOutput) → front_of (lengths_of a) (joined a b) ≡ a
-front-joined a b = λ i. record {
+front-joined : (a b : RunOutput) → length a.outcomes ≡ length a.free → front_of (lengths_of a) (joined a b) ≡ a
+front-joined a b each = λ i. record {
   records = take_at a.records b.records (length a.records) refl i;
   free = take_at a.free b.free (length a.free) refl i;
+  outcomes = take_at a.outcomes b.outcomes (length a.free) each i;
   detectors = take_at a.detectors b.detectors (length a.detectors) refl i;
   additions = take_at a.additions b.additions (length a.additions) refl i;
 }
 
-pub rest-joined : (a b : RunOutput) → rest_of (lengths_of a) (joined a b) ≡ b
-rest-joined a b = λ i. record {
+pub rest-joined : (a b : RunOutput) → length a.outcomes ≡ length a.free → rest_of (lengths_of a) (joined a b) ≡ b
+rest-joined a b each = λ i. record {
   records = drop_at a.records b.records (length a.records) refl i;
   free = drop_at a.free b.free (length a.free) refl i;
+  outcomes = drop_at a.outcomes b.outcomes (length a.free) each i;
   detectors = drop_at a.detectors b.detectors (length a.detectors) refl i;
   additions = drop_at a.additions b.additions (length a.additions) refl i;
 }
@@ -59,31 +80,32 @@ pub front-output : (n : ℕ) (coins : ℕ → Bool) (xs : List Step) (i : ℕ)
 front-output n coins xs i =
     let a = outputs n coins (take i xs) origin in
     let b = outputs n coins (drop i xs) (point_after n coins (take i xs) origin) in
-    ap (front_of (lengths_of a)) (cut n coins xs i) ∙ front-joined a b
+    ap (front_of (lengths_of a)) (cut n coins xs i) ∙ front-joined a b (outcomes-counted n coins (take i xs) origin)
 
 pub rest-output : (n : ℕ) (coins : ℕ → Bool) (xs : List Step) (i : ℕ)
     → rest_of (lengths_of (outputs n coins (take i xs) origin)) (outputs n coins xs origin) ≡ outputs n coins (drop i xs) (point_after n coins (take i xs) origin)
 rest-output n coins xs i =
     let a = outputs n coins (take i xs) origin in
     let b = outputs n coins (drop i xs) (point_after n coins (take i xs) origin) in
-    ap (rest_of (lengths_of a)) (cut n coins xs i) ∙ rest-joined a b
+    ap (rest_of (lengths_of a)) (cut n coins xs i) ∙ rest-joined a b (outcomes-counted n coins (take i xs) origin)
 
 -- each list of an output has at most this many elements
 pub record HasAtMost (k : ℕ) (o : RunOutput) : Type 0 where
   pub records : length o.records ≤ k
   pub free : length o.free ≤ k
+  pub outcomes : length o.outcomes ≤ k
   pub detectors : length o.detectors ≤ k
   pub additions : length o.additions ≤ k
 
 given-short : (n : ℕ) (coins : ℕ → Bool) (x : Step) (p : Point) → HasAtMost 1 (given n coins x p)
-given-short n coins (one g q) p = record { records = omega arith; free = omega arith; detectors = omega arith; additions = omega arith }
-given-short n coins (two g a b) p = record { records = omega arith; free = omega arith; detectors = omega arith; additions = omega arith }
-given-short n coins (controlled l k q) p = record { records = omega arith; free = omega arith; detectors = omega arith; additions = omega arith }
-given-short n coins (collapse l q true inverted resets) p = record { records = omega arith; free = omega arith; detectors = omega arith; additions = omega arith }
-given-short n coins (collapse l q false inverted resets) p = record { records = omega arith; free = omega arith; detectors = omega arith; additions = omega arith }
-given-short n coins (product factors inverted) p = record { records = omega arith; free = omega arith; detectors = omega arith; additions = omega arith }
-given-short n coins (detector ks) p = record { records = omega arith; free = omega arith; detectors = omega arith; additions = omega arith }
-given-short n coins (observable j ks) p = record { records = omega arith; free = omega arith; detectors = omega arith; additions = omega arith }
+given-short n coins (one g q) p = record { records = omega arith; free = omega arith; outcomes = omega arith; detectors = omega arith; additions = omega arith }
+given-short n coins (two g a b) p = record { records = omega arith; free = omega arith; outcomes = omega arith; detectors = omega arith; additions = omega arith }
+given-short n coins (controlled l k q) p = record { records = omega arith; free = omega arith; outcomes = omega arith; detectors = omega arith; additions = omega arith }
+given-short n coins (collapse l q true inverted resets) p = record { records = omega arith; free = omega arith; outcomes = omega arith; detectors = omega arith; additions = omega arith }
+given-short n coins (collapse l q false inverted resets) p = record { records = omega arith; free = omega arith; outcomes = omega arith; detectors = omega arith; additions = omega arith }
+given-short n coins (product factors inverted) p = record { records = omega arith; free = omega arith; outcomes = omega arith; detectors = omega arith; additions = omega arith }
+given-short n coins (detector ks) p = record { records = omega arith; free = omega arith; outcomes = omega arith; detectors = omega arith; additions = omega arith }
+given-short n coins (observable j ks) p = record { records = omega arith; free = omega arith; outcomes = omega arith; detectors = omega arith; additions = omega arith }
 
 append-short : {X : Type 0} (xs ys : List X) (k : ℕ) → length xs ≤ 1 → length ys ≤ k → length (xs ++ ys) ≤ k + 1
 append-short xs ys k a b = omega (arith, length-append xs ys)
@@ -92,12 +114,13 @@ joined-short : (k : ℕ) (a b : RunOutput) → HasAtMost 1 a → HasAtMost k b �
 joined-short k a b s t = record {
   records = append-short a.records b.records k s.records t.records;
   free = append-short a.free b.free k s.free t.free;
+  outcomes = append-short a.outcomes b.outcomes k s.outcomes t.outcomes;
   detectors = append-short a.detectors b.detectors k s.detectors t.detectors;
   additions = append-short a.additions b.additions k s.additions t.additions;
 }
 
 pub outputs-short : (n : ℕ) (coins : ℕ → Bool) (xs : List Step) (p : Point) → HasAtMost (length xs) (outputs n coins xs p)
-outputs-short n coins [] p = record { records = omega arith; free = omega arith; detectors = omega arith; additions = omega arith }
+outputs-short n coins [] p = record { records = omega arith; free = omega arith; outcomes = omega arith; detectors = omega arith; additions = omega arith }
 outputs-short n coins (x ∷ xs) p =
     let next = next_point n coins x p in
     subst (λ k. HasAtMost k (outputs n coins (x ∷ xs) p)) (omega arith)

@@ -8,6 +8,7 @@ pub joined-nothing : (a : RunOutput) → joined a nothing ≡ a
 joined-nothing a = λ i. record {
   records = append-nil a.records i;
   free = append-nil a.free i;
+  outcomes = append-nil a.outcomes i;
   detectors = append-nil a.detectors i;
   additions = append-nil a.additions i;
 }
@@ -16,6 +17,7 @@ pub joined-assoc : (a b c : RunOutput) → joined (joined a b) c ≡ joined a (j
 joined-assoc a b c = λ i. record {
   records = append_assoc a.records b.records c.records i;
   free = append_assoc a.free b.free c.free i;
+  outcomes = append_assoc a.outcomes b.outcomes c.outcomes i;
   detectors = append_assoc a.detectors b.detectors c.detectors i;
   additions = append_assoc a.additions b.additions c.additions i;
 }
@@ -79,14 +81,15 @@ run-gate n m coins g q a b output same members = λ p s.
     refl (sym (joined-nothing output))
 
 -- a detector, whose parity is gathered
-pub run-detector : (n : ℕ) (coins : ℕ → Bool) (ks : List ℕ) (a : Signed → Bool) (old new : RunOutput) → new.records ≡ old.records → new.free ≡ old.free
+pub run-detector : (n : ℕ) (coins : ℕ → Bool) (ks : List ℕ) (a : Signed → Bool) (old new : RunOutput) → new.records ≡ old.records → new.free ≡ old.free → new.outcomes ≡ old.outcomes
     → new.detectors ≡ old.detectors ++ parity old.records ks ∷ [] → new.additions ≡ old.additions
     → IsRun n coins (detector ks ∷ []) (record { stabilised = a; output = old }) (record { stabilised = a; output = new })
-run-detector n coins ks a old new records free detectors additions = λ p s.
+run-detector n coins ks a old new records free outcomes detectors additions = λ p s.
     one-run n coins (detector ks) (record { stabilised = a; output = old }) (record { stabilised = a; output = new }) p s s.group refl
     (λ i. record {
       records = (records ∙ sym (append-nil old.records)) i;
       free = (free ∙ sym (append-nil old.free)) i;
+      outcomes = (outcomes ∙ sym (append-nil old.outcomes)) i;
       detectors = (detectors ∙ ap (λ r. old.detectors ++ parity r ks ∷ []) s.records) i;
       additions = (additions ∙ sym (append-nil old.additions)) i;
     })
@@ -100,6 +103,7 @@ pub record IsMeasurement (n : ℕ) (m : Signed) (l : Letter) (q : ℕ) (recorded
   pub output : b.output ≡ record a.output {
     records = a.output.records ++ when recorded (inverted ⊕ bit);
     free = a.output.free ++ is_free_by a.stabilised m ∷ [];
+    outcomes = a.output.outcomes ++ bit ∷ [];
   }
 
 applied-group : (n : ℕ) (bit : Bool) (l : Letter) (q : ℕ) (u : Signed → Bool) (t : List Event) → SameGroup n u (member t)
@@ -107,10 +111,12 @@ applied-group : (n : ℕ) (bit : Bool) (l : Letter) (q : ℕ) (u : Signed → Bo
 applied-group n true l q u t same = same-applied n u (member t) (gate_of l) q same
 applied-group n false l q u t same = same
 
-joined-measured : (a : RunOutput) (rs fs : List Bool) → joined a (record nothing { records = rs; free = fs }) ≡ record a { records = a.records ++ rs; free = a.free ++ fs }
-joined-measured a rs fs = λ i. record {
+joined-measured : (a : RunOutput) (rs fs os : List Bool) → joined a (record nothing { records = rs; free = fs; outcomes = os })
+    ≡ record a { records = a.records ++ rs; free = a.free ++ fs; outcomes = a.outcomes ++ os }
+joined-measured a rs fs os = λ i. record {
   records = a.records ++ rs;
   free = a.free ++ fs;
+  outcomes = a.outcomes ++ os;
   detectors = append-nil a.detectors i;
   additions = append-nil a.additions i;
 }
@@ -135,14 +141,16 @@ module _ (n : ℕ) (coins : ℕ → Bool) (m : Signed) (size : length m.letters 
   measured-output : b.output ≡ joined a.output (record nothing {
     records = when recorded (inverted ⊕ outcome_at coins m p.trace p.coin);
     free = is_free p.trace m ∷ [];
+    outcomes = outcome_at coins m p.trace p.coin ∷ [];
   })
   measured-output =
       h.output
       ∙ (λ i. record a.output {
         records = a.output.records ++ when recorded (inverted ⊕ same_bit i);
         free = a.output.free ++ same-free n a.stabilised (member p.trace) m size s.group i ∷ [];
+        outcomes = a.output.outcomes ++ same_bit i ∷ [];
       })
-      ∙ sym (joined-measured a.output (when recorded (inverted ⊕ outcome_at coins m p.trace p.coin)) (is_free p.trace m ∷ []))
+      ∙ sym (joined-measured a.output (when recorded (inverted ⊕ outcome_at coins m p.trace p.coin)) (is_free p.trace m ∷ []) (outcome_at coins m p.trace p.coin ∷ []))
 
 pub run-collapse : (n : ℕ) (coins : ℕ → Bool) (x : Step) (l : Letter) (q : ℕ) (recorded inverted resets : Bool)
     → x ≡ collapse l q recorded inverted resets → (a b : ProgramState) (bit : Bool)
@@ -162,6 +170,7 @@ pub run-product : (n : ℕ) (coins : ℕ → Bool) (x : Step) (factors : List Fa
     → b.output ≡ record a.output {
       records = a.output.records ++ (inverted ⊕ bit) ∷ [];
       free = a.output.free ++ is_free_by a.stabilised m ∷ [];
+      outcomes = a.output.outcomes ++ bit ∷ [];
     } → IsRun n coins (x ∷ []) a b
 run-product n coins x factors inverted is m m_is a b bit m_outcome m_projects output =
     subst (λ x. IsRun n coins (x ∷ []) a b) (sym is)
@@ -179,7 +188,7 @@ run-product n coins x factors inverted is m m_is a b bit m_outcome m_projects ou
       flips = λ r lr. refl;
       output =
           output
-          ∙ (λ i. record a.output { records = a.output.records ++ (inverted ⊕ bit) ∷ []; free = a.output.free ++ is_free_by a.stabilised (m_is i) ∷ [] });
+          ∙ (λ i. record a.output { records = a.output.records ++ (inverted ⊕ bit) ∷ []; free = a.output.free ++ is_free_by a.stabilised (m_is i) ∷ []; outcomes = a.output.outcomes ++ bit ∷ [] });
     }
 
 -- the first of the steps that are left, and the others

@@ -19,21 +19,23 @@ pub record Point : Type 0 where
 abbrev pub origin : Point
 origin = record { trace = []; coin = 0; records = [] }
 
--- what steps give: records, flags of coin numbers, detectors, and what is added to observables
+-- what steps give: records, flags and outcomes of coin numbers, detectors, and what is added to observables
 pub record RunOutput : Type 0 where
   pub records : List Bool
   pub free : List Bool
+  pub outcomes : List Bool
   pub detectors : List Bool
   pub additions : List Addition
 
 abbrev pub nothing : RunOutput
-nothing = record { records = []; free = []; detectors = []; additions = [] }
+nothing = record { records = []; free = []; outcomes = []; detectors = []; additions = [] }
 
 -- one output after another
 abbrev pub joined : RunOutput → RunOutput → RunOutput
 joined a b = record {
   records = a.records ++ b.records;
   free = a.free ++ b.free;
+  outcomes = a.outcomes ++ b.outcomes;
   detectors = a.detectors ++ b.detectors;
   additions = a.additions ++ b.additions;
 }
@@ -46,10 +48,12 @@ given n coins (controlled l k q) p = nothing
 given n coins (collapse l q recorded inverted resets) p = record nothing {
   records = when recorded (inverted ⊕ outcome_at coins (single n q l) p.trace p.coin);
   free = is_free p.trace (single n q l) ∷ [];
+  outcomes = outcome_at coins (single n q l) p.trace p.coin ∷ [];
 }
 given n coins (product factors inverted) p = record nothing {
   records = (inverted ⊕ outcome_at coins (string_of n factors) p.trace p.coin) ∷ [];
   free = is_free p.trace (string_of n factors) ∷ [];
+  outcomes = outcome_at coins (string_of n factors) p.trace p.coin ∷ [];
 }
 given n coins (detector ks) p = record nothing { detectors = parity p.records ks ∷ [] }
 given n coins (observable j ks) p = record nothing { additions = record { observable = j; bit = parity p.records ks } ∷ [] }

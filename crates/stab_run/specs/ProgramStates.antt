@@ -24,7 +24,7 @@ StepFits n (observable j ks) = Unit {0}
 
 -- what the program has gathered, as an output
 abbrev pub output_of : Outputs → RunOutput
-output_of o = record { records = o.records.items; free = o.free.items; detectors = o.detectors.items; additions = o.additions.items }
+output_of o = record { records = o.records.items; free = o.free.items; outcomes = o.outcomes.items; detectors = o.detectors.items; additions = o.additions.items }
 
 -- the strings that stabilise, by those before, if a letter was applied to the qubit if the bit is 1
 abbrev pub applied_by : Bool → Letter → ℕ → (Signed → Bool) → Signed → Bool

@@ -4,7 +4,7 @@ ghost use Rattle.stab_run.specs.Records.{looked_up as looked_up_of, parity as pa
 
 use std::alloc::{AllocError, Global};
 
-/// How long the lists of a run were at some step.
+/// How long the lists of a run were at some step. There are as many outcomes as flags.
 #[derive(Clone, Copy)]
 pub struct Lengths {
     pub records: usize,
@@ -20,12 +20,13 @@ pub struct Addition {
     pub bit: bool,
 }
 
-/// What steps have given so far: records, a flag for each coin number, detectors, and what was
-/// added to observables. The number of the next coin is the number of flags.
+/// What steps have given so far: records, a flag and an outcome for each coin number, detectors,
+/// and what was added to observables. The number of the next coin is the number of flags.
 #[derive(Drop)]
 pub struct Outputs {
     pub records: Vec<bool>,
     pub free: Vec<bool>,
+    pub outcomes: Vec<bool>,
     pub detectors: Vec<bool>,
     pub additions: Vec<Addition>,
 }
@@ -43,18 +44,20 @@ impl Outputs {
         Outputs {
             records: Vec::new(alloc),
             free: Vec::new(alloc),
+            outcomes: Vec::new(alloc),
             detectors: Vec::new(alloc),
             additions: Vec::new(alloc),
         }
     }
 
-    /// Nothing yet, with room for this many records and as many flags.
+    /// Nothing yet, with room for this many records, flags and outcomes.
     pub fn with_capacity(alloc: Global, records: usize) -> Result<Outputs, AllocError>
         ensures value { IfOk result (λ o. output_of o ≡ nothing) }
     {
         Ok(Outputs {
             records: Vec::with_capacity(alloc, records)?,
             free: Vec::with_capacity(alloc, records)?,
+            outcomes: Vec::with_capacity(alloc, records)?,
             detectors: Vec::new(alloc),
             additions: Vec::new(alloc),
         })
@@ -79,6 +82,7 @@ impl Outputs {
         Ok(Outputs {
             records: front(alloc, self.records.as_slice(), lengths.records)?,
             free: front(alloc, self.free.as_slice(), lengths.free)?,
+            outcomes: front(alloc, self.outcomes.as_slice(), lengths.free)?,
             detectors: front(alloc, self.detectors.as_slice(), lengths.detectors)?,
             additions: front(alloc, self.additions.as_slice(), lengths.additions)?,
         })
@@ -90,6 +94,7 @@ impl Outputs {
     {
         append_rest(&mut self.records, other.records.as_slice(), lengths.records)?;
         append_rest(&mut self.free, other.free.as_slice(), lengths.free)?;
+        append_rest(&mut self.outcomes, other.outcomes.as_slice(), lengths.free)?;
         append_rest(
             &mut self.detectors,
             other.detectors.as_slice(),

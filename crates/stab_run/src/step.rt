@@ -72,16 +72,17 @@ fn push_when(bits: &mut Vec<bool>, test: bool, bit: bool) -> Result<(), AllocErr
     Ok(())
 }
 
-/// Gathers what was measured: whether a coin decided it, and a record, if there is one.
+/// Gathers what was measured: whether a coin decided it, the outcome, and a record, if there is one.
 pub fn gather(
     outputs: &mut Outputs,
     measured: Collapse,
     recorded: bool,
     inverted: bool,
 ) -> Result<(), AllocError>
-    ensures value { OnOk result (output_of outputs.new ≡ record (output_of outputs.old) { records = outputs.old.records.items ++ when recorded (inverted ⊕ measured.outcome); free = outputs.old.free.items ++ measured.free ∷ [] }) }
+    ensures value { OnOk result (output_of outputs.new ≡ record (output_of outputs.old) { records = outputs.old.records.items ++ when recorded (inverted ⊕ measured.outcome); free = outputs.old.free.items ++ measured.free ∷ []; outcomes = outputs.old.outcomes.items ++ measured.outcome ∷ [] }) }
 {
     outputs.free.push(measured.free)?;
+    outputs.outcomes.push(measured.outcome)?;
     push_when(&mut outputs.records, recorded, inverted ^ measured.outcome)
 }
 

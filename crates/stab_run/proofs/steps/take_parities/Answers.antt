@@ -18,7 +18,7 @@ loop-place-preserved c =
           run-target tableau.qubits tableau.qubits coins coins detector all c.loop-place.place c.get.result.now
           (program_state tableau (output_of c.args.outputs.now)) (program_state tableau now) _
           lt (c.get.ensures.value ∙ get_or_default all c.loop-place.place [] c.get.result.now lt) refl refl (inv.run tableau coins)
-          (run-detector tableau.qubits coins c.get.result.now (stabilises tableau) now _ refl refl bits refl);
+          (run-detector tableau.qubits coins c.get.result.now (stabilises tableau) now _ refl refl refl bits refl);
     }
 
 pub returns-clause-run : goal.returns-clause-run
