@@ -1,5 +1,5 @@
 -- Steps that come again with other coins: the numbers of coins may be shifted, and what was recorded of the steps serves again.
-use Rattle.stab_frames.proofs.Names.{◌≡◌, ℕ, zero, suc, ◌+◌, refl, sym, ◌∙◌, ap, subst, Bool, false, ◌||◌, List, [], ◌∷◌, ◌++◌, length, take, drop, All, replicate, nat_lt, arith, IfSome, list_any, All-take, IfSome_then, Letter, I, ◌⊕◌, Signed, with_sign, strings_anticommute, member, IsPivot, IsConjugated, Step, one, two, controlled, collapse, product, detector, observable, makes, records_of, lookbacks, looks_too_far, looked_up, measured_by, Point, RunOutput, joined, given, trace_after, coins_of, all_coins_of, next_point, point_after, outputs, StepFits, AgreeBack, with_coin, or-left, or-right, same-future-back, flipped_output, Frame, PointsDifferBy, RunPivots, changed, frame_over, flips_over, AreEnough, IsTrueAt, AreTrue, coins_from, pivots_between, HasGoneOver, DiffersBack, AreFramedOver, StepsComeFramed}
+use Rattle.stab_frames.proofs.Names.{◌≡◌, ℕ, zero, suc, ◌+◌, refl, sym, ◌∙◌, ap, subst, Bool, false, ◌||◌, List, [], ◌∷◌, ◌++◌, take, drop, All, replicate, nat_lt, arith, IfSome, list_any, All-take, IfSome_then, Letter, I, ◌⊕◌, Signed, with_sign, strings_anticommute, member, IsPivot, IsConjugated, Step, one, two, controlled, collapse, product, detector, observable, makes, records_of, lookbacks, looks_too_far, looked_up, measured_by, Point, RunOutput, joined, given, trace_after, coins_of, all_coins_of, next_point, point_after, outputs, StepFits, AgreeBack, with_coin, or-left, or-right, same-future-back, flipped_output, Frame, PointsDifferBy, RunPivots, changed, frame_over, flips_over, AreEnough, IsTrueAt, AreTrue, coins_from, pivots_between, HasGoneOver, DiffersBack, AreFramedOver, StepsComeFramed}
 use Rattle.std.proofs.Common.{Option}
 use Rattle.stab_frames.proofs.SignLemmas.{sign-twice}
 use Rattle.stab_frames.proofs.FramedLemmas.{conjugated-blank}
@@ -118,14 +118,13 @@ pub gone-over-seen : (n m k da : ℕ) (coins : ℕ → Bool) (strings : ℕ → 
     → looks_too_far m xs ≡ false → da + k ≡ a.coin → AgreeBack n m (with_coin seen.coin a) seen
     → AreTrue n (coins_from da coins) strings xs (with_coin k a)
     → (outputs n coins xs a).free ≡ take (all_coins_of xs) (drop k free)
-    → (outputs n coins xs a).records ≡ bits → length bits ≡ all_coins_of xs
+    → (outputs n coins xs a).outcomes ≡ bits
     → HasGoneOver n (coins_from da coins) strings free bits xs k (with_coin k seen)
-gone-over-seen n m k da coins strings free bits xs a seen near at agree is flags records recorded = record {
+gone-over-seen n m k da coins strings free bits xs a seen near at agree is flags outcomes = record {
   coin = refl;
   are_true = true-conjugated n (coins_from da coins) strings xs (with_coin k a) (with_coin k seen) refl (back-conjugated n m (coins_from da coins) xs (with_coin k a) (with_coin k seen) near same) is;
   flags = ap (λ (o : RunOutput). o.free) given-seen ∙ flags;
-  records = ap (λ (o : RunOutput). o.records) given-seen ∙ records;
-  recorded = recorded;
+  outcomes = ap (λ (o : RunOutput). o.outcomes) given-seen ∙ outcomes;
 }
   where
     same : AgreeBack n m (with_coin k a) (with_coin k seen)

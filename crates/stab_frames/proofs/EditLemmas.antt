@@ -64,7 +64,7 @@ paulis-flip n coins strings front back l m qs rs fits later left right enough =
 pub coins-flip : CoinsFlip
 coins-flip n coins pivots xs fits enough =
     (fronts-flip n coins pivots [] [] xs (identity_frame n 0) nothing (All-nil (StepFits n)) fits
-    (record { framed = framed-same n origin; given = refl; matches = record { records = refl; free = refl; detectors = refl; observables = refl } })
+    (record { framed = framed-same n origin; given = refl; matches = record { records = refl; free = refl; outcomes = refl; detectors = refl; observables = refl } })
     enough).0
 
 -- copies

@@ -59,6 +59,7 @@ pub flipped-joined : (a b flips others : RunOutput) → Matches a flips
 flipped-joined a b flips others same = λ i. record {
   records = flipped-append a.records b.records flips.records others.records same.records i;
   free = flipped-append a.free b.free flips.free others.free same.free i;
+  outcomes = flipped-append a.outcomes b.outcomes flips.outcomes others.outcomes same.outcomes i;
   detectors = flipped-append a.detectors b.detectors flips.detectors others.detectors same.detectors i;
   additions = additions-append a.additions b.additions flips.additions others.additions (length-additions a flips same) i;
 }
@@ -70,6 +71,7 @@ pub joined-matches : (a b flips others : RunOutput) → Matches a flips → Matc
 joined-matches a b flips others here later = record {
   records = length-both a.records b.records flips.records others.records here.records later.records;
   free = length-both a.free b.free flips.free others.free here.free later.free;
+  outcomes = length-both a.outcomes b.outcomes flips.outcomes others.outcomes here.outcomes later.outcomes;
   detectors = length-both a.detectors b.detectors flips.detectors others.detectors here.detectors later.detectors;
   observables =
       map-append (λ (a : Addition). a.observable) flips.additions others.additions
@@ -81,6 +83,7 @@ pub matches-between : (o flips others : RunOutput) → Matches o flips → Match
 matches-between o flips others here there = record {
   records = there.records ∙ sym here.records;
   free = there.free ∙ sym here.free;
+  outcomes = there.outcomes ∙ sym here.outcomes;
   detectors = there.detectors ∙ sym here.detectors;
   observables = there.observables ∙ sym here.observables;
 }
@@ -113,6 +116,7 @@ pub flipped-nothing : (o : RunOutput) → flipped_output o nothing ≡ o
 flipped-nothing o = λ i. record {
   records = flipped-empty o.records i;
   free = flipped-empty o.free i;
+  outcomes = flipped-empty o.outcomes i;
   detectors = flipped-empty o.detectors i;
   additions = additions-empty o.additions i;
 }
@@ -153,6 +157,7 @@ pub unflipped-output : (o : RunOutput) → flipped_output o (unflipped o) ≡ o
 unflipped-output o = λ i. record {
   records = flipped-none o.records i;
   free = flipped-none o.free i;
+  outcomes = flipped-none o.outcomes i;
   detectors = flipped-none o.detectors i;
   additions = additions-none o.additions i;
 }
@@ -169,6 +174,7 @@ pub unflipped-matches : (o : RunOutput) → Matches o (unflipped o)
 unflipped-matches o = record {
   records = length-replicate (length o.records) false;
   free = length-replicate (length o.free) false;
+  outcomes = length-replicate (length o.outcomes) false;
   detectors = length-replicate (length o.detectors) false;
   observables = observables-none o.additions;
 }

@@ -1,5 +1,5 @@
 -- Goes over: a frame over steps one after another, with what it has to know of their measurements.
-use Rattle.stab_frames.proofs.Names.{◌≡◌, ℕ, ◌+◌, ◌<◌, ◌≤◌, refl, sym, ◌∙◌, ap, subst, Bool, true, false, ◌&&◌, List, [], ◌∷◌, ◌++◌, length, take, map, get_or, All, arith, map_more, get_or-map, length-map, length-take-le, take-length, Letter, single, strings_anticommute, Gate, image, Axis, ControlledPair, Factor, MeasureTarget, Measurement, letter_of, Step, one, controlled, collapse, product, detector, controlled_step, measured, observable, looked_up, parity, when, string_of, flip_of, coins_of, all_coins_of, nothing, joined, StepFits, coins-measured, joined-nothing, coins-append, Frame, plus, times_where, RunPivots, pivots_of, frame_over, letters_after, flips_given, pivot_at, PropagationState, frame_at, IsPlaced, is_inverted, IsDrawn, AreDrawn, StepsWith, IsTold, AreTold, IsPropagated, GoesOver, GoesFreely, Goes}
+use Rattle.stab_frames.proofs.Names.{◌≡◌, ℕ, ◌+◌, ◌<◌, ◌≤◌, refl, sym, ◌∙◌, ap, subst, Bool, true, false, ◌&&◌, List, [], ◌∷◌, ◌++◌, length, take, map, get_or, All, arith, map_more, get_or-map, length-map, length-take-le, take-length, Letter, single, strings_anticommute, Gate, image, Axis, ControlledPair, Factor, MeasureTarget, Measurement, letter_of, Step, one, controlled, collapse, product, detector, controlled_step, measured, observable, looked_up, parity, string_of, flip_of, coins_of, all_coins_of, nothing, joined, StepFits, coins-measured, joined-nothing, coins-append, Frame, plus, times_where, RunPivots, pivots_of, frame_over, letters_after, flips_given, pivot_at, PropagationState, frame_at, IsPlaced, IsDrawn, AreDrawn, StepsWith, one_flipped, IsTold, AreTold, IsPropagated, GoesOver, GoesFreely, Goes}
 use Rattle.stab_lines.specs.declared.control.ControlledPair.TheVariants as pair
 use Rattle.stab_frames.proofs.PropagatedLemmas.{over-none, over-step, over-append, told-append}
 use Rattle.stab_frames.proofs.MeasuredPropagatedLemmas.{told-unmeasured, told-measured, passes-collapse, passes-product}
@@ -12,18 +12,18 @@ none k = omega arith
 more : (a b c : ℕ) → (a + b) + c ≡ a + (b + c)
 more a b c = omega arith
 
-drawn-front : (free : List Bool) (draw : Bool → ℕ → Bool) (changes : ℕ → Bool) (xs ys : List Step) (coin : ℕ) → AreDrawn free draw changes (xs ++ ys) coin
+drawn-front : (free : List Bool) (draw : ℕ → Bool) (changes : ℕ → Bool) (xs ys : List Step) (coin : ℕ) → AreDrawn free draw changes (xs ++ ys) coin
     → AreDrawn free draw changes xs coin
 drawn-front free draw changes [] ys coin drawn = tt
 drawn-front free draw changes (x ∷ xs) ys coin drawn = (drawn.0, drawn-front free draw changes xs ys (coin + coins_of x) drawn.1)
 
-drawn-rest : (free : List Bool) (draw : Bool → ℕ → Bool) (changes : ℕ → Bool) (xs ys : List Step) (coin : ℕ) → AreDrawn free draw changes (xs ++ ys) coin
+drawn-rest : (free : List Bool) (draw : ℕ → Bool) (changes : ℕ → Bool) (xs ys : List Step) (coin : ℕ) → AreDrawn free draw changes (xs ++ ys) coin
     → AreDrawn free draw changes ys (coin + all_coins_of xs)
 drawn-rest free draw changes [] ys coin drawn = subst (AreDrawn free draw changes ys) (sym (none coin)) drawn
 drawn-rest free draw changes (x ∷ xs) ys coin drawn =
     subst (AreDrawn free draw changes ys) (more coin (coins_of x) (all_coins_of xs)) (drawn-rest free draw changes xs ys (coin + coins_of x) drawn.1)
 
-module _ (n : ℕ) (strings : List (List Letter)) (free : List Bool) (draw : Bool → ℕ → Bool) where
+module _ (n : ℕ) (strings : List (List Letter)) (free : List Bool) (draw : ℕ → Bool) where
   pub goes-none : (w : PropagationState) → IsPlaced free w → length w.letters ≡ n → GoesOver n strings free draw [] w w
   goes-none w placed size = record {
     over = λ changes drawn. over-none n (pivots_of (pivot_at strings free) changes) w;
@@ -34,8 +34,8 @@ module _ (n : ℕ) (strings : List (List Letter)) (free : List Bool) (draw : Boo
   }
 
   pub goes-step : (x : Step) (old new : PropagationState)
-      → ((changes : ℕ → Bool) → (0 < coins_of x → IsDrawn free draw changes (is_inverted x) old.coin) → StepsWith n (pivots_of (pivot_at strings free) changes) x old new)
-      → ((changes : ℕ → Bool) → (0 < coins_of x → IsDrawn free draw changes (is_inverted x) old.coin) → IsTold n strings free changes x old.coin old.letters)
+      → ((changes : ℕ → Bool) → (0 < coins_of x → IsDrawn free draw changes old.coin) → StepsWith n (pivots_of (pivot_at strings free) changes) x old new)
+      → ((changes : ℕ → Bool) → (0 < coins_of x → IsDrawn free draw changes old.coin) → IsTold n strings free changes x old.coin old.letters)
       → new.coin ≡ old.coin + coins_of x → IsPlaced free new → length new.letters ≡ n → GoesOver n strings free draw (x ∷ []) old new
   goes-step x old new passes told coin placed size = record {
     over = λ changes drawn. over-step n (pivots_of (pivot_at strings free) changes) x old new (passes changes drawn.0);
@@ -84,9 +84,9 @@ module _ (n : ℕ) (strings : List (List Letter)) (free : List Bool) (draw : Boo
   -- over a measured letter and a measured product
 
   pub goes-collapse : (l : Letter) (q : ℕ) (recorded inverted resets apart flip : Bool) (old mid reset new : PropagationState)
-      → strings_anticommute old.letters (single n q l).letters ≡ apart → IsPropagated strings free draw inverted apart flip old mid → length mid.letters ≡ n
+      → strings_anticommute old.letters (single n q l).letters ≡ apart → IsPropagated strings free draw apart flip old mid → length mid.letters ≡ n
       → reset ≡ record mid { letters = times_where (resets && flip) (single (length mid.letters) q (flip_of l)).letters mid.letters }
-      → new ≡ record reset { flips = joined reset.flips (record nothing { records = when recorded flip }) } → length new.letters ≡ n
+      → new ≡ record reset { flips = joined reset.flips (one_flipped recorded flip) } → length new.letters ≡ n
       → GoesOver n strings free draw (collapse l q recorded inverted resets ∷ []) old new
   goes-collapse l q recorded inverted resets apart flip old mid reset new ea p size er en new_size =
       goes-step (collapse l q recorded inverted resets) old new
@@ -99,8 +99,8 @@ module _ (n : ℕ) (strings : List (List Letter)) (free : List Bool) (draw : Boo
       new_size
 
   pub goes-product : (factors : List Factor) (inverted apart flip : Bool) (old mid new : PropagationState)
-      → strings_anticommute old.letters (string_of n factors).letters ≡ apart → IsPropagated strings free draw inverted apart flip old mid
-      → new ≡ record mid { flips = record mid.flips { records = mid.flips.records ++ flip ∷ [] } } → length new.letters ≡ n
+      → strings_anticommute old.letters (string_of n factors).letters ≡ apart → IsPropagated strings free draw apart flip old mid
+      → new ≡ record mid { flips = joined mid.flips (one_flipped true flip) } → length new.letters ≡ n
       → GoesOver n strings free draw (product factors inverted ∷ []) old new
   goes-product factors inverted apart flip old mid new ea p en size =
       goes-step (product factors inverted) old new
@@ -121,7 +121,7 @@ module _ (n : ℕ) (strings : List (List Letter)) (free : List Bool) (draw : Boo
       (λ changes drawn. told-unmeasured n strings free changes x old.coin old.letters ec) after placed size
 
 -- on as many qubits, with what is drawn
-pub goes-same : (n m : ℕ) (strings : List (List Letter)) (free : List Bool) (draw draws : Bool → ℕ → Bool) (xs : List Step) (old new : PropagationState) → m ≡ n → draw ≡ draws
+pub goes-same : (n m : ℕ) (strings : List (List Letter)) (free : List Bool) (draw draws : ℕ → Bool) (xs : List Step) (old new : PropagationState) → m ≡ n → draw ≡ draws
     → GoesOver m strings free draw xs old new → GoesOver n strings free draws xs old new
 goes-same n m strings free draw draws xs old new same same_draw goes =
     subst (λ k. GoesOver k strings free draws xs old new) same (subst (λ d. GoesOver m strings free d xs old new) same_draw goes)
@@ -134,7 +134,7 @@ fits-mapped n m f xs i d fits lt same =
     subst (λ k. StepFits k (f (get_or xs i d))) (sym same) (subst (StepFits n) (get_or-map f xs i d (f d) lt) (fits i (f d) within))
 
 -- the measurement of a target
-pub goes-measured : (n : ℕ) (strings : List (List Letter)) (free : List Bool) (draw : Bool → ℕ → Bool) (how : Measurement) (t u : MeasureTarget) (l : Letter) (q : ℕ)
+pub goes-measured : (n : ℕ) (strings : List (List Letter)) (free : List Bool) (draw : ℕ → Bool) (how : Measurement) (t u : MeasureTarget) (l : Letter) (q : ℕ)
     (old new : PropagationState) → u ≡ t → l ≡ letter_of how.axis → q ≡ u.qubit → GoesOver n strings free draw (collapse l q true u.inverted how.resets ∷ []) old new
     → GoesOver n strings free draw (measured how t ∷ []) old new
 goes-measured n strings free draw how t u l q old new is el eq goes =
@@ -202,7 +202,7 @@ freely-all n f xs i old new e goes = λ strings free draw placed. goes-all n str
 pub all-mapped : {X : Type 0} (f : X → Step) (xs : List X) (steps : List Step) → steps ≡ map f xs → map f xs ≡ take (length xs) steps
 all-mapped f xs steps is = sym (ap (take (length xs)) is ∙ ap (λ k. take k (map f xs)) (sym (length-map xs f)) ∙ take-length (map f xs))
 
-pub goes-single : (n : ℕ) (strings : List (List Letter)) (free : List Bool) (draw : Bool → ℕ → Bool) (x : Step) (steps : List Step) (went : Bool) (k : ℕ) (old new : PropagationState)
+pub goes-single : (n : ℕ) (strings : List (List Letter)) (free : List Bool) (draw : ℕ → Bool) (x : Step) (steps : List Step) (went : Bool) (k : ℕ) (old new : PropagationState)
     → steps ≡ x ∷ [] → (went ≡ true → k ≡ 1) → (went ≡ false → k ≡ 0) → Goes n strings free draw x old new went → IsPlaced free old → length old.letters ≡ n
     → GoesOver n strings free draw (take k steps) old new
 goes-single n strings free draw x steps true k old new is full bare goes placed size =

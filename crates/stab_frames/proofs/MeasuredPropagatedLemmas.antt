@@ -1,5 +1,5 @@
 -- Measured passes: what a frame's way over one step, as programs go it, comes to.
-use Rattle.stab_frames.proofs.Names.{◌≡◌, ℕ, ◌+◌, ◌<◌, refl, sym, ◌∙◌, ap, subst, Bool, true, false, ◌&&◌, List, [], ◌∷◌, ◌++◌, append-nil, length, get_or, Option, Some, None, IfSome, beq, Letter, ◌⊕◌, Signed, single, string_product, strings_anticommute, Factor, Step, collapse, product, when, string_of, flip_of, measured_by, RunOutput, nothing, joined, coins_of, joined-assoc, times_where, RunPivots, flipped_by, letters_by, pivot_at, PropagationState, IsPlaced, StepsWith, IsPropagated, IsPropagatedWith, IsTold, IsToldBy, flip_by, letters_for, one_coin}
+use Rattle.stab_frames.proofs.Names.{◌≡◌, ℕ, ◌+◌, ◌<◌, refl, sym, ◌∙◌, ap, subst, Bool, true, false, ◌&&◌, List, [], length, get_or, Option, Some, None, IfSome, beq, Letter, ◌⊕◌, Signed, single, string_product, strings_anticommute, Factor, Step, collapse, product, string_of, flip_of, measured_by, joined, coins_of, times_where, RunPivots, flipped_by, letters_by, pivot_at, PropagationState, IsPlaced, StepsWith, IsPropagated, IsPropagatedWith, IsTold, IsToldBy, flip_by, letters_for, one_flipped}
 use Rattle.stab_frames.proofs.RunPivotLemmas.{unmeasured}
 use Rattle.stab_frames.proofs.FreeLemmas.{pivot-none, pivot-some, some-none}
 
@@ -60,11 +60,11 @@ module _ (strings : List (List Letter)) (free : List Bool) (changes : ℕ → Bo
       true-false : true ≡ false → ⊥
       true-false e = cc
 
-pub passed-alike : (strings : List (List Letter)) (free : List Bool) (draw : Bool → ℕ → Bool) (inverted apart flip : Bool) (old new : PropagationState)
-    → (get_or free old.coin false ≡ true → draw inverted old.coin ≡ apart) → flip ≡ apart
-    → new.letters ≡ old.letters → new.flips ≡ joined old.flips one_coin → new.coin ≡ old.coin + 1 → IsPlaced free new
-    → IsPropagated strings free draw inverted apart flip old new
-passed-alike strings free draw inverted apart flip old new as_drawn is letters flips coin placed = record {
+pub passed-alike : (strings : List (List Letter)) (free : List Bool) (draw : ℕ → Bool) (apart flip : Bool) (old new : PropagationState)
+    → (get_or free old.coin false ≡ true → draw old.coin ≡ apart) → flip ≡ apart
+    → new.letters ≡ old.letters → new.flips ≡ old.flips → new.coin ≡ old.coin + 1 → IsPlaced free new
+    → IsPropagated strings free draw apart flip old new
+passed-alike strings free draw apart flip old new as_drawn is letters flips coin placed = record {
   over = λ changes drawn. record {
     outcome = is ∙ outcome-alike strings free changes old.coin apart (get_or free old.coin false) refl (λ e. drawn e ∙ as_drawn e);
     letters = letters ∙ frame-alike strings free changes old.coin apart old.letters (get_or free old.coin false) refl (λ e. drawn e ∙ as_drawn e);
@@ -78,11 +78,11 @@ passed-alike strings free draw inverted apart flip old new as_drawn is letters f
 
 -- one that the frame has otherwise: the string of it is multiplied on
 
-pub passed-times : (strings : List (List Letter)) (free : List Bool) (draw : Bool → ℕ → Bool) (inverted apart flip : Bool) (old new : PropagationState)
-    → get_or free old.coin false ≡ true → IsPlaced free old → old.number < length strings → flip ≡ draw inverted old.coin → flip ⊕ apart ≡ true
-    → new.letters ≡ string_product old.letters (get_or strings old.number []) → new.flips ≡ joined old.flips one_coin → new.coin ≡ old.coin + 1 → IsPlaced free new
-    → IsPropagated strings free draw inverted apart flip old new
-passed-times strings free draw inverted apart flip old new e placed lt is differs letters flips coin placed_new = record {
+pub passed-times : (strings : List (List Letter)) (free : List Bool) (draw : ℕ → Bool) (apart flip : Bool) (old new : PropagationState)
+    → get_or free old.coin false ≡ true → IsPlaced free old → old.number < length strings → flip ≡ draw old.coin → flip ⊕ apart ≡ true
+    → new.letters ≡ string_product old.letters (get_or strings old.number []) → new.flips ≡ old.flips → new.coin ≡ old.coin + 1 → IsPlaced free new
+    → IsPropagated strings free draw apart flip old new
+passed-times strings free draw apart flip old new e placed lt is differs letters flips coin placed_new = record {
   over = λ changes drawn. record {
     outcome = is ∙ sym (drawn e) ∙ ap (λ o. flip_by o (changes old.coin) apart) (sym pivot);
     letters =
@@ -120,7 +120,7 @@ pub passes-collapse : (n : ℕ) (pivots : RunPivots) (l : Letter) (q : ℕ) (rec
     → IsPropagatedWith pivots apart flip old mid
     → length mid.letters ≡ n
     → reset ≡ record mid { letters = times_where (resets && flip) (single (length mid.letters) q (flip_of l)).letters mid.letters }
-    → new ≡ record reset { flips = joined reset.flips (record nothing { records = when recorded flip }) }
+    → new ≡ record reset { flips = joined reset.flips (one_flipped recorded flip) }
     → StepsWith n pivots (collapse l q recorded inverted resets) old new
 passes-collapse n pivots l q recorded inverted resets apart flip old mid reset new ea p size er en = record {
   letters =
@@ -130,10 +130,8 @@ passes-collapse n pivots l q recorded inverted resets apart flip old mid reset n
       ∙ (λ i. times_where (resets && flips i) (single n q (flip_of l)).letters (letters i));
   flips =
       ap (λ (w : PropagationState). w.flips) en
-      ∙ ap (λ (w : PropagationState). joined w.flips (record nothing { records = when recorded flip })) er
-      ∙ ap (λ o. joined o (record nothing { records = when recorded flip })) p.flips
-      ∙ joined-assoc old.flips one_coin (record nothing { records = when recorded flip })
-      ∙ ap (λ b. joined old.flips (record nothing { records = when recorded b; free = false ∷ [] })) flips;
+      ∙ ap (λ (w : PropagationState). joined w.flips (one_flipped recorded flip)) er
+      ∙ (λ i. joined (p.flips i) (one_flipped recorded (flips i)));
   coin = ap (λ (w : PropagationState). w.coin) en ∙ ap (λ (w : PropagationState). w.coin) er ∙ p.coin;
 }
   where
@@ -149,7 +147,7 @@ passes-collapse n pivots l q recorded inverted resets apart flip old mid reset n
 pub passes-product : (n : ℕ) (pivots : RunPivots) (factors : List Factor) (inverted apart flip : Bool) (old mid new : PropagationState)
     → strings_anticommute old.letters (string_of n factors).letters ≡ apart
     → IsPropagatedWith pivots apart flip old mid
-    → new ≡ record mid { flips = record mid.flips { records = mid.flips.records ++ flip ∷ [] } }
+    → new ≡ record mid { flips = joined mid.flips (one_flipped true flip) }
     → StepsWith n pivots (product factors inverted) old new
 passes-product n pivots factors inverted apart flip old mid new ea p en = record {
   letters =
@@ -159,18 +157,8 @@ passes-product n pivots factors inverted apart flip old mid new ea p en = record
       ∙ sym (letters-same (pivots.strings old.coin) (pivots.changes old.coin) (string_of n factors) old.letters);
   flips =
       ap (λ (w : PropagationState). w.flips) en
-      ∙ as_joined mid.flips
-      ∙ ap (λ o. joined o (record nothing { records = flip ∷ [] })) p.flips
-      ∙ joined-assoc old.flips one_coin (record nothing { records = flip ∷ [] })
-      ∙ ap (λ b. joined old.flips (record nothing { records = b ∷ []; free = false ∷ [] }))
+      ∙ ap (λ o. joined o (one_flipped true flip)) p.flips
+      ∙ ap (λ b. joined old.flips (one_flipped true b))
       (p.outcome ∙ ap (flip_by (pivots.strings old.coin) (pivots.changes old.coin)) (sym ea) ∙ sym (flip-same (pivots.strings old.coin) (pivots.changes old.coin) (string_of n factors) old.letters));
   coin = ap (λ (w : PropagationState). w.coin) en ∙ p.coin;
 }
-  where
-    as_joined : (o : RunOutput) → ◌≡◌ {A = RunOutput} (record o { records = o.records ++ flip ∷ [] }) (joined o (record nothing { records = flip ∷ [] }))
-    as_joined o = λ i. record {
-      records = o.records ++ flip ∷ [];
-      free = sym (append-nil o.free) i;
-      detectors = sym (append-nil o.detectors) i;
-      additions = sym (append-nil o.additions) i;
-    }

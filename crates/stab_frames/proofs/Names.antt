@@ -92,9 +92,9 @@ pub use Rattle.stab_frames.specs.StepLaws.{FramesEnd, StepsKeepFrames, RunsKeepF
 pub use Rattle.stab_frames.specs.Stops.{IsStop}
 pub use Rattle.stab_frames.specs.declared.propagate.Stop.{Stop}
 pub use Rattle.stab_frames.specs.declared.propagate.Stop.TheVariants.{Behind, Gone, NoString}
-pub use Rattle.stab_frames.specs.inner.Draws.{AsksFree, is_inverted, IsDrawn, AreDrawn, record_of, differing, never}
+pub use Rattle.stab_frames.specs.inner.Draws.{AsksFree, IsDrawn, AreDrawn, outcome_of, differing, never}
 pub use Rattle.stab_frames.specs.inner.Products.{AreMultiplied}
-pub use Rattle.stab_frames.specs.inner.Propagates.{factors_anticommute, IsMissing, StepsWith, IsTold, AreTold, IsPropagated, GoesOver, GoesFreely, Goes, IsPropagatedWith, IsToldBy, flip_by, letters_for, one_coin, none_flipped}
+pub use Rattle.stab_frames.specs.inner.Propagates.{factors_anticommute, IsMissing, StepsWith, IsTold, AreTold, IsPropagated, GoesOver, GoesFreely, Goes, IsPropagatedWith, IsToldBy, flip_by, letters_for, one_flipped, none_flipped}
 pub use Rattle.stab_frames.specs.inner.RecordedPivots.{KeepsPivotsOf, KeepsPivots, PivotsSteps, IsAdded}
 pub use Rattle.stab_frames.specs.inner.Touches.{touches_target, acts, PairFits, touches_pair}
 pub use Rattle.stab_frames.specs.inner.Weights.{string_weight, letter_weight}

@@ -36,14 +36,14 @@ past-inverted i x o = grind arith
 
 pub given-matches : (n : ℕ) (coins : ℕ → Bool) (pivots : RunPivots) (x : Step) (a : Point) (c : ℕ) (f : Frame)
     → Matches (given n coins x a) (flips_given n pivots x c f)
-given-matches n coins pivots (one g q) a c f = record { records = refl; free = refl; detectors = refl; observables = refl }
-given-matches n coins pivots (two g p q) a c f = record { records = refl; free = refl; detectors = refl; observables = refl }
-given-matches n coins pivots (controlled l k q) a c f = record { records = refl; free = refl; detectors = refl; observables = refl }
+given-matches n coins pivots (one g q) a c f = record { records = refl; free = refl; outcomes = refl; detectors = refl; observables = refl }
+given-matches n coins pivots (two g p q) a c f = record { records = refl; free = refl; outcomes = refl; detectors = refl; observables = refl }
+given-matches n coins pivots (controlled l k q) a c f = record { records = refl; free = refl; outcomes = refl; detectors = refl; observables = refl }
 given-matches n coins pivots (collapse l q recorded inverted resets) a c f =
-    record { records = same-when recorded _ _; free = refl; detectors = refl; observables = refl }
-given-matches n coins pivots (product factors inverted) a c f = record { records = refl; free = refl; detectors = refl; observables = refl }
-given-matches n coins pivots (detector ks) a c f = record { records = refl; free = refl; detectors = refl; observables = refl }
-given-matches n coins pivots (observable j ks) a c f = record { records = refl; free = refl; detectors = refl; observables = refl }
+    record { records = same-when recorded _ _; free = refl; outcomes = refl; detectors = refl; observables = refl }
+given-matches n coins pivots (product factors inverted) a c f = record { records = refl; free = refl; outcomes = refl; detectors = refl; observables = refl }
+given-matches n coins pivots (detector ks) a c f = record { records = refl; free = refl; outcomes = refl; detectors = refl; observables = refl }
+given-matches n coins pivots (observable j ks) a c f = record { records = refl; free = refl; outcomes = refl; detectors = refl; observables = refl }
 
 -- one step
 
@@ -132,12 +132,14 @@ module _ (n : ℕ) (coins : ℕ → Bool) (pivots : RunPivots) (f : Frame) (a b 
         ∙ ap (when recorded) (past-inverted inverted (flips_outcome pivots a.coin (single n q l) f.letters) (outcome_at coins (single n q l) a.trace a.coin))
         ∙ sym (flipped-when recorded (flips_outcome pivots a.coin (single n q l) f.letters) (inverted ⊕ outcome_at coins (single n q l) a.trace a.coin))) i;
     free = free-given (single n q l) (length-one_letter n q l) enough i ∷ [];
+    outcomes = outcome-given (single n q l) (length-one_letter n q l) enough i ∷ [];
   }
   given-framed (product factors inverted) enough = λ i. record nothing {
     records =
         (ap (λ o. inverted ⊕ o) (outcome-given (string_of n factors) (length-string_of n factors) enough)
         ∙ past-inverted inverted (flips_outcome pivots a.coin (string_of n factors) f.letters) (outcome_at coins (string_of n factors) a.trace a.coin)) i ∷ [];
     free = free-given (string_of n factors) (length-string_of n factors) enough i ∷ [];
+    outcomes = outcome-given (string_of n factors) (length-string_of n factors) enough i ∷ [];
   }
   given-framed (detector ks) enough = λ i. record nothing { detectors = records-parity ks i ∷ [] }
   given-framed (observable j ks) enough = λ i. record nothing { additions = record { observable = j; bit = records-parity ks i } ∷ [] }
@@ -165,7 +167,7 @@ step-framed n coins pivots x f a b fits group enough framed =
 
 pub outputs-matches : (n : ℕ) (coins : ℕ → Bool) (pivots : RunPivots) (xs : List Step) (a : Point) (c : ℕ) (f : Frame)
     → Matches (outputs n coins xs a) (flips_over n pivots xs c f)
-outputs-matches n coins pivots [] a c f = record { records = refl; free = refl; detectors = refl; observables = refl }
+outputs-matches n coins pivots [] a c f = record { records = refl; free = refl; outcomes = refl; detectors = refl; observables = refl }
 outputs-matches n coins pivots (x ∷ xs) a c f =
     joined-matches (given n coins x a) (outputs n coins xs (next_point n coins x a)) (flips_given n pivots x c f)
     (flips_over n pivots xs (c + coins_of x) (frame_after n pivots x c f))

@@ -40,7 +40,7 @@ coins-less k most xs le = omega (arith, coins-within k most xs [] (drop k xs) re
 
 -- a propagation over some of the next steps
 
-pub goes-over : (n : ℕ) (strings : List (List Letter)) (free : List Bool) (draw : Bool → ℕ → Bool) (k j : ℕ) (xs ys rest : List Step) (old now new : PropagationState)
+pub goes-over : (n : ℕ) (strings : List (List Letter)) (free : List Bool) (draw : ℕ → Bool) (k j : ℕ) (xs ys rest : List Step) (old now new : PropagationState)
     → drop k xs ≡ ys ++ rest → j ≤ length ys → GoesOver n strings free draw (take k xs) old now → GoesOver n strings free draw (take j ys) now new
     → GoesOver n strings free draw (take (k + j) xs) old new
 goes-over n strings free draw k j xs ys rest old now new e le front next =

@@ -1,5 +1,5 @@
 -- Still propagations: a frame after measurements with which it commutes.
-use Rattle.stab_frames.proofs.Names.{◌≡◌, ℕ, suc, ◌+◌, ◌-◌, ◌<◌, ◌≤◌, refl, sym, ◌∙◌, ap, subst, Bool, true, false, ◌&&◌, List, [], ◌∷◌, ◌++◌, append-nil, length, take, drop, replicate, map, All, arith, list_any, take_all, replicate-append-replicate, length-take, All-tail, All-head, Letter, single, MeasureTarget, Measurement, letter_of, measured, Addition, joined-nothing, joined-assoc, ones, when, flip_of, nothing, joined, StepFits, or-left, or-right, times_where, PropagationState, IsPlaced, GoesOver, one_coin, none_flipped, touches_target}
+use Rattle.stab_frames.proofs.Names.{◌≡◌, ℕ, suc, ◌+◌, ◌-◌, ◌<◌, ◌≤◌, refl, sym, ◌∙◌, ap, subst, Bool, true, false, ◌&&◌, List, [], ◌∷◌, ◌++◌, append-nil, length, take, drop, replicate, map, All, arith, list_any, take_all, length-replicate, length-take, All-tail, All-head, Letter, single, MeasureTarget, Measurement, letter_of, measured, Addition, joined-nothing, joined-assoc, ones, flip_of, joined, StepFits, or-left, or-right, times_where, PropagationState, IsPlaced, GoesOver, none_flipped, touches_target}
 use Rattle.stab_frames.proofs.FactorLemmas.{single-anticommute}
 use Rattle.stab_frames.proofs.FreeLemmas.{ones-split}
 use Rattle.stab_frames.proofs.MeasuredPropagatedLemmas.{passed-alike}
@@ -22,20 +22,26 @@ more-zeros bits more n len k el en e = e ∙ (λ i. take_all n bits (omega (arit
 pub ones-within : (k : ℕ) (bits : List Bool) → ones (take k bits) ≤ k
 ones-within k bits = omega (arith, ones-few (take k bits), length-take k bits)
 
-pub still-view : (letters : List Letter) (records more detectors free : List Bool) (additions : List Addition) (passed coin number found k : ℕ) (w : PropagationState)
+-- a zero for each of some bits and of more
+pub zeros-append : (bits more : List Bool) → replicate (length (bits ++ more)) false ≡ replicate (length bits) false ++ replicate (length more) false
+zeros-append [] more = refl
+zeros-append (bit ∷ bits) more = ap (λ zeros. false ∷ zeros) (zeros-append bits more)
+
+pub still-view : (letters : List Letter) (records more outcomes others detectors free : List Bool) (additions : List Addition) (coin number found k : ℕ) (w : PropagationState)
     → ◌≡◌ {A = PropagationState}
-    (record { letters = letters; flips = record { records = records; free = replicate passed false; detectors = detectors; additions = additions }; coin = coin; number = number })
+    (record { letters = letters; flips = record { records = records; free = replicate (length outcomes) false; outcomes = outcomes; detectors = detectors; additions = additions }; coin = coin; number = number })
     w
-    → more ≡ records ++ replicate k false → found ≡ ones (take k (drop coin free))
+    → more ≡ records ++ replicate k false → others ≡ outcomes ++ replicate k false → found ≡ ones (take k (drop coin free))
     → ◌≡◌ {A = PropagationState}
-    (record { letters = letters; flips = record { records = more; free = replicate (passed + k) false; detectors = detectors; additions = additions }; coin = coin + k; number = number + found })
+    (record { letters = letters; flips = record { records = more; free = replicate (length others) false; outcomes = others; detectors = detectors; additions = additions }; coin = coin + k; number = number + found })
     (still_behind k (w.number + ones (take k (drop w.coin free))) w)
-still-view letters records more detectors free additions passed coin number found k w e em ef =
+still-view letters records more outcomes others detectors free additions coin number found k w e em eo ef =
     (λ i. record {
       letters = letters;
       flips = record {
         records = em i;
-        free = sym (replicate-append-replicate passed k false) i;
+        free = (ap (λ bits. replicate (length bits) false) eo ∙ zeros-append outcomes (replicate k false) ∙ ap (λ j. replicate (length outcomes) false ++ replicate j false) (length-replicate k false)) i;
+        outcomes = eo i;
         detectors = sym (append-nil detectors) i;
         additions = sym (append-nil additions) i;
       };
@@ -50,19 +56,19 @@ not-reset : (resets : Bool) (string letters : List Letter) → letters ≡ times
 not-reset true string letters = refl
 not-reset false string letters = refl
 
-module _ (n : ℕ) (strings : List (List Letter)) (free : List Bool) (draw : Bool → ℕ → Bool) (still : (inverted : Bool) (coin : ℕ) → draw inverted coin ≡ false) (how : Measurement) where
+module _ (n : ℕ) (strings : List (List Letter)) (free : List Bool) (draw : ℕ → Bool) (still : (coin : ℕ) → draw coin ≡ false) (how : Measurement) where
   step-still : (t : MeasureTarget) (old : PropagationState) → t.qubit < n → touches_target old.letters (letter_of how.axis) t ≡ false → length old.letters ≡ n
       → GoesOver n strings free draw (measured how t ∷ []) old (still_behind 1 (ones (take (old.coin + 1) free)) old)
   step-still t old lt e size =
       goes-collapse n strings free draw (letter_of how.axis) t.qubit true t.inverted how.resets false false old mid mid (still_behind 1 (ones (take (old.coin + 1) free)) old)
       (single-anticommute n t.qubit (letter_of how.axis) old.letters size lt ∙ e)
-      (passed-alike strings free draw t.inverted false false old mid (λ is. still t.inverted old.coin) refl refl refl refl refl) size
+      (passed-alike strings free draw false false old mid (λ is. still old.coin) refl refl refl refl refl) size
       (ap (λ letters. record mid { letters = letters }) (not-reset how.resets (single (length mid.letters) t.qubit (flip_of (letter_of how.axis))).letters mid.letters))
-      (ap (λ o. record mid { flips = o }) (sym (joined-assoc old.flips one_coin (record nothing { records = when true false }))))
+      refl
       size
     where
       mid : PropagationState
-      mid = record old { flips = joined old.flips one_coin; coin = old.coin + 1; number = ones (take (old.coin + 1) free) }
+      mid = record old { coin = old.coin + 1; number = ones (take (old.coin + 1) free) }
 
   steps-still : (targets : List MeasureTarget) (number : ℕ) (old : PropagationState)
       → All (λ t. t.qubit < n) targets → list_any (touches_target old.letters (letter_of how.axis)) targets ≡ false → length old.letters ≡ n
@@ -107,8 +113,8 @@ module _ (n : ℕ) (strings : List (List Letter)) (free : List Bool) (draw : Boo
 pub targets-fit : (n : ℕ) (how : Measurement) (targets : List MeasureTarget) → All (StepFits n) (map (measured how) targets) → All (λ t. t.qubit < n) targets
 targets-fit n how targets fits = λ i d lt. fits-mapped n n (measured how) targets i d fits lt refl
 
-pub goes-still : (n : ℕ) (strings : List (List Letter)) (free : List Bool) (draw : Bool → ℕ → Bool) (how : Measurement) (targets : List MeasureTarget) (l : Letter)
-    (old new : PropagationState) → ((inverted : Bool) (coin : ℕ) → draw inverted coin ≡ false)
+pub goes-still : (n : ℕ) (strings : List (List Letter)) (free : List Bool) (draw : ℕ → Bool) (how : Measurement) (targets : List MeasureTarget) (l : Letter)
+    (old new : PropagationState) → ((coin : ℕ) → draw coin ≡ false)
     → l ≡ letter_of how.axis → All (StepFits n) (map (measured how) targets) → list_any (touches_target old.letters l) targets ≡ false → length old.letters ≡ n
     → IsPlaced free old → new ≡ still_behind (length targets) (old.number + ones (take (length targets) (drop old.coin free))) old
     → GoesOver n strings free draw (take (length targets) (map (measured how) targets)) old new

@@ -114,12 +114,18 @@ module _ (n : ℕ) (strings : ℕ → Option (List Letter)) (x y : ℕ → Bool)
         (ap (when recorded) (outcome-add (strings c) (x c) (y c) (single n q l) f.letters g.letters)
         ∙ when-add recorded (flips_outcome left c (single n q l) f.letters) (flips_outcome right c (single n q l) g.letters)) i;
     free = false ∷ [];
+    outcomes =
+        (outcome-add (strings c) (x c) (y c) (single n q l) f.letters g.letters
+        ∙ parity-comm (flips_outcome left c (single n q l) f.letters) (flips_outcome right c (single n q l) g.letters)) i ∷ [];
   }
   given-add (product factors inverted) = λ i. record nothing {
     records =
         (outcome-add (strings c) (x c) (y c) (string_of n factors) f.letters g.letters
         ∙ parity-comm (flips_outcome left c (string_of n factors) f.letters) (flips_outcome right c (string_of n factors) g.letters)) i ∷ [];
     free = false ∷ [];
+    outcomes =
+        (outcome-add (strings c) (x c) (y c) (string_of n factors) f.letters g.letters
+        ∙ parity-comm (flips_outcome left c (string_of n factors) f.letters) (flips_outcome right c (string_of n factors) g.letters)) i ∷ [];
   }
   given-add (detector ks) = λ i. record nothing { detectors = parity-flipped f.flips g.flips same ks i ∷ [] }
   given-add (observable j ks) = λ i. record nothing { additions = record { observable = j; bit = parity-flipped f.flips g.flips same ks i } ∷ [] }

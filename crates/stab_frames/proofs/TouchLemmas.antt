@@ -62,7 +62,7 @@ pairs-untouched n axis (p ∷ pairs) w e size = λ strings free draw placed.
 
 -- steps of targets, and those of the next ones
 
-pub goes-part : {X : Type 0} (n : ℕ) (strings : List (List Letter)) (free : List Bool) (draw : Bool → ℕ → Bool) (f : X → Step) (xs part : List X) (i k : ℕ)
+pub goes-part : {X : Type 0} (n : ℕ) (strings : List (List Letter)) (free : List Bool) (draw : ℕ → Bool) (f : X → Step) (xs part : List X) (i k : ℕ)
     (old now new : PropagationState) → GoesOver n strings free draw (map f (take i xs)) old now → part ≡ take k (drop i xs) → GoesOver n strings free draw (map f part) now new
     → GoesOver n strings free draw (map f (take (i + k) xs)) old new
 goes-part n strings free draw f xs part i k old now new front is next =
@@ -79,7 +79,7 @@ freely-part n m f xs part i k old now new front same is next = λ strings free d
 
 -- of the next k of them only j, or all
 
-pub goes-less : {X : Type 0} (n : ℕ) (strings : List (List Letter)) (free : List Bool) (draw : Bool → ℕ → Bool) (f : X → Step) (xs part : List X) (i j k : ℕ)
+pub goes-less : {X : Type 0} (n : ℕ) (strings : List (List Letter)) (free : List Bool) (draw : ℕ → Bool) (f : X → Step) (xs part : List X) (i j k : ℕ)
     (old now new : PropagationState) → GoesOver n strings free draw (map f (take i xs)) old now → part ≡ take k (drop i xs) → j ≤ k
     → GoesOver n strings free draw (take j (map f part)) now new → GoesOver n strings free draw (map f (take (i + j) xs)) old new
 goes-less n strings free draw f xs part i j k old now new front is le next =

@@ -22,6 +22,7 @@ abbrev pub flipped_output : RunOutput → RunOutput → RunOutput
 flipped_output o flips = record {
   records = flipped o.records flips.records;
   free = flipped o.free flips.free;
+  outcomes = flipped o.outcomes flips.outcomes;
   detectors = flipped o.detectors flips.detectors;
   additions = flipped_additions o.additions flips.additions;
 }
@@ -31,6 +32,7 @@ abbrev pub unflipped : RunOutput → RunOutput
 unflipped o = record {
   records = replicate (length o.records) false;
   free = replicate (length o.free) false;
+  outcomes = replicate (length o.outcomes) false;
   detectors = replicate (length o.detectors) false;
   additions = map (λ a. record { observable = a.observable; bit = false }) o.additions;
 }
@@ -39,5 +41,6 @@ unflipped o = record {
 pub record Matches (o flips : RunOutput) : Type 0 where
   pub records : length flips.records ≡ length o.records
   pub free : length flips.free ≡ length o.free
+  pub outcomes : length flips.outcomes ≡ length o.outcomes
   pub detectors : length flips.detectors ≡ length o.detectors
   pub observables : map (λ a. a.observable) flips.additions ≡ map (λ a. a.observable) o.additions

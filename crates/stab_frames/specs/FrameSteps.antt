@@ -50,10 +50,12 @@ flips_given n pivots (controlled l k q) coin f = nothing
 flips_given n pivots (collapse l q recorded inverted resets) coin f = record nothing {
   records = when recorded (flips_outcome pivots coin (single n q l) f.letters);
   free = false ∷ [];
+  outcomes = flips_outcome pivots coin (single n q l) f.letters ∷ [];
 }
 flips_given n pivots (product factors inverted) coin f = record nothing {
   records = flips_outcome pivots coin (string_of n factors) f.letters ∷ [];
   free = false ∷ [];
+  outcomes = flips_outcome pivots coin (string_of n factors) f.letters ∷ [];
 }
 flips_given n pivots (detector ks) coin f = record nothing { detectors = parity f.flips ks ∷ [] }
 flips_given n pivots (observable j ks) coin f = record nothing { additions = record { observable = j; bit = parity f.flips ks } ∷ [] }

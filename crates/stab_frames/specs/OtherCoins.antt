@@ -1,7 +1,7 @@
 -- Other coins: a run comes to steps that it, or another one, passed before, and has other coins there.
 -- Source: this project's own, after the Pauli frames of C. Gidney, Stim: a fast stabilizer circuit simulator (2021), whose coins
 -- have no numbers.
-use Rattle.std.specs.Prelude.{◌≡◌, ℕ, ◌+◌, Bool, List, Option, length, take, drop}
+use Rattle.std.specs.Prelude.{◌≡◌, ℕ, ◌+◌, Bool, List, Option, take, drop}
 use Rattle.stab_gates.specs.declared.letter.Letter.{Letter}
 use Rattle.stab_gates.specs.Letters.{◌⊕◌}
 use Rattle.stab_circuit.specs.Steps.{Step}
@@ -20,17 +20,16 @@ abbrev pub pivots_between : (ℕ → Option (List Letter)) → (ℕ → Bool) �
 pivots_between strings coins others = pivots_of strings (λ t. others t ⊕ coins t)
 
 -- from a point, with these coins, a run passes steps: its flags there are these from its coin on, pivots of its free
--- outcomes are recorded, and it gives these records, one for each measurement
+-- outcomes are recorded, and these are its outcomes there
 pub record HasGoneOver (n : ℕ) (coins : ℕ → Bool) (strings : ℕ → Option (List Letter)) (free bits : List Bool) (xs : List Step) (k : ℕ) (a : Point) : Type 0 where
   pub coin : a.coin ≡ k
   pub are_true : AreTrue n coins strings xs a
   pub flags : (outputs n coins xs a).free ≡ take (all_coins_of xs) (drop k free)
-  pub records : (outputs n coins xs a).records ≡ bits
-  pub recorded : length bits ≡ all_coins_of xs
+  pub outcomes : (outputs n coins xs a).outcomes ≡ bits
 
 -- a frame was propagated over steps from one run to another with these coins, by pivots that are enough, whatever coins the one run had
-abbrev pub PropagatesToOthers : ℕ → (ℕ → Option (List Letter)) → (free records : List Bool) → (others : ℕ → Bool) → List Step → PropagationState → PropagationState → Type 0
-PropagatesToOthers n strings free records others xs old new =
-    (coins : ℕ → Bool) (a : Point) → HasGoneOver n coins strings free records xs old.coin a →
+abbrev pub PropagatesToOthers : ℕ → (ℕ → Option (List Letter)) → (free outcomes : List Bool) → (others : ℕ → Bool) → List Step → PropagationState → PropagationState → Type 0
+PropagatesToOthers n strings free outcomes others xs old new =
+    (coins : ℕ → Bool) (a : Point) → HasGoneOver n coins strings free outcomes xs old.coin a →
     PropagatesWith n (pivots_between strings coins others) xs old new
     × ((base : ℕ) → AreEnough n coins (pivots_between strings coins others) xs (frame_at base old) a)

@@ -8,21 +8,21 @@ use stab_run::Coins;
 /// Which coins of another run differ from those of the run that a frame comes from. If an outcome is free, it is flipped
 /// exactly if its coin differs.
 pub trait Draw: Copy {
-    // Whether a coin differs: by the other run's coins, whether the outcome is inverted in its record, and the coin's number.
-    ghost changes: { Self → (ℕ → Bool) → Bool → ℕ → Bool };
+    // Whether a coin differs: by the other run's coins and the coin's number.
+    ghost changes: { Self → (ℕ → Bool) → ℕ → Bool };
     // The other run's coins have numbers this much greater.
     ghost ahead: { Self → ℕ };
 
     /// Whether the coin of a free outcome differs. It asks for the other run's coin there, or for none.
-    fn change<C: Coins>(&self, coins: &mut C, coin: usize, inverted: bool) -> bool
+    fn change<C: Coins>(&self, coins: &mut C, coin: usize) -> bool
         requires few { ahead self.now + coin < 2 ^ 63 }
-        ensures value { result ≡ changes self.now (C.sequence coins.old) inverted coin }
+        ensures value { result ≡ changes self.now (C.sequence coins.old) coin }
         ensures same_coins { C.sequence coins.new ≡ C.sequence coins.old }
         ensures asks { C.asks coins.new ≤ C.asks coins.old + 1 };
 
     /// Whether no coin differs.
     fn is_still(&self) -> bool
-        ensures still { result ≡ true → (coins : ℕ → Bool) (inverted : Bool) (coin : ℕ) → changes self.now coins inverted coin ≡ false };
+        ensures still { result ≡ true → (coins : ℕ → Bool) (coin : ℕ) → changes self.now coins coin ≡ false };
 }
 
 /// None differs.
@@ -34,7 +34,7 @@ impl Draw for SameCoins {
 
     ghost ahead = { λ d. 0 };
 
-    fn change<C: Coins>(&self, _: &mut C, _: usize, _: bool) -> bool {
+    fn change<C: Coins>(&self, _: &mut C, _: usize) -> bool {
         false
     }
 

@@ -7,7 +7,7 @@ ghost use Rattle.stab_run.specs.ProgramStates.{StepFits};
 ghost use Rattle.stab_frames.specs.Pivots.{pivot_at};
 ghost use Rattle.stab_frames.specs.Propagations.{IsPlaced};
 ghost use Rattle.stab_frames.specs.OtherCoins.{coins_from, PropagatesToOthers};
-ghost use Rattle.stab_frames.specs.inner.Draws.{record_of, differing};
+ghost use Rattle.stab_frames.specs.inner.Draws.{outcome_of, differing};
 
 use crate::bits::bit_at;
 use crate::draw::Draw;
@@ -19,24 +19,24 @@ use stab_circuit::Cursor;
 use stab_run::Coins;
 use std::alloc::AllocError;
 
-/// Those coins differ that are not as the one run's records say.
+/// Those coins differ that are not as the one run's outcomes were.
 #[derive(Clone, Copy)]
 struct OtherCoins<'a> {
-    // One for each coin from the one with number `start` on.
-    records: &'a [bool],
+    // Those of the coins from the one with number `start` on.
+    outcomes: &'a [bool],
     start: usize,
     // The other run's coins have numbers this much greater.
     ahead: usize,
 }
 
 impl Draw for OtherCoins<'_> {
-    ghost changes = { λ d coins. differing (record_of d.records.now d.start) (coins_from d.ahead coins) };
+    ghost changes = { λ d coins. differing (outcome_of d.outcomes.now d.start) (coins_from d.ahead coins) };
 
     ghost ahead = { λ d. d.ahead };
 
-    fn change<C: Coins>(&self, coins: &mut C, coin: usize, inverted: bool) -> bool {
-        let old = bit_at(self.records, coin.saturating_sub(self.start));
-        old ^ inverted ^ coins.coin((self.ahead + coin) as u64)
+    fn change<C: Coins>(&self, coins: &mut C, coin: usize) -> bool {
+        let old = bit_at(self.outcomes, coin.saturating_sub(self.start));
+        old ^ coins.coin((self.ahead + coin) as u64)
     }
 
     fn is_still(&self) -> bool {
@@ -45,13 +45,13 @@ impl Draw for OtherCoins<'_> {
 }
 
 /// Propagates a frame over the steps that a cursor has left, up to this many, from a run that passed them to one with other coins,
-/// whose next coin has a number this much greater. The one run had these flags, gave these records there, one for each measurement,
+/// whose next coin has a number this much greater. The one run had these flags, these outcomes there,
 /// and strings of all its free outcomes so far are kept. It asks for the coin of each random outcome at most once, and for no other.
 pub fn propagate_with_coins<C: Coins>(
     propagation: &mut Propagation,
     strings: &Pivots,
     free: &[bool],
-    records: &[bool],
+    outcomes: &[bool],
     coins: &mut C,
     ahead: usize,
     cursor: &mut Cursor,
@@ -69,10 +69,10 @@ pub fn propagate_with_coins<C: Coins>(
     ensures same_coins { C.sequence coins.new ≡ C.sequence coins.old }
     ensures asks { C.asks coins.new ≤ C.asks coins.old + all_coins_of (take most cursor.old.left) }
     ensures asks_free { OnOk result (C.asks coins.new ≤ C.asks coins.old + ones (take (all_coins_of (take most cursor.old.left)) (drop propagation.old.coin free.now))) }
-    ensures propagated { OnOk result (PropagatesToOthers (length propagation.old.letters) (pivot_at strings.now.strings free.now) free.now records.now (coins_from ahead (C.sequence coins.old)) (take most cursor.old.left) propagation.old propagation.new) }
+    ensures propagated { OnOk result (PropagatesToOthers (length propagation.old.letters) (pivot_at strings.now.strings free.now) free.now outcomes.now (coins_from ahead (C.sequence coins.old)) (take most cursor.old.left) propagation.old propagation.new) }
 {
     let draw = OtherCoins {
-        records,
+        outcomes,
         start: propagation.coin(),
         ahead,
     };

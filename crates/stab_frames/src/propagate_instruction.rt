@@ -212,17 +212,7 @@ fn propagate_each_measurement<D: Draw, C: Coins>(
     let mut count = 0;
     for target in targets {
         let qubit = target.qubit.number();
-        let inverted = target.inverted;
-        if !propagate_collapse(
-            propagation,
-            known,
-            coins,
-            letter,
-            qubit,
-            true,
-            inverted,
-            resets,
-        )? {
+        if !propagate_collapse(propagation, known, coins, letter, qubit, true, resets)? {
             return Ok(count);
         }
         count += 1;

@@ -1,10 +1,10 @@
 //! One step on the way of a frame.
 
-ghost use Rattle.std.specs.Prelude.{◌≡◌, ◌+◌, ◌^◌, ◌<◌, false, ◌&&◌, [], ◌∷◌, All, length, IfSome, IfNone, IfOk, OnOk};
+ghost use Rattle.std.specs.Prelude.{◌≡◌, ◌+◌, ◌^◌, ◌<◌, Bool, false, ◌&&◌, [], ◌∷◌, All, length, IfSome, IfNone, IfOk, OnOk};
 ghost use Rattle.stab_pauli.specs.Paulis.{single};
 ghost use Rattle.stab_tableau.specs.Gates.{image as image_of, image_pair};
 ghost use Rattle.stab_run.specs.Records.{looked_up as looked_up_of, parity as parity_of};
-ghost use Rattle.stab_run.specs.Runs.{when, flip_of};
+ghost use Rattle.stab_run.specs.Runs.{flip_of};
 ghost use Rattle.stab_run.specs.Points.{nothing, joined, coins_of};
 ghost use Rattle.stab_frames.specs.Frames.{plus, times_where};
 ghost use Rattle.stab_lines.specs.Products.{names_twice};
@@ -13,7 +13,7 @@ ghost use Rattle.stab_circuit.specs.Cursors.{step_shown, IsApart};
 ghost use Rattle.stab_run.specs.ProgramStates.{StepFits};
 ghost use Rattle.stab_frames.specs.Propagations.{IsPlaced};
 ghost use Rattle.stab_frames.specs.inner.Draws.{AsksFree};
-ghost use Rattle.stab_frames.specs.inner.Propagates.{factors_anticommute, IsPropagated, IsMissing, Goes};
+ghost use Rattle.stab_frames.specs.inner.Propagates.{one_flipped, factors_anticommute, IsPropagated, IsMissing, Goes};
 
 use crate::bits::bit_at;
 use crate::draw::Draw;
@@ -60,20 +60,14 @@ pub fn propagate_step<D: Draw, C: Coins>(
             letter,
             qubit,
             recorded,
-            inverted,
+            inverted: _,
             reset,
-        } => return propagate_collapse(
-            propagation,
-            known,
-            coins,
-            letter,
-            qubit,
-            recorded,
-            inverted,
-            reset,
-        ),
-        Step::Product { factors, inverted } => {
-            return propagate_product(propagation, known, coins, factors, inverted);
+        } => return propagate_collapse(propagation, known, coins, letter, qubit, recorded, reset),
+        Step::Product {
+            factors,
+            inverted: _,
+        } => {
+            return propagate_product(propagation, known, coins, factors);
         }
         Step::Detector(lookbacks) => propagate_detector(propagation, lookbacks)?,
         Step::Observable(observable, lookbacks) => propagate_observable(
@@ -136,14 +130,13 @@ fn multiply_if(propagation: &mut Propagation, bit: bool, letter: Letter, qubit: 
     }
 }
 
-/// Propagates a frame over the measurement of the next coin, of something with which it anticommutes or
+/// Propagates a frame past the next coin, which is of something with which it anticommutes or
 /// not, and says whether the outcome is flipped, or `None` if the string is missing.
 #[inline(always)]
 fn propagate_outcome<D: Draw, C: Coins>(
     propagation: &mut Propagation,
     known: Known<D>,
     coins: &mut C,
-    inverted: bool,
     apart: bool,
 ) -> Option<bool>
     requires same_length { known.strings.now.qubits ≡ length propagation.old.letters }
@@ -152,7 +145,7 @@ fn propagate_outcome<D: Draw, C: Coins>(
     ensures length { length propagation.new.letters ≡ length propagation.old.letters }
     ensures same_coins { C.sequence coins.new ≡ C.sequence coins.old }
     ensures asks { AsksFree known.entry.free.now propagation.old.coin (propagation.old.coin + 1) (C.asks coins.old) (C.asks coins.new) }
-    ensures passed { IfSome result (λ flipped. IsPropagated known.entry.strings.now.strings known.entry.free.now (D.changes known.entry.draw.now (C.sequence coins.old)) inverted apart flipped propagation.old propagation.new) }
+    ensures passed { IfSome result (λ flipped. IsPropagated known.entry.strings.now.strings known.entry.free.now (D.changes known.entry.draw.now (C.sequence coins.old)) apart flipped propagation.old propagation.new) }
     ensures unchanged { IfNone result (propagation.new ≡ propagation.old) }
     ensures missing { IfNone result (IsMissing known.entry.strings.now.strings known.entry.free.now (propagation.old.coin + 1)) }
 {
@@ -161,7 +154,7 @@ fn propagate_outcome<D: Draw, C: Coins>(
         propagation.skip_coin(false);
         return Some(apart);
     }
-    let change = known.draw.change(coins, coin, inverted);
+    let change = known.draw.change(coins, coin);
     if change == apart {
         propagation.skip_coin(true);
         return Some(change);
@@ -175,15 +168,16 @@ fn propagate_outcome<D: Draw, C: Coins>(
     Some(change)
 }
 
-/// Flips the next record, or not, if there is one.
-fn flip_record_when(
+/// Flips an outcome and its record, if there is one, or not.
+fn flip_measured(
     propagation: &mut Propagation,
     recorded: bool,
     flipped: bool,
 ) -> Result<(), AllocError>
-    ensures value { OnOk result (propagation.new ≡ record propagation.old { flips = joined propagation.old.flips (record nothing { records = when recorded flipped }) }) }
+    ensures value { OnOk result (propagation.new ≡ record propagation.old { flips = joined propagation.old.flips (one_flipped recorded flipped) }) }
     ensures letters { propagation.new.letters ≡ propagation.old.letters }
 {
+    propagation.flip_outcome(flipped)?;
     if recorded {
         propagation.flip_record(flipped)?;
     }
@@ -198,7 +192,6 @@ pub fn propagate_collapse<D: Draw, C: Coins>(
     letter: Letter,
     qubit: usize,
     recorded: bool,
-    inverted: bool,
     resets: bool,
 ) -> Result<bool, AllocError>
     requires same_length { known.strings.now.qubits ≡ length propagation.old.letters }
@@ -208,13 +201,13 @@ pub fn propagate_collapse<D: Draw, C: Coins>(
     ensures length { length propagation.new.letters ≡ length propagation.old.letters }
     ensures same_coins { C.sequence coins.new ≡ C.sequence coins.old }
     ensures asks { AsksFree known.entry.free.now propagation.old.coin (propagation.old.coin + 1) (C.asks coins.old) (C.asks coins.new) }
-    ensures goes { IfOk result (Goes (length propagation.old.letters) known.entry.strings.now.strings known.entry.free.now (D.changes known.entry.draw.now (C.sequence coins.old)) (collapse letter qubit recorded inverted resets) propagation.old propagation.new) }
+    ensures goes { IfOk result (λ gone. (inverted : Bool) → Goes (length propagation.old.letters) known.entry.strings.now.strings known.entry.free.now (D.changes known.entry.draw.now (C.sequence coins.old)) (collapse letter qubit recorded inverted resets) propagation.old propagation.new gone) }
 {
     let apart = propagation.letter(qubit).anticommutes(letter);
-    match propagate_outcome(propagation, known, coins, inverted, apart) {
+    match propagate_outcome(propagation, known, coins, apart) {
         Some(flipped) => {
             multiply_if(propagation, resets & flipped, flip(letter), qubit);
-            flip_record_when(propagation, recorded, flipped)?;
+            flip_measured(propagation, recorded, flipped)?;
             Ok(true)
         }
         None => Ok(false),
@@ -239,7 +232,6 @@ fn propagate_product<D: Draw, C: Coins>(
     known: Known<D>,
     coins: &mut C,
     factors: &[Factor],
-    inverted: bool,
 ) -> Result<bool, AllocError>
     requires same_length { known.strings.now.qubits ≡ length propagation.old.letters }
     requires in_range { All (λ f. f.qubit < length propagation.old.letters) factors.now }
@@ -249,12 +241,12 @@ fn propagate_product<D: Draw, C: Coins>(
     ensures length { length propagation.new.letters ≡ length propagation.old.letters }
     ensures same_coins { C.sequence coins.new ≡ C.sequence coins.old }
     ensures asks { AsksFree known.entry.free.now propagation.old.coin (propagation.old.coin + 1) (C.asks coins.old) (C.asks coins.new) }
-    ensures goes { IfOk result (Goes (length propagation.old.letters) known.entry.strings.now.strings known.entry.free.now (D.changes known.entry.draw.now (C.sequence coins.old)) (product factors.now inverted) propagation.old propagation.new) }
+    ensures goes { IfOk result (λ gone. (inverted : Bool) → Goes (length propagation.old.letters) known.entry.strings.now.strings known.entry.free.now (D.changes known.entry.draw.now (C.sequence coins.old)) (product factors.now inverted) propagation.old propagation.new gone) }
 {
     let apart = anticommutes(propagation.letters(), factors);
-    match propagate_outcome(propagation, known, coins, inverted, apart) {
+    match propagate_outcome(propagation, known, coins, apart) {
         Some(flipped) => {
-            propagation.flip_record(flipped)?;
+            flip_measured(propagation, true, flipped)?;
             Ok(true)
         }
         None => Ok(false),

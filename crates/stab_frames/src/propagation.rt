@@ -18,18 +18,18 @@ pub struct Propagation {
     // How many letters are not I.
     weight: usize,
     records: Vec<bool>,
+    // One for each coin that it has passed.
+    outcomes: Vec<bool>,
     detectors: Vec<bool>,
     additions: Vec<Addition>,
     // None of the newest records is flipped, as many as this.
     still: usize,
     coin: usize,
-    // How many coins it has passed.
-    passed: usize,
     number: usize,
 }
 
 impl Model for Propagation {
-    ghost use Rattle.std.specs.Prelude.{◌≡◌, ℕ, ◌+◌, ◌≤◌, false, replicate};
+    ghost use Rattle.std.specs.Prelude.{◌≡◌, ℕ, ◌≤◌, false, length, replicate};
     ghost use Rattle.stab_run.specs.Records.{looked_up};
     ghost use Rattle.stab_frames.specs.Propagations.{PropagationState};
     ghost use Rattle.stab_frames.specs.inner.Weights.{string_weight};
@@ -38,22 +38,22 @@ impl Model for Propagation {
 
     ghost view = { λ w. record {
       letters = w.letters.items;
-      flips = record { records = w.records.items; free = replicate w.passed false; detectors = w.detectors.items; additions = w.additions.items };
+      flips = record { records = w.records.items; free = replicate (length w.outcomes.items) false; outcomes = w.outcomes.items; detectors = w.detectors.items; additions = w.additions.items };
       coin = w.coin;
       number = w.number;
     } };
 
-    ghost invariant = { λ w. (w.weight ≡ string_weight w.letters.items) × ((k : ℕ) → k ≤ w.still → looked_up w.records.items k ≡ false) × (w.passed ≤ w.coin) × (w.number ≤ w.coin) };
+    ghost invariant = { λ w. (w.weight ≡ string_weight w.letters.items) × ((k : ℕ) → k ≤ w.still → looked_up w.records.items k ≡ false) × (w.number ≤ w.coin) };
 }
 
 impl Propagation {
-    ghost use Rattle.std.specs.Prelude.{◌≡◌, ℕ, ◌+◌, ◌*◌, ◌^◌, ◌≤◌, ◌<◌, ◌∷◌, [], ◌++◌, true, length, replicate, take, drop, slice_index_or, slice_set, OnOk, IfOk};
+    ghost use Rattle.std.specs.Prelude.{◌≡◌, ℕ, ◌+◌, ◌*◌, ◌^◌, ◌≤◌, ◌<◌, ◌∷◌, [], ◌++◌, true, false, length, replicate, take, drop, slice_index_or, slice_set, OnOk, IfOk};
     ghost use Rattle.stab_gates.specs.declared.letter.Letter.TheVariants.{I};
     ghost use Rattle.stab_pauli.specs.Paulis.{single, string_product};
     ghost use Rattle.stab_run.specs.Records.{ones};
     ghost use Rattle.stab_run.specs.Points.{nothing, joined};
     ghost use Rattle.stab_frames.specs.Propagations.{frame_at, IsGone};
-    ghost use Rattle.stab_frames.specs.inner.Propagates.{one_coin, none_flipped};
+    ghost use Rattle.stab_frames.specs.inner.Propagates.{none_flipped};
     ghost use Rattle.stab_frames.specs.inner.Products.{AreMultiplied};
     ghost use Rattle.stab_frames.specs.Flips.{flipped};
 
@@ -73,11 +73,11 @@ impl Propagation {
             letters: vec![in alloc; Letter::I; n]?,
             weight: 0,
             records: Vec::new(alloc),
+            outcomes: Vec::new(alloc),
             detectors: Vec::new(alloc),
             additions: Vec::new(alloc),
             still: usize::MAX,
             coin,
-            passed: 0,
             number: count_ones(front),
         })
     }
@@ -129,9 +129,9 @@ impl Propagation {
         requires within { number ≤ coin }
         ensures value { self.new ≡ record self.old { flips = record nothing { records = self.old.flips.records }; coin = coin; number = number } }
     {
+        self.outcomes.clear();
         self.detectors.clear();
         self.additions.clear();
-        self.passed = 0;
         self.coin = coin;
         self.number = number;
     }
@@ -168,6 +168,13 @@ impl Propagation {
         ensures value { result.now ≡ self.now.flips.records }
     {
         self.records.as_slice()
+    }
+
+    /// Which outcomes, one for each coin.
+    pub fn outcomes(&self) -> &[bool]
+        ensures value { result.now ≡ self.now.flips.outcomes }
+    {
+        self.outcomes.as_slice()
     }
 
     /// Which detectors.
@@ -230,6 +237,15 @@ impl Propagation {
         Ok(())
     }
 
+    /// Flips the next outcome, or not.
+    pub(crate) fn flip_outcome(&mut self, flip: bool) -> Result<(), AllocError>
+        ensures value { OnOk result (self.new ≡ record self.old { flips = record self.old.flips { free = self.old.flips.free ++ false ∷ []; outcomes = self.old.flips.outcomes ++ flip ∷ [] } }) }
+        ensures letters { self.new.letters ≡ self.old.letters }
+    {
+        self.outcomes.push(flip)?;
+        Ok(())
+    }
+
     /// Flips the next detector, or not.
     pub(crate) fn flip_detector(&mut self, flip: bool) -> Result<(), AllocError>
         ensures value { OnOk result (self.new ≡ record self.old { flips = record self.old.flips { detectors = self.old.flips.detectors ++ flip ∷ [] } }) }
@@ -248,13 +264,12 @@ impl Propagation {
         Ok(())
     }
 
-    /// Passes the measurement of the next coin, whose outcome was free or not.
+    /// Passes the next coin, whose outcome was free or not.
     pub(crate) fn skip_coin(&mut self, free: bool)
         requires few { self.old.coin < 2 ^ 63 }
-        ensures value { self.new ≡ record self.old { flips = joined self.old.flips one_coin; coin = self.old.coin + 1; number = self.old.number + ones (free ∷ []) } }
+        ensures value { self.new ≡ record self.old { coin = self.old.coin + 1; number = self.old.number + ones (free ∷ []) } }
     {
         self.coin += 1;
-        self.passed += 1;
         self.number += usize::from(free);
     }
 
@@ -265,11 +280,11 @@ impl Propagation {
         ensures value { OnOk result (self.new ≡ record self.old { flips = joined self.old.flips (none_flipped count); coin = self.old.coin + count; number = self.old.number + ones (take count (drop self.old.coin free.now)) }) }
         ensures letters { self.new.letters ≡ self.old.letters }
     {
+        self.outcomes.resize(self.outcomes.len() + count, false)?;
         self.records.resize(self.records.len() + count, false)?;
         self.number += ones_from(free, self.coin, count);
         self.still = self.still.saturating_add(count);
         self.coin += count;
-        self.passed += count;
         Ok(())
     }
 }

@@ -10,7 +10,7 @@ use Rattle.stab_lines.specs.declared.product.Factor.{Factor}
 use Rattle.stab_lines.specs.Axes.{letter_of}
 use Rattle.stab_circuit.specs.Steps.{Step}
 use Rattle.stab_run.specs.Records.{ones}
-use Rattle.stab_run.specs.Runs.{measured_by}
+use Rattle.stab_run.specs.Runs.{when, measured_by}
 use Rattle.stab_run.specs.Points.{RunOutput, nothing, joined, coins_of, all_coins_of}
 use Rattle.stab_frames.specs.Frames.{Frame, times_where}
 use Rattle.stab_frames.specs.RunPivots.{RunPivots, pivots_of}
@@ -39,19 +39,19 @@ abbrev pub letters_for : Option (List Letter) → Bool → Bool → List Letter 
 letters_for None change apart f = f
 letters_for (Some s) change apart f = times_where (change ⊕ apart) s f
 
--- what is flipped by one that gives no record
-abbrev pub one_coin : RunOutput
-one_coin = record nothing { free = false ∷ [] }
+-- what is flipped by a measurement, with a record or without one
+abbrev pub one_flipped : Bool → Bool → RunOutput
+one_flipped recorded flip = record nothing { records = when recorded flip; free = false ∷ []; outcomes = flip ∷ [] }
 
--- what is flipped by measurements whose records are not flipped
+-- what is flipped by measurements with records, if it is none
 abbrev pub none_flipped : ℕ → RunOutput
-none_flipped k = record nothing { records = replicate k false; free = replicate k false }
+none_flipped k = record nothing { records = replicate k false; free = replicate k false; outcomes = replicate k false }
 
--- over the outcome of something with which the frame anticommutes or not, which is flipped or not
+-- past the coin of something with which the frame anticommutes or not, whose outcome is flipped or not
 pub record IsPropagatedWith (pivots : RunPivots) (apart flip : Bool) (old new : PropagationState) : Type 0 where
   pub outcome : flip ≡ flip_by (pivots.strings old.coin) (pivots.changes old.coin) apart
   pub letters : new.letters ≡ letters_for (pivots.strings old.coin) (pivots.changes old.coin) apart old.letters
-  pub flips : new.flips ≡ joined old.flips one_coin
+  pub flips : new.flips ≡ old.flips
   pub coin : new.coin ≡ old.coin + 1
 
 -- over one step
@@ -75,15 +75,15 @@ AreTold n strings free changes (x ∷ xs) coin f =
     IsTold n strings free changes x coin f.letters
     × AreTold n strings free changes xs (coin + coins_of x) (frame_after n (pivots_of (pivot_at strings free) changes) x coin f)
 
--- over an outcome, whichever coins differ as is drawn, and what it had to know was kept
-pub record IsPropagated (strings : List (List Letter)) (free : List Bool) (draw : Bool → ℕ → Bool) (inverted apart flip : Bool) (old new : PropagationState) : Type 0 where
-  pub over : (changes : ℕ → Bool) → IsDrawn free draw changes inverted old.coin → IsPropagatedWith (pivots_of (pivot_at strings free) changes) apart flip old new
-  pub told : (changes : ℕ → Bool) → IsDrawn free draw changes inverted old.coin → IsToldBy strings free old.coin (changes old.coin) apart
+-- past a coin, whichever coins differ as is drawn, and what it had to know was kept
+pub record IsPropagated (strings : List (List Letter)) (free : List Bool) (draw : ℕ → Bool) (apart flip : Bool) (old new : PropagationState) : Type 0 where
+  pub over : (changes : ℕ → Bool) → IsDrawn free draw changes old.coin → IsPropagatedWith (pivots_of (pivot_at strings free) changes) apart flip old new
+  pub told : (changes : ℕ → Bool) → IsDrawn free draw changes old.coin → IsToldBy strings free old.coin (changes old.coin) apart
   pub coin : new.coin ≡ old.coin + 1
   pub placed : IsPlaced free new
 
 -- a frame of n letters was propagated over steps, whichever coins differ as is drawn, and what it had to know of their measurements was kept
-pub record GoesOver (n : ℕ) (strings : List (List Letter)) (free : List Bool) (draw : Bool → ℕ → Bool) (xs : List Step) (old new : PropagationState) : Type 0 where
+pub record GoesOver (n : ℕ) (strings : List (List Letter)) (free : List Bool) (draw : ℕ → Bool) (xs : List Step) (old new : PropagationState) : Type 0 where
   pub over : (changes : ℕ → Bool) → AreDrawn free draw changes xs old.coin → PropagatesWith n (pivots_of (pivot_at strings free) changes) xs old new
   pub told : (changes : ℕ → Bool) → AreDrawn free draw changes xs old.coin → (base : ℕ) → AreTold n strings free changes xs old.coin (frame_at base old)
   pub coin : new.coin ≡ old.coin + all_coins_of xs
@@ -93,14 +93,14 @@ pub record GoesOver (n : ℕ) (strings : List (List Letter)) (free : List Bool) 
 -- whatever strings were kept, whichever outcomes were free, and whatever is drawn
 abbrev pub GoesFreely : ℕ → List Step → PropagationState → PropagationState → Type 0
 GoesFreely n xs old new =
-    (strings : List (List Letter)) (free : List Bool) (draw : Bool → ℕ → Bool) → IsPlaced free old → GoesOver n strings free draw xs old new
+    (strings : List (List Letter)) (free : List Bool) (draw : ℕ → Bool) → IsPlaced free old → GoesOver n strings free draw xs old new
 
 -- the string of a free outcome before a coin was not kept
 abbrev pub IsMissing : List (List Letter) → List Bool → ℕ → Type 0
 IsMissing strings free coin = length strings < ones (take coin free)
 
 -- a frame was propagated over a step or, for want of a string, is as it was
-pub record Goes (n : ℕ) (strings : List (List Letter)) (free : List Bool) (draw : Bool → ℕ → Bool) (x : Step) (old new : PropagationState) (gone : Bool) : Type 0 where
+pub record Goes (n : ℕ) (strings : List (List Letter)) (free : List Bool) (draw : ℕ → Bool) (x : Step) (old new : PropagationState) (gone : Bool) : Type 0 where
   pub went : gone ≡ true → GoesOver n strings free draw (x ∷ []) old new
   pub same : gone ≡ false → new ≡ old
   pub missing : gone ≡ false → IsMissing strings free (old.coin + coins_of x)

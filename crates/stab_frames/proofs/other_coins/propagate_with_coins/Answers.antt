@@ -1,4 +1,4 @@
-use Rattle.stab_frames.proofs.Names.{subst, length, take, drop, arith, all_coins_of, coins_from, record_of, differing, GoesOver}
+use Rattle.stab_frames.proofs.Names.{subst, length, take, drop, arith, all_coins_of, coins_from, outcome_of, differing, GoesOver}
 use Rattle.stab_frames.proofs.FreeLemmas.{ones-split}
 use Rattle.stab_frames.proofs.StillPropagationLemmas.{ones-within}
 use Rattle.stab_frames.proofs.OtherCoinLemmas.{propagation-others, propagation-whole}
@@ -27,7 +27,7 @@ returns-clause-propagated g c =
     let whole =
     propagation-whole n 0 c.in_ok-propagate.field-0.steps c.args.most _ c.args.strings.now.strings c.args.free.now xs c.propagate.new.propagation c.in_ok-propagate.field-0.stop
     done.stop done.gone done.missing c.requires.kept in
-    propagation-others n c.args.strings.now.strings c.args.free.now c.args.records.now others (take c.args.most xs) c.args.propagation.now c.propagate.new.propagation
-    (subst (λ ys. GoesOver n c.args.strings.now.strings c.args.free.now (differing (record_of c.args.records.now c.args.propagation.now.coin) others) ys c.args.propagation.now c.propagate.new.propagation) whole
-    (subst (λ k. GoesOver n c.args.strings.now.strings c.args.free.now (differing (record_of c.args.records.now k) others) (take c.in_ok-propagate.field-0.steps xs)
+    propagation-others n c.args.strings.now.strings c.args.free.now c.args.outcomes.now others (take c.args.most xs) c.args.propagation.now c.propagate.new.propagation
+    (subst (λ ys. GoesOver n c.args.strings.now.strings c.args.free.now (differing (outcome_of c.args.outcomes.now c.args.propagation.now.coin) others) ys c.args.propagation.now c.propagate.new.propagation) whole
+    (subst (λ k. GoesOver n c.args.strings.now.strings c.args.free.now (differing (outcome_of c.args.outcomes.now k) others) (take c.in_ok-propagate.field-0.steps xs)
     c.args.propagation.now c.propagate.new.propagation) c.coin.ensures.value done.goes))

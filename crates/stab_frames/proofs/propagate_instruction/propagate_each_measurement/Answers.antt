@@ -26,7 +26,7 @@ returns-then-not-branch-clause-goes g c =
     let over = GoesOver (length c.args.propagation.now.letters) c.args.known.strings.now.strings c.args.known.free.now
     (g.D.Draw.changes c.args.known.draw.now (g.C.Coins.sequence c.args.coins.now)) in
     subst (λ w. over (take c.loop-target.count (map (measured c.args.measurement) c.args.targets.now)) c.args.propagation.now w)
-    (sym ((c.in_ok-propagate_collapse.ensures {u = tt}).goes.same c.if-not-branch.true))
+    (sym (((c.in_ok-propagate_collapse.ensures {u = tt}).goes c.target-item.result.inverted).same c.if-not-branch.true))
     (subst (λ xs. over xs c.args.propagation.now c.loop-target.propagation)
     (sym (take-map (measured c.args.measurement) c.loop-target.count c.args.targets.now ∙ ap (λ k. map (measured c.args.measurement) (take k c.args.targets.now)) c.loop-target.invariant.count))
     c.loop-target.invariant.goes)
@@ -34,14 +34,14 @@ returns-then-not-branch-clause-goes g c =
 pub returns-then-not-branch-clause-missing : goal.returns-then-not-branch-clause-missing
 returns-then-not-branch-clause-missing g c = λ less.
     missing-later c.args.known.strings.now.strings c.args.known.free.now (c.loop-target.propagation.coin + 1) (c.args.propagation.now.coin + length c.args.targets.now)
-    (omega (arith, c.loop-target.invariant.coin, c.loop-target-test.true)) ((c.in_ok-propagate_collapse.ensures {u = tt}).goes.missing c.if-not-branch.true)
+    (omega (arith, c.loop-target.invariant.coin, c.loop-target-test.true)) (((c.in_ok-propagate_collapse.ensures {u = tt}).goes c.target-item.result.inverted).missing c.if-not-branch.true)
 
 pub loop-target-preserved : goal.loop-target-preserved
 loop-target-preserved g c =
     let inv = c.loop-target.invariant in
     let done = c.in_ok-propagate_collapse.ensures {u = tt} in
     let over =
-    goes-same (length c.args.propagation.now.letters) _ _ _ _ _ _ _ _ inv.goes.size (ap (g.D.Draw.changes c.args.known.draw.now) inv.same_coins) (done.goes.went c.if-not-branch.false) in
+    goes-same (length c.args.propagation.now.letters) _ _ _ _ _ _ _ _ inv.goes.size (ap (g.D.Draw.changes c.args.known.draw.now) inv.same_coins) ((done.goes c.target-item.result.inverted).went c.if-not-branch.false) in
     let coin : c.propagate_collapse.new.propagation.coin ≡ c.loop-target.propagation.coin + 1 = omega (arith, over.coin) in
     record {
       count = omega (arith, inv.count);

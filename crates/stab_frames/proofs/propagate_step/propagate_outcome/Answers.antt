@@ -8,7 +8,7 @@ returns-then-not-bit_at-clause-passed g c =
     let old = c.args.propagation.now in
     let coin = ap (λ (w : PropagationState). w.coin) c.skip_coin.ensures.value in
     let flag : get_or c.args.known.free.now old.coin false ≡ false = grind (arith, c.coin-coin.ensures.value, c.bit_at.ensures.value) in
-    passed-alike c.args.known.strings.now.strings c.args.known.free.now (g.D.Draw.changes c.args.known.draw.now (g.C.Coins.sequence c.args.coins.now)) c.args.inverted
+    passed-alike c.args.known.strings.now.strings c.args.known.free.now (g.D.Draw.changes c.args.known.draw.now (g.C.Coins.sequence c.args.coins.now))
     c.args.apart c.args.apart old c.skip_coin.new.self (λ is. cc) refl (ap (λ (w : PropagationState). w.letters) c.skip_coin.ensures.value)
     (ap (λ (w : PropagationState). w.flips) c.skip_coin.ensures.value) coin
     (placed-next c.args.known.free.now false old c.skip_coin.new.self c.requires.placed flag coin (ap (λ (w : PropagationState). w.number) c.skip_coin.ensures.value))
@@ -26,8 +26,8 @@ returns-then-change-apart-clause-passed g c =
     let draw = g.D.Draw.changes c.args.known.draw.now (g.C.Coins.sequence c.args.coins.now) in
     let flag : get_or c.args.known.free.now old.coin false ≡ true = grind (arith, c.coin-coin.ensures.value, c.bit_at.ensures.value) in
     let same = equal-bits c.change-change.result c.args.apart c.if-change-apart.true in
-    passed-alike c.args.known.strings.now.strings c.args.known.free.now draw c.args.inverted c.args.apart c.change-change.result old c.skip_coin-then-change-apart.new.self
-    (λ is. ap (draw c.args.inverted) (sym c.coin-coin.ensures.value) ∙ sym c.change-change.ensures.value ∙ same) same (ap (λ (w : PropagationState). w.letters) new)
+    passed-alike c.args.known.strings.now.strings c.args.known.free.now draw c.args.apart c.change-change.result old c.skip_coin-then-change-apart.new.self
+    (λ is. ap draw (sym c.coin-coin.ensures.value) ∙ sym c.change-change.ensures.value ∙ same) same (ap (λ (w : PropagationState). w.letters) new)
     (ap (λ (w : PropagationState). w.flips) new) coin
     (placed-next c.args.known.free.now true old c.skip_coin-then-change-apart.new.self c.requires.placed flag coin (ap (λ (w : PropagationState). w.number) new))
 
@@ -58,8 +58,8 @@ returns-clause-passed g c =
     let flag : get_or c.args.known.free.now old.coin false ≡ true = grind (arith, c.coin-coin.ensures.value, c.bit_at.ensures.value) in
     let lt : old.number < length strings = omega (arith, c.number-number.ensures.value, c.len.ensures.value, c.if-number-len.false) in
     let string = c.string.ensures.letters ∙ ap (λ k. get_or strings k []) c.number-number.ensures.value in
-    passed-times strings c.args.known.free.now draw c.args.inverted c.args.apart c.change-change.result old c.multiply.new.self flag c.requires.placed lt
-    (c.change-change.ensures.value ∙ ap (draw c.args.inverted) c.coin-coin.ensures.value) (other-bits c.change-change.result c.args.apart c.if-change-apart.false)
+    passed-times strings c.args.known.free.now draw c.args.apart c.change-change.result old c.multiply.new.self flag c.requires.placed lt
+    (c.change-change.ensures.value ∙ ap draw c.coin-coin.ensures.value) (other-bits c.change-change.result c.args.apart c.if-change-apart.false)
     (ap (λ (w : PropagationState). w.letters) new ∙ (λ i. string_product (mid i).letters (string i)))
     (ap (λ (w : PropagationState). w.flips) new ∙ ap (λ (w : PropagationState). w.flips) mid) coin
     (placed-next c.args.known.free.now true old c.multiply.new.self c.requires.placed flag coin

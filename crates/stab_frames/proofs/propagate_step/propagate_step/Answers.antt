@@ -1,4 +1,4 @@
-use Rattle.stab_frames.proofs.Names.{refl, sym, ap, subst, length, ◌∷◌, [], controlled, step_shown, GoesOver}
+use Rattle.stab_frames.proofs.Names.{refl, sym, ap, subst, length, ◌∷◌, [], IfOk-weaker, controlled, step_shown, GoesOver, Goes}
 use Rattle.stab_frames.proofs.GoesOverLemmas.{freely-letters, freely-detector, freely-observable}
 use Rattle.stab_frames.proofs.propagate_step.propagate_step.Goals as goal
 
@@ -35,3 +35,19 @@ returns-in_ok-propagate_observable-in-Observable-clause-goes g c =
     (freely-observable n j ks c.args.propagation.now c.propagate_observable.new.propagation (c.in_ok-propagate_observable-in-Observable.ensures {u = tt}).value
     (ap length c.propagate_observable.ensures.letters) c.args.known.strings.now.strings c.args.known.free.now draw c.requires.placed) in
     record { went = λ is. over; same = λ other. cc; missing = λ other. cc }
+
+pub returns-in-Collapse-clause-goes : goal.returns-in-Collapse-clause-goes
+returns-in-Collapse-clause-goes g c =
+    let draw = g.D.Draw.changes c.args.known.draw.now (g.C.Coins.sequence c.args.coins.now) in
+    IfOk-weaker c.propagate_collapse.result _ _
+    (λ gone goes. subst (λ x. Goes (length c.args.propagation.now.letters) c.args.known.strings.now.strings c.args.known.free.now draw x c.args.propagation.now c.propagate_collapse.new.propagation gone)
+    (sym (ap step_shown c.in-Collapse.is)) (goes c.in-Collapse.inverted))
+    c.propagate_collapse.ensures.goes
+
+pub returns-in-Product-clause-goes : goal.returns-in-Product-clause-goes
+returns-in-Product-clause-goes g c =
+    let draw = g.D.Draw.changes c.args.known.draw.now (g.C.Coins.sequence c.args.coins.now) in
+    IfOk-weaker c.propagate_product.result _ _
+    (λ gone goes. subst (λ x. Goes (length c.args.propagation.now.letters) c.args.known.strings.now.strings c.args.known.free.now draw x c.args.propagation.now c.propagate_product.new.propagation gone)
+    (sym (ap step_shown c.in-Product.is)) (goes c.in-Product.inverted))
+    c.propagate_product.ensures.goes

@@ -8,6 +8,5 @@ pub invariant_of-result : goal.invariant_of-result
 invariant_of-result c = (
   sym (ap string_weight (c.in_ok-vec.ensures.items_if_clones_equal (λ y is. is)) ∙ weight-blank c.args.n),
   subst (IsStill 18446744073709551615) (sym c.new.ensures.items) (still-none 18446744073709551615),
-  omega arith,
   grind (arith, ones-few, c.count_ones.ensures.value, c.split_at.ensures.front_len),
 )

@@ -15,5 +15,4 @@ invariant_of-self c = (
   grind (arith, c.self.invariant.0, weight-set c.self.inside.letters.items c.args.qubit c.args.letter, weight-letter c.self.inside.letters.items c.args.qubit, read-letter c.self.inside.letters.items c.args.qubit c.index-old.result.now),
   c.self.invariant.1,
   c.self.invariant.2,
-  c.self.invariant.3,
 )
