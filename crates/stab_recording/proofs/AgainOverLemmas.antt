@@ -1,5 +1,5 @@
 -- Runs that come again: if a run is as it stood before, and no coin decided since, the same steps give the same again.
-use Rattle.stab_recording.proofs.Names.{◌≡◌, ℕ, zero, suc, ◌+◌, ◌-◌, ◌*◌, ◌<◌, ◌≤◌, refl, sym, ◌∙◌, ap, subst, Bool, false, inl, inr, List, [], ◌∷◌, ◌++◌, length, take, drop, get_or, arith, take-add, add-mul, mul-le-mul_right, cases_lt, length-drop, take-append-drop, take-append-le, drop-append-le, take-take, drop_at, Step, rounds, looks_too_far, Repeat, round_of, IsRepeat, AreRepeats, ones, Point, origin, point_after, outputs, lengths_of, front_of, rest_of, AgreeBack, with_coin, after-append, outputs-append, fixed-future, same-future-back, front-output, rest-joined, rounds-append, length-rounds, between}
+use Rattle.stab_recording.proofs.Names.{◌≡◌, ℕ, zero, suc, ◌+◌, ◌-◌, ◌*◌, ◌<◌, ◌≤◌, sym, ◌∙◌, ap, subst, Bool, false, inl, inr, List, [], ◌∷◌, ◌++◌, length, take, drop, get_or, arith, take-add, add-mul, mul-le-mul_right, cases_lt, length-drop, take-append-drop, take-append-le, drop-append-le, take-take, drop_at, Step, rounds, looks_too_far, Repeat, round_of, IsRepeat, AreRepeats, ones, Point, origin, point_after, outputs, lengths_of, front_of, rest_of, AgreeBack, with_coin, after-append, outputs-append, fixed-future, same-future-back, front-output, outcomes-counted, rest-joined, rounds-append, length-rounds, between}
 use Rattle.std.proofs.Math.Seq.{drop-drop, length-take-le}
 use Rattle.stab_recording.proofs.CutLemmas.{ones-take}
 use Rattle.stab_recording.proofs.SeenLemmas.{seen-later}
@@ -115,7 +115,7 @@ module _ (n : ℕ) (coins : ℕ → Bool) (ys : List Step) (i j k window : ℕ) 
       ap (rest_of (lengths_of (outputs n coins (take i ys) origin))) (front-at n coins ys j k before
       ∙ ap (λ xs. outputs n coins xs origin) first-steps
       ∙ outputs-append n coins (take i ys) part origin)
-      ∙ rest-joined (outputs n coins (take i ys) origin) (outputs n coins part then)
+      ∙ rest-joined (outputs n coins (take i ys) origin) (outputs n coins part then) (outcomes-counted n coins (take i ys) origin)
 
   module _ (near : looks_too_far window part ≡ false) (fixed : ones (outputs n coins part then).free ≡ 0) (agree : AgreeBack n window (with_coin now.coin then) now) where
     pub given-again : outputs n coins part now ≡ outputs n coins part then

@@ -1,6 +1,6 @@
 -- Conjugated steps: if a frame distinguishes two points, and went over the steps from the one with the coins of the other, what they give
 -- at the other is what they gave at the one, flipped, and the frame distinguishes where they lead.
-use Rattle.stab_recording.proofs.Names.{◌≡◌, ℕ, ◌+◌, sym, ◌∙◌, subst, Bool, false, List, Option, length, take, drop, All, arith, Letter, Step, looks_too_far, Point, RunOutput, point_after, outputs, all_coins_of, StepFits, with_coin, flipped_output, frame_over, flips_over, AreTrue, RunPivots, AreEnough, PropagationState, frame_at, PropagatesWith, DiffersBack, AreFramedOver, coins_from, pivots_between, PropagatesToOthers, come-conjugated, gone-over-seen, flips_since}
+use Rattle.stab_recording.proofs.Names.{◌≡◌, ℕ, ◌+◌, sym, ◌∙◌, subst, Bool, false, List, Option, take, drop, All, arith, Letter, Step, looks_too_far, Point, RunOutput, point_after, outputs, all_coins_of, StepFits, with_coin, flipped_output, frame_over, flips_over, AreTrue, RunPivots, AreEnough, PropagationState, frame_at, PropagatesWith, DiffersBack, AreFramedOver, coins_from, pivots_between, PropagatesToOthers, come-conjugated, gone-over-seen, flips_since}
 use Rattle.stab_recording.proofs.FlippedLemmas.{flips-free, since-joined}
 
 -- coins from the first on are all
@@ -13,8 +13,8 @@ all-coins d coins first = λ i t. coins (from t i)
 module _ (n window base da db : ℕ) (coins : ℕ → Bool) (strings : ℕ → Option (List Letter)) (flags bits : List Bool) (xs : List Step) (a b : Point) (w v : PropagationState)
     (fits : All (StepFits n) xs) (near : looks_too_far window xs ≡ false) (from_a : da + w.coin ≡ a.coin) (from_b : db + w.coin ≡ b.coin)
     (differs : DiffersBack n window (frame_at base w) a b) (are_true : AreTrue n (coins_from da coins) strings xs (with_coin w.coin a))
-    (flags_are : (outputs n coins xs a).free ≡ take (all_coins_of xs) (drop w.coin flags)) (bits_are : (outputs n coins xs a).records ≡ bits)
-    (recorded : length bits ≡ all_coins_of xs) (propagated : PropagatesToOthers n strings flags bits (coins_from db coins) xs w v) where
+    (flags_are : (outputs n coins xs a).free ≡ take (all_coins_of xs) (drop w.coin flags)) (bits_are : (outputs n coins xs a).outcomes ≡ bits)
+    (propagated : PropagatesToOthers n strings flags bits (coins_from db coins) xs w v) where
   abbrev pivots : RunPivots
   pivots = pivots_between strings (coins_from da coins) (coins_from db coins)
 
@@ -24,7 +24,7 @@ module _ (n window base da db : ℕ) (coins : ℕ → Bool) (strings : ℕ → O
   went : PropagatesWith n pivots xs w v × ((k : ℕ) → AreEnough n (coins_from da coins) pivots xs (frame_at k w) (with_coin w.coin differs.seen))
   went =
       propagated (coins_from da coins) (with_coin w.coin differs.seen)
-      (gone-over-seen n window w.coin da coins strings flags bits xs a differs.seen near from_a differs.agree are_true flags_are bits_are recorded)
+      (gone-over-seen n window w.coin da coins strings flags bits xs a differs.seen near from_a differs.agree are_true flags_are bits_are)
 
   come : (outputs n coins xs b ≡ flipped_output (outputs n coins xs a) frame_flips)
       × DiffersBack n window (frame_over n pivots xs w.coin (frame_at base w)) (point_after n coins xs a) (point_after n coins xs b)

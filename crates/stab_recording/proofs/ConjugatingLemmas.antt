@@ -1,12 +1,12 @@
 -- Turnings: what a frame needs to be propagated over the steps after a span of a recording's circuit, and what was made of the run then.
-use Rattle.stab_recording.proofs.Names.{◌≡◌, ℕ, ◌+◌, ◌-◌, ◌^◌, ◌<◌, ◌≤◌, sym, ◌∙◌, ap, subst, Bool, List, [], ◌∷◌, ◌++◌, length, take, drop, All, Some, get_or, arith, IfSome, length-append, length-drop, length-take, drop-take, All-drop, get_or_from_slice_get, take-add, Letter, TableauState, Step, Span, Lengths, Point, RunOutput, origin, point_after, outputs, lengths_of, HasAtMost, outputs-short, cut, Checkpoint, IsCheckpoint, outputs-append, longer, AreBelow, PropagationState, AreInOrder, AreFramedCheckpoints, IsRestFrame, Recording, IsRecording, IsSpan, IsCount}
+use Rattle.stab_recording.proofs.Names.{◌≡◌, ℕ, ◌+◌, ◌-◌, ◌^◌, ◌<◌, ◌≤◌, sym, ◌∙◌, ap, subst, Bool, List, [], ◌∷◌, length, take, drop, All, Some, get_or, arith, IfSome, length-append, length-drop, length-take, drop-take, All-drop, get_or_from_slice_get, take-add, Letter, TableauState, Step, Span, Lengths, Point, RunOutput, joined, origin, point_after, outputs, lengths_of, HasAtMost, outputs-short, cut, Checkpoint, IsCheckpoint, outputs-append, longer, AreBelow, PropagationState, AreInOrder, AreFramedCheckpoints, IsRestFrame, Recording, IsRecording, IsSpan, IsCount}
 use Rattle.std.specs.Prelude.{slice_get}
 use Rattle.stab_recording.proofs.SpacingLemmas.{IsBefore}
 use Rattle.stab_recording.proofs.FollowLemmas.{at-get, before-first, same-rest, all-qubits}
 use Rattle.stab_recording.proofs.ConjugateSpacingLemmas.{in-order}
 
 -- lists that others are put after
-lengths-longer : (a b c : RunOutput) → c ≡ record { records = a.records ++ b.records; free = a.free ++ b.free; detectors = a.detectors ++ b.detectors; additions = a.additions ++ b.additions }
+lengths-longer : (a b c : RunOutput) → c ≡ joined a b
     → longer (lengths_of a) (lengths_of b) ≡ lengths_of c
 lengths-longer a b c is = (λ i. record {
   records = sym (length-append a.records b.records) i;

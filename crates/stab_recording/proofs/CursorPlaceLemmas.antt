@@ -1,5 +1,5 @@
 -- Copies: one of those that all are so, how long its lists are, and the one that was laid last.
-use Rattle.stab_recording.proofs.Names.{◌≡◌, ℕ, ◌≤◌, refl, ◌∙◌, ap, subst, Bool, List, [], ◌∷◌, ◌++◌, All, Some, slice_get, length, take, drop, arith, length-append, All-get_or, slice_get_within, get_or_from_slice_get, TableauState, Step, Lengths, RunOutput, origin, joined, point_after, outputs, cut, Checkpoint, IsCheckpoint, last_state}
+use Rattle.stab_recording.proofs.Names.{◌≡◌, ℕ, refl, subst, List, [], ◌∷◌, ◌++◌, All, Some, slice_get, All-get_or, slice_get_within, get_or_from_slice_get, TableauState, Checkpoint, last_state}
 
 -- what holds for all copies holds for the one with a number
 pub at-number : {X : Type 0} (P : X → Type 0) (xs : List X) (k : ℕ) (x : X) → slice_get xs k ≡ Some x → All P xs → P x

@@ -1,5 +1,5 @@
 -- Cut lists: elements and bits of lists that are cut, or that others are put after.
-use Rattle.stab_recording.proofs.Names.{◌≡◌, ℕ, zero, suc, ◌+◌, ◌≤◌, refl, sym, ◌∙◌, ap, Bool, ◌⊎◌, inl, inr, List, [], ◌∷◌, take, drop, slice_get, None, arith, take-append-drop, length-take, slice_get_past, take-length, Lengths, RunOutput, lengths_of, rest_of, ones, ones-append, between}
+use Rattle.stab_recording.proofs.Names.{◌≡◌, ℕ, zero, suc, ◌+◌, ◌≤◌, refl, sym, ◌∙◌, ap, Bool, ◌⊎◌, inl, inr, List, [], ◌∷◌, take, drop, slice_get, None, arith, take-append-drop, length-take, slice_get_past, ones, ones-append}
 
 pub none-more : (j : ℕ) → 0 + j ≡ j
 none-more j = omega arith
@@ -23,15 +23,6 @@ get-drop (suc k) j (x ∷ xs) = get-drop k j xs ∙ ap (slice_get (x ∷ xs)) (s
 
 pub ones-take : (c : ℕ) (bits : List Bool) → ones (take c bits) + ones (drop c bits) ≡ ones bits
 ones-take c bits = sym (ones-append (take c bits) (drop c bits)) ∙ ap ones (take-append-drop c bits)
-
--- up to their ends lists have all that comes after some lengths
-pub between-end : (l : Lengths) (o : RunOutput) → between l (lengths_of o) o ≡ rest_of l o
-between-end l o = λ i. rest_of l (record {
-  records = take-length o.records i;
-  free = take-length o.free i;
-  detectors = take-length o.detectors i;
-  additions = take-length o.additions i;
-})
 
 -- no more of the first bits are 1 than of all
 pub ones-first : (k : ℕ) (bits : List Bool) → ones (take k bits) ≤ ones bits

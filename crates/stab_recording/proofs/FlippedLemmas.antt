@@ -28,6 +28,7 @@ pub since-joined : (o more : RunOutput) (old new : PropagationState) (m : ℕ) �
 since-joined o more old new m zeros is = λ i. record {
   records = flipped o.records (sym (ap (λ (f : RunOutput). drop (length old.flips.records) f.records) is ∙ drop_at old.flips.records more.records (length old.flips.records) refl) i);
   free = (ap (flipped o.free) zeros ∙ flipped-zeros o.free m ∙ sym (flipped-empty o.free)) i;
+  outcomes = flipped o.outcomes (sym (ap (λ (f : RunOutput). drop (length old.flips.outcomes) f.outcomes) is ∙ drop_at old.flips.outcomes more.outcomes (length old.flips.outcomes) refl) i);
   detectors = flipped o.detectors (sym (ap (λ (f : RunOutput). drop (length old.flips.detectors) f.detectors) is ∙ drop_at old.flips.detectors more.detectors (length old.flips.detectors) refl) i);
   additions = flipped_additions o.additions (sym (ap (λ (f : RunOutput). drop (length old.flips.additions) f.additions) is ∙ drop_at old.flips.additions more.additions (length old.flips.additions) refl) i);
 }

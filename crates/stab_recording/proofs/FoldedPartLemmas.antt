@@ -1,5 +1,5 @@
 -- Parts given again: what a replay gives again from one copy to the next, up to a frame if there is one, is what its run gives there.
-use Rattle.stab_recording.proofs.Names.{◌≡◌, ℕ, zero, suc, ◌+◌, ◌-◌, ◌≤◌, refl, sym, ◌∙◌, ap, subst, Bool, false, List, [], ◌∷◌, ◌++◌, length, take, drop, All, Option, None, Some, slice_get, arith, take-append-le, length-take, length-drop, take-take, take-append-drop, drop-take, All-take, All-drop, with_sign, strings_anticommute, member, SameGroup, TableauState, stabilises, IsConjugated, Letter, Step, looks_too_far, most_steps, Lengths, ones, Point, RunOutput, origin, joined, point_after, outputs, all_coins_of, StepFits, output_of, lengths_of, AgreeBack, with_coin, flags-are-coins, coins-few, coins-are, ones-append, flipped_output, AreTrue, pivot_at, LooksWithin, PropagationState, frame_at, DiffersBack, AreFramedOver, coins_from, PropagatesToOthers, Checkpoint, IsCheckpoint, Replay, between, flips_since, KeepsPivots, Segment, IsAsAt, DiffersFrom, IsAlike, HasCopied, MayGoOver, HasFramed, HasStringsAgain, with_folded, flipped-empty, true-front, true-rest}
+use Rattle.stab_recording.proofs.Names.{◌≡◌, ℕ, zero, suc, ◌+◌, ◌-◌, ◌≤◌, refl, sym, ◌∙◌, ap, subst, Bool, false, List, [], ◌∷◌, ◌++◌, length, take, drop, All, Option, None, Some, slice_get, arith, take-append-le, length-drop, take-take, take-append-drop, drop-take, All-take, All-drop, with_sign, strings_anticommute, member, SameGroup, TableauState, stabilises, IsConjugated, Letter, Step, looks_too_far, most_steps, Lengths, ones, Point, RunOutput, origin, joined, point_after, outputs, all_coins_of, StepFits, output_of, lengths_of, AgreeBack, with_coin, flags-are-coins, coins-few, coins-are, ones-append, flipped_output, AreTrue, pivot_at, LooksWithin, PropagationState, frame_at, DiffersBack, AreFramedOver, coins_from, PropagatesToOthers, Checkpoint, IsCheckpoint, Replay, between, flips_since, KeepsPivots, Segment, IsAsAt, DiffersFrom, IsAlike, HasCopied, MayGoOver, HasFramed, HasStringsAgain, with_folded, flipped-empty, true-front, true-rest}
 use Rattle.std.proofs.Common.{IfSome}
 use Rattle.std.proofs.Math.Seq.{drop-drop}
 use Rattle.stab_recording.proofs.AgainOverLemmas.{first-steps, first-point, later-point, part-is, ones-part, given-again, agrees-again}
@@ -218,7 +218,7 @@ module _ (n : ℕ) (coins : ℕ → Bool) (ys : List Step) (r : Replay) (number 
           (subst (λ zs. AreTrue n coins strings zs origin) (sym (take-append-drop d.step (take r.step ys))) k.has_pivots.are_true))))
 
       abbrev bits : List Bool
-      bits = drop c.lengths.records (take d.lengths.records r.outputs.records.items)
+      bits = drop c.lengths.free (take d.lengths.free r.outputs.outcomes.items)
 
       from_now : (length r.outputs.free.items - c.lengths.free) + w.coin ≡ now.coin
       from_now = let short = shorter.0 in let walk_coin = stands.coin in omega (arith, walk_coin, coin_now, short)
@@ -235,12 +235,6 @@ module _ (n : ℕ) (coins : ℕ → Bool) (ys : List Step) (r : Replay) (number 
           ∙ drop-take c.lengths.free (all_coins_of part) r.outputs.free.items
           ∙ ap (λ k. take (all_coins_of part) (drop k r.outputs.free.items)) (sym stands.coin)
 
-      recorded : length bits ≡ all_coins_of part
-      recorded =
-          let all_recorded = gave.recorded in
-          let shorter_records = shorter_behind.1 in
-          omega (arith, all_recorded, shorter_records, last, length-drop c.lengths.records (take d.lengths.records r.outputs.records.items), length-take d.lengths.records r.outputs.records.items)
-
       propagated : PropagatesToOthers n strings r.outputs.free.items bits others part w v
       propagated = subst (λ x. x) (λ i. PropagatesToOthers (stands.size i) strings r.outputs.free.items bits others (sym part_left i) w v) gave.propagated
 
@@ -250,7 +244,7 @@ module _ (n : ℕ) (coins : ℕ → Bool) (ys : List Step) (r : Replay) (number 
           × (v.coin ≡ w.coin + all_coins_of part)
       over =
           comes-over n window stands.base 0 (length r.outputs.free.items - c.lengths.free) coins strings r.outputs.free.items bits part then now w v fits near (omega (arith, walk_here)) from_now stands.differs
-          true_here flags_here (sym (ap (λ (o : RunOutput). o.records) part_given)) recorded propagated
+          true_here flags_here (sym (ap (λ (o : RunOutput). o.outcomes) part_given)) propagated
 
       later_end : point_after n coins (take s.step ys) origin ≡ point_after n coins part now
       later_end = ap (λ k. point_after n coins (take k ys) origin) gave.step ∙ later-point n coins ys c.step d.step r.step window k.order k.before k.same_steps

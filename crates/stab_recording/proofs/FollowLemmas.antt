@@ -47,8 +47,9 @@ old-rest-same a b o strings step number compared w conjugated new new_strings re
   meeting = is.meeting;
   states = is.states;
   letters = is.letters;
-  output =
-      is.output
+  flags = is.flags ∙ ap (λ (given : RunOutput). o.free ++ drop c.lengths.free given.free) same.output;
+  output = λ each.
+      is.output each
       ∙ ap (λ given. joined o (flipped_output (rest_of c.lengths given) (record w.flips { records = drop compared w.flips.records; free = [] }))) same.output;
   strings = subst (λ x. x) (λ i. IsSpliced strings (same.strings i) (ones (take c.lengths.free (same.output i).free)) (ones new.free) new_strings) is.strings;
 }

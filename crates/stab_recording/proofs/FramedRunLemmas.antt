@@ -120,6 +120,7 @@ module _ (n : ℕ) (coins : ℕ → Bool) (xs ys back : List Step) (i k : ℕ) (
   run-unflagged q = λ j. record {
     records = flipped q.records new.flips.records;
     free = flags_kept q.free j;
+    outcomes = flipped q.outcomes new.flips.outcomes;
     detectors = flipped q.detectors new.flips.detectors;
     additions = flipped_additions q.additions new.flips.additions;
   }

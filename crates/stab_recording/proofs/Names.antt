@@ -78,7 +78,7 @@ pub use Rattle.stab_run.proofs.FixedLemmas.{fixed-future, fixed-front}
 pub use Rattle.stab_run.proofs.FutureBackLemmas.{same-future-back, records-made}
 pub use Rattle.stab_run.proofs.FutureLemmas.{same-future}
 pub use Rattle.stab_run.proofs.LookbackLemmas.{looked_up-near, looked_up-far, looked_up-zeros, or-left, or-right}
-pub use Rattle.stab_run.proofs.PointLemmas.{flags-are-coins, records-are-records, rest-joined, front-output, HasAtMost, outputs-short, cut, rest-output, flags-given, records-gathered, flags-counted}
+pub use Rattle.stab_run.proofs.PointLemmas.{outcomes-counted, flags-are-coins, records-are-records, rest-joined, front-output, HasAtMost, outputs-short, cut, rest-output, flags-given, records-gathered, flags-counted}
 pub use Rattle.stab_run.proofs.RecordLemmas.{ones-append}
 pub use Rattle.stab_run.proofs.RoundLemmas.{rounds-append, rounds-rounds, rounds-within, length-rounds, rounds-again}
 pub use Rattle.stab_run.proofs.RunLemmas.{after-append, outputs-append, joined-nothing, joined-assoc, IsRun-none, fits-steps, run-steps}

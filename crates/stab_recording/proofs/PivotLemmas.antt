@@ -1,5 +1,5 @@
 -- Pivots: what is recorded of a coin if strings and flags are cut, or others are put after them, and strings of a run that are recorded again.
-use Rattle.stab_recording.proofs.Names.{◌≡◌, ℕ, zero, suc, ◌+◌, ◌<◌, ◌≤◌, refl, sym, ◌∙◌, ap, subst, Bool, true, false, ◌⊎◌, inl, inr, List, [], ◌∷◌, ◌++◌, length, take, drop, slice_get, get_or, Option, None, arith, IfSome, if◌then◌else◌, cases_lt, length-append, length-take, length-drop, get_or-take, get_or_append_left, take-append-le, get_or-append-add, get_or-drop, take-take, take-append-add, Letter, Step, one, two, controlled, collapse, product, detector, observable, ones, Point, origin, coins_of, all_coins_of, next_point, point_after, outputs, ones-append, with_coin, flags-are-coins, coins-are, PivotsState, IsNumbered, IsTrueAt, AreTrue, pivot_at, kept_with, AreFramedOver, true-conjugated-at, true-append, true-same, true-none, ones-split, get-append, get-behind, pivot-equal, pivot-past}
+use Rattle.stab_recording.proofs.Names.{◌≡◌, ℕ, suc, ◌+◌, ◌<◌, ◌≤◌, refl, sym, ◌∙◌, ap, subst, Bool, true, false, ◌⊎◌, inl, inr, List, [], ◌∷◌, ◌++◌, length, take, drop, slice_get, get_or, Option, None, arith, IfSome, if◌then◌else◌, cases_lt, length-append, length-take, length-drop, get_or-take, get_or_append_left, take-append-le, get_or-append-add, get_or-drop, take-take, take-append-add, Letter, Step, one, two, controlled, collapse, product, detector, observable, ones, Point, origin, coins_of, all_coins_of, next_point, point_after, outputs, ones-append, with_coin, flags-are-coins, coins-are, PivotsState, IsNumbered, IsTrueAt, AreTrue, pivot_at, kept_with, AreFramedOver, true-conjugated-at, true-append, true-same, true-none, ones-split, get-append, get-behind, pivot-equal, pivot-past}
 use Rattle.stab_recording.proofs.BitLemmas.{counted}
 use Rattle.stab_recording.proofs.CutLemmas.{get-take, get-beyond, get-drop, ones-take}
 

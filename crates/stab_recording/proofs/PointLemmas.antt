@@ -1,5 +1,5 @@
 -- Points: runs that go on from states on the way, copies of these, and meetings, at which two runs come to points of one future.
-use Rattle.stab_recording.proofs.Names.{◌≡◌, ℕ, ◌+◌, ◌-◌, ◌^◌, ◌<◌, ◌≤◌, refl, sym, ◌∙◌, ap, subst, Bool, ◌⊎◌, inl, inr, List, ◌++◌, length, take, drop, arith, cases_lt, length-append, length-take-le, length-drop, take-append-drop, take-take, take_all, take-add, member, SameGroup, TableauState, stabilises, Step, Lengths, Checkpoint, Meeting, Point, RunOutput, origin, joined, point_after, outputs, looked_up, ones, AgreeAt, MayHaveCoin, ProgramState, IsAt, IsRun, program_state, lengths_of, front_of, rest_of, AgreeBack, with_coin, IsRunFromStart, IsCheckpoint, moved, moved_lengths, moved_copy, Meets, HaveSameFuture, after-append, outputs-append, same-future, flags-are-coins, records-are-records, cut, front-output, rest-output, HasAtMost, outputs-short, looked_up-near}
+use Rattle.stab_recording.proofs.Names.{◌≡◌, ℕ, ◌+◌, ◌-◌, ◌^◌, ◌<◌, ◌≤◌, refl, sym, ◌∙◌, ap, subst, Bool, ◌⊎◌, inl, inr, List, ◌++◌, length, take, drop, arith, length-append, length-take-le, length-drop, take-append-drop, take-take, take_all, take-add, member, SameGroup, TableauState, stabilises, Step, Lengths, Checkpoint, Meeting, Point, RunOutput, origin, joined, point_after, outputs, looked_up, ones, AgreeAt, MayHaveCoin, ProgramState, IsAt, IsRun, program_state, lengths_of, front_of, rest_of, AgreeBack, with_coin, IsRunFromStart, IsCheckpoint, moved, moved_lengths, moved_copy, Meets, HaveSameFuture, after-append, outputs-append, same-future, flags-are-coins, records-are-records, cut, front-output, rest-output, HasAtMost, outputs-short}
 use Rattle.stab_recording.proofs.MeetingLemmas.{looked-last}
 
 -- a run that goes on from a state of a run from the start

@@ -1,8 +1,7 @@
 -- Pivots kept: those of the random outcomes of a run, cut and put together as runs are.
-use Rattle.stab_recording.proofs.Names.{◌≡◌, ℕ, zero, suc, ◌+◌, ◌-◌, ◌<◌, ◌≤◌, min, refl, sym, ◌∙◌, ap, subst, Bool, true, false, ◌⊎◌, inl, inr, List, [], ◌∷◌, ◌++◌, length, take, drop, All, slice_get, get_or, nat_lt, Option, None, arith, IfSome, if◌then◌else◌, list_any, cases_lt, or_from, leb_tells, length-append, length-drop, length-take, take-length, take-append-drop, get_or-take, get_or_append_left, take-append-le, get_or-append-add, get_or-drop, take-take, All-head, All-tail, All-append, All-drop, All-take, All-nil, All-weaker, take-append-add, Letter, Step, one, two, controlled, collapse, product, detector, observable, makes, lookbacks, looks_too_far, ones, Point, RunOutput, origin, coins_of, all_coins_of, next_point, point_after, outputs, ProgramState, IsAt, ones-append, flags-are-coins, front-output, rest-output, or-left, or-right, coins-are, most_strings, PivotsState, IsNumbered, IsTrueAt, AreTrue, KeepsTrue, pivot_at, front_kept, cut_to, LooksWithin, MayHaveCoin, KeepsPivots, IsSpliced, AreFramedOver, true-conjugated, true-append, true-front, true-rest, true-none, ones-split, get-append, get-behind}
+use Rattle.stab_recording.proofs.Names.{◌≡◌, ℕ, zero, suc, ◌+◌, ◌-◌, ◌≤◌, min, refl, sym, ◌∙◌, ap, subst, Bool, true, false, inl, inr, List, [], ◌∷◌, ◌++◌, length, take, drop, All, slice_get, get_or, nat_lt, None, arith, if◌then◌else◌, list_any, or_from, leb_tells, length-append, length-drop, length-take, take-length, take-append-drop, get_or-append-add, All-head, All-tail, All-append, All-drop, All-take, All-nil, All-weaker, Letter, Step, makes, lookbacks, looks_too_far, ones, RunOutput, origin, all_coins_of, point_after, outputs, ProgramState, IsAt, ones-append, flags-are-coins, front-output, rest-output, or-left, or-right, coins-are, most_strings, PivotsState, IsNumbered, AreTrue, KeepsTrue, pivot_at, front_kept, cut_to, LooksWithin, MayHaveCoin, KeepsPivots, IsSpliced, AreFramedOver, true-conjugated, true-append, true-front, true-rest, true-none}
 use Rattle.std.proofs.Common.{nat_le}
 use Rattle.std.specs.Prelude.{max}
-use Rattle.stab_recording.proofs.BitLemmas.{counted}
 use Rattle.stab_recording.proofs.CutLemmas.{ones-take}
 use Rattle.stab_recording.proofs.PivotLemmas.{IsNoneOr, true-changed, pivot-front, pivot-left, pivot-beyond, true-left}
 

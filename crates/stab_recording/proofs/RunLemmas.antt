@@ -1,5 +1,5 @@
 -- Runs: replays with no older run go on, give rounds again, and forget copies.
-use Rattle.stab_recording.proofs.Names.{◌≡◌, ℕ, zero, suc, ◌+◌, ◌*◌, ◌<◌, ◌≤◌, refl, sym, ◌∙◌, ap, subst, Bool, List, [], ◌∷◌, ◌++◌, All, length, take, get_or, arith, All-take, take_all, Step, origin, outputs, output_of, KeepsPivots, most_steps, Repeat, IsRepeat, AreRepeats, StepFits, Checkpoint, IsCheckpoint, checkpoint_steps, Near, Replay, IsAtStep, IsAtStop, copy_of, MayComeAgain, IsOnWay, plan_of_run, IsOwnRun}
+use Rattle.stab_recording.proofs.Names.{◌≡◌, ℕ, zero, suc, ◌+◌, ◌*◌, ◌<◌, ◌≤◌, refl, sym, ◌∙◌, ap, subst, Bool, List, [], ◌∷◌, ◌++◌, All, length, take, get_or, arith, All-take, take_all, Step, origin, outputs, output_of, KeepsPivots, most_steps, Repeat, IsRepeat, AreRepeats, StepFits, Checkpoint, IsCheckpoint, checkpoint_steps, Near, Replay, IsAtStep, copy_of, MayComeAgain, IsOnWay, plan_of_run, IsOwnRun}
 use Rattle.stab_recording.proofs.ReplayLemmas.{with-laid}
 
 -- copies may lie as far apart as there are steps

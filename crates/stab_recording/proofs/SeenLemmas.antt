@@ -21,10 +21,12 @@ module _ (n : ℕ) (strings others : ℕ → Option (List Letter)) (c d : ℕ) (
   given-same (collapse l q recorded inverted resets) e = λ i. record nothing {
     records = when recorded (flipped_by (e refl i) false (single n q l) f.letters);
     free = false ∷ [];
+    outcomes = flipped_by (e refl i) false (single n q l) f.letters ∷ [];
   }
   given-same (product factors inverted) e = λ i. record nothing {
     records = flipped_by (e refl i) false (string_of n factors) f.letters ∷ [];
     free = false ∷ [];
+    outcomes = flipped_by (e refl i) false (string_of n factors) f.letters ∷ [];
   }
   given-same (detector ks) e = refl
   given-same (observable j ks) e = refl

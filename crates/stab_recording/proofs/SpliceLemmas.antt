@@ -1,5 +1,5 @@
 -- Splices: a replay with the rest of an old run after it is the run of the new steps, if that goes on as the old one does, conjugated and flipped.
-use Rattle.stab_recording.proofs.Names.{◌≡◌, ℕ, ◌+◌, ◌-◌, ◌^◌, ◌<◌, ◌≤◌, reverse, append_assoc, refl, sym, ◌∙◌, ap, subst, Bool, false, List, [], ◌∷◌, ◌++◌, length, take, drop, map, get_or, All, Some, replicate, arith, IfSome, take_all, drop-map, drop_more, map-append, All-map, All-append, All-drop, get_or_from_slice_get, slice_get_within, slice_get-map, Letter, I, with_sign, strings_anticommute, member, SameGroup, TableauState, stabilises, IsConjugated, Step, Span, Lengths, ones-append, ones, RunOutput, nothing, origin, joined, point_after, outputs, with_additions, StepFits, program_state, output_of, lengths_of, rest_of, AgreeBack, with_coin, flags-are-coins, cut, rest-output, AreFramedOver, MayHaveCoin, flipped, flipped_output, PivotsState, cut_to, most_strings, LooksWithin, PropagationState, flipped-empty, flipped-nothing, conjugated-blank, Checkpoint, Meeting, IsRunFromStart, IsCheckpoint, checkpoint_steps, all_laid, moved, moved_copy, Meets, Near, IsSpaced, Replay, Plan, End, Last, Joined, Framed, RestFrame, KeepsPivots, IsSpliced, with_states, flips_since, HaveSameFuture, IsReplay, IsEnd, MeetsAt, IsFramed, Recording, Prepared, Rest, IsRecording, IsSpan, IsRest, IsOldRest, IsCommitted, IsTableauBehind, copies_behind, meeting_of, no_frame}
+use Rattle.stab_recording.proofs.Names.{◌≡◌, ℕ, ◌+◌, ◌-◌, ◌^◌, ◌<◌, ◌≤◌, reverse, append_assoc, refl, sym, ◌∙◌, ap, subst, Bool, false, List, [], ◌∷◌, ◌++◌, length, take, drop, map, get_or, All, Some, replicate, arith, IfSome, take_all, drop-map, drop_more, map-append, All-map, All-append, All-drop, get_or_from_slice_get, slice_get_within, slice_get-map, Letter, I, with_sign, strings_anticommute, member, SameGroup, TableauState, stabilises, IsConjugated, Step, Span, Lengths, ones-append, ones, RunOutput, nothing, origin, joined, point_after, outputs, with_additions, StepFits, program_state, output_of, lengths_of, rest_of, AgreeBack, with_coin, outcomes-counted, flags-are-coins, cut, rest-output, AreFramedOver, MayHaveCoin, flipped, flipped_output, PivotsState, cut_to, most_strings, LooksWithin, PropagationState, flipped-empty, flipped-nothing, conjugated-blank, Checkpoint, Meeting, IsRunFromStart, IsCheckpoint, checkpoint_steps, all_laid, moved, moved_copy, Meets, Near, IsSpaced, Replay, Plan, End, Last, Joined, Framed, RestFrame, KeepsPivots, IsSpliced, with_states, flips_since, HaveSameFuture, IsReplay, IsEnd, MeetsAt, IsFramed, Recording, Prepared, Rest, IsRecording, IsSpan, IsRest, IsOldRest, IsCommitted, IsTableauBehind, copies_behind, meeting_of, no_frame}
 use Rattle.std.specs.Prelude.{option_map, slice_get}
 use Rattle.stab_recording.proofs.RecordedReplayLemmas.{near-enough, has_pivots-spliced, has_pivots-cut, cut-few}
 use Rattle.stab_recording.proofs.FramedLemmas.{future-moved, future-conjugated}
@@ -223,6 +223,7 @@ module _ (n : ℕ) (coins : ℕ → Bool) (K : ℕ) (xs : List Step) (count : �
         since = record {
           records = drop f.compared f.propagation.flips.records;
           free = [];
+          outcomes = f.propagation.flips.outcomes;
           detectors = f.propagation.flips.detectors;
           additions = f.propagation.flips.additions;
         }
@@ -250,6 +251,7 @@ module _ (n : ℕ) (coins : ℕ → Bool) (K : ℕ) (xs : List Step) (count : �
             flips_are = λ i. record {
               records = drop (sym framed.compared i) f.propagation.flips.records;
               free = [];
+              outcomes = drop (ap (λ (o : RunOutput). length o.outcomes) framed.begins.frame.flips i) f.propagation.flips.outcomes;
               detectors = drop (ap (λ (o : RunOutput). length o.detectors) framed.begins.frame.flips i) f.propagation.flips.detectors;
               additions = drop (ap (λ (o : RunOutput). length o.additions) framed.begins.frame.flips i) f.propagation.flips.additions;
             }
@@ -263,9 +265,11 @@ module _ (n : ℕ) (coins : ℕ → Bool) (K : ℕ) (xs : List Step) (count : �
         → q.window ≡ r.pivots.window → reverse q.laid.items ≡ r.laid.items → IsCommitted old q m K new → IsRecording n coins K ys total new
     put-rest j d here behind place few {conjugated} {letters} {flips} on q compared w letters_are flips_are is window laid committed =
         let state = subst (λ x. IsTableauBehind x old.tableau new.tableau) is.is committed.tableau in
+        let each =
+        subst (λ (o : RunOutput). length o.outcomes ≡ length o.free) (sym replay.at_step.run.output) (outcomes-counted n coins (take r.step ys) origin) in
         kept-rest j d here behind place few conjugated letters flips on state.0
         (subst (λ l. IsConjugated old.tableau.qubits l (stabilises old.tableau) (stabilises new.tableau)) (is.letters ∙ letters_are) state.1)
-        (committed.output ∙ is.output ∙ ap (λ o. joined (output_of r.outputs) (flipped_output (rest_of d.lengths (output_of old.outputs)) o)) flips_are)
+        (committed.output ∙ is.output each ∙ ap (λ o. joined (output_of r.outputs) (flipped_output (rest_of d.lengths (output_of old.outputs)) o)) flips_are)
         (subst (λ x. x) (λ i. IsSpliced r.pivots.strings old.strings (ones (take d.lengths.free old.outputs.free.items)) (ones (sym committed.output i).free) all)
         is.strings)
         (committed.window ∙ window)
@@ -302,9 +306,6 @@ module _ (n : ℕ) (coins : ℕ → Bool) (K : ℕ) (xs : List Step) (count : �
 
 -- flags
 
-ones-behind : (a b flips : List Bool) → flips ≡ [] → ones a ≤ ones (a ++ flipped b flips)
-ones-behind a b flips none = omega (arith, ones-append a (flipped b flips))
-
 pub end-flags : (n : ℕ) (p : Plan) (r : Replay) (old : Recording) (end : End) (new : RunOutput) (strings : PivotsState) (rest : Rest)
     → IsEnd n p r old.checkpoints.items (output_of old.outputs) old.strings end → IsRest old r.tableau (output_of r.outputs) r.pivots.strings r.step end new strings rest
     → ones r.outputs.free.items ≤ ones new.free
@@ -313,9 +314,9 @@ end-flags n p r old (Joined j) new strings rest end is =
     let found = some-and (MeetsAt n p r old.outputs.records.items old.outputs.free.items) (slice_get old.checkpoints.items j) end.1 in
     let d = found.0 in
     let old_rest = some-at (IsOldRest old (output_of r.outputs) r.pivots.strings r.step j 0 (no_frame old.tableau.qubits) [] new strings rest) old.checkpoints.items j d found.1 is in
-    omega (arith, ap (λ (o : RunOutput). ones o.free) old_rest.output, ones-behind r.outputs.free.items (drop d.lengths.free old.outputs.free.items) [] refl)
+    omega (arith, ap ones old_rest.flags, ones-append r.outputs.free.items (drop d.lengths.free old.outputs.free.items))
 end-flags n p r old (Framed f) new strings rest end is =
     let found = some-and (IsFramed p r old.checkpoints.items (output_of old.outputs) old.strings f) (slice_get old.checkpoints.items f.number) end.1 in
     let d = found.0 in
     let old_rest = some-at (IsOldRest old (output_of r.outputs) r.pivots.strings r.step f.number f.compared f.propagation f.conjugated.items new strings rest) old.checkpoints.items f.number d found.1 is in
-    omega (arith, ap (λ (o : RunOutput). ones o.free) old_rest.output, ones-behind r.outputs.free.items (drop d.lengths.free old.outputs.free.items) [] refl)
+    omega (arith, ap ones old_rest.flags, ones-append r.outputs.free.items (drop d.lengths.free old.outputs.free.items))

@@ -114,6 +114,7 @@ module _ {coins : ℕ → Bool} {K : ℕ} {xs ys : List Step} {s : Span} {change
       record {
         records = let h = short.records in omega (arith, h, le);
         free = let h = short.free in omega (arith, h, le);
+        outcomes = let h = short.outcomes in omega (arith, h, le);
         detectors = let h = short.detectors in omega (arith, h, le);
         additions = let h = short.additions in omega (arith, h, le);
       }

@@ -10,18 +10,19 @@ use Rattle.stab_frames.specs.Flips.{flipped}
 use Rattle.stab_frames.specs.Propagations.{PropagationState, IsPlaced}
 use Rattle.stab_recording.specs.declared.checkpoint.Checkpoint.{Checkpoint}
 
--- what a frame flipped after this much of it: never a flag
+-- what a frame flipped after this much of it, with an outcome for each flag: never a flag
 abbrev pub flips_behind : Lengths → PropagationState → RunOutput
 flips_behind l w = record {
   records = drop l.records w.flips.records;
   free = [];
+  outcomes = drop l.free w.flips.outcomes;
   detectors = drop l.detectors w.flips.detectors;
   additions = drop l.additions w.flips.additions;
 }
 
 -- and since it was an earlier one
 abbrev pub flips_since : PropagationState → PropagationState → RunOutput
-flips_since old new = flips_behind (lengths_of old.flips) new
+flips_since old new = flips_behind (record (lengths_of old.flips) { free = length old.flips.outcomes }) new
 
 -- this many of the newest records are compared where a frame begins: all after the first ones, which are the same, where both runs have as
 -- many records and the same number of the next coin; else those to which steps look back

@@ -6,7 +6,6 @@ ghost use Rattle.stab_run.specs.ProgramStates.{output_of};
 ghost use Rattle.stab_recording.specs.inner.FoldedReplays.{IsRoundsBehind, IsOfOwn, IsFound};
 
 use crate::checkpoint::Checkpoint;
-use crate::framed_copies::all_recorded;
 use crate::frames_between::frame_between;
 use crate::meeting::comes_again;
 use crate::replay::Replay;
@@ -69,10 +68,6 @@ impl<'a> Replay<'a> {
                     frame: None,
                 }));
             }
-            return Ok(None);
-        }
-        // If it would stop at once, no frame is looked for.
-        if !all_recorded(copy.lengths, self.laid[number + 1].lengths) {
             return Ok(None);
         }
         let base = copy.lengths.records;

@@ -58,6 +58,7 @@ pub fn flip_outputs(
     let records = propagation.records();
     let since = between(records, compared, records.len());
     flip_from(&mut outputs.records, from.records, since);
+    flip_from(&mut outputs.outcomes, from.free, propagation.outcomes());
     flip_from(
         &mut outputs.detectors,
         from.detectors,

@@ -20,11 +20,13 @@ pub fn part_between(
 {
     let records = between(outputs.records.as_slice(), from.records, to.records);
     let free = between(outputs.free.as_slice(), from.free, to.free);
+    let outcomes = between(outputs.outcomes.as_slice(), from.free, to.free);
     let detectors = between(outputs.detectors.as_slice(), from.detectors, to.detectors);
     let additions = between(outputs.additions.as_slice(), from.additions, to.additions);
     Ok(Outputs {
         records: Vec::from_slice(alloc, records)?,
         free: Vec::from_slice(alloc, free)?,
+        outcomes: Vec::from_slice(alloc, outcomes)?,
         detectors: Vec::from_slice(alloc, detectors)?,
         additions: Vec::from_slice(alloc, additions)?,
     })

@@ -20,7 +20,7 @@ ghost use Rattle.stab_recording.specs.inner.RestFrameStates.{with_state, with_cu
 use crate::checkpoint::Checkpoint;
 use crate::earlier::Earlier;
 use crate::folding::{give_again, part_between};
-use crate::framed_copies::{all_recorded, append_framed, lengths_propagated, pivot_again};
+use crate::framed_copies::{append_framed, lengths_propagated, pivot_again};
 use crate::replay::{Plan, Replay};
 use crate::rhythm::{block_at, end_of};
 use crate::states::framed_checkpoint;
@@ -103,17 +103,12 @@ impl<'a> Replay<'a> {
         Ok(())
     }
 
-    /// How many coins a frame asks for that goes again over a segment, if it may: each measurement made a record, and the strings of
-    /// all free outcomes are kept, of which this many were before.
+    /// How many coins a frame asks for that goes again over a segment, if it may: the strings of all free outcomes are kept, of which
+    /// this many were before.
     fn coins_again(&self, segment: Segment, number: usize) -> Option<usize>
-        ensures order { IfSome result (λ asked. segment.from.free ≤ segment.to.free) }
-        ensures recorded { IfSome result (λ asked. segment.to.records ≡ segment.from.records + (segment.to.free - segment.from.free)) }
         ensures count { IfSome result (λ asked. asked ≡ ones (drop segment.from.free (take segment.to.free self.now.outputs.free.items))) }
         ensures kept { IfSome result (λ asked. number + asked ≤ length self.now.pivots.strings.strings) }
     {
-        if !all_recorded(segment.from, segment.to) {
-            return None;
-        }
         let flags = between(
             self.outputs.free.as_slice(),
             segment.from.free,
@@ -160,7 +155,7 @@ impl<'a> Replay<'a> {
         };
         let gone = lengths_propagated(&propagation);
         let ahead = self.outputs.free.len() - segment.from.free;
-        let records = self.outputs.records.as_slice();
+        let outcomes = self.outputs.outcomes.as_slice();
         // All these coins may have been asked for if memory runs out on the way.
         self.step += segment.steps;
         self.applied += asked as u64;
@@ -169,7 +164,7 @@ impl<'a> Replay<'a> {
             &mut propagation,
             &self.pivots.strings,
             self.outputs.free.as_slice(),
-            between(records, segment.from.records, segment.to.records),
+            between(outcomes, segment.from.free, segment.to.free),
             coins,
             ahead,
             &mut self.cursor,

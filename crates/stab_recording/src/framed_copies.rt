@@ -1,6 +1,6 @@
 //! What a run gave, given again as a frame flips it: bits that are flipped, and pivots again.
 
-ghost use Rattle.std.specs.Prelude.{◌≡◌, ◌+◌, ◌-◌, ◌≤◌, true, length, OnOk, IfErr};
+ghost use Rattle.std.specs.Prelude.{◌≡◌, ◌≤◌, length, OnOk, IfErr};
 ghost use Rattle.stab_run.specs.Points.{joined};
 ghost use Rattle.stab_run.specs.ProgramStates.{output_of};
 ghost use Rattle.stab_frames.specs.Flips.{flipped_output};
@@ -13,15 +13,16 @@ use stab_io::Refusal;
 use stab_run::{Lengths, Outputs};
 use std::alloc::AllocError;
 
-/// How many records, detectors and additions a frame has passed.
+/// How many records, coins, detectors and additions a frame has passed.
 pub fn lengths_propagated(propagation: &Propagation) -> Lengths
     ensures records { result.records ≡ length propagation.now.flips.records }
+    ensures free { result.free ≡ length propagation.now.flips.outcomes }
     ensures detectors { result.detectors ≡ length propagation.now.flips.detectors }
     ensures additions { result.additions ≡ length propagation.now.flips.additions }
 {
     Lengths {
         records: propagation.records().len(),
-        free: 0,
+        free: propagation.outcomes().len(),
         detectors: propagation.detectors().len(),
         additions: propagation.additions().len(),
     }
@@ -47,6 +48,15 @@ pub fn append_framed(
     )?;
     outputs.free.extend_from_slice(part.free.as_slice())?;
     append_flipped(
+        &mut outputs.outcomes,
+        part.outcomes.as_slice(),
+        between(
+            propagation.outcomes(),
+            before.free,
+            propagation.outcomes().len(),
+        ),
+    )?;
+    append_flipped(
         &mut outputs.detectors,
         part.detectors.as_slice(),
         between(
@@ -65,16 +75,6 @@ pub fn append_framed(
         ),
     )?;
     Ok(())
-}
-
-/// Whether each measurement between some lengths of the lists and others made a record.
-pub fn all_recorded(from: Lengths, to: Lengths) -> bool
-    ensures order { result ≡ true → from.free ≤ to.free }
-    ensures recorded { result ≡ true → to.records ≡ from.records + (to.free - from.free) }
-{
-    from.free <= to.free
-        && from.records <= to.records
-        && to.records - from.records == to.free - from.free
 }
 
 /// Puts strings after the others again, from the one with a number up to another's, unless no further ones are kept.

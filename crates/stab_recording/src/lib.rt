@@ -76,7 +76,7 @@ pub use checkpoint::{Checkpoint, Meeting, count_before, lay_all, shifted, take_m
 pub use counting::lengths_behind;
 pub use flips::{flip_outputs, sum_additions};
 pub use folding::{give_again, part_between};
-pub use framed_copies::{all_recorded, append_framed, lengths_propagated, pivot_again};
+pub use framed_copies::{append_framed, lengths_propagated, pivot_again};
 pub use frames_between::frame_between;
 pub use meeting::{are_fixed, comes_again, may_have_coin, meets};
 pub use opening::record_run;

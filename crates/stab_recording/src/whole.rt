@@ -60,6 +60,7 @@ pub fn shot_of(alloc: Global, outputs: Outputs, observables: usize) -> Result<Sh
     let Outputs {
         records,
         free,
+        outcomes: _,
         detectors,
         additions,
     } = outputs;

@@ -144,11 +144,10 @@ HasStringsAgain from to old new = ((length old.strings ≡ old.most) × (new ≡
 pub record HasFramed (coins : ℕ → Bool) (g : Segment) (old new : Replay) (w v : PropagationState) (d : Checkpoint) : Type 0 where
   pub step : new.step ≡ old.step + g.steps
   pub counted : new.applied + new.framed ≡ (old.applied + old.framed) + g.steps
-  pub recorded : g.to.records ≡ g.from.records + (g.to.free - g.from.free)
   pub size : length v.letters ≡ length w.letters
   pub placed : IsPlaced old.outputs.free.items v
   pub propagated : PropagatesToOthers (length w.letters) (pivot_at old.pivots.strings.strings old.outputs.free.items) old.outputs.free.items
-      (drop g.from.records (take g.to.records old.outputs.records.items)) (coins_from (length old.outputs.free.items - g.from.free) coins) (take g.steps old.cursor.left) w v
+      (drop g.from.free (take g.to.free old.outputs.outcomes.items)) (coins_from (length old.outputs.free.items - g.from.free) coins) (take g.steps old.cursor.left) w v
   pub left : new.cursor.left ≡ drop g.steps old.cursor.left
   pub output : output_of new.outputs ≡ joined (output_of old.outputs) (flipped_output (between g.from g.to (output_of old.outputs)) (flips_since w v))
   pub kept : w.number + ones (drop g.from.free (take g.to.free old.outputs.free.items)) ≤ length old.pivots.strings.strings

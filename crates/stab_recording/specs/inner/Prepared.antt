@@ -1,6 +1,6 @@
 -- Prepared runs: what a replay of an edited circuit begins with, what it leaves, and what is kept once that is put in place.
 -- Source: this project's own.
-use Rattle.std.specs.Prelude.{◌≡◌, ℕ, ◌+◌, ◌<◌, ◌≤◌, false, List, [], All, IfSome, length, take, drop, reverse, replicate, slice_get}
+use Rattle.std.specs.Prelude.{◌≡◌, ℕ, ◌+◌, ◌<◌, ◌≤◌, false, List, [], ◌++◌, All, IfSome, length, take, drop, reverse, replicate, slice_get}
 use Rattle.stab_gates.specs.declared.letter.Letter.TheVariants.{I}
 use Rattle.stab_tableau.specs.Tableaus.{TableauState, stabilises}
 use Rattle.stab_tableau.specs.Conjugations.{IsConjugated}
@@ -82,7 +82,7 @@ abbrev pub meeting_of : RunOutput → ℕ → Checkpoint → Meeting
 meeting_of o step c = record { old_step = c.step; new_step = step; old_lengths = c.lengths; new_lengths = lengths_of o }
 
 -- from an old copy with a number on the recording comes after a replay: its copies, the first of them conjugated, what it gave, flipped as a frame
--- says that compared some records before, and its strings
+-- says that compared some records before, if the replay gave an outcome for each flag, and its strings
 pub record IsOldRest (kept : Recording) (o : RunOutput) (has_pivots : PivotsState) (step number compared : ℕ) (w : PropagationState) (conjugated : List TableauState) (new : RunOutput)
     (new_strings : PivotsState) (rest : Rest) (c : Checkpoint) : Type 0 where
   pub old : OldRest
@@ -91,7 +91,8 @@ pub record IsOldRest (kept : Recording) (o : RunOutput) (has_pivots : PivotsStat
   pub meeting : old.meeting ≡ meeting_of o step c
   pub states : old.conjugated.items ≡ conjugated
   pub letters : old.propagation.letters ≡ w.letters
-  pub output : new ≡ joined o (flipped_output (rest_of c.lengths (output_of kept.outputs)) (record w.flips { records = drop compared w.flips.records; free = [] }))
+  pub flags : new.free ≡ o.free ++ drop c.lengths.free kept.outputs.free.items
+  pub output : length o.outcomes ≡ length o.free → new ≡ joined o (flipped_output (rest_of c.lengths (output_of kept.outputs)) (record w.flips { records = drop compared w.flips.records; free = [] }))
   pub strings : IsSpliced has_pivots kept.strings (ones (take c.lengths.free kept.outputs.free.items)) (ones new.free) new_strings
 
 -- a frame that is none

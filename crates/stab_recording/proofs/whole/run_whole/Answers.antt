@@ -1,4 +1,4 @@
-use Rattle.stab_recording.proofs.Names.{◌≡◌, ℕ, ◌+◌, ◌≤◌, refl, sym, ◌∙◌, ap, subst, length, drop, All, None, arith, ones, unroll, circuit_items, check_within, AreRepeats, StepFits, all_coins_of, output_of, check-fits, check-whole, IsOwnRun}
+use Rattle.stab_recording.proofs.Names.{◌≡◌, ℕ, ◌+◌, ◌≤◌, refl, sym, ◌∙◌, ap, subst, length, drop, All, None, arith, unroll, circuit_items, check_within, AreRepeats, StepFits, all_coins_of, output_of, check-fits, check-whole, IsOwnRun}
 use Rattle.stab_recording.proofs.RunLemmas.{own-named, own-output}
 use Rattle.stab_recording.proofs.ShotLemmas.{shot-of_output}
 use Rattle.stab_recording.proofs.whole.run_whole.Given.{Over}

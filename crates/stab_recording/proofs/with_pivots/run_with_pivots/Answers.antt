@@ -1,4 +1,4 @@
-use Rattle.stab_recording.proofs.Names.{◌≡◌, ℕ, ◌+◌, ◌≤◌, refl, sym, ◌∙◌, ap, subst, length, drop, min, All, None, arith, ones, unroll, circuit_items, check_within, AreRepeats, StepFits, all_coins_of, origin, output_of, AreTrue, pivot_at, PivotsState, check-fits, check-whole, IsOwnRun}
+use Rattle.stab_recording.proofs.Names.{◌≡◌, refl, sym, ◌∙◌, ap, subst, length, min, All, None, arith, ones, unroll, circuit_items, check_within, AreRepeats, StepFits, origin, output_of, AreTrue, pivot_at, PivotsState, check-fits, check-whole, IsOwnRun}
 use Rattle.stab_recording.proofs.RunLemmas.{own-named, own-output, own-pivots}
 use Rattle.stab_recording.proofs.ShotLemmas.{shot-of_output, shot-of_items}
 use Rattle.stab_recording.proofs.with_pivots.run_with_pivots.Given.{Over}

@@ -1,4 +1,4 @@
-use Rattle.stab_recording.proofs.Names.{◌≡◌, ◌+◌, ◌*◌, ◌≤◌, ℕ, Option, ◌∙◌, sym, ap, subst, Bool, false, List, length, drop, slice_get, arith, option_map, Step, IsRepeat, Repeat, Checkpoint, Plan, Replay, IsFound, IsEndIn, MayComeAgain, IsFolding, IsOnWay, step_among_new, with_state, with_cursor}
+use Rattle.stab_recording.proofs.Names.{◌≡◌, ◌+◌, ◌*◌, ◌≤◌, ℕ, Option, Bool, List, length, slice_get, arith, option_map, Step, IsRepeat, Repeat, Checkpoint, Plan, IsEndIn, MayComeAgain, IsOnWay, step_among_new}
 use Rattle.std.proofs.Common.{IfSome}
 use Rattle.stab_recording.proofs.FoldedReplayLemmas.{place-known}
 use Rattle.stab_recording.proofs.replay.Replay.come_again.Given.{Over}

@@ -139,7 +139,6 @@ returns-clause-asks_free g c =
 pub returns-clause-framed : goal.returns-clause-framed
 returns-clause-framed g c =
     let at = (goal.at.returns-clause-framed g c).In-Some in
-    let may = c.in-Some.ensures in
     let propagated = c.in_ok-propagate_with_coins.ensures {u = tt} in
     let s = c.args.segment in
     let old = c.args.self.now in
@@ -160,13 +159,12 @@ returns-clause-framed g c =
     (record {
       step = refl;
       counted = omega (arith, few g at);
-      recorded = may.recorded;
       size = c.propagate_with_coins.ensures.length;
       placed = subst (λ bits. IsPlaced bits v) c.as_slice.ensures.value propagated.placed;
       propagated =
           subst (λ x. x)
           (λ i. PropagatesToOthers (length w.letters) (pivot_at old.pivots.strings.strings (c.as_slice.ensures.value i)) (c.as_slice.ensures.value i)
-          ((c.between.ensures.value ∙ ap (λ bits. drop s.from.records (take s.to.records bits)) c.as_slice-records.ensures.value) i)
+          ((c.between.ensures.value ∙ ap (λ bits. drop s.from.free (take s.to.free bits)) c.as_slice-outcomes.ensures.value) i)
           (coins_from (ahead i) coins) (take s.steps old.cursor.left) w v)
           propagated.propagated;
       left = propagated.left;
@@ -175,6 +173,7 @@ returns-clause-framed g c =
           ∙ (λ i. joined (output_of old.outputs) (flipped_output ((c.in_ok-part.ensures {u = tt}).value i) (record {
             records = drop (c.lengths_propagated-gone.ensures.records i) v.flips.records;
             free = [];
+            outcomes = drop (c.lengths_propagated-gone.ensures.free i) v.flips.outcomes;
             detectors = drop (c.lengths_propagated-gone.ensures.detectors i) v.flips.detectors;
             additions = drop (c.lengths_propagated-gone.ensures.additions i) v.flips.additions;
           })));

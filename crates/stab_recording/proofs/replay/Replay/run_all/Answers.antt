@@ -1,4 +1,4 @@
-use Rattle.stab_recording.proofs.Names.{◌≡◌, ◌+◌, ◌≤◌, refl, sym, ◌∙◌, ap, subst, length, drop, All, get_or, arith, StepFits, Repeat, IsRepeat, unroll, circuit_items, check-steps, check-whole, counted-steps, all_coins_of, IsAtStep, IsOwnRun}
+use Rattle.stab_recording.proofs.Names.{◌≡◌, sym, ◌∙◌, ap, subst, length, drop, All, arith, StepFits, Repeat, IsRepeat, circuit_items, check-steps, check-whole, counted-steps, all_coins_of, IsAtStep}
 use Rattle.stab_recording.proofs.RunLemmas.{own-on, own-named, repeat-of}
 use Rattle.stab_recording.proofs.replay.Replay.run_all.Given.{Over}
 use Rattle.stab_recording.proofs.replay.Replay.run_all.Goals as goal

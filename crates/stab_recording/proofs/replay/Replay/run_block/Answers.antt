@@ -1,4 +1,4 @@
-use Rattle.stab_recording.proofs.Names.{◌≡◌, ◌+◌, ◌≤◌, refl, sym, ◌∙◌, ap, subst, length, drop, All, arith, StepFits, IsRepeat, most_steps, all_coins_of, IsOwnRun}
+use Rattle.stab_recording.proofs.Names.{refl, sym, ◌∙◌, ap, subst, length, drop, All, arith, StepFits, IsRepeat, all_coins_of}
 use Rattle.stab_recording.proofs.RunLemmas.{own-on, own-front, own-named}
 use Rattle.stab_recording.proofs.replay.Replay.run_block.Goals as goal
 

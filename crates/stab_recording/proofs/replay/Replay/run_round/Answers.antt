@@ -1,5 +1,5 @@
-use Rattle.stab_recording.proofs.Names.{◌≡◌, ℕ, ◌+◌, ◌-◌, ◌*◌, ◌≤◌, refl, sym, ◌∙◌, ap, subst, [], length, arith, Replay, MayComeAgain, IsOnWay, plan_of_run, IsOwnRun}
-use Rattle.stab_recording.proofs.RunLemmas.{own-on, own-may, own-front, own-named}
+use Rattle.stab_recording.proofs.Names.{◌≡◌, refl, sym, ap, subst, [], length, arith, Replay, MayComeAgain, IsOnWay, plan_of_run}
+use Rattle.stab_recording.proofs.RunLemmas.{own-on, own-may, own-front}
 use Rattle.stab_recording.proofs.replay.Replay.run_round.Given.{Over}
 use Rattle.stab_recording.proofs.replay.Replay.run_round.Goals as goal
 use Rattle.stab_recording.proofs.replay.Replay.run_round.Goals.{In_ok-lay}
