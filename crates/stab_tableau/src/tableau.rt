@@ -1,7 +1,8 @@
 mod compact;
 mod pivot;
 
-ghost use Rattle.std.specs.Prelude.{◌≡◌, IfOk, IfErr};
+ghost use Rattle.std.specs.Prelude.{◌≡◌, ◌<◌, length, IfOk, IfErr};
+ghost use Rattle.stab_pauli.specs.Rows.{row_at};
 ghost use Rattle.stab_io.specs.declared.refusal.Refusal.TheVariants.{OutOfMemory};
 
 use super::collapse::{Collapse, fixed_sign, measure};
@@ -358,6 +359,17 @@ impl Tableau {
     }
 }
 
+// A row's string, in memory of its own.
+fn string_of(alloc: Global, rows: &PauliRows, row: usize) -> Result<Pauli, Refusal>
+    requires in_range { row < length rows.now.rows }
+    ensures ok { IfOk result (λ string. string ≡ row_at rows.now row) }
+    ensures err { IfErr result (λ r. r ≡ OutOfMemory) }
+{
+    let mut string = Pauli::identity(alloc, rows.qubits())?;
+    rows.copy_row(row, &mut string);
+    Ok(string)
+}
+
 // The strings of rows, each in memory of its own.
 fn strings_of(alloc: Global, rows: &PauliRows) -> Result<Vec<Pauli>, Refusal>
     ensures ok { IfOk result (λ strings. strings.items ≡ rows.now.rows) }
@@ -365,9 +377,7 @@ fn strings_of(alloc: Global, rows: &PauliRows) -> Result<Vec<Pauli>, Refusal>
 {
     let mut strings = Vec::with_capacity(alloc, rows.len())?;
     for row in 0..rows.len() {
-        let mut string = Pauli::identity(alloc, rows.qubits())?;
-        rows.copy_row(row, &mut string);
-        strings.push(string)?;
+        strings.push(string_of(alloc, rows, row)?)?;
     }
     Ok(strings)
 }
