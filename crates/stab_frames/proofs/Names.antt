@@ -16,8 +16,10 @@ pub use Rattle.stab_circuit.specs.Steps.{Step, one, two, controlled, collapse, p
 pub use Rattle.stab_gates.proofs.LetterLemmas.{letters_anticommute-I, letters_anticommute-comm, letter_product-I, each_letter}
 pub use Rattle.stab_gates.proofs.ParityLemmas.{parity-false, parity-comm, parity-assoc, parity-mid, parity-twice, parity-self}
 pub use Rattle.stab_gates.specs.Letters.{◌⊕◌, letters_anticommute, letter_product}
+pub use Rattle.stab_gates.specs.XParts.{has_x}
 pub use Rattle.stab_gates.specs.declared.gate.Gate.{Gate}
 pub use Rattle.stab_gates.specs.declared.gate.PairGate.{PairGate}
+pub use Rattle.stab_gates.specs.declared.gate.PairGate.TheVariants.{Cx, Cy, Cz, Swap}
 pub use Rattle.stab_gates.specs.declared.letter.Letter.{Letter}
 pub use Rattle.stab_gates.specs.declared.letter.Letter.TheVariants.{I, X, Y, Z}
 pub use Rattle.stab_lines.specs.Axes.{letter_of}
@@ -77,6 +79,7 @@ pub use Rattle.stab_frames.specs.Flips.{flipped_output, Matches, unflipped, flip
 pub use Rattle.stab_frames.specs.FrameSteps.{frame_over, flips_over, frame_after, letters_after, flips_given, flipped_by, letters_by, flips_outcome, letters_measured}
 pub use Rattle.stab_frames.specs.FramedTableaus.{framed_rows, framed_tableau}
 pub use Rattle.stab_frames.specs.Frames.{Frame, PointsDifferBy, identity_frame, plus, times_where, frame_of, frame_product}
+pub use Rattle.stab_frames.specs.Images.{has_both, exchanges, letter_where, controlled_letter}
 pub use Rattle.stab_frames.specs.Fronts.{edit_frame, IsFlippedRun, AreFronts}
 pub use Rattle.stab_frames.specs.Limits.{bytes_of, most_strings}
 pub use Rattle.stab_frames.specs.Lookbacks.{LooksWithin}

@@ -1,5 +1,6 @@
 pub mod Flips
 pub mod Frames
+pub mod Images
 pub mod RunPivots
 pub mod FrameSteps
 pub mod PivotsOfSteps

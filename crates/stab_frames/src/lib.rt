@@ -58,6 +58,7 @@ pub mod step_laws;
 
 pub use bits::{append_flipped, append_flipped_additions, between, count_ones};
 pub use framed_states::apply_frame_to;
+pub use letters::{Images, controlled_letter};
 pub use other_coins::propagate_with_coins;
 pub use pivot_recorder::{PivotRecorder, run_recording_pivots};
 pub use pivots::Pivots;

@@ -2,7 +2,6 @@
 -- Source: this project's own.
 use Rattle.std.specs.Prelude.{◌≡◌, ℕ, ◌+◌, ◌<◌, Bool, true, false, List, [], ◌∷◌, Option, Some, None, IfSome, slice_index_or, length, replicate, take}
 use Rattle.stab_gates.specs.declared.letter.Letter.{Letter}
-use Rattle.stab_gates.specs.declared.letter.Letter.TheVariants.{I}
 use Rattle.stab_gates.specs.Letters.{◌⊕◌, letters_anticommute}
 use Rattle.stab_pauli.specs.Paulis.{strings_anticommute}
 use Rattle.stab_tableau.specs.Gates.{letter_at}
@@ -18,11 +17,6 @@ use Rattle.stab_frames.specs.FrameSteps.{letters_after, flips_given, frame_after
 use Rattle.stab_frames.specs.Pivots.{pivot_at}
 use Rattle.stab_frames.specs.Propagations.{PropagationState, frame_at, IsPlaced, PropagatesWith}
 use Rattle.stab_frames.specs.inner.Draws.{IsDrawn, AreDrawn}
-
--- the letter, or I if the bit is 0
-abbrev pub letter_where : Bool → Letter → Letter
-letter_where true l = l
-letter_where false l = I
 
 -- whether a string anticommutes with a product, by its factors one after another
 abbrev pub factors_anticommute : List Letter → List Factor → Bool
