@@ -17,7 +17,7 @@
 //!
 //! - `pivots`: pivots of a run's random outcomes, within a bound of memory.
 //! - `pivot_recorder`: a run that keeps them on its way, and how far back its steps look.
-//! - `letters`: what gates make of the letters of a frame.
+//! - `letters`: the table of what gates make of letters, and what they make of those of a frame.
 //! - `bits`: lists of bits, counted, and put after others as a frame flips them.
 //! - `framed_states`: kept states, conjugated by the letters of a frame.
 //! - `propagation`: a frame on its way, with what it has flipped.
@@ -26,7 +26,7 @@
 //! - `propagate`: steps, until all are past, the frame is gone, or a string is missing.
 //! - `other_coins`: steps, from a run to one that has other coins there.
 //!
-//! In `specs/`, `Frames`, `RunPivots` and `FrameSteps` say what a frame is and what a step makes of it, `Flips`
+//! In `specs/`, `Frames`, `RunPivots` and `FrameSteps` say what a frame is and what a step makes of it, `Images` what a gate does to letters, `Flips`
 //! and `PivotsOfSteps` what it flips and which pivots it needs; `Pivots`, `Lookbacks`, `Propagations`, `OtherCoins` and
 //! `Stops` say what the calls keep and where they end; the laws are in files named after these modules.
 //!
