@@ -1,5 +1,5 @@
 -- Advanced lanes: lanes that are again as they were at a checkpoint go over the rounds that are left as they went over those since.
-use Rattle.stab_shots.proofs.Names.{◌≡◌, ℕ, ◌+◌, ◌-◌, ◌*◌, ◌<◌, ◌≤◌, refl, sym, ◌∙◌, ap, subst, Bool, false, List, ◌++◌, length, take, get_or, arith, None, if◌then◌else◌, take_at, Letter, Step, rounds, Repeat, round_of, IsRepeat, Lengths, joined-assoc, looked_up, ones, RunOutput, joined, all_coins_of, rest_of, copies, behind_rounds, more-rounds, coins-append, rest-joined, rounds-rounds, rounds-within, RunPivots, frame_over, flips_over, pivot_at, frame-append, flips-append, Difference, frame_of_difference, next_coin, Follows, no_difference, IsKeptAfter}
+use Rattle.stab_shots.proofs.Names.{◌≡◌, ℕ, ◌+◌, ◌-◌, ◌*◌, ◌<◌, ◌≤◌, refl, sym, ◌∙◌, ap, subst, Bool, false, List, ◌++◌, length, take, get_or, arith, None, if◌then◌else◌, take_at, Letter, Step, rounds, Repeat, round_of, IsRepeat, Lengths, joined-assoc, looked_up, ones, RunOutput, joined, all_coins_of, rest_of, copies, behind_rounds, more-rounds, coins-append, rounds-rounds, rounds-within, RunPivots, frame_over, flips_over, pivot_at, frame-append, flips-append, Difference, frame_of_difference, next_coin, Follows, no_difference, IsKeptAfter, [], drop, drop_at, drop_all, lengths_of, without_outcomes}
 use Rattle.std.proofs.Common.{slice_get}
 use Rattle.stab_shots.proofs.FollowLemmas.{follows-append}
 use Rattle.stab_shots.proofs.FoldLemmas.{HasNone, follows-again}
@@ -17,11 +17,21 @@ follows-rest n pivots xs ys a b c whole first = record {
       ∙ (λ i. frame_over n pivots ys (sym first.coin i) (sym first.frame i));
   flips =
       whole.flips
-      ∙ ap (joined a.flips) (flips-append n pivots xs ys (next_coin a) (frame_of_difference a))
-      ∙ sym (joined-assoc a.flips (flips_over n pivots xs (next_coin a) (frame_of_difference a))
-      (flips_over n pivots ys (next_coin a + all_coins_of xs) (frame_over n pivots xs (next_coin a) (frame_of_difference a))))
-      ∙ (λ i. joined (sym first.flips i) (flips_over n pivots ys (sym first.coin i) (sym first.frame i)));
+      ∙ ap (λ o. joined a.flips (without_outcomes o)) (flips-append n pivots xs ys (next_coin a) (frame_of_difference a))
+      ∙ sym (joined-assoc a.flips (without_outcomes (flips_over n pivots xs (next_coin a) (frame_of_difference a)))
+      (without_outcomes (flips_over n pivots ys (next_coin a + all_coins_of xs) (frame_over n pivots xs (next_coin a) (frame_of_difference a)))))
+      ∙ (λ i. joined (sym first.flips i) (without_outcomes (flips_over n pivots ys (sym first.coin i) (sym first.frame i))));
   coin = omega (arith, whole.coin, first.coin, coins-append xs ys);
+}
+
+-- what comes after what was given, if no outcomes are kept
+rest-kept : (a b : RunOutput) → a.outcomes ≡ [] → rest_of (lengths_of a) (joined a (without_outcomes b)) ≡ without_outcomes b
+rest-kept a b none = λ i. record {
+  records = drop_at a.records b.records (length a.records) refl i;
+  free = drop_at a.free b.free (length a.free) refl i;
+  outcomes = (ap (λ bits. drop (length a.free) (bits ++ [])) none ∙ drop_all (length a.free) [] (omega arith)) i;
+  detectors = drop_at a.detectors b.detectors (length a.detectors) refl i;
+  additions = drop_at a.additions b.additions (length a.additions) refl i;
 }
 
 -- a lane with a checkpoint after some rounds, and is again as it was then
@@ -48,10 +58,10 @@ module _ (n : ℕ) (pivots : RunPivots) (steps : List Step) (r : Repeat) (is : I
   passed : Follows n pivots since before now
   passed = follows-rest n pivots first since (no_difference n) before now (subst (λ xs. Follows n pivots xs (no_difference n) now) steps_now advanced) checkpoint.advanced
 
-  rest_is : rest_of lengths now.flips ≡ flips_over n pivots since (next_coin before) (frame_of_difference before)
+  rest_is : rest_of lengths now.flips ≡ without_outcomes (flips_over n pivots since (next_coin before) (frame_of_difference before))
   rest_is =
       (λ i. rest_of (checkpoint.long i) (passed.flips i))
-      ∙ rest-joined before.flips (flips_over n pivots since (next_coin before) (frame_of_difference before))
+      ∙ rest-kept before.flips (flips_over n pivots since (next_coin before) (frame_of_difference before)) (ap (λ (o : RunOutput). o.outcomes) checkpoint.advanced.flips)
 
   records_then : take lengths.records now.flips.records ≡ before.flips.records
   records_then =
@@ -92,7 +102,7 @@ module _ (n : ℕ) (pivots : RunPivots) (steps : List Step) (r : Repeat) (is : I
           ap pivots.strings {x = next_coin now + t} {y = lengths.free + (all_coins_of since + t)} (omega (arith, passed.coin, coin_then))
           ∙ none (all_coins_of since + t) (omega (arith, lt, coins_are, whole coins times, ap (λ c. times * c) coins_are))
 
-      made : new ≡ record { letters = now.letters; flips = joined now.flips (copies times (flips_over n pivots since (next_coin before) (frame_of_difference before))) }
+      made : new ≡ record { letters = now.letters; flips = joined now.flips (copies times (without_outcomes (flips_over n pivots since (next_coin before) (frame_of_difference before)))) }
       made = is_new ∙ ap (λ o. record { letters = now.letters; flips = joined now.flips (copies times o) }) rest_is
 
       steps_then : take (behind_rounds r (done + times * (done - early))) steps ≡ take (behind_rounds r done) steps ++ rounds times since

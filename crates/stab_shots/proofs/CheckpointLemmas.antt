@@ -53,7 +53,7 @@ appended-none items from k le =
 -- outputs this often
 
 copies-times : (k : ℕ) (o : RunOutput)
-    → copies k o ≡ record { records = times k o.records; free = times k o.free; detectors = times k o.detectors; additions = times k o.additions }
+    → copies k o ≡ record { records = times k o.records; free = times k o.free; outcomes = times k o.outcomes; detectors = times k o.detectors; additions = times k o.additions }
 copies-times zero o = refl
 copies-times (suc k) o = ap (joined o) (copies-times k o)
 
@@ -73,6 +73,7 @@ output-again at l old new lengths k records free detectors sums =
     (λ i. record {
       records = map-put (λ w. at w l) old.records.items new.records.items k lengths.records records i;
       free = free i;
+      outcomes = sym (ap (times k) (drop_all lengths.free [] (omega arith)) ∙ times-none k) i;
       detectors = map-put (λ w. at w l) old.detectors.items new.detectors.items k lengths.detectors detectors i;
       additions = map-put (λ s. record { observable = s.observable; bit = at s.parity l }) old.sums.items new.sums.items k lengths.additions sums i;
     })

@@ -1,5 +1,5 @@
 -- Folding: frames that steps can't tell apart flip the same, and so do lanes that are again as they were, if nothing is drawn.
-use Rattle.stab_shots.proofs.Names.{◌≡◌, ℕ, zero, suc, ◌+◌, ◌*◌, ◌<◌, ◌≤◌, refl, sym, ◌∙◌, ap, subst, true, false, ◌&&◌, List, [], ◌∷◌, ◌++◌, append-nil, append_assoc, length, nat_lt, arith, None, list_any, length-append, length-replicate, Signed, single, strings_anticommute, image, image_pair, Step, rounds, one, two, controlled, collapse, product, detector, observable, makes, lookbacks, looks_too_far, looked_up, when, flip_of, string_of, RunOutput, nothing, joined, coins_of, all_coins_of, copies, joined-nothing, joined-assoc, looked_up-more, parity-same, or-left, or-right, plus, Frame, times_where, RunPivots, flipped_by, letters_by, flips_outcome, letters_measured, letters_after, flips_given, frame_after, frame_over, flips_over, Difference, frame_of_difference, next_coin, Follows}
+use Rattle.stab_shots.proofs.Names.{◌≡◌, ℕ, zero, suc, ◌+◌, ◌*◌, ◌<◌, ◌≤◌, refl, sym, ◌∙◌, ap, subst, true, false, ◌&&◌, List, [], ◌∷◌, ◌++◌, append-nil, append_assoc, length, nat_lt, arith, None, list_any, length-append, length-replicate, Signed, single, strings_anticommute, image, image_pair, Step, rounds, one, two, controlled, collapse, product, detector, observable, makes, lookbacks, looks_too_far, looked_up, when, flip_of, string_of, RunOutput, nothing, joined, coins_of, all_coins_of, copies, joined-nothing, joined-assoc, looked_up-more, parity-same, or-left, or-right, plus, Frame, times_where, RunPivots, flipped_by, letters_by, flips_outcome, letters_measured, letters_after, flips_given, frame_after, frame_over, flips_over, Difference, frame_of_difference, next_coin, Follows, without_outcomes}
 use Rattle.stab_shots.proofs.FollowLemmas.{follows-none, follows-append}
 use Rattle.stab_shots.proofs.LaneRunLemmas.{still-over}
 
@@ -62,9 +62,9 @@ module _ (n m : ℕ) (pivots : RunPivots) (c d : ℕ) (f g : Frame) (same : AreA
   given-alike (two h p q) near here there = refl
   given-alike (controlled l k q) near here there = refl
   given-alike (collapse l q recorded inverted resets) near here there =
-      ap (λ b. record nothing { records = when recorded b; free = false ∷ [] }) (outcome-alike (single n q l) (here 0 (omega arith)) (there 0 (omega arith)))
+      ap (λ b. record nothing { records = when recorded b; free = false ∷ []; outcomes = b ∷ [] }) (outcome-alike (single n q l) (here 0 (omega arith)) (there 0 (omega arith)))
   given-alike (product factors inverted) near here there =
-      ap (λ b. record nothing { records = b ∷ []; free = false ∷ [] }) (outcome-alike (string_of n factors) (here 0 (omega arith)) (there 0 (omega arith)))
+      ap (λ b. record nothing { records = b ∷ []; free = false ∷ []; outcomes = b ∷ [] }) (outcome-alike (string_of n factors) (here 0 (omega arith)) (there 0 (omega arith)))
   given-alike (detector ks) near here there = ap (λ b. record nothing { detectors = b ∷ [] }) (parity-same m f.flips g.flips same.flips ks near)
   given-alike (observable j ks) near here there =
       ap (λ b. record nothing { additions = record { observable = j; bit = b } ∷ [] }) (parity-same m f.flips g.flips same.flips ks near)
@@ -123,7 +123,7 @@ module _ (n m : ℕ) (pivots : RunPivots) (xs : List Step) (a b : Difference) (n
     (same : a.letters ≡ b.letters) (back : (k : ℕ) → k ≤ m → looked_up a.flips.records k ≡ looked_up b.flips.records k)
     (none : HasNone pivots (next_coin a) (all_coins_of xs)) where
   abbrev flipped : RunOutput
-  flipped = flips_over n pivots xs (next_coin a) (frame_of_difference a)
+  flipped = without_outcomes (flips_over n pivots xs (next_coin a) (frame_of_difference a))
 
   -- what a lane that is as this one becomes, if it flips the same this often
   abbrev pub again : ℕ → Difference → Difference
@@ -139,9 +139,11 @@ module _ (n m : ℕ) (pivots : RunPivots) (xs : List Step) (a b : Difference) (n
 
   module _ (d : Difference) (alike : AreAlike m (frame_of_difference d) (frame_of_difference a)) where
     over : HasNone pivots (next_coin d) (all_coins_of xs)
-        → (flips_over n pivots xs (next_coin d) (frame_of_difference d) ≡ flipped)
+        → (without_outcomes (flips_over n pivots xs (next_coin d) (frame_of_difference d)) ≡ flipped)
         × ((frame_over n pivots xs (next_coin d) (frame_of_difference d)).letters ≡ (frame_over n pivots xs (next_coin a) (frame_of_difference a)).letters)
-    over here = over-alike n m pivots xs (next_coin d) (next_coin a) (frame_of_difference d) (frame_of_difference a) near alike here none
+    over here =
+        let all = over-alike n m pivots xs (next_coin d) (next_coin a) (frame_of_difference d) (frame_of_difference a) near alike here none in
+        (ap without_outcomes all.0, all.1)
 
     follows-once : HasNone pivots (next_coin d) (all_coins_of xs) → Follows n pivots xs d (once d)
     follows-once here = record {

@@ -1,5 +1,5 @@
 -- Follows: how the difference of a lane goes over steps, one by one and one after another.
-use Rattle.stab_shots.proofs.Names.{◌≡◌, ℕ, ◌+◌, ◌<◌, ◌≤◌, refl, sym, ◌∙◌, ap, subst, Bool, false, ◌&&◌, List, [], ◌∷◌, ◌++◌, append-nil, length, map, take, get_or, arith, length-append, map_more, take_all, Letter, Gate, PairGate, single, image, image_pair, Factor, Step, one, two, controlled, collapse, product, detector, looked_up, parity, when, flip_of, string_of, RunOutput, nothing, joined, coins_of, all_coins_of, joined-nothing, joined-assoc, coins-append, plus, times_where, RunPivots, letters_after, flips_given, frame_over, flips_over, frame-append, flips-append, Difference, frame_of_difference, next_coin, Follows, IsMeasuredBy}
+use Rattle.stab_shots.proofs.Names.{◌≡◌, ℕ, ◌+◌, ◌<◌, ◌≤◌, refl, sym, ◌∙◌, ap, subst, Bool, false, ◌&&◌, List, [], ◌∷◌, ◌++◌, append-nil, length, map, take, get_or, arith, length-append, map_more, take_all, Letter, Gate, PairGate, single, image, image_pair, Factor, Step, one, two, controlled, collapse, product, detector, looked_up, parity, when, flip_of, string_of, RunOutput, nothing, joined, coins_of, all_coins_of, joined-nothing, joined-assoc, coins-append, plus, times_where, RunPivots, letters_after, flips_given, frame_over, flips_over, frame-append, flips-append, Difference, frame_of_difference, next_coin, Follows, IsMeasuredBy, without_outcomes}
 
 -- steps one after another
 
@@ -14,10 +14,10 @@ follows-append n pivots xs ys a b c first then = record {
       ∙ sym (frame-append n pivots xs ys (next_coin a) (frame_of_difference a));
   flips =
       then.flips
-      ∙ (λ i. joined (first.flips i) (flips_over n pivots ys (first.coin i) (first.frame i)))
-      ∙ joined-assoc a.flips (flips_over n pivots xs (next_coin a) (frame_of_difference a))
-      (flips_over n pivots ys (next_coin a + all_coins_of xs) (frame_over n pivots xs (next_coin a) (frame_of_difference a)))
-      ∙ ap (joined a.flips) (sym (flips-append n pivots xs ys (next_coin a) (frame_of_difference a)));
+      ∙ (λ i. joined (first.flips i) (without_outcomes (flips_over n pivots ys (first.coin i) (first.frame i))))
+      ∙ joined-assoc a.flips (without_outcomes (flips_over n pivots xs (next_coin a) (frame_of_difference a)))
+      (without_outcomes (flips_over n pivots ys (next_coin a + all_coins_of xs) (frame_over n pivots xs (next_coin a) (frame_of_difference a))))
+      ∙ ap (λ o. joined a.flips (without_outcomes o)) (sym (flips-append n pivots xs ys (next_coin a) (frame_of_difference a)));
   coin = omega (arith, then.coin, first.coin, coins-append xs ys);
 }
 
@@ -49,14 +49,14 @@ follows-as n pivots x y old new e is = subst (λ z. Follows n pivots (z ∷ []) 
 
 module _ (n : ℕ) (pivots : RunPivots) (old new : Difference) where
   follows-step : (x : Step) → new.letters ≡ letters_after n pivots x (next_coin old) (frame_of_difference old)
-      → new.flips ≡ joined old.flips (flips_given n pivots x (next_coin old) (frame_of_difference old))
+      → new.flips ≡ joined old.flips (without_outcomes (flips_given n pivots x (next_coin old) (frame_of_difference old)))
       → length (flips_given n pivots x (next_coin old) (frame_of_difference old)).free ≡ coins_of x → Follows n pivots (x ∷ []) old new
   follows-step x letters flips coins =
       let given = flips_given n pivots x (next_coin old) (frame_of_difference old) in
       let count = ap (λ (o : RunOutput). length o.free) flips ∙ length-append old.flips.free given.free in
       record {
         frame = λ i. record { letters = letters i; flips = (flips i).records };
-        flips = flips ∙ ap (joined old.flips) (sym (joined-nothing given));
+        flips = flips ∙ ap (λ o. joined old.flips (without_outcomes o)) (sym (joined-nothing given));
         coin = omega (arith, count, coins);
       }
 
@@ -84,6 +84,7 @@ module _ (n : ℕ) (pivots : RunPivots) (old new : Difference) where
       ∙ (λ i. record {
         records = sym (append-nil old.flips.records) i;
         free = sym (append-nil old.flips.free) i;
+        outcomes = sym (append-nil old.flips.outcomes) i;
         detectors = old.flips.detectors ++ parity old.flips.records ks ∷ [];
         additions = sym (append-nil old.flips.additions) i;
       })) refl
@@ -98,6 +99,7 @@ module _ (n : ℕ) (pivots : RunPivots) (old new : Difference) where
       ∙ (λ i. record {
         records = old.flips.records ++ rs;
         free = old.flips.free ++ false ∷ [];
+        outcomes = sym (append-nil old.flips.outcomes) i;
         detectors = sym (append-nil old.flips.detectors) i;
         additions = sym (append-nil old.flips.additions) i;
       })

@@ -1,5 +1,5 @@
 -- Runs of lanes: lanes that are propagated over the steps of a run with all coins 0, stretch by stretch, are runs.
-use Rattle.stab_shots.proofs.Names.{◌≡◌, ℕ, zero, suc, ◌+◌, refl, sym, ◌∙◌, ap, subst, Bool, false, List, [], ◌∷◌, ◌++◌, length, replicate, set, get_or, arith, Option, length-replicate, length-set, replicate-append-replicate, Letter, I, ◌⊕◌, parity-false, Items, Step, one, two, controlled, collapse, product, detector, observable, unroll, observables_of, Addition, Shot, State, start, run, run_of, RunOutput, nothing, origin, joined, point_after, outputs, all_coins_of, with_additions, state_at, StepFits, run-state, records-are-records, flipped, Frame, AreFronts, RunPivots, pivots_of, changed, AreRight, AreEnough, frame_after, frame_over, flips_over, right-enough, coins-append, coins-are, framed-same, fronts-outputs, fronts-matches, fronts-framed, records-flipped, flags-flipped, detectors-flipped, observables-flipped, Shots, AreRuns, IsShot, zero_coins, Difference, frame_of_difference, next_coin, Follows, IsLane, IsAsLong, AreFlipped}
+use Rattle.stab_shots.proofs.Names.{◌≡◌, ℕ, zero, suc, ◌+◌, refl, sym, ◌∙◌, ap, subst, Bool, false, List, [], ◌∷◌, ◌++◌, length, replicate, set, get_or, arith, Option, length-replicate, length-set, replicate-append-replicate, Letter, I, ◌⊕◌, parity-false, Items, Step, one, two, controlled, collapse, product, detector, observable, unroll, observables_of, Addition, Shot, State, start, run, run_of, RunOutput, nothing, origin, joined, point_after, outputs, all_coins_of, with_additions, state_at, StepFits, run-state, records-are-records, flipped, Frame, AreFronts, RunPivots, pivots_of, changed, AreRight, AreEnough, frame_after, frame_over, flips_over, right-enough, coins-append, coins-are, framed-same, fronts-outputs, fronts-matches, fronts-framed, records-flipped, flags-flipped, detectors-flipped, observables-flipped, Shots, AreRuns, IsShot, zero_coins, Difference, frame_of_difference, next_coin, Follows, IsLane, IsAsLong, AreFlipped, without_outcomes}
 use Rattle.std.specs.Prelude.{All}
 use Rattle.stab_shots.proofs.RecordingLemmas.{run-items}
 
@@ -32,10 +32,12 @@ flipped-nowhere (b ∷ bits) (suc k) = ap (λ r. b ∷ r) (flipped-nowhere bits 
 pub lane-first : (n : ℕ) (coins : ℕ → Bool) (d : Difference) → d.letters ≡ replicate n I → d.flips ≡ nothing → IsLane n coins [] d
 lane-first n coins d blank empty =
     subst (λ x. x) (λ i. IsLane n coins [] (record { letters = sym blank i; flips = sym empty i })) (record {
+      flips = nothing;
+      kept = refl;
       fronts = record {
         framed = framed-same n origin;
         given = refl;
-        matches = record { records = refl; free = refl; detectors = refl; observables = refl };
+        matches = record { records = refl; free = refl; outcomes = refl; detectors = refl; observables = refl };
       };
       still = refl;
     })
@@ -69,19 +71,21 @@ module _ (n : ℕ) (coins : ℕ → Bool) (xs ys : List Step) (fits : All (StepF
   frame : frame_of_difference b ≡ frame_over n pivots ys p f
   frame = advanced.frame ∙ ap (λ c. frame_over n pivots ys c f) coin
 
-  flips : b.flips ≡ joined a.flips (flips_over n pivots ys p f)
-  flips = advanced.flips ∙ ap (λ c. joined a.flips (flips_over n pivots ys c f)) coin
+  flips : b.flips ≡ joined a.flips (without_outcomes (flips_over n pivots ys p f))
+  flips = advanced.flips ∙ ap (λ c. joined a.flips (without_outcomes (flips_over n pivots ys c f))) coin
 
-  further : AreFronts n zero_coins (changed zero_coins coins) (xs ++ ys) (xs ++ ys) (frame_over n pivots ys p f) (joined a.flips (flips_over n pivots ys p f))
+  further : AreFronts n zero_coins (changed zero_coins coins) (xs ++ ys) (xs ++ ys) (frame_over n pivots ys p f) (joined lane.flips (flips_over n pivots ys p f))
   further = record {
-    framed = fronts-framed n zero_coins pivots xs xs ys f a.flips fits later lane.fronts enough;
-    given = fronts-outputs n zero_coins pivots xs xs ys f a.flips fits later lane.fronts enough;
-    matches = fronts-matches n zero_coins pivots xs xs ys f a.flips fits later lane.fronts enough;
+    framed = fronts-framed n zero_coins pivots xs xs ys f lane.flips fits later lane.fronts enough;
+    given = fronts-outputs n zero_coins pivots xs xs ys f lane.flips fits later lane.fronts enough;
+    matches = fronts-matches n zero_coins pivots xs xs ys f lane.flips fits later lane.fronts enough;
   }
 
   pub lane-further : IsLane n coins (xs ++ ys) b
   lane-further = record {
-    fronts = subst (λ x. x) (λ i. AreFronts n zero_coins (changed zero_coins coins) (xs ++ ys) (xs ++ ys) (sym frame i) (sym flips i)) further;
+    flips = joined lane.flips (flips_over n pivots ys p f);
+    fronts = subst (λ g. AreFronts n zero_coins (changed zero_coins coins) (xs ++ ys) (xs ++ ys) g (joined lane.flips (flips_over n pivots ys p f))) (sym frame) further;
+    kept = flips ∙ ap (λ o. joined o (without_outcomes (flips_over n pivots ys p f))) lane.kept;
     still =
         ap (λ (o : RunOutput). o.free) flips
         ∙ (λ i. lane.still i ++ still-over n pivots ys p f i)
@@ -115,7 +119,7 @@ module _ (n : ℕ) (coins : ℕ → Bool) (items : Items) (shot : Shot) (is : Is
   behind = run-state n zero_coins xs (start count)
 
   pub as-long : IsAsLong count shot d.flips
-  as-long = record {
+  as-long = subst (IsAsLong count shot) (sym lane.kept) (record {
     records =
         lane.fronts.matches.records
         ∙ ap length (records-are-records n zero_coins xs ∙ sym (ap (λ (s : State). s.records) behind) ∙ ap (λ (s : State). s.records) zero_state ∙ sym is.records);
@@ -125,31 +129,32 @@ module _ (n : ℕ) (coins : ℕ → Bool) (items : Items) (shot : Shot) (is : Is
     observables =
         sym (length-added (outputs n zero_coins xs origin).additions (replicate count false) ∙ length-replicate count false)
         ∙ ap length (sym (ap (λ (s : State). s.observables) behind) ∙ ap (λ (s : State). s.observables) zero_state ∙ sym is.observables);
-  }
+  })
 
   pub lane-runs : {W : Type 0} (at : W → ℕ → Bool) (l : ℕ) (shots : Shots W) → AreFlipped at l count shot d.flips shots → AreRuns at l n coins items shots
-  lane-runs at l shots are = record {
-    records =
-        are.records
-        ∙ ap (λ bits. flipped bits d.flips.records) (is.records ∙ sym (ap (λ (s : State). s.records) zero_state))
-        ∙ sym (records-flipped n zero_coins (changed zero_coins coins) xs xs count d.flips lane.fronts.given lane.fronts.matches)
-        ∙ ap (λ (s : State). s.records) lane_state;
-    free =
-        are.free
-        ∙ is.free
-        ∙ sym (ap (λ (s : State). s.free) zero_state)
-        ∙ sym (flipped-nowhere (run n zero_coins xs (start count)).free (all_coins_of xs))
-        ∙ ap (flipped (run n zero_coins xs (start count)).free) (sym lane.still)
-        ∙ sym (flags-flipped n zero_coins (changed zero_coins coins) xs xs count d.flips lane.fronts.given lane.fronts.matches)
-        ∙ ap (λ (s : State). s.free) lane_state;
-    detectors =
-        are.detectors
-        ∙ ap (λ bits. flipped bits d.flips.detectors) (is.detectors ∙ sym (ap (λ (s : State). s.detectors) zero_state))
-        ∙ sym (detectors-flipped n zero_coins (changed zero_coins coins) xs xs count d.flips lane.fronts.given lane.fronts.matches)
-        ∙ ap (λ (s : State). s.detectors) lane_state;
-    observables =
-        are.observables
-        ∙ ap (λ bits. flipped bits (with_additions d.flips.additions (replicate count false))) (is.observables ∙ sym (ap (λ (s : State). s.observables) zero_state))
-        ∙ sym (observables-flipped n zero_coins (changed zero_coins coins) xs xs count d.flips lane.fronts.given lane.fronts.matches)
-        ∙ ap (λ (s : State). s.observables) lane_state;
-  }
+  lane-runs at l shots flipped_so =
+      let are = subst (λ o. AreFlipped at l count shot o shots) lane.kept flipped_so in record {
+        records =
+            are.records
+            ∙ ap (λ bits. flipped bits lane.flips.records) (is.records ∙ sym (ap (λ (s : State). s.records) zero_state))
+            ∙ sym (records-flipped n zero_coins (changed zero_coins coins) xs xs count lane.flips lane.fronts.given lane.fronts.matches)
+            ∙ ap (λ (s : State). s.records) lane_state;
+        free =
+            are.free
+            ∙ is.free
+            ∙ sym (ap (λ (s : State). s.free) zero_state)
+            ∙ sym (flipped-nowhere (run n zero_coins xs (start count)).free (all_coins_of xs))
+            ∙ ap (flipped (run n zero_coins xs (start count)).free) (sym (ap (λ (o : RunOutput). o.free) (sym lane.kept) ∙ lane.still))
+            ∙ sym (flags-flipped n zero_coins (changed zero_coins coins) xs xs count lane.flips lane.fronts.given lane.fronts.matches)
+            ∙ ap (λ (s : State). s.free) lane_state;
+        detectors =
+            are.detectors
+            ∙ ap (λ bits. flipped bits lane.flips.detectors) (is.detectors ∙ sym (ap (λ (s : State). s.detectors) zero_state))
+            ∙ sym (detectors-flipped n zero_coins (changed zero_coins coins) xs xs count lane.flips lane.fronts.given lane.fronts.matches)
+            ∙ ap (λ (s : State). s.detectors) lane_state;
+        observables =
+            are.observables
+            ∙ ap (λ bits. flipped bits (with_additions lane.flips.additions (replicate count false))) (is.observables ∙ sym (ap (λ (s : State). s.observables) zero_state))
+            ∙ sym (observables-flipped n zero_coins (changed zero_coins coins) xs xs count lane.flips lane.fronts.given lane.fronts.matches)
+            ∙ ap (λ (s : State). s.observables) lane_state;
+      }

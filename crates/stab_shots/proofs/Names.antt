@@ -66,7 +66,7 @@ pub use Rattle.stab_results.specs.Formats.{number, b8_bytes}
 pub use Rattle.stab_run.proofs.CoinLemmas.{coins-append, coins-are, coins-steps}
 pub use Rattle.stab_run.proofs.FitLemmas.{check-fits, check-steps, check-whole, counted-steps}
 pub use Rattle.stab_run.proofs.LookbackLemmas.{looked_up-more, parity-same, or-left, or-right}
-pub use Rattle.stab_run.proofs.PointLemmas.{rest-joined, records-are-records}
+pub use Rattle.stab_run.proofs.PointLemmas.{records-are-records}
 pub use Rattle.stab_run.proofs.RecordLemmas.{ones-append}
 pub use Rattle.stab_run.proofs.RoundLemmas.{rounds-rounds, rounds-within}
 pub use Rattle.stab_run.proofs.RunLemmas.{joined-assoc, joined-nothing, after-append, outputs-append, fits-steps}
@@ -74,7 +74,7 @@ pub use Rattle.stab_run.proofs.StateLemmas.{run-state}
 pub use Rattle.stab_run.proofs.StepsLeftLemmas.{take-steps, take-none, take-empty}
 pub use Rattle.stab_run.proofs.TargetLemmas.{fits-target, coins-measured}
 pub use Rattle.stab_run.specs.Coins.{seed_coin, Listed, list_coin}
-pub use Rattle.stab_run.specs.Cuts.{rest_of}
+pub use Rattle.stab_run.specs.Cuts.{lengths_of, rest_of}
 pub use Rattle.stab_run.specs.Points.{RunOutput, joined, all_coins_of, nothing, coins_of, with_additions, origin, point_after, outputs, state_at, Point, given, next_point}
 pub use Rattle.stab_run.specs.ProgramStates.{StepFits, ProgramState, IsAt, Leads, IsRun, program_state, output_of}
 pub use Rattle.stab_run.specs.Records.{looked_up, ones, parity}
@@ -92,7 +92,7 @@ pub use Rattle.stab_tableau.specs.Traces.{Event, member, is_free}
 pub use Rattle.stab_tableau.specs.inner.InverseRows.{blank}
 pub use Rattle.stab_shots.specs.Blocks.{differing, first_exchanged, second_exchanged, row_bytes}
 pub use Rattle.stab_shots.specs.Bytes.{lane_bytes, byte_at}
-pub use Rattle.stab_shots.specs.Differences.{Difference, frame_of_difference, next_coin, lane_difference, Follows, IsMeasuredBy, IsLane, IsAsLong, AreFlipped}
+pub use Rattle.stab_shots.specs.Differences.{Difference, frame_of_difference, next_coin, lane_difference, Follows, IsMeasuredBy, IsLane, IsAsLong, AreFlipped, without_outcomes}
 pub use Rattle.stab_shots.specs.Lanes.{lane_letters, lane_bits, letter_in, letter_times, lane_additions, lane_output}
 pub use Rattle.stab_shots.specs.LaneCheckpoints.{lengths_in, no_difference, ArePropagated, IsKeptAfter, IsCheckpoint, times}
 pub use Rattle.stab_shots.specs.PartRecordings.{IsPartRecording, IsSized, HasPivots, given_by}

@@ -25,6 +25,10 @@ pub record Difference : Type 0 where
 abbrev pub lane_difference : {W : Type 0} → (W → ℕ → Bool) → ℕ → Lanes W → Difference
 lane_difference at l lanes = record { letters = lane_letters at l lanes.frames.letters.items; flips = lane_output at l lanes }
 
+-- what an output has except its outcomes
+abbrev pub without_outcomes : RunOutput → RunOutput
+without_outcomes o = record o { outcomes = [] }
+
 -- as a frame
 abbrev pub frame_of_difference : Difference → Frame
 frame_of_difference d = record { letters = d.letters; flips = d.flips.records }
@@ -33,10 +37,10 @@ frame_of_difference d = record { letters = d.letters; flips = d.flips.records }
 abbrev pub next_coin : Difference → ℕ
 next_coin d = length d.flips.free
 
--- with these pivots a difference went over steps, as frames do
+-- with these pivots a difference went over steps, as frames do, but that flips of outcomes are kept nowhere
 pub record Follows (n : ℕ) (pivots : RunPivots) (xs : List Step) (old new : Difference) : Type 0 where
   pub frame : frame_of_difference new ≡ frame_over n pivots xs (next_coin old) (frame_of_difference old)
-  pub flips : new.flips ≡ joined old.flips (flips_over n pivots xs (next_coin old) (frame_of_difference old))
+  pub flips : new.flips ≡ joined old.flips (without_outcomes (flips_over n pivots xs (next_coin old) (frame_of_difference old)))
   pub coin : next_coin new ≡ next_coin old + all_coins_of xs
 
 -- it went over a measurement, whose outcome is flipped or not
@@ -48,7 +52,9 @@ pub record IsMeasuredBy (pivots : RunPivots) (measured : Signed) (flip : Bool) (
 -- after these steps from the first on: they give with the coins of a lane what they give with coins 0, flipped, and lead to points that
 -- differ by its frame; which outcomes are random is flipped nowhere
 pub record IsLane (n : ℕ) (coins : ℕ → Bool) (xs : List Step) (d : Difference) : Type 0 where
-  pub fronts : AreFronts n zero_coins (changed zero_coins coins) xs xs (frame_of_difference d) d.flips
+  pub flips : RunOutput
+  pub fronts : AreFronts n zero_coins (changed zero_coins coins) xs xs (frame_of_difference d) flips
+  pub kept : d.flips ≡ without_outcomes flips
   pub still : d.flips.free ≡ replicate (all_coins_of xs) false
 
 -- there is a flip for each bit of a shot that has this many observables

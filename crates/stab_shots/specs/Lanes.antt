@@ -1,6 +1,6 @@
 -- Lanes: what a lane of words stands for.
 -- Source: the shots of C. Gidney, Stim (2021), which lie side by side in words.
-use Rattle.std.specs.Prelude.{ℕ, Bool, true, false, List, map}
+use Rattle.std.specs.Prelude.{ℕ, Bool, true, false, List, [], map}
 use Rattle.stab_gates.specs.declared.letter.Letter.{Letter}
 use Rattle.stab_gates.specs.Letters.{letter_product}
 use Rattle.stab_pauli.specs.inner.Words.{letter_of_bits}
@@ -31,11 +31,12 @@ letter_times false more letter = letter
 abbrev pub lane_additions : {W : Type 0} → (W → ℕ → Bool) → ℕ → List (Sum W) → List Addition
 lane_additions at l sums = map (λ s. record { observable = s.observable; bit = at s.parity l }) sums
 
--- what a lane has given so far
+-- what a lane has given so far; it keeps no outcomes
 abbrev pub lane_output : {W : Type 0} → (W → ℕ → Bool) → ℕ → Lanes W → RunOutput
 lane_output at l lanes = record {
   records = lane_bits at l lanes.records.items;
   free = lanes.free.items;
+  outcomes = [];
   detectors = lane_bits at l lanes.detectors.items;
   additions = lane_additions at l lanes.sums.items;
 }

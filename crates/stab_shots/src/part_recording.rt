@@ -140,6 +140,7 @@ pub fn shot_of(
     let Outputs {
         records,
         free: _,
+        outcomes: _,
         detectors,
         additions,
     } = outputs;
