@@ -29,6 +29,8 @@ mod paulis;
 #[cfg(test)]
 mod results;
 #[cfg(test)]
+mod round_cases;
+#[cfg(test)]
 mod rounds;
 #[cfg(test)]
 mod rows;
