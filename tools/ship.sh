@@ -1,7 +1,7 @@
 #!/bin/sh
-# Builds the program from the sources as they are, for x86-64-v2 and for x86-64-v3, and puts both into python/stabsim/programs with
+# Builds the program from the sources as they are, for x86-64-v3 and for x86-64-v2, and puts both into python/stabsim/programs with
 # the text shipped.txt: the version, the checksum of the sources, the logic of the proofs, and the checksum of each program. Proofs that
-# are kept here are not made again.
+# are kept here are not made again. The program for x86-64-v2 is built last: that one stays in crates/stabsim/out, and runs here anyway.
 set -eu
 top=$(CDPATH='' cd -- "$(dirname -- "$0")/.." && pwd)
 programs=$top/python/stabsim/programs
@@ -12,6 +12,7 @@ fail() {
     exit 1
 }
 
+command -v rt >/dev/null || fail "it needs the Rattle toolchain: its command rt is not on the PATH"
 # Files that git doesn't keep would count for the checksum, and be missing in each clone.
 others=$(git ls-files --others --exclude=out/ -- crates | head -n 1)
 [ -z "$others" ] || fail "git does not keep $others, although it is among the sources: add it or remove it"
@@ -23,7 +24,7 @@ version=$(sed -n 's/^__version__ = "\(.*\)"$/\1/p' python/stabsim/__init__.py)
 sources=$(tools/sum_sources.sh)
 logic=$(rt version | sed 's/.* logic //')
 printf '%s\n' "version $version" "sources $sources" "logic $logic" >"$made/shipped.txt"
-for level in v2 v3; do
+for level in v3 v2; do
     name=stabsim-x86-64-$level
     tools/build_program.sh "x86-64-$level"
     install -m 755 crates/stabsim/out/stabsim "$made/$name"

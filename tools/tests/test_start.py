@@ -244,6 +244,47 @@ def test_an_interrupt_ends_a_build_and_keeps_what_rt_said(tree: Tree) -> None:
     assert (build.wait(), log.read_text()) == (130, SAID)
 
 
+# An rt that builds a program which says for which processor it is, and does more.
+RT_TO_SHIP = """[ "$1" = run ] || exec echo kit logic one
+sed "s/LEVEL/${{2##*-}}/" '{}' >out/stabsim
+chmod +x out/stabsim
+{}"""
+TO_SHIP = """#!/bin/sh
+[ "$1" = --version ] && printf 'stabsim 0.1.0\\nproved in the logic one of Rattle\\n' && exit
+echo "LEVEL: $*"
+"""
+
+
+def test_both_programs_are_shipped_or_none(tree: Tree) -> None:
+    def ship(more: str = "") -> Ended:
+        tree.command("rt", RT_TO_SHIP.format(tree.bin / "to_ship", more))
+        return tree.run(program="tools/ship.sh")
+
+    write(tree.top / "tools/ship.sh", (TOP / "tools/ship.sh").read_text())
+    write(tree.top / "python/stabsim/__init__.py", '__version__ = "0.1.0"\n')
+    write(tree.bin / "to_ship", TO_SHIP)
+    write(tree.source, "fn main() {}\n// more\n")
+    shipped = tree.programs / "shipped.txt"
+    before = shipped.read_text()
+    assert tree.refuses("not those of a shipped program")
+    subprocess.run(["git", "init", "-q"], cwd=tree.top, check=True)
+    assert ship()[::2] == (1, "ship: git does not keep crates/stabsim/src/main.rt, although it is among the sources: add it or remove it\n")
+    subprocess.run(["git", "add", "crates"], cwd=tree.top, check=True)
+    assert ship(f"echo // changed >>'{tree.source}'")[0] == 1 and ship("exit 3")[0] == 3
+    write(tree.bin / "to_ship", TO_SHIP.replace("0.1.0", "0.1.1"))
+    assert "--version says other than shipped.txt" in ship()[2] and shipped.read_text() == before
+    write(tree.bin / "to_ship", TO_SHIP)
+    status, output, _ = ship()
+    assert (status, output) == (0, shipped.read_text()) and output.startswith(f"version 0.1.0\nsources {tree.sum_of_sources()}\nlogic one\n")
+    # What was built last runs on every processor, and is what the gate builds.
+    assert tree.run("x") == (0, "v2: x\n", "")
+    (tree.out / "stabsim").unlink()
+    assert tree.run("x") == (0, "v3: x\n", "")
+    tree.processor(V2)
+    assert tree.run("x") == (0, "v2: x\n", "")
+    assert check_shipped.differences(tree.programs, {"version": "0.1.0", "sources": tree.sum_of_sources(), "logic": "one"}, {}) == []
+
+
 def test_what_is_shipped_is_compared_with_what_was_built(tree: Tree) -> None:
     built = {it: (tree.programs / it).read_bytes() for it in (check_shipped.V2, check_shipped.V3)}
 
