@@ -16,8 +16,11 @@ needs_browser = pytest.mark.skipif(not CHROMIUM or not DRIVER or bool(MISSING), 
 # A shell that starts tests in the background has them ignore Ctrl-C, and the server that they start would do so too.
 signal.signal(signal.SIGINT, signal.default_int_handler)
 
-if not MISSING:
+if MISSING:
+    Keys = TimeoutException = None
+else:
     from selenium import webdriver
+    from selenium.common.exceptions import StaleElementReferenceException, TimeoutException
     from selenium.webdriver.chrome.service import Service
     from selenium.webdriver.common.action_chains import ActionChains
     from selenium.webdriver.common.by import By
@@ -35,6 +38,9 @@ HELD = {
     "Delete": {"key": "Delete", "code": "Delete", "windowsVirtualKeyCode": 46},
 }
 
+# Where an element is in the window, once it can be seen.
+BOX = "const it = document.querySelector(arguments[0])?.getBoundingClientRect(); return it?.width ? [it.x, it.y, it.width, it.height] : null;"
+
 
 class Page:
     """A server of the page on a circuit, and a browser that looks at it."""
@@ -51,15 +57,22 @@ class Page:
 
     def open(self):
         self.browser.get(self.address)
-        # Until the browser has told the panes their sizes, nothing in them can be pointed at.
-        self.wait(lambda: self.find("numbers").text and self.ask("page.views.layout.isThere"))
+        self.wait(lambda: self.find("numbers").text)
+        self.settle()
 
     def close(self):
         self.server.send_signal(signal.SIGINT)
         self.server.wait(timeout=LONGEST)
 
-    def wait(self, test):
-        return WebDriverWait(self.browser, LONGEST, poll_frequency=0.05).until(lambda _: test())
+    def wait(self, test, longest=LONGEST):
+        """Waits until a test is passed, also if the page draws an element anew while it is looked at."""
+        waiting = WebDriverWait(self.browser, longest, poll_frequency=0.05, ignored_exceptions=[StaleElementReferenceException])
+        return waiting.until(lambda _: test())
+
+    def settle(self):
+        """Waits until all that the page has asked for is answered, and what it shows is where it stays: the browser says new sizes of panes
+        some time later, and an answer may go to another moment."""
+        self.wait(lambda: self.ask("page.isIdle() && page.isInPlace()"))
 
     # What is shown.
 
@@ -105,9 +118,10 @@ class Page:
         """The circuit as it is now, by the page's own items."""
         return self.ask("page.text()")
 
-    # What a person does.
+    # What a person does, once nothing moves.
 
     def click(self, selector):
+        self.settle()
         self.wait(lambda: self.browser.execute_script(
             "const it = document.querySelector(arguments[0]); it?.click(); return Boolean(it);", selector))
 
@@ -115,10 +129,12 @@ class Page:
         self.click(f"#text .row[data-path='{path}']")
 
     def unfold(self, place):
+        self.settle()
         self.ask("page.shown.select([words[0]])", place)
         self.click(f"#text .row[data-path='{place}'] .fold")
 
     def go_to(self, moment):
+        self.settle()
         self.ask("page.shown.goTo(words[0])", moment)
 
     def put_in(self, words):
@@ -127,6 +143,7 @@ class Page:
         field.send_keys(words, Keys.ENTER)
 
     def focus(self, selector):
+        self.settle()
         self.browser.execute_script("document.querySelector(arguments[0]).focus()", selector)
 
     def press(self, *keys, held=()):
@@ -139,17 +156,24 @@ class Page:
             chain = chain.key_up(key)
         chain.perform()
 
+    def seen(self, code, *words):
+        """Where something is seen, as code of the page's views answers it."""
+        self.settle()
+        return self.wait(lambda: self.ask(f"page.views.{code}", *words))
+
     def spot(self, qubit):
         """Where a qubit is seen on the picture."""
-        return self.wait(lambda: self.ask("page.views.layout.at(words[0])", qubit))
+        return self.seen("layout.at(words[0])", qubit)
+
+    def spot_of_place(self, column, row):
+        """Where a place of the grid is seen on the picture."""
+        return self.seen("layout.spot(words)", column, row)
 
     def choose_qubit(self, *numbers):
         """Clicks qubits, those after the first with Shift, by one chain of events."""
-        picture = self.find("picture")
-        width, height = picture.rect["width"], picture.rect["height"]
         chain = ActionChains(self.browser, duration=0)
-        for place, (left, top) in enumerate([self.spot(number) for number in numbers]):
-            chain.move_to_element_with_offset(picture, round(left - width / 2), round(top - height / 2)).click()
+        for place, spot in enumerate([self.spot(number) for number in numbers]):
+            self.point_at("#picture", *spot, chain=chain).click()
             if place == 0:
                 chain.key_down(Keys.SHIFT)
         chain.key_up(Keys.SHIFT).perform()
@@ -161,7 +185,7 @@ class Page:
 
     def click_bit(self, bit):
         """Clicks a detector or observable on the timeline."""
-        self.point_at("#timeline", *self.ask("page.views.timeline.at(words[0])", bit)).click().perform()
+        self.point_at("#timeline", *self.seen("timeline.at(words[0])", bit)).click().perform()
 
     def hold(self, name, repeats=4):
         """Holds a key down, so that it repeats, and lets it go."""
@@ -172,13 +196,14 @@ class Page:
         self.browser.execute_cdp_cmd("Input.dispatchKeyEvent", {"type": "keyUp", **{word: key[word] for word in key if word != "text"}})
 
     def point_at(self, selector, left=None, top=None, chain=None):
-        """Moves the pointer to the middle of an element, or to a spot given in pixels from its upper left corner; goes on with a chain of events."""
-        element = self.browser.find_element(By.CSS_SELECTOR, selector)
+        """Moves the pointer to the middle of an element, or to a spot given in pixels from its upper left corner; goes on with a chain of
+        events. It is a place of the window, so that the element may be drawn anew until the chain is performed."""
+        self.settle()
+        x, y, width, height = self.wait(lambda: self.browser.execute_script(BOX, selector))
         chain = chain or ActionChains(self.browser, duration=0)
-        if left is None:
-            return chain.move_to_element(element)
-        width, height = element.rect["width"], element.rect["height"]
-        return chain.move_to_element_with_offset(element, round(left - width / 2), round(top - height / 2))
+        chain.w3c_actions.pointer_action.move_to_location(round(x + (width / 2 if left is None else left)), round(y + (height / 2 if left is None else top)))
+        chain.w3c_actions.key_action.pause()
+        return chain
 
     def drag(self, *spots, held=None, last="#picture"):
         """Drags over the picture from one spot to others, the last of which may be on another element, with a key held down."""

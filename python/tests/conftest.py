@@ -36,5 +36,12 @@ def open_page(browser, tmp_path):
         return page
 
     yield opened
+    # A test that fails may leave a tab of its own, in which the next one would go on.
+    first, *others = browser.window_handles if pages else [None]
+    for other in others:
+        browser.switch_to.window(other)
+        browser.close()
+    if others:
+        browser.switch_to.window(first)
     for page in pages:
         page.close()

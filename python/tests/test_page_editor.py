@@ -60,7 +60,7 @@ def test_a_repetition_code_is_drawn_from_nothing(open_page):
     page = open_page(None)
     page.press("q")
     for column in range(5):
-        page.point_at("#picture", *page.ask("page.views.layout.spot(words)", column, 1)).click().perform()
+        page.point_at("#picture", *page.spot_of_place(column, 1)).click().perform()
         page.wait(lambda: len(page.history()) == column + 2 and page.is_idle())
     page.press(Keys.ESCAPE)
     page.choose_qubit(*range(5))
@@ -121,7 +121,7 @@ def test_a_surface_code_is_drawn_from_nothing(open_page):
     page = open_page(None)
     page.press("q")
     for place, _ in placed:
-        page.point_at("#picture", *page.ask("page.views.layout.spot(words)", *map(float, place.split(", ")))).click().perform()
+        page.point_at("#picture", *page.spot_of_place(*map(float, place.split(", ")))).click().perform()
     page.wait(lambda: len(page.history()) == 1 + len(placed) and page.is_idle())
     page.press(Keys.ESCAPE)
     measured = []
@@ -209,7 +209,7 @@ def test_of_several_qubits_each_goes_with_the_one_that_way(page):
     page.wait(lambda: page.find("message").text == "1 of the chosen has no qubit there")
     # The click shows the way even if the last of them has no partner there, and a drag from any of them does too.
     page.press("v")
-    page.point_at("#picture", *page.ask("page.views.layout.spot(words)", 2, 0)).click().perform()
+    page.point_at("#picture", *page.spot_of_place(2, 0)).click().perform()
     page.wait(lambda: "CZ 0 1 2 3" in body(page))
     page.press("w")
     page.drag(page.spot(0), page.spot(1))
@@ -217,7 +217,7 @@ def test_of_several_qubits_each_goes_with_the_one_that_way(page):
     # Two places to the right of each there is none.
     count = len(page.history())
     page.press("c")
-    page.point_at("#picture", *page.ask("page.views.layout.spot(words)", 3, 0)).click().perform()
+    page.point_at("#picture", *page.spot_of_place(3, 0)).click().perform()
     page.wait(lambda: page.find("message").text == "none of the chosen has a qubit there")
     assert len(page.history()) == count
 
@@ -225,12 +225,12 @@ def test_of_several_qubits_each_goes_with_the_one_that_way(page):
 def test_a_tool_puts_a_qubit_where_there_is_none(open_page):
     page = open_page(None)
     page.press("r")
-    page.point_at("#picture", *page.ask("page.views.layout.spot(words)", 2, 3)).click().perform()
+    page.point_at("#picture", *page.spot_of_place(2, 3)).click().perform()
     page.wait(lambda: page.circuit() == "QUBIT_COORDS(2, 3) 0\nR 0\n" and page.is_idle())
     page.press("c")
     page.press(Keys.ESCAPE, "q")
     # With Shift each second place of the box, and none that is taken.
-    page.drag(page.ask("page.views.layout.spot(words)", 2, 3), page.ask("page.views.layout.spot(words)", 6, 5), held=Keys.SHIFT)
+    page.drag(page.spot_of_place(2, 3), page.spot_of_place(6, 5), held=Keys.SHIFT)
     page.wait(lambda: page.chosen() == [1, 2, 3, 4, 5])
     placed = [line.split(") ")[0] for line in page.circuit().splitlines()[1:6]]
     assert placed == [f"QUBIT_COORDS({place}" for place in ("4, 3", "6, 3", "2, 5", "4, 5", "6, 5")]
@@ -250,9 +250,7 @@ def test_what_acts_is_copied_to_another_tick(page):
 
 def test_a_gate_is_dragged_to_another_tick(page):
     page.go_to(1)
-    def column(moment):
-        return page.ask("page.views.timeline.columnOf(words[0])", moment)
-    page.drag(page.spot(2), page.spot(0), column(2), last="#timeline")
+    page.drag(page.spot(2), page.spot(0), page.seen("timeline.columnOf(words[0])", 2), last="#timeline")
     page.wait(lambda: body(page) == ["R 0 1 2 3", "TICK", "CX 0 1", "TICK", "CX 2 3", "M 0 1"])
     page.wait(lambda: page.find("moment-said").text == "tick 2" and not page.find("tip").is_displayed())
     # On no tick nothing is moved.
@@ -303,15 +301,15 @@ def test_a_tick_is_moved_by_keys_and_by_its_mark(open_page):
     page.press("z", held=[Keys.CONTROL])
     page.wait(lambda: body(page)[2] == "TICK")
     # A click on a mark goes to its moment.
-    page.point_at("#timeline", *page.ask("page.views.timeline.markOf(words[0])", 1)).click().perform()
+    page.point_at("#timeline", *page.seen("timeline.markOf(words[0])", 1)).click().perform()
     page.wait(lambda: page.find("moment-said").text == "tick 1")
     assert len(page.history()) == 4
 
 
 def drag_mark(page, moment, target):
     """Drags the mark of the tick that ends a moment to the middle of another."""
-    chain = page.point_at("#timeline", *page.ask("page.views.timeline.markOf(words[0])", moment)).click_and_hold()
-    page.point_at("#timeline", *page.ask("page.views.timeline.columnOf(words[0])", target), chain=chain).release().perform()
+    chain = page.point_at("#timeline", *page.seen("timeline.markOf(words[0])", moment)).click_and_hold()
+    page.point_at("#timeline", *page.seen("timeline.columnOf(words[0])", target), chain=chain).release().perform()
 
 
 def test_a_tick_that_may_not_be_moved_stays(open_page):

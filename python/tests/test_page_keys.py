@@ -22,6 +22,14 @@ def put_x(page):
     """An X on qubit 0, which stays in focus."""
     page.type_on(0, "x")
     page.wait(lambda: page.history() == ["opened", "insert 1 X 0"])
+    page.settle()
+
+
+def choose_known(page, qubit):
+    """Chooses a qubit, and waits until it is known what each error there would flip."""
+    page.choose_qubit(qubit)
+    page.wait(lambda: page.texts("#about-errors .follow:not(:disabled)"))
+    page.settle()
 
 
 def put_z_last(page):
@@ -167,8 +175,7 @@ def next_stop(page):
 def test_the_tab_key_stops_once_in_each_pane(open_page):
     page = open_page("R 0 1\nREPEAT 3 {\n    TICK\n    CX 0 1\n    TICK\n    MR 1\n    DETECTOR rec[-1]\n}\nTICK\nM 0\n")
     page.go_to(3)
-    page.choose_qubit(0)
-    page.wait(lambda: "not known yet" not in page.find("about-errors").text)
+    choose_known(page, 0)
     page.focus("#mark")
     found = [page.browser.execute_script(PANE)]
     while len(found) < 20 and (len(found) < 2 or found[-1] != "none"):
@@ -181,7 +188,7 @@ def test_in_the_inspector_arrows_lead_from_button_to_button(page):
     page.wait(lambda: page.texts("#about-errors .link") == ["D0", "D0"])
     page.focus("#about-qubit .link")
     page.press(Keys.ARROW_DOWN, Keys.ARROW_DOWN)
-    page.wait(lambda: page.browser.switch_to.active_element.text == "D0")
+    page.wait(lambda: page.browser.execute_script("return document.activeElement.textContent") == "D0")
     page.press(Keys.ENTER)
     page.wait(lambda: page.ask("page.shown.bit") == "D0")
     page.wait(lambda: page.ask("document.querySelectorAll(`#inspector button[tabindex='0']`).length") == 1)
@@ -191,8 +198,7 @@ def test_arrows_move_between_detectors_on_the_timeline(open_page):
     # Two places with a detector each at two times.
     measured = "MR 0 1\nDETECTOR(0, 0, {0}) rec[-2]\nDETECTOR(0, 1, {0}) rec[-1]\nTICK\n"
     page = open_page("R 0 1\nTICK\n" + measured.format(0) + measured.format(1))
-    page.choose_qubit(0)
-    page.wait(lambda: "not known yet" not in page.find("about-errors").text)
+    choose_known(page, 0)
     page.focus("#timeline")
     shift = [Keys.SHIFT]
     for key, held, chosen in ((Keys.ARROW_DOWN, (), "D0"), (Keys.ARROW_DOWN, (), "D1"), (Keys.ARROW_RIGHT, shift, "D3"), (Keys.ARROW_UP, (), "D2"),

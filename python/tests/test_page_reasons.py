@@ -155,8 +155,8 @@ def test_a_schedule_is_exchanged_and_the_distance_falls(open_page):
 
 SLOW = """#!/bin/sh
 [ "$1" = distance ] || exec "{program}" "$@"
-echo "distance: no set of 1" >&2
 echo $$ > "{pid}"
+echo "distance: no set of 1" >&2
 exec sleep 600
 """
 

@@ -29,7 +29,7 @@ def said(page):
 
 
 def test_a_detector_is_at_its_moment_in_the_row_of_its_place(page):
-    places = {number: page.ask("page.views.timeline.at(words[0])", f"D{number}") for number in (0, 1)}
+    places = {number: page.seen("timeline.at(words[0])", f"D{number}") for number in (0, 1)}
     assert places[0][1] == places[1][1] and places[0][0] < places[1][0]
     for number, spot in places.items():
         page.point_at("#timeline", *spot).perform()

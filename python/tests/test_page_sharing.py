@@ -1,12 +1,13 @@
 """Circuits that are given to the page and taken from it: pasted, dropped, in a link, exported; and how its answers are guarded."""
 
+import contextlib
 import http.client
 import time
 import urllib.parse
 import xml.etree.ElementTree
 
 import pytest
-from browsing import needs_browser
+from browsing import TimeoutException, needs_browser
 from test_page_editor import FOUR
 
 pytestmark = needs_browser
@@ -28,24 +29,29 @@ def test_a_circuit_is_pasted_and_undo_brings_the_old_one_back(page):
     assert not page.find("left-out").is_displayed()
 
 
-def dropped(page, **data):
-    """Drops something on the picture, by events of the browser's own. The browser learns that a drop is taken from one event for the
-    next, some time later."""
+def drop(page, is_taken, **data):
+    """Drops something on the picture, by events of the browser's own. From one event the browser learns for the next that a drop is taken,
+    but some time later: so a drop that is not taken is tried again."""
     box = page.find("picture").rect
-    for kind in ("dragEnter", "dragOver", "dragOver", "drop"):
-        told = {"type": kind, "x": box["x"] + 90, "y": box["y"] + 90, "data": {"items": [], "dragOperationsMask": 1, **data}}
-        page.browser.execute_cdp_cmd("Input.dispatchDragEvent", told)
-        time.sleep(0.3)
+
+    def dropped():
+        for kind in ("dragEnter", "dragOver", "dragOver", "drop"):
+            told = {"type": kind, "x": box["x"] + 90, "y": box["y"] + 90, "data": {"items": [], "dragOperationsMask": 1, **data}}
+            page.browser.execute_cdp_cmd("Input.dispatchDragEvent", told)
+            time.sleep(0.3)
+        with contextlib.suppress(TimeoutException):
+            return page.wait(is_taken, longest=5)
+
+    page.wait(dropped)
 
 
 def test_a_circuit_is_dropped_as_a_file_or_as_text(page, tmp_path):
     file = tmp_path / "dropped_file.stim"
     file.write_text("R 3\nDEPOLARIZE1(0.1) 3\nM 3\n")
-    dropped(page, files=[str(file)])
-    page.wait(lambda: page.history() == ["opened", "open dropped_file.stim"])
+    drop(page, lambda: page.history() == ["opened", "open dropped_file.stim"], files=[str(file)])
     assert page.circuit() == "R 3\nM 3\n" and page.find("left-out").text.startswith("The noise of 1 line")
-    dropped(page, items=[{"mimeType": "text/plain", "data": "H 2\n"}])
-    page.wait(lambda: page.history()[-1] == "open dropped.stim" and page.circuit() == "H 2\n")
+    text = [{"mimeType": "text/plain", "data": "H 2\n"}]
+    drop(page, lambda: page.history()[-1] == "open dropped.stim" and page.circuit() == "H 2\n", items=text)
 
 
 def test_a_link_holds_the_circuit(page, open_page):
@@ -56,8 +62,8 @@ def test_a_link_holds_the_circuit(page, open_page):
     page.wait(lambda: "#circuit=" in page.browser.current_url)
     letters = urllib.parse.urlsplit(page.browser.current_url).fragment
     drawn = page.circuit()
-    other = open_page("H 0\n")
-    page.browser.execute_script("location.hash = arguments[0]; location.reload()", letters)
+    other = open_page("H 0\n", is_opened=False)
+    other.browser.get(f"{other.address}#{letters}")
     other.wait(lambda: other.history() == ["opened", "open linked.stim"] and other.circuit() == drawn)
     assert "circuit=" not in other.browser.current_url
 

@@ -45,7 +45,8 @@ class Known:
     async def ask(self, question: Message, text: bytes = b"") -> str:
         """Asks the process, with a text that follows the question, and answers what it says."""
         async with self.asking:
-            if self.process is None or self.process.returncode is not None:
+            # For one that has ended a new one begins with a table; it has none to look up.
+            if self.process is None or (question["ask"] == "table" and self.process.returncode is not None):
                 self.process = await asyncio.create_subprocess_exec(
                     sys.executable, "-m", "stabsim.page.table_process", stdin=PIPE, stdout=PIPE, limit=MOST_BYTES,
                     env={**os.environ, "PYTHONPATH": os.pathsep.join(sys.path)})

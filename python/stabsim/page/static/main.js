@@ -266,7 +266,13 @@ takeFiles(by("file"), openText, (text) => isCopied(text) && Boolean(editor.paste
 takeCopies({ shown, editor, say });
 showLegend(by("legend"));
 
+// Whether views know the sizes of their panes, which the browser says some time after they change.
+function isInPlace() {
+  const isSized = ([width, height], pane) => width === pane.clientWidth && height === pane.clientHeight;
+  return views.layout.isThere && isSized(views.layout.size, by("picture")) && isSized(views.timeline.size, by("timeline"));
+}
+
 // For tests: what is shown, where it is seen, and whether more is to come.
 export const page = {
-  shown, views, isIdle: () => link.isIdle, moments: () => momentsOf(shown.state.items), text: () => shown.state.items.map((item) => `${textOf(item)}\n`).join(""),
+  shown, views, isInPlace, isIdle: () => link.isIdle, moments: () => momentsOf(shown.state.items), text: () => shown.state.items.map((item) => `${textOf(item)}\n`).join(""),
 };

@@ -81,6 +81,10 @@ export class TimelineView {
     this.bringIntoSight(state.moment);
   }
 
+  get size() {
+    return this.#size;
+  }
+
   // Where a detector is drawn, from the upper left corner of the canvas, or an observable, as D3 or L0.
   at(bit) {
     const number = Number(bit.slice(1));
