@@ -12,7 +12,7 @@ from stabsim.distances import Distance, Letters, distance_of, of_marks, option_w
 from stabsim.faults import FaultTable
 from stabsim.random_bits import RandomBit, bit_of
 from stabsim.sampling import Sampled
-from stabsim.sure import Sure, sure_of
+from stabsim.sure import Sure, deterministic_of
 
 
 @dataclass(frozen=True)
@@ -68,13 +68,13 @@ class Asked(Sampled):
         """Which detectors, bool (detectors,), and observables, bool (observables,), are the same for all random bits.
 
         >>> import stabsim
-        >>> sure = stabsim.Circuit("MX 0 0\\nDETECTOR rec[-1]\\nDETECTOR rec[-1] rec[-2]").deterministic()
-        >>> sure.detectors.tolist()
+        >>> found = stabsim.Circuit("MX 0 0\\nDETECTOR rec[-1]\\nDETECTOR rec[-1] rec[-2]").deterministic()
+        >>> found.detectors.tolist()
         [False, True]
         """
         has = self.numbers()
         written = program.run(["deterministic", "--out_format", "b8"], self.text)
-        return sure_of(bits.of_b8(written, 1, has.detectors + has.observables)[0], has.detectors)
+        return deterministic_of(bits.of_b8(written, 1, has.detectors + has.observables)[0], has.detectors)
 
     def faults(self, *, everywhere: bool = False, sure_only: bool = False) -> FaultTable:
         """Which detectors and observables each single fault flips: at the targets of `I` alone, or everywhere.
@@ -88,7 +88,7 @@ class Asked(Sampled):
         [('X', 0, [0]), ('Z', 0, [])]
         """
         has = self.numbers()
-        words = ["--everywhere"] * everywhere + ["--sure_only"] * sure_only
+        words = ["--everywhere"] * everywhere + ["--deterministic_only"] * sure_only
         return faults.table_of(program.run(["faults", *words], self.text), has.detectors, has.observables, everywhere)
 
     def coins(self) -> CoinTable:

@@ -35,9 +35,9 @@ class Questioned(Asked):
         before = self.numbers()
         qubits = max([before.qubits, *(flow.qubits for flow in flows)])
         asked = Asked(asking_text(self.text, flows, qubits, before.records))
-        is_sure = asked.deterministic().detectors[before.detectors :]
+        is_deterministic = asked.deterministic().detectors[before.detectors :]
         is_negative = asked.detect(1, seed=0)[0, before.detectors :]
-        found: NDArray[np.bool_] = is_sure & (is_negative == np.array([flow.sign for flow in flows], dtype=np.bool_))
+        found: NDArray[np.bool_] = is_deterministic & (is_negative == np.array([flow.sign for flow in flows], dtype=np.bool_))
         return found
 
     def flow_generators(self, *, qubits: Iterable[int] | None = None, records: bool = True) -> list[Flow]:

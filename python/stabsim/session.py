@@ -19,7 +19,7 @@ from stabsim.random_bits import DecidingCoin, coins_of
 from stabsim.rounds import longest_part, parts_of_block, place_behind
 from stabsim.script import Path, edit_lines, path_text
 from stabsim.session_answers import Changed, ItemSteps, SessionNumbers
-from stabsim.sure import Sure, sure_of
+from stabsim.sure import Sure, deterministic_of
 
 Bits = NDArray[np.bool_]
 
@@ -202,7 +202,7 @@ class Session:
 
     def deterministic(self) -> Sure:
         """Which detectors and observables of the circuit as it is now are the same for all random bits: `Circuit.deterministic` of it."""
-        return sure_of(bits.of_text(self.line("show deterministic")), self.numbers().detectors)
+        return deterministic_of(bits.of_text(self.line("show deterministic")), self.numbers().detectors)
 
     def why(self, bit: str) -> tuple[DecidingCoin, ...]:
         """The coins that decide a detector, as D37, or an observable, as L0: none if it is the same for all random bits.

@@ -18,6 +18,6 @@ class Sure(NamedTuple):
     observables: NDArray[np.bool_]
 
 
-def sure_of(bits: NDArray[np.bool_], detectors: int) -> Sure:
+def deterministic_of(bits: NDArray[np.bool_], detectors: int) -> Sure:
     """The bits of this many detectors, and after them of the observables."""
     return Sure(bits[:detectors], bits[detectors:])

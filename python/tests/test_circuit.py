@@ -69,8 +69,8 @@ def test_a_bell_pair_is_stabilised_by_two_products():
 
 
 def test_what_a_coin_decides_is_not_deterministic():
-    sure = stabsim.Circuit("H 0\nCX 0 1\nM 0 1\nDETECTOR rec[-1]\nDETECTOR rec[-1] rec[-2]\nOBSERVABLE_INCLUDE(0)\n").deterministic()
-    assert sure.detectors.tolist() == [False, True] and sure.observables.tolist() == [True]
+    found = stabsim.Circuit("H 0\nCX 0 1\nM 0 1\nDETECTOR rec[-1]\nDETECTOR rec[-1] rec[-2]\nOBSERVABLE_INCLUDE(0)\n").deterministic()
+    assert found.detectors.tolist() == [False, True] and found.observables.tolist() == [True]
 
 
 def test_marked_faults_flip_what_they_pass():

@@ -53,9 +53,9 @@ def test_the_first_line_tells_steps_and_records(name):
 @pytest.mark.parametrize("name", MEMORIES)
 def test_detectors_and_the_observable_are_0_whatever_the_coins(name):
     circuit = stabsim.Circuit(MEMORIES[name])
-    sure = circuit.deterministic()
+    deterministic = circuit.deterministic()
     detectors, observables = circuit.detect(3, seed=1, separate_observables=True)
-    assert sure.detectors.all() and sure.observables.all() and sure.observables.shape == (OBSERVABLES.get(name, 1),)
+    assert deterministic.detectors.all() and deterministic.observables.all() and deterministic.observables.shape == (OBSERVABLES.get(name, 1),)
     assert not detectors.any() and not observables.any()
 
 

@@ -75,11 +75,11 @@ def test_the_runs_of_all_coins_are_sums_of_rows(seed):
 @pytest.mark.parametrize("seed", range(20, 26))
 def test_a_bit_is_random_by_the_coins_that_flip_it(seed):
     circuit = random_circuit(seed)
-    table, sure = circuit.coins(), circuit.deterministic()
+    table, deterministic = circuit.coins(), circuit.deterministic()
     dense = table.dense()[:, table.records :]
     names = [f"D{it}" for it in range(table.detectors)] + [f"L{it}" for it in range(table.observables)]
     found = {bit.name: bit for bit in circuit.explain()}
-    assert list(found) == [name for name, is_sure in zip(names, [*sure.detectors, *sure.observables]) if not is_sure]
+    assert list(found) == [name for name, stays in zip(names, [*deterministic.detectors, *deterministic.observables]) if not stays]
     with circuit.edit() as session:
         for place, name in enumerate(names):
             rows = np.flatnonzero(dense[:, place])

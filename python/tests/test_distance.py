@@ -158,9 +158,9 @@ def test_no_smaller_set_hides(seed):
         found = circuit.distance(everywhere=everywhere, most=MOST_ERRORS, sure_only=True)
         assert found.distance == Distance(items_of(circuit.text.encode()), everywhere, "XYZ", graphlike=False, deterministic_only=True).least
         if found.distance:
-            sure = circuit.deterministic()
+            deterministic = circuit.deterministic()
             detectors, observables = flipped(circuit, found.errors)
-            assert not any(sure.detectors[it] for it in detectors) and observables
+            assert not any(deterministic.detectors[it] for it in detectors) and observables
 
 
 NOISY = """R 0 1 2 3

@@ -34,7 +34,7 @@ def error_of(table, fault):
 def test_errors_flip_what_the_table_says(text):
     circuit = stabsim.Circuit(text)
     table = circuit.faults(everywhere=True, sure_only=True)
-    sure = circuit.deterministic().detectors
+    deterministic = circuit.deterministic().detectors
     dice = random.Random(3)
     with circuit.edit() as session:
         before = session.circuit()
@@ -42,7 +42,7 @@ def test_errors_flip_what_the_table_says(text):
             faults = dice.sample(range(len(table)), 1 + number % 3)
             session.insert_errors(error_of(table, fault) for fault in faults)
             changed = session.changed()
-            flipped = {it for it in changed.detectors.tolist() if sure[it]} | {table.detectors + it for it in changed.observables.tolist()}
+            flipped = {it for it in changed.detectors.tolist() if deterministic[it]} | {table.detectors + it for it in changed.observables.tolist()}
             expected = set()
             for fault in faults:
                 expected ^= set(table.flipped(fault).tolist())

@@ -90,7 +90,7 @@ def test_a_repetition_code_is_drawn_from_nothing(open_page):
     page.choose_qubit(0)
     do(page, "o")
     assert page.circuit() == REPETITION
-    page.wait(lambda: page.ask("page.shown.state.sure ? [...page.shown.state.sure] : []") == [1] * 6)
+    page.wait(lambda: page.ask("page.shown.state.deterministic ? [...page.shown.state.deterministic] : []") == [1] * 6)
 
 
 TOOLS = {"R": "r", "H": "h", "CX": "c", "MR": "n", "M": "m"}
@@ -141,7 +141,7 @@ def test_a_surface_code_is_drawn_from_nothing(open_page):
     assert lines_of(page.circuit(), int) == wanted
     # By its flows too it does what the code does; its qubits have other numbers, so only parities of records are compared.
     assert stabsim.Circuit(page.circuit()).same_flows(stabsim.Circuit(code), qubits=())
-    page.wait(lambda: page.ask("page.shown.state.sure ? page.shown.state.sure.every((it) => it === 1) : false"))
+    page.wait(lambda: page.ask("page.shown.state.deterministic ? page.shown.state.deterministic.every((it) => it === 1) : false"))
 
 
 def test_a_gate_acts_on_what_is_chosen_and_joins_the_one_before_it(page):

@@ -108,15 +108,15 @@ def test_an_event_comes_before_the_answer_to_what_caused_it(tmp_path):
     run_with_server(tmp_path, CODE, work)
 
 
-def test_a_tab_that_opens_while_sure_bits_are_told_is_told_them_too(tmp_path, monkeypatch):
+def test_a_tab_that_opens_while_deterministic_bits_are_told_is_told_them_too(tmp_path, monkeypatch):
     finding, found, opening, go_on = (threading.Event() for _ in range(4))
 
-    def sure_line(text):
+    def deterministic_line(text):
         finding.set()
         assert found.wait(SECONDS)
         return "1"
 
-    monkeypatch.setattr(serving, "sure_line", sure_line)
+    monkeypatch.setattr(serving, "deterministic_line", deterministic_line)
 
     async def work(server, connect):
         await connect()
@@ -136,7 +136,7 @@ def test_a_tab_that_opens_while_sure_bits_are_told_is_told_them_too(tmp_path, mo
         found.set()
         await asyncio.sleep(0.5)
         go_on.set()
-        await second.hear(lambda message: message.get("sure") == "1")
+        await second.hear(lambda message: message.get("deterministic") == "1")
 
     run_with_server(tmp_path, CODE, work)
 

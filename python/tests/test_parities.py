@@ -20,7 +20,7 @@ def subsets(count):
         yield from map(frozenset, itertools.combinations(range(count), size))
 
 
-def is_sure(records, columns):
+def is_deterministic(records, columns):
     total = 0
     for record in records:
         total ^= columns[record]
@@ -41,7 +41,7 @@ def rank_of(sets):
 def least_spans(columns, known):
     """The spans of a basis of all deterministic parities beside known ones, each as little as can be, by looking through all of them."""
     chosen, spans = list(known), []
-    for its in sorted(filter(lambda it: is_sure(it, columns), subsets(len(columns))), key=span_of):
+    for its in sorted(filter(lambda it: is_deterministic(it, columns), subsets(len(columns))), key=span_of):
         if rank_of([*chosen, its]) > rank_of(chosen):
             chosen.append(its)
             spans.append(span_of(its))
@@ -53,7 +53,7 @@ def test_local_parities_span_as_little_as_any_basis(seed):
     numbers = random.Random(seed)
     columns = [numbers.getrandbits(numbers.choice([1, 2, 3])) for _ in range(9)]
     found = parities.local_parities(columns)
-    assert all(is_sure(its, columns) for its in found)
+    assert all(is_deterministic(its, columns) for its in found)
     assert sorted(map(span_of, found)) == least_spans(columns, [])
     # Each begins and ends where no other does.
     assert len(set(map(min, found))) == len(set(map(max, found))) == len(found)
@@ -63,12 +63,12 @@ def test_local_parities_span_as_little_as_any_basis(seed):
 def test_missing_parities_complete_the_known_ones_and_span_little(seed):
     numbers = random.Random(seed)
     columns = [numbers.getrandbits(3) for _ in range(8)]
-    sure = [it for it in subsets(8) if is_sure(it, columns)]
-    known = numbers.sample(sure, min(len(sure), 3)) + [frozenset(numbers.sample(range(8), 3))]
+    deterministic = [it for it in subsets(8) if is_deterministic(it, columns)]
+    known = numbers.sample(deterministic, min(len(deterministic), 3)) + [frozenset(numbers.sample(range(8), 3))]
     missing = parities.missing_parities(parities.local_parities(columns), known)
-    known = [it for it in known if it in sure]
-    assert all(it in sure for it in missing)
-    assert rank_of(missing + known) == rank_of(sure) == len(missing) + rank_of(known)
+    known = [it for it in known if it in deterministic]
+    assert all(it in deterministic for it in missing)
+    assert rank_of(missing + known) == rank_of(deterministic) == len(missing) + rank_of(known)
     assert sorted(map(span_of, missing)) == least_spans(columns, known)
 
 

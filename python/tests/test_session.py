@@ -178,7 +178,7 @@ def test_the_steps_of_an_item_are_found_by_its_path():
 
 def test_what_is_the_same_for_all_coins_is_told_as_of_the_circuit():
     with stabsim.Circuit(REPETITION).edit(qubits=7) as session:
-        assert all(sure.all() for sure in session.deterministic())
+        assert all(bits.all() for bits in session.deterministic())
         for place, text in ((0, "H 0"), (BLOCK + 1, "RX 2"), (0, "OBSERVABLE_INCLUDE(2)")):
             session.insert(place, text)
             ours, theirs = session.deterministic(), stabsim.Circuit(session.circuit()).deterministic()
@@ -247,8 +247,8 @@ def process_runs(number):
 
 
 def process_ends(number):
-    """Whether it does within some seconds."""
-    for _ in range(100):
+    """Whether it does within a minute."""
+    for _ in range(1200):
         if not process_runs(number):
             return True
         time.sleep(0.05)

@@ -111,5 +111,5 @@ def main() -> None:
     detectors, observables = circuit.detect(10, seed=3, separate_observables=True)
     alone: NDArray[np.bool_] = circuit.detect(10)
     table: stabsim.FaultTable = circuit.faults(everywhere=True)
-    sure: stabsim.Sure = circuit.deterministic()
-    print(counts(), flipped(circuit, 3, "X 0"), detectors.shape, observables.shape, alone.shape, len(table), sure.detectors.all())
+    deterministic: stabsim.Sure = circuit.deterministic()
+    print(counts(), flipped(circuit, 3, "X 0"), detectors.shape, observables.shape, alone.shape, len(table), deterministic.detectors.all())

@@ -88,7 +88,7 @@ def surface_memory(distance: int, basis: str = "Z", noise: Noise | None = None, 
     """The rotated surface code of a distance, as a memory of the logical letter Z or X."""
     code = SurfaceCode(distance, BAD_ORDERS if bad_schedule else ORDERS)
     suffix = "" if basis == "Z" else basis
-    sure = code.checks[basis]
+    deterministic = code.checks[basis]
 
     head = Text(noise)
     for place in sorted(code.number, key=code.number.__getitem__):
@@ -99,7 +99,7 @@ def surface_memory(distance: int, basis: str = "Z", noise: Noise | None = None, 
         head.reset("R" + suffix, code.numbers(code.data))
         head.reset("R", code.numbers(code.measured))
     code.measure_checks(head)
-    for check in sure:
+    for check in deterministic:
         head.detector(check + (0,), [code.back(check)])
 
     body = Text(noise)
@@ -110,7 +110,7 @@ def surface_memory(distance: int, basis: str = "Z", noise: Noise | None = None, 
 
     tail = Text(noise)
     tail.measure("M" + suffix, code.numbers(code.data))
-    for check in sure:
+    for check in deterministic:
         around = code.back_of_data([beside(check, step) for step in ORDERS["Z"]])
         tail.detector(check + (1,), around + [len(code.data) + code.back(check)])
     # The logical Z lies along a row, and the logical X along a column.

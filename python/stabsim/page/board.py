@@ -56,7 +56,7 @@ class Board:
         self.marked_at = 0
         self.flipped: list[str] = []
         self.marked: set[str] = set()
-        self.sure: str | None = None
+        self.deterministic: str | None = None
         # The circuit with its bits and coordinates, until the next edit: tabs ask for them when they open.
         self.kept: Message | None = None
 
@@ -66,7 +66,7 @@ class Board:
     def opened(self) -> Message:
         """All that a tab has to know when it opens."""
         return {
-            "event": "opened", "name": self.name, "left_out": self.left_out, "sure": self.sure,
+            "event": "opened", "name": self.name, "left_out": self.left_out, "deterministic": self.deterministic,
             "entries": [entry.message() for entry in self.entries], "marked_at": self.marked_at,
             "marked": sorted(self.marked, key=place_of), "saves": self.save_to is not None, **self._now(), **self.whole(),
         }
@@ -226,7 +226,7 @@ class Board:
         """What tabs hear of edits: no more than what changed, or all of another circuit. Entries are the new ones, which end
         at the position."""
         self.age += 1
-        self.sure = self.kept = None
+        self.deterministic = self.kept = None
         self.flipped = made.changed
         if made.opens():
             # Marks are of bits, and those of another circuit are others.
@@ -249,7 +249,7 @@ class Board:
         }
 
 
-def sure_line(text: str) -> str:
+def deterministic_line(text: str) -> str:
     """Which detectors, and then observables, of a circuit are the same for all coins."""
     return "".join(map(line_of, stabsim.Circuit(text).deterministic()))
 

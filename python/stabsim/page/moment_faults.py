@@ -38,7 +38,7 @@ class MomentFaults:
         if not numbers.qubits:
             return cls(0, numbers.detectors, np.zeros(1, dtype=np.int64), np.zeros(0, dtype=np.int64), text)
         mark = "I " + " ".join(map(str, range(numbers.qubits)))
-        lines = program.run(["faults", "--sure_only"], marked_text(text, mark))
+        lines = program.run(["faults", "--deterministic_only"], marked_text(text, mark))
         return cls(numbers.qubits, numbers.detectors, *flips_of(lines, {"D": 0, "L": numbers.detectors}), text)
 
     @functools.cached_property

@@ -12,7 +12,7 @@ from aiohttp import WSMsgType, web
 from aiohttp.typedefs import Handler
 
 import stabsim
-from stabsim.page.board import Board, Message, sure_line
+from stabsim.page.board import Board, Message, deterministic_line
 from stabsim.page.distances import DistanceSearch
 from stabsim.page.edits import Edit
 from stabsim.page.files import file_response, guard, page_response
@@ -205,7 +205,7 @@ class Server:
             tab.tell_text(text)
 
     def later(self) -> None:
-        """What is found out once the edit is answered: sure bits, and the table of faults."""
+        """What is found out once the edit is answered: deterministic bits, and the table of faults."""
         self.start(self.find_out(self.board.age))
 
     async def find_out(self, age: int) -> None:
@@ -216,19 +216,19 @@ class Server:
             return
         try:
             text = await self.call(self.board.text)
-            if self.board.sure is None:
-                await self.found_sure(age, await self.in_background(sure_line, text))
+            if self.board.deterministic is None:
+                await self.found_deterministic(age, await self.in_background(deterministic_line, text))
             if self.known.why == NOT_YET and age == self.board.age:
                 await self.found_faults(age, await self.known.make(text))
         except (stabsim.StabsimError, ConnectionError):
             # Nothing is said of it; if the session has ended, the next question says so.
             return
 
-    async def found_sure(self, age: int, sure: str) -> None:
+    async def found_deterministic(self, age: int, line: str) -> None:
         async with self.telling:
             if age == self.board.age:
-                self.board.sure = sure
-                self.tell({"event": "sure", "age": age, "sure": sure})
+                self.board.deterministic = line
+                self.tell({"event": "deterministic", "age": age, "deterministic": line})
 
     async def found_faults(self, age: int, why: str) -> None:
         async with self.telling:

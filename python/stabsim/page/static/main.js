@@ -31,7 +31,7 @@ const by = (id) => document.getElementById(id);
 
 const GONE = "The server is gone: nothing more can be asked. Start it again, and open the address that it prints.";
 
-followSystem(() => shown.state && shown.take("sure"));
+followSystem(() => shown.state && shown.take("deterministic"));
 
 const views = {
   text: new TextView(by("text"), { select, write, remove }),
@@ -80,7 +80,7 @@ function hear(event) {
     // An event that did not come, as while the tab slept, had edits that this one goes on from.
     if (event.age !== state.age + 1) return void ask({ ask: "all" });
     state.take(event);
-  } else if (state && event.event === "sure" && event.age === state.age) state.takeSure(event.sure);
+  } else if (state && event.event === "deterministic" && event.age === state.age) state.takeDeterministic(event.deterministic);
   else if (state && event.event === "marked") state.mark(event.position);
   else {
     if (event.event === "faults" && event.age === state?.age) shown.known();
@@ -250,7 +250,7 @@ const clicks = {
   link: share,
   export: () => menu.open(by("export"), { left: by("export").getBoundingClientRect().left, top: 40 }, exports.offers),
   save: () => (by("save").dataset.writes === "true" ? ask({ ask: "save" }) : exports.circuit()),
-  theme: () => { exchangeThemes(); shown.take("sure"); shown.drawLayout(); showLegend(by("legend")); },
+  theme: () => { exchangeThemes(); shown.take("deterministic"); shown.drawLayout(); showLegend(by("legend")); },
   replace: () => openKind("replace"),
   insert: () => openKind("insert"),
   behind: () => views.text.item && openKind("behind"),

@@ -71,9 +71,9 @@ export class Shown {
     } else {
       this.#views.text.show(state.items, (first, behind) => this.#flagOf(first, behind));
       this.#drawTime(false);
-      if (kind === "sure") this.#followed.explain();
+      if (kind === "deterministic") this.#followed.explain();
     }
-    if (kind !== "sure") this.#views.history.show(state.entries, state.position, state.markedAt);
+    if (kind !== "deterministic") this.#views.history.show(state.entries, state.position, state.markedAt);
     this.#sayBit();
   }
 
@@ -241,7 +241,7 @@ export class Shown {
 
   showSince(which) {
     this.since = which;
-    this.take("sure");
+    this.take("deterministic");
   }
 
   // What acts on a qubit at this moment, {item, path, rounds}.

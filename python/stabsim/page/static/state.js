@@ -16,7 +16,7 @@ export class State {
       name: event.name,
       items: parseCircuit(event.circuit),
       numbers: event.numbers,
-      sure: event.sure === null ? null : bitsOf(event.sure),
+      deterministic: event.deterministic === null ? null : bitsOf(event.deterministic),
       entries: event.entries,
       position: event.position,
       markedAt: event.marked_at,
@@ -40,7 +40,7 @@ export class State {
       if (made.kind === "insert" || made.kind === "replace") this.#use(parseCircuit(made.item), made.place.includes("/") ? 2 : 1, new Set());
     }
     if (event.entries.length) this.entries.splice(event.position - event.entries.length, Infinity, ...event.entries);
-    Object.assign(this, { age: event.age, position: event.position, flipped: new Set(event.flipped), sure: null });
+    Object.assign(this, { age: event.age, position: event.position, flipped: new Set(event.flipped), deterministic: null });
     for (const name of event.flipped) if (!this.marked.delete(name)) this.marked.add(name);
     const isMoved = event.detectors !== undefined || event.numbers.qubits !== this.numbers.qubits || this.used.size !== known;
     this.numbers = event.numbers;
@@ -49,8 +49,8 @@ export class State {
     if (isMoved) this.#place();
   }
 
-  takeSure(line) {
-    this.sure = bitsOf(line);
+  takeDeterministic(line) {
+    this.deterministic = bitsOf(line);
   }
 
   mark(position) {
@@ -64,7 +64,7 @@ export class State {
   }
 
   isRandom(bit) {
-    return this.sure?.[Number(bit.slice(1)) + (bit.startsWith("D") ? 0 : this.detectors.length)] === 0;
+    return this.deterministic?.[Number(bit.slice(1)) + (bit.startsWith("D") ? 0 : this.detectors.length)] === 0;
   }
 
   // How a bit is drawn: "random" if a coin decides it, "flipped" if it is one of `flips`, or "bit0" or "bit1".
@@ -76,9 +76,9 @@ export class State {
 
   // The detectors from one to before another that are drawn otherwise than as 0, in order.
   toldBetween(first, end, flips) {
-    const { detectors, sure } = this;
+    const { detectors, deterministic } = this;
     const told = [];
-    for (let number = first; number < end; number += 1) if (detectors[number] === 1 || (sure !== null && sure[number] === 0)) told.push(number);
+    for (let number = first; number < end; number += 1) if (detectors[number] === 1 || deterministic?.[number] === 0) told.push(number);
     const flipped = [...flips].filter((name) => name.startsWith("D")).map((name) => Number(name.slice(1)));
     return [...new Set([...told, ...flipped.filter((number) => number >= first && number < end)])].sort((a, b) => a - b);
   }

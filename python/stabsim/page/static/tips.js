@@ -15,6 +15,6 @@ export function saidOfBit(bit, state) {
 }
 
 function kindOf(bit, state) {
-  if (state.sure === null) return "";
+  if (state.deterministic === null) return "";
   return state.isRandom(bit) ? ", a coin decides it" : ", the same for all coins";
 }
