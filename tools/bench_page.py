@@ -1,17 +1,19 @@
 """Measures in Chromium how long the page takes from a key on a qubit until what it flips is drawn, for docs/build/benchmarks.md.
 
 On a surface code that is written out it puts a Pauli on a qubit in the middle, at moments that lie evenly over all, and takes it back each
-time. A line has the milliseconds of a step of the way, by the browser's clock: the middle one of the edits, the best and the worst."""
+time. A line has the milliseconds of a step of the way, by the browser's clock: the middle one of the edits, the best and the worst. It
+needs what the page's tests do: Chromium, its driver, selenium, aiohttp and pytest."""
 
 import contextlib
+import os
 import statistics
 import time
 from pathlib import Path
 from typing import Any
 
 import stabsim
-from browser import opened_browser
-from browsing import Page
+from browsing import Page, open_browser
+from program import TOP
 from stabsim import codes
 
 # Types a letter on a qubit, or takes back what was typed, and answers with the milliseconds of each of STEPS: a message is taken up after
@@ -107,6 +109,10 @@ def measure_size(driver: Any, file: Path, distance: int, rounds: int) -> None:
 
 
 def measure(file: Path) -> None:
-    with opened_browser() as driver:
+    # The server of the page is started with it.
+    os.environ["PYTHONPATH"] = str(TOP / "python")
+    with open_browser() as driver:
+        driver.set_script_timeout(600)
+        driver.execute_cdp_cmd("Emulation.setDeviceMetricsOverride", {"width": 1920, "height": 1080, "deviceScaleFactor": 1, "mobile": False})
         for distance, rounds in SIZES:
             measure_size(driver, file, distance, rounds)

@@ -41,17 +41,11 @@ def crates_in(text: str) -> dict[str, list[str]]:
 
 
 def crates_of(program: str, crates: dict[str, list[str]]) -> list[str]:
-    """The program's own crates: each after those that it names, and the program last."""
-    found: list[str] = []
-
-    def visit(name: str) -> None:
-        if name in crates and name not in found:
-            for it in crates[name]:
-                visit(it)
-            found.append(name)
-
-    visit(program)
-    return found
+    """The program's own crates in their order, which has each after those that it names, and the program last."""
+    own = {program}
+    for name in reversed(crates):
+        own.update(crates[name] if name in own else [])
+    return [name for name in crates if name in own]
 
 
 def build(cpu: str, folder: Path) -> bytes:
