@@ -27,7 +27,7 @@ from oracle.making import without_lines
 from oracle.reading import Refused
 from oracle.states import TooLarge
 
-TIME_LIMIT = 20
+TIME_LIMIT = 60
 # How many seconds more there are until each family was compared once.
 MOST_OVER = 240
 # Each case of this number is of a large circuit.

@@ -14,6 +14,7 @@ os.environ["PYTHONPATH"] = os.pathsep.join(PLACES + [it for it in [os.environ.ge
 os.environ["PYTHONDONTWRITEBYTECODE"] = "1"
 
 from browsing import Page, open_browser  # noqa: E402: its folder was named above
+from ending import end_in_time  # noqa: E402, F401: a fixture of all tests
 
 
 @pytest.fixture(scope="session")

@@ -200,22 +200,24 @@ import stabsim
 from stabsim import codes
 import deciding
 models = {"d3": stabsim.error_model(codes.repetition_code(3, 2, noise=codes.Noise.uniform(0.03)))}
-for sums in stabsim.collect(models, ("nothing", deciding.slowly_nothing), shots=60 * 1024, seed=4, save=sys.argv[1], part_shots=1024):
+for sums in stabsim.collect(models, ("nothing", deciding.slowly_nothing), shots=SHOTS, seed=4, save=sys.argv[1], part_shots=1024):
     print(sums.shots, flush=True)
 """
 
 
 def test_a_driver_that_is_killed_is_gone_on_from(tmp_path):
     path = tmp_path / "counts.csv"
-    with subprocess.Popen([sys.executable, "-c", DRIVER, path], stdout=subprocess.PIPE, text=True) as driver:
+    # More shots than there is time for.
+    with subprocess.Popen([sys.executable, "-c", DRIVER.replace("SHOTS", "60_000 * 1024"), path], stdout=subprocess.PIPE, text=True) as driver:
         while int(driver.stdout.readline()) < 5 * 1024:
             pass
         driver.kill()
     kept = each_shot_once(path)["d3"][0]
-    assert 5 * 1024 <= kept < 60 * 1024
-    whole = {"d3": (60 * 1024, errors_in("d3", 60 * 1024))}
-    assert sums_of({"d3": MODELS["d3"]}, ("nothing", deciding.nothing), shots=60 * 1024, seed=4, save=path) == whole
-    assert each_shot_once(path)["d3"][0] == 60 * 1024
+    assert kept >= 5 * 1024
+    shots = kept + 55 * 1024
+    whole = {"d3": (shots, errors_in("d3", shots))}
+    assert sums_of({"d3": MODELS["d3"]}, ("nothing", deciding.nothing), shots=shots, seed=4, save=path) == whole
+    assert each_shot_once(path)["d3"][0] == shots
 
 
 def test_predictions_of_a_wrong_shape_are_told():
@@ -232,12 +234,12 @@ def test_counting_starts_at_the_call(tmp_path):
             return deciding.nothing(model)
 
         counting = stabsim.collect(MODELS, ("nothing", decoder), shots=5000, seed=4, executor=executor, save=tmp_path / "counts.csv")
-        assert begun.wait(10)
+        assert begun.wait(60)
         counting.close()
     # Without an executor too.
     begun.clear()
     with stabsim.collect(MODELS, ("nothing", decoder), shots=5000, seed=4):
-        assert begun.wait(10)
+        assert begun.wait(60)
 
 
 def test_a_counting_that_is_closed_lets_its_file_go(tmp_path):
@@ -367,7 +369,7 @@ def test_progress_is_shown_on_a_terminal_alone(capfd):
     sums_of(MODELS, deciding.nothing, shots=10, seed=4)
     assert capfd.readouterr().err == ""
     leader, follower = os.openpty()
-    code = DRIVER.replace("60 * 1024", "3 * 1024").replace("sys.argv[1]", "None")
+    code = DRIVER.replace("SHOTS", "3 * 1024").replace("sys.argv[1]", "None")
     subprocess.run([sys.executable, "-c", code], stdout=subprocess.DEVNULL, stderr=follower, check=True)
     os.close(follower)
     shown = os.read(leader, 65536)
@@ -377,7 +379,7 @@ def test_progress_is_shown_on_a_terminal_alone(capfd):
 
 def test_without_tqdm_there_is_no_line():
     leader, follower = os.openpty()
-    code = "import sys; sys.modules['tqdm'] = None\n" + DRIVER.replace("60 * 1024", "3 * 1024").replace("sys.argv[1]", "None")
+    code = "import sys; sys.modules['tqdm'] = None\n" + DRIVER.replace("SHOTS", "3 * 1024").replace("sys.argv[1]", "None")
     done = subprocess.run([sys.executable, "-c", code], stdout=subprocess.PIPE, stderr=follower, check=True, text=True)
     os.set_blocking(leader, False)
     os.close(follower)

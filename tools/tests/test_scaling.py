@@ -10,6 +10,7 @@ import pathlib
 import shlex
 import shutil
 import signal
+import socket
 import subprocess
 import tempfile
 import time
@@ -56,12 +57,16 @@ def needs(*names: str, root: bool = False) -> pytest.MarkDecorator:
 
 
 def until(is_done: Callable[[], object]) -> None:
-    """Waits until something is so, for a minute at most."""
-    for _ in range(600):
-        if is_done():
-            return
+    """Waits until something is so, as long as the test may take."""
+    while not is_done():
         time.sleep(0.1)
-    raise TimeoutError("waited in vain")
+
+
+def free_ports(count: int) -> list[int]:
+    """Ports at which nothing listens."""
+    with contextlib.ExitStack() as stack:
+        sockets = [stack.enter_context(socket.create_server(("127.0.0.1", 0))) for _ in range(count)]
+        return [it.getsockname()[1] for it in sockets]
 
 
 def first_shot(part: int) -> str:
@@ -167,7 +172,7 @@ def test_parts_by_gnu_parallel_are_one_run(work: pathlib.Path) -> None:
 def test_parts_over_ssh_are_one_run(work: pathlib.Path) -> None:
     for name in ("host_key", "key"):
         subprocess.run(["ssh-keygen", "-q", "-t", "ed25519", "-N", "", "-f", work / name], check=True)
-    port = str(20000 + os.getpid() % 10000)
+    [port] = map(str, free_ports(1))
     pathlib.Path("/run/sshd").mkdir(exist_ok=True)
     options = ["ListenAddress=127.0.0.1", f"AuthorizedKeysFile={work}/key.pub", "StrictModes=no", "UsePAM=no", "PidFile=none"]
     server = [shutil.which("sshd", path=PATH) or "", "-D", "-e", "-f", "/dev/null", "-p", port, "-h", str(work / "host_key")]
@@ -181,6 +186,7 @@ def test_parts_over_ssh_are_one_run(work: pathlib.Path) -> None:
 
 
 def configuration(folder: pathlib.Path, host: str) -> str:
+    ports = free_ports(2)
     return f"""\
 ClusterName=one
 SlurmctldHost={host}(127.0.0.1)
@@ -192,8 +198,8 @@ ProctrackType=proctrack/linuxproc
 TaskPlugin=task/none
 SelectType=select/cons_tres
 SelectTypeParameters=CR_Core
-SlurmctldPort={30000 + os.getpid() % 10000}
-SlurmdPort={40000 + os.getpid() % 10000}
+SlurmctldPort={ports[0]}
+SlurmdPort={ports[1]}
 StateSaveLocation={folder}/state
 SlurmdSpoolDir={folder}/spool
 SlurmctldPidFile={folder}/slurmctld.pid
