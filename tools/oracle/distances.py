@@ -56,16 +56,15 @@ def wrong_record(path: str, number: int, step: int, letter: str, qubit: int, res
 
 def errors_at(path: str, letters: str, number: int, records: int, step: Step) -> Iterator[Error]:
     """The errors at a step of this number, with this many records in front."""
-    kind, qubits = step[0], numbers.qubits_of(step)
+    qubits = numbers.qubits_of(step)
     before = qubits if numbers.records_of(step) else []
-    resets = kind == "collapse" and step[3]
+    resets = step[0] == "measure" and step[4]
     after = [] if before and not resets else qubits
     for qubit in before:
         yield from letters_at(path, letters, number, qubit)
     if before:
-        letter = step[1] if kind == "collapse" else step[1][0][0]
-        yield wrong_record(path, records, number, letter, before[0], resets)
-    if kind == "pair":
+        yield wrong_record(path, records, number, step[1][0][0], before[0], resets)
+    if step[0] == "gate" and len(qubits) == 2:
         yield from products_at(path, letters, *((number + 1, qubit) for qubit in after))
     else:
         yield from (it for qubit in after for it in letters_at(path, letters, number + 1, qubit))

@@ -9,6 +9,11 @@ from .reading import COLLAPSES, CONTROLLED, MOST_STEPS, Block, Item, Operation, 
 Step = tuple[Any, ...]
 
 
+def measuring(factors: list[tuple[str, int]], inverted: int, recorded: bool = True, resets: bool = False) -> Step:
+    """The step that measures letters on qubits: whether its record is inverted, whether it has one, and whether its qubit is reset."""
+    return "measure", tuple(factors), inverted, recorded, resets
+
+
 def steps_of(operation: Operation) -> list[Step]:
     """The unrolled steps of one instruction, in order."""
     name, targets = operation.name, operation.targets
@@ -19,11 +24,12 @@ def steps_of(operation: Operation) -> list[Step]:
     if name in ("TICK", "QUBIT_COORDS", "SHIFT_COORDS"):
         return []
     if name == "MPP":
-        return [("product", tuple(factors)) for factors in targets]
+        return [measuring([factor[:2] for factor in factors], sum(inverted for *_, inverted in factors) % 2) for factors in targets]
     if name in COLLAPSES:
-        return [("collapse", *COLLAPSES[name], qubit, inverted) for qubit, inverted in targets]
+        letter, recorded, resets = COLLAPSES[name]
+        return [measuring([(letter, qubit)], int(inverted), recorded, resets) for qubit, inverted in targets]
     if name in CONTROLLED or name == "SWAP":
-        return [("controlled", CONTROLLED[name], first[1], second) if isinstance(first, tuple) else ("pair", name, first, second)
+        return [("controlled", CONTROLLED[name], first[1], second) if isinstance(first, tuple) else ("gate", name, first, second)
                 for first, second in zip(targets[::2], targets[1::2])]
     return [("gate", name, qubit) for qubit in targets]
 
@@ -35,21 +41,18 @@ def lookbacks(step: Step) -> list[int]:
 
 
 def records_of(step: Step) -> int:
-    return int(step[0] == "product" or (step[0] == "collapse" and step[2]))
+    return int(step[0] == "measure" and step[3])
 
 
 def uses_coin(step: Step) -> bool:
-    return step[0] in ("collapse", "product")
+    return step[0] == "measure"
 
 
 def qubits_of(step: Step) -> list[int]:
     """The qubits that a step acts on, except for a control."""
-    kind = step[0]
-    if kind in ("gate", "pair"):
+    if step[0] == "gate":
         return list(step[2:])
-    if kind == "product":
-        return [qubit for _, qubit, _ in step[1]]
-    return [step[3]] if kind == "controlled" else [step[4]] if kind == "collapse" else []
+    return [step[3]] if step[0] == "controlled" else [qubit for _, qubit in step[1]] if step[0] == "measure" else []
 
 
 def summary(items: Iterable[Item]) -> tuple[int, int, int]:

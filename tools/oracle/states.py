@@ -160,10 +160,14 @@ class Run:
         for step in steps:
             self.carry_out(step)
 
-    def measure(self, factors: Factors) -> int:
-        measured: tuple[int, bool] = self.state.measure(factors, self.coin(len(self.free)))
-        self.free.append(measured[1])
-        return measured[0]
+    def measure(self, factors: Factors, inverted: int, recorded: bool, resets: bool) -> None:
+        outcome, is_free = self.state.measure(factors, self.coin(len(self.free)))
+        self.free.append(is_free)
+        if recorded:
+            self.records.append(outcome ^ inverted)
+        if resets:
+            [(letter, qubit)] = factors
+            self.state.flip(FLIPS[letter], qubit, outcome)
 
     def parity(self, lookbacks: Iterable[int]) -> int:
         sum_ = 0
@@ -173,28 +177,18 @@ class Run:
 
     def carry_out(self, step: Step) -> None:
         kind, *rest = step
-        if kind in ("gate", "pair"):
+        if kind == "gate":
             self.state.gate(rest[0], tuple(rest[1:]))
         elif kind == "controlled":
             self.state.flip(rest[0], rest[2], self.records[-rest[1]])
         elif kind == "letter":
             self.state.flip(*rest)
-        elif kind == "collapse":
-            self.collapse(*rest)
-        elif kind == "product":
-            outcome = self.measure([(letter, qubit) for letter, qubit, _ in rest[0]])
-            self.records.append(outcome ^ sum(inverted for *_, inverted in rest[0]) % 2)
+        elif kind == "measure":
+            self.measure(*rest)
         elif kind == "detector":
             self.detectors.append(self.parity(rest[0]))
         else:
             self.observables[rest[0]] ^= self.parity(rest[1])
-
-    def collapse(self, letter: str, recorded: bool, resets: bool, qubit: int, inverted: bool) -> None:
-        outcome = self.measure([(letter, qubit)])
-        if recorded:
-            self.records.append(outcome ^ int(inverted))
-        if resets:
-            self.state.flip(FLIPS[letter], qubit, outcome)
 
     def bits(self) -> list[int]:
         """The detectors and then the observables."""
