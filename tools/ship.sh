@@ -13,6 +13,7 @@ fail() {
 }
 
 command -v rt >/dev/null || fail "it needs the Rattle toolchain: its command rt is not on the PATH"
+[ "$("$programs/level")" = v3 ] || fail "it runs what it builds, which takes a processor with all of x86-64-v3"
 # Files that git doesn't keep would count for the checksum, and be missing in each clone.
 others=$(git ls-files --others --exclude=out/ -- crates | head -n 1)
 [ -z "$others" ] || fail "git does not keep $others, although it is among the sources: add it or remove it"
@@ -25,12 +26,10 @@ sources=$(tools/sum_sources.sh)
 logic=$(rt version | sed 's/.* logic //')
 printf '%s\n' "version $version" "sources $sources" "logic $logic" >"$made/shipped.txt"
 for level in v3 v2; do
-    name=stabsim-x86-64-$level
     tools/build_program.sh "x86-64-$level"
-    install -m 755 crates/stabsim/out/stabsim "$made/$name"
-    sum=$(sha256sum <"$made/$name")
-    echo "$name ${sum%% *}" >>"$made/shipped.txt"
+    install -m 755 crates/stabsim/out/stabsim "$made/stabsim-x86-64-$level"
 done
+(cd "$made" && sha256sum stabsim-x86-64-*) | sed 's/^\([^ ]*\)  \(.*\)$/\2 \1/' >>"$made/shipped.txt"
 [ "$(tools/sum_sources.sh)" = "$sources" ] || fail "the sources changed while the programs were built, so nothing was shipped: run it again"
 says=$("$made/stabsim-x86-64-v2" --version)
 [ "$says" = "$(printf 'stabsim %s\nproved in the logic %s of Rattle' "$version" "$logic")" ] || fail "--version says other than shipped.txt: $says"

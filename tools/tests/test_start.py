@@ -274,6 +274,9 @@ def test_both_programs_are_shipped_or_none(tree: Tree) -> None:
     write(tree.bin / "to_ship", TO_SHIP.replace("0.1.0", "0.1.1"))
     assert "--version says other than shipped.txt" in ship()[2] and shipped.read_text() == before
     write(tree.bin / "to_ship", TO_SHIP)
+    tree.processor(V2)
+    assert ship()[::2] == (1, "ship: it runs what it builds, which takes a processor with all of x86-64-v3\n")
+    tree.processor(V3)
     status, output, _ = ship()
     assert (status, output) == (0, shipped.read_text()) and output.startswith(f"version 0.1.0\nsources {tree.sum_of_sources()}\nlogic one\n")
     # What was built last runs on every processor, and is what the gate builds.
