@@ -104,6 +104,27 @@ def test_with_the_timeline_in_focus_keys_do_what_they_do_elsewhere(page):
     page.wait(lambda: undone(page) == [])
 
 
+# Presses a key, and another one once what the first asks for is sent, and before it is answered.
+TWO_KEYS = """
+const [first, second, done] = arguments;
+const press = (key) => document.getElementById("picture").dispatchEvent(new KeyboardEvent("keydown", {key, bubbles: true}));
+(async () => {
+  press(first);
+  for (let turn = 0; turn < 20; turn += 1) await null;
+  press(second);
+  done();
+})();
+"""
+
+
+def test_who_goes_on_before_an_edit_is_answered_stays_there(page):
+    page.choose_qubit(0)
+    page.browser.execute_async_script(TWO_KEYS, "x", "]")
+    page.wait(lambda: page.history() == ["opened", "insert 1 X 0"])
+    page.settle()
+    assert page.find("moment-said").text == "tick 1" and page.ask("page.shown.way") is None and page.ask("page.shown.bit") == "D0"
+
+
 def is_writing(page):
     return page.focused() == "words"
 

@@ -19,18 +19,21 @@ export class Editor {
     this.#act = act;
   }
 
-  // Makes the edits that `edits(state, moment)` answers as editing.js does, and shows what was put in. They are worked out
-  // once those before them are made, since each edit moves what comes after it: keys may be quicker than the program.
+  // Makes the edits that `edits(state, moment)` answers as editing.js does, and shows what was put in, unless a person went to another
+  // moment meanwhile: answers whether it is shown, as {isShown}, or null if they were not made. They are worked out once those before them
+  // are made, since each edit moves what comes after it: keys may be quicker than the program.
   make(edits) {
     const inTurn = async () => {
       const { edits: wanted, round, shown, name, why } = edits(this.#shown.state, this.#shown.moment);
       if (why) return void this.#act.say(why, true);
-      if (!await this.#act.send(wanted, round, name)) return false;
-      if (shown) {
+      const { moves } = this.#shown;
+      if (!await this.#act.send(wanted, round, name)) return null;
+      const isShown = this.#shown.moves === moves;
+      if (shown && isShown) {
         this.#shown.goToPath(shown.path, shown.rounds);
         this.#shown.select(shown.path, false);
       }
-      return true;
+      return { isShown };
     };
     this.#last = this.#last.then(inTurn, inTurn);
     return this.#last;
@@ -103,12 +106,12 @@ export class Editor {
 
   // Puts a gate, measurement or reset on qubits at the end of the moment. What an error flips is then chosen, with its region, and its way is shown.
   async put(name, qubits, alone = this.#isAlone(name)) {
-    const isDone = await this.make(({ items }, moment) => editing.putIn(items, moment, name, qubits, alone));
-    if (isDone && PAULIS.includes(name)) {
+    const made = await this.make(({ items }, moment) => editing.putIn(items, moment, name, qubits, alone));
+    if (made && PAULIS.includes(name)) {
       this.#shown.chooseBit([...this.#shown.state.flipped][0] ?? null);
-      if (qubits.length === 1) this.#shown.follow(qubits[0], name);
+      if (qubits.length === 1 && made.isShown) this.#shown.follow(qubits[0], name);
     }
-    return isDone;
+    return made;
   }
 
   // Whether an edit in a block is made in the round that is seen alone.

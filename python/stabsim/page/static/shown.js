@@ -18,6 +18,8 @@ const PAUSE = 30;
 export class Shown {
   state = null;
   moment = 0;
+  // How often another moment was gone to.
+  moves = 0;
   // Qubits in the order in which they were chosen.
   chosen = [];
   tool = "pick";
@@ -78,6 +80,7 @@ export class Shown {
   }
 
   goTo(moment) {
+    this.moves += 1;
     this.moment = Math.max(0, Math.min(momentsOf(this.state.items) - 1, moment));
     this.#look(false, false);
     this.learn();
