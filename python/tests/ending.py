@@ -4,7 +4,7 @@ import signal
 
 import pytest
 
-MOST_SECONDS = 300
+MOST_SECONDS = 600
 
 
 @pytest.fixture(autouse=True)
