@@ -41,29 +41,23 @@ Place = tuple[str, str]
 
 
 @dataclass
-class Definition:
-    """The lines of one definition."""
-
-    file: str
-    name: str
-    lines: list[str] = field(default_factory=list)
-
-
-@dataclass
 class File:
-    """The definitions of a file, by each name that they make, and where the names are from that it imports; `a.` is for all names of
-    a file that is used as a."""
+    """The lines of each definition of a file, the definition that makes each name, and where the names are from that it imports; `a.` is
+    for all names of a file that is used as a."""
 
-    made: dict[str, Definition] = field(default_factory=dict)
+    name: str
+    lines: dict[str, list[str]] = field(default_factory=dict)
+    made: dict[str, str] = field(default_factory=dict)
     imported: dict[str, Place] = field(default_factory=dict)
 
 
 Files = dict[str, File]
-Definitions = dict[Place, Definition]
+# The lines of definitions.
+Definitions = dict[Place, list[str]]
 
 
-def read_file(file: str, lines: Iterable[str]) -> File:
-    found, current = File(), None
+def read_file(name: str, lines: Iterable[str]) -> File:
+    found, current = File(name), ""
     for line in lines:
         if used := USE.match(line):
             pairs = (name.strip().partition(" as ") for name in used[3].split(","))
@@ -73,12 +67,12 @@ def read_file(file: str, lines: Iterable[str]) -> File:
         if not line.strip() or line.lstrip().startswith("--") or line.startswith(("use ", "pub use ")):
             continue
         if head := HEAD.match(line):
-            current = Definition(file, head[1])
-            found.made[current.name] = current
-        elif current and DATA.match(current.lines[0]) and (case := re.match(r"  (?:pub )?(\S+) :", line)):
+            current = found.made[head[1]] = head[1]
+            found.lines[current] = []
+        elif current and DATA.match(found.lines[current][0]) and (case := re.match(r"  (?:pub )?(\S+) :", line)):
             found.made.setdefault(case[1], current)
         if current:
-            current.lines.append(line)
+            found.lines[current].append(line)
     return found
 
 
@@ -96,13 +90,13 @@ def all_definitions() -> Files:
     return found
 
 
-def uses(it: Definition, file: File) -> Iterator[Place]:
+def uses(lines: list[str], file: File) -> Iterator[Place]:
     """What a definition names, operators as they are defined: with a place for what is on each side."""
-    text = "\n".join(it.lines)
+    text = "\n".join(lines)
     words = set(NAME.findall(text))
     for word in words | {f"◌{word}◌" for word in words}:
         if word in file.made:
-            yield it.file, word
+            yield file.name, word
         elif word in file.imported:
             yield file.imported[word]
     yield from ((file.imported[used][0], name) for used, name in re.findall(r"(\w+\.)(\w+)", text) if used in file.imported)
@@ -114,14 +108,14 @@ def reached(found: Files, roots: Iterable[str]) -> Definitions:
     left = [(file, name) for file, _, name in (root.rpartition(".") for root in roots)]
     while left:
         place, name = left.pop()
-        file = found.get(place, File())
-        if name not in file.made:
-            left += [file.imported[name]] if name in file.imported else []
-            continue
-        it = file.made[name]
-        if (it.file, it.name) not in seen:
-            seen[it.file, it.name] = it
-            left += uses(it, file)
+        file = found.get(place, File(place))
+        if name in file.made:
+            name = file.made[name]
+            if (file.name, name) not in seen:
+                seen[file.name, name] = file.lines[name]
+                left += uses(file.lines[name], file)
+        elif name in file.imported:
+            left.append(file.imported[name])
     return seen
 
 
@@ -137,7 +131,7 @@ def new_definitions(found: Files) -> Iterator[tuple[str, Definitions, Definition
 
 
 def lines_of(its: Definitions) -> int:
-    return sum(len(it.lines) for it in its.values())
+    return sum(map(len, its.values()))
 
 
 def path_of(file: str) -> str:
