@@ -122,13 +122,13 @@ def test_the_command_is_interrupted_and_goes_on_from_its_file(tmp_path):
     words = ["three.stim", "--decoder", "deciding:slowly_nothing", "--save", "counts.csv", "--processes", "2", "--seed", "4"]
     with subprocess.Popen([sys.executable, "-m", "stabsim.collect_command", *words, "--shots", "100000000"], cwd=tmp_path, stdout=subprocess.PIPE,
                           stderr=subprocess.PIPE, text=True, start_new_session=True) as running:
-        until = time.monotonic() + 60
+        until = time.monotonic() + 300
         while not (tmp_path / "counts.csv").exists() or (tmp_path / "counts.csv").read_text().count("\n") < 3:
             assert time.monotonic() < until and running.poll() is None
             time.sleep(0.05)
         # As a terminal does, which signals all processes of the command.
         os.killpg(running.pid, signal.SIGINT)
-        out, said = running.communicate(timeout=60)
+        out, said = running.communicate(timeout=300)
     assert (running.returncode, out, said) == (130, "", "stabsim-collect: interrupted; the same words go on from counts.csv\n")
     [kept] = stabsim.combine(tmp_path / "counts.csv")
     done = run(tmp_path, *words, "--shots", str(kept.shots))
