@@ -171,9 +171,11 @@ class Page:
 
     def choose_qubit(self, *numbers):
         """Clicks qubits, those after the first with Shift, by one chain of events."""
+        self.settle()
+        x, y, *_ = self.box("#picture")
         chain = ActionChains(self.browser, duration=0)
-        for place, spot in enumerate([self.spot(number) for number in numbers]):
-            self.point_at("#picture", *spot, chain=chain).click()
+        for place, (left, top) in enumerate(self.ask("words.map((qubit) => page.views.layout.at(qubit))", *numbers)):
+            self.move(chain, x + left, y + top).click()
             if place == 0:
                 chain.key_down(Keys.SHIFT)
         chain.key_up(Keys.SHIFT).perform()
@@ -196,12 +198,21 @@ class Page:
         self.browser.execute_cdp_cmd("Input.dispatchKeyEvent", {"type": "keyUp", **{word: key[word] for word in key if word != "text"}})
 
     def point_at(self, selector, left=None, top=None, chain=None):
-        """Moves the pointer to the middle of an element, or to a spot given in pixels from its upper left corner; goes on with a chain of
-        events. It is a place of the window, so that the element may be drawn anew until the chain is performed."""
-        self.settle()
-        x, y, width, height = self.wait(lambda: self.browser.execute_script(BOX, selector))
+        """Moves the pointer to the middle of an element, or to a spot on it that was seen, in pixels from its upper left corner; goes on with
+        a chain of events. It is a place of the window, so that the element may be drawn anew until the chain is performed."""
+        if left is None:
+            self.settle()
+        x, y, width, height = self.box(selector)
         chain = chain or ActionChains(self.browser, duration=0)
-        chain.w3c_actions.pointer_action.move_to_location(round(x + (width / 2 if left is None else left)), round(y + (height / 2 if left is None else top)))
+        return self.move(chain, x + (width / 2 if left is None else left), y + (height / 2 if left is None else top))
+
+    def box(self, selector):
+        """Where an element is in the window, as left, top, width and height, once it can be seen."""
+        return self.wait(lambda: self.browser.execute_script(BOX, selector))
+
+    def move(self, chain, x, y):
+        """Has a chain of events move the pointer to a place of the window."""
+        chain.w3c_actions.pointer_action.move_to_location(round(x), round(y))
         chain.w3c_actions.key_action.pause()
         return chain
 
