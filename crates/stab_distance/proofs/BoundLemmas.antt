@@ -1,5 +1,5 @@
 -- Bounds: of logical errors by those of each observable, and of a table by its distinct rows.
-use Rattle.stab_distance.proofs.Names.{◌≡◌, ℕ, ◌+◌, ◌≤◌, ◌<◌, ◌⊎◌, inl, inr, sym, ◌∙◌, subst, arith, false, List, length, min, cases_lt, false≢true, ErrorTable, odd, row, IsLeast, HasNoneWithin, HasAtLeast, HasBound, IsLogicalSet}
+use Rattle.stab_distance.proofs.Names.{◌≡◌, ℕ, ◌+◌, ◌≤◌, ◌<◌, ◌⊎◌, inl, inr, sym, ◌∙◌, arith, false, List, length, min, cases_lt, false≢true, ErrorTable, odd, row, IsLeast, HasNoneWithin, HasAtLeast, HasBound, IsLogicalSet}
 use Rattle.stab_distance.proofs.CertificateLemmas.{unnamed}
 use Rattle.stab_distance.proofs.ShortestLemmas.{none-up_to}
 
@@ -14,14 +14,6 @@ bound-all t bound end reached beyond le each errors logical =
     by_place o from (inl lt) = each o from lt
     by_place o from (inr past) = λ xs inside undetected is.
         absurd (false≢true (sym (unnamed t o (λ r l. beyond r o l (omega arith)) xs inside undetected) ∙ is))
-
-pub bound-next : (t : ErrorTable) (bound k : ℕ) → ((o : ℕ) → t.detectors ≤ o → o < k → HasAtLeast t o bound) → HasAtLeast t k bound
-    → (o : ℕ) → t.detectors ≤ o → o < k + 1 → HasAtLeast t o bound
-bound-next t bound k before here o from lt = by_place (cases_lt o k)
-  where
-    by_place : (o < k) ⊎ (k ≤ o) → HasAtLeast t o bound
-    by_place (inl less) = before o from less
-    by_place (inr le) = let same : k ≡ o = omega arith in subst (λ i. HasAtLeast t i bound) same here
 
 -- a logical error of no more errors than the bound is a least one
 pub least-bounded : (t : ErrorTable) (most bound n : ℕ) (set : List ℕ) → n ≤ bound → bound ≤ most → HasBound t bound → IsLogicalSet t n set → IsLeast t most set

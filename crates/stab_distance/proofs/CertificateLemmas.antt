@@ -1,21 +1,8 @@
 -- Certificates: what members add up to over some errors.
-use Rattle.stab_distance.proofs.Names.{◌≡◌, ℕ, zero, suc, ◌+◌, ◌≤◌, ◌<◌, ◌⊎◌, inl, inr, refl, sym, ◌∙◌, ap, subst, arith, Bool, true, false, List, [], ◌∷◌, ◌++◌, length, get_or, drop, ne_eqb, ◌==◌, eq-eqb, cases_eq, cases_lt, false≢true, ◌⊕◌, parity-mid, ErrorTable, odd, row, flips, HasNone, Each, odd_members, IsCertificate, FollowsDetectors}
+use Rattle.stab_distance.proofs.Names.{◌≡◌, ℕ, ◌+◌, ◌≤◌, ◌<◌, ◌⊎◌, inl, inr, refl, sym, ◌∙◌, ap, subst, arith, Bool, true, false, List, [], ◌∷◌, ◌++◌, length, get_or, ne_eqb, ◌==◌, eq-eqb, cases_eq, cases_lt, false≢true, ◌⊕◌, parity-mid, ErrorTable, odd, row, flips, HasNone, Each, odd_members, IsCertificate, FollowsDetectors}
 use Rattle.stab_distance.proofs.ListLemmas.{by-bit, each-all}
 use Rattle.stab_distance.proofs.Totals.{total, bits, total-append, total-none}
 use Rattle.stab_distance.proofs.FlipLemmas.{named_by, odd-named}
-
--- the rest of a list, by its head
-members-rest : (members : List Bool) (xs : List ℕ) (k d : ℕ) → k < length xs
-    → odd_members members (drop k xs) ≡ get_or members (get_or xs k d) false ⊕ odd_members members (drop (suc k) xs)
-members-rest members [] k d lt = absurd (omega arith)
-members-rest members (x ∷ xs) zero d lt = refl
-members-rest members (x ∷ xs) (suc k) d lt = members-rest members xs k d (omega arith)
-
-pub members-drop : (members : List Bool) (xs : List ℕ) (k d : ℕ) → k < length xs
-    → odd_members members (drop k xs) ≡ get_or members (get_or xs k d) false ⊕ odd_members members (drop (k + 1) xs)
-members-drop members xs k d lt =
-    let next : suc k ≡ k + 1 = omega arith in
-    members-rest members xs k d lt ∙ ap (λ j. get_or members (get_or xs k d) false ⊕ odd_members members (drop j xs)) next
 
 members-append : (members : List Bool) (xs ys : List ℕ) → odd_members members (xs ++ ys) ≡ odd_members members xs ⊕ odd_members members ys
 members-append members xs ys =

@@ -1,5 +1,5 @@
 -- Edges: ascending rows that flip at most two detectors, and their nodes.
-use Rattle.stab_distance.proofs.Names.{◌≡◌, ℕ, zero, suc, ◌+◌, ◌≤◌, ◌<◌, ◌⊎◌, inl, inr, refl, sym, ◌∙◌, ap, subst, arith, Bool, true, false, List, [], ◌∷◌, ◌++◌, length, get_or, min, ne_eqb, ◌==◌, eqb-true, eq-eqb, cases_eq, cases_lt, ◌⊕◌, parity-false, Edge, AscendsFrom, IsAscending, odd, row, IsGraphlike, has, IsEdge, edge}
+use Rattle.stab_distance.proofs.Names.{◌≡◌, ℕ, ◌+◌, ◌≤◌, ◌<◌, ◌⊎◌, inl, inr, refl, sym, ◌∙◌, ap, arith, Bool, true, false, List, [], ◌∷◌, length, get_or, min, ne_eqb, ◌==◌, eqb-true, eq-eqb, cases_eq, cases_lt, ◌⊕◌, parity-false, AscendsFrom, IsAscending, odd, IsGraphlike, has, IsEdge}
 use Rattle.stab_distance.proofs.ListLemmas.{has-here, has-there}
 use Rattle.stab_distance.proofs.AscendingLemmas.{odd-below, named-ascending}
 
@@ -95,27 +95,3 @@ edge-is detectors is u v a graphlike first second = record {
       nodes-same detectors is a (third-beyond detectors is a graphlike) d lt
       ∙ sym (ap (λ k. (k == d) ⊕ (v == d)) first ∙ ap (λ k. (min (get_or is 0 detectors) detectors == d) ⊕ (k == d)) second);
 }
-
--- one edge more, at the end
-
-edge-before : (edges : List Edge) (e : Edge) (q : ℕ) → q < length edges → edge (edges ++ e ∷ []) q ≡ edge edges q
-edge-before [] e q lt = absurd (omega arith)
-edge-before (x ∷ edges) e zero lt = refl
-edge-before (x ∷ edges) e (suc q) lt = edge-before edges e q (omega arith)
-
-edge-last : (edges : List Edge) (e : Edge) → edge (edges ++ e ∷ []) (length edges) ≡ e
-edge-last [] e = refl
-edge-last (x ∷ edges) e = edge-last edges e
-
-pub edges-push : (detectors : ℕ) (rows : List (List ℕ)) (edges : List Edge) (e : Edge) (r : ℕ) → length edges ≡ r
-    → ((q : ℕ) → q < r → IsEdge detectors (row rows q) (edge edges q)) → IsEdge detectors (row rows r) e
-    → (q : ℕ) → q < r + 1 → IsEdge detectors (row rows q) (edge (edges ++ e ∷ []) q)
-edges-push detectors rows edges e r count each last q lt = by_place (cases_lt q r)
-  where
-    by_place : (q < r) ⊎ (r ≤ q) → IsEdge detectors (row rows q) (edge (edges ++ e ∷ []) q)
-    by_place (inl less) = subst (IsEdge detectors (row rows q)) (sym (edge-before edges e q (omega arith))) (each q less)
-    by_place (inr more) =
-        let here : r ≡ q = omega arith in
-        let end : length edges ≡ q = omega arith in
-        subst (λ k. IsEdge detectors (row rows k) (edge (edges ++ e ∷ []) q)) here
-        (subst (IsEdge detectors (row rows r)) (sym (ap (edge (edges ++ e ∷ [])) (sym end) ∙ edge-last edges e)) last)

@@ -1,5 +1,5 @@
 -- Lists of numbers: each of a list, those that are among them, and one left out or toggled.
-use Rattle.stab_distance.proofs.Names.{◌≡◌, ℕ, zero, suc, ◌+◌, ◌≤◌, ◌<◌, refl, sym, ◌∙◌, ap, subst, arith, Bool, true, false, ◌||◌, List, [], ◌∷◌, ◌++◌, length, get_or, ne_eqb, lt-ltb, le-ltb, ◌==◌, nat_lt, All, if◌then◌else◌, eqb-true, eqb-false, eq-eqb, ltb-true, ltb-false, false≢true, or_left, or_right, All-nil, All-cons, All-head, All-tail, list_any-append, AscendsFrom, Each, has, toggle}
+use Rattle.stab_distance.proofs.Names.{◌≡◌, ℕ, suc, ◌+◌, ◌≤◌, ◌<◌, refl, sym, ◌∙◌, ap, subst, arith, Bool, true, false, ◌||◌, List, [], ◌∷◌, ◌++◌, length, get_or, ne_eqb, lt-ltb, le-ltb, ◌==◌, nat_lt, All, if◌then◌else◌, eqb-true, eqb-false, eq-eqb, ltb-true, ltb-false, false≢true, or_left, or_right, All-nil, All-cons, All-head, All-tail, list_any-append, AscendsFrom, Each, has, toggle}
 use Rattle.std.specs.Prelude.{◌≢◌}
 
 -- cases of a bit, with the equation
@@ -31,11 +31,6 @@ each-all P (x ∷ xs) a = (All-head P x xs a, each-all P xs (All-tail P x xs a))
 pub all-each : (P : ℕ → Type 0) (xs : List ℕ) → Each P xs → All P xs
 all-each P [] a = All-nil P
 all-each P (x ∷ xs) a = All-cons P x xs a.0 (all-each P xs a.1)
-
-pub each-at : (P : ℕ → Type 0) (xs : List ℕ) → Each P xs → (k : ℕ) → k < length xs → P (get_or xs k 0)
-each-at P [] a k lt = absurd (omega arith)
-each-at P (x ∷ xs) a zero lt = a.0
-each-at P (x ∷ xs) a (suc k) lt = each-at P xs a.1 k (omega arith)
 
 pub each-above : (m : ℕ) (xs : List ℕ) → AscendsFrom m xs → Each (λ x. m ≤ x) xs
 each-above m [] a = tt

@@ -1,22 +1,9 @@
 -- Reach: this many errors do not flip more detectors of a class than they name.
-use Rattle.stab_distance.proofs.Names.{◌≡◌, ℕ, zero, suc, ◌+◌, ◌*◌, ◌≤◌, ◌<◌, refl, sym, ◌∙◌, ap, arith, true, ◌||◌, List, [], ◌∷◌, ◌++◌, length, get_or, drop, ◌==◌, if◌then◌else◌, eqb-true, false≢true, AscendsFrom, IsAscending, ErrorTable, row, Each, has, NoEnds, of_class, IsReach}
+use Rattle.stab_distance.proofs.Names.{◌≡◌, ℕ, zero, suc, ◌+◌, ◌*◌, ◌≤◌, ◌<◌, sym, ◌∙◌, ap, arith, true, ◌||◌, List, [], ◌∷◌, ◌++◌, length, get_or, ◌==◌, if◌then◌else◌, eqb-true, false≢true, AscendsFrom, IsAscending, ErrorTable, row, Each, has, NoEnds, of_class, IsReach}
 use Rattle.stab_distance.proofs.AscendingLemmas.{named-ascending}
 use Rattle.stab_distance.proofs.FlipLemmas.{named_by, odd-named}
 use Rattle.stab_distance.proofs.ListLemmas.{by-bit, each-above, has-here, has-there, without, without-here, without-there, has-without}
 use Rattle.stab_distance.proofs.Totals.{has-odd}
-
--- the rest of a list, by its head
-class-rest : (classes : List ℕ) (k : ℕ) (xs : List ℕ) (i d : ℕ) → i < length xs
-    → of_class classes k (drop i xs) ≡ (if get_or classes (get_or xs i d) 0 == k then 1 else 0) + of_class classes k (drop (suc i) xs)
-class-rest classes k [] i d lt = absurd (omega arith)
-class-rest classes k (x ∷ xs) zero d lt = refl
-class-rest classes k (x ∷ xs) (suc i) d lt = class-rest classes k xs i d (omega arith)
-
-pub class-drop : (classes : List ℕ) (k : ℕ) (xs : List ℕ) (i d : ℕ) → i < length xs
-    → of_class classes k (drop i xs) ≡ (if get_or classes (get_or xs i d) 0 == k then 1 else 0) + of_class classes k (drop (i + 1) xs)
-class-drop classes k xs i d lt =
-    let next : suc i ≡ i + 1 = omega arith in
-    class-rest classes k xs i d lt ∙ ap (λ j. (if get_or classes (get_or xs i d) 0 == k then 1 else 0) + of_class classes k (drop j xs)) next
 
 class-append : (classes : List ℕ) (k : ℕ) (xs ys : List ℕ) → of_class classes k (xs ++ ys) ≡ of_class classes k xs + of_class classes k ys
 class-append classes k [] ys = omega arith

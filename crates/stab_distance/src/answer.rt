@@ -1,5 +1,5 @@
 /// The answer of a search for the least logical error of a table.
-#[derive(Debug, Drop)]
+#[derive(Drop)]
 pub enum Answer {
     /// A least logical error: the numbers of its rows in the table, in ascending order.
     Least(Vec<usize>),

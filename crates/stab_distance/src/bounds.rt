@@ -2,9 +2,10 @@ ghost use Rattle.std.specs.Prelude.{◌≡◌, ℕ, true, false, slice_index_or,
 ghost use Rattle.stab_distance.specs.inner.Graphs.{HasAtLeast, HasBound};
 ghost use Rattle.stab_distance.specs.inner.Labels.{IsFar};
 
+use crate::certificate::Members;
 use crate::edges::bits_of;
 use crate::graph::Graph;
-use crate::labels::{are_labels, bit_at, labels_from};
+use crate::labels::{Labels, are_labels, bit_at, labels_from};
 use crate::row::end_of_rows;
 use crate::sources::{are_covered, sources_of};
 use std::alloc::{AllocError, Global};
@@ -67,4 +68,27 @@ fn is_far(
     }
     let labels = labels_from(alloc, graph, bits, node, bound)?;
     Ok(are_labels(&labels, graph.edges(), bits, node, bound))
+}
+
+/// Two colours of the nodes, so that the edges between nodes of two colours are those that flip the observable,
+/// if there are such colours. The members are the nodes that do not have the colour of the boundary.
+impl Members for Graph {
+    fn members(&self, alloc: Global, observable: usize) -> Result<Vec<bool>, AllocError> {
+        let bits = bits_of(alloc, self.rows(), observable)?;
+        let boundary = self.detectors();
+        let nodes = boundary.saturating_add(1);
+        let mut labels = Labels::new(alloc, nodes, usize::MAX)?;
+        labels.spread(alloc, self, bits.as_slice(), boundary)?;
+        for node in 0..boundary {
+            if labels.label(node, false).min(labels.label(node, true)) == usize::MAX {
+                labels.spread(alloc, self, bits.as_slice(), node)?;
+            }
+        }
+        let mut members = Vec::new(alloc);
+        for i in 0..observable {
+            members.push(i < boundary && labels.label(i, true) < labels.label(i, false))?;
+        }
+        members.push(true)?;
+        Ok(members)
+    }
 }

@@ -6,8 +6,8 @@
 //! - `errors`: the errors ready for a search. `index`, `keys`: which errors to try. `reach`, `classes`: when to give up a branch.
 //! - `certificate`, `elimination`: a proof that no logical error exists.
 //! - `graphlike`: the call for only those errors that flip at most two detectors. `parts`: these errors of a table.
-//! - `edges`, `graph`: these errors as edges. `cycles`, `sources`, `labels`: shortest paths. `bounds`, `colours`: what
-//!   labels prove. `logical`: the check of what was found.
+//! - `edges`, `graph`: these errors as edges. `cycles`, `sources`, `labels`: shortest paths. `bounds`: what labels
+//!   prove. `logical`: the check of what was found.
 //! - `laws`: each table has an answer.
 //!
 //! Source: C. Gidney, Stim: a fast stabilizer circuit simulator (2021), for detectors, observables and tables of
@@ -22,7 +22,6 @@ mod answer;
 mod bounds;
 mod certificate;
 mod classes;
-mod colours;
 mod cycles;
 mod distinct;
 mod edges;
