@@ -107,35 +107,38 @@ fn push_on_whole(
 }
 
 fn push_on_lookback(alloc: Global, words: &mut Vec<u8>, text: &[u8]) -> Result<(), AllocError> {
-    let Some(item) = find_item(alloc, text, Refusal::LookbackTooFar)? else {
-        return push_sentences(words, sentences::LOOKBACK);
-    };
-    let line = line_of(text, item.line);
-    push_line(
-        words,
-        item.line,
-        line,
-        find_lookback(alloc, line, item.records)?,
-    )?;
+    match find_item(alloc, text, Refusal::LookbackTooFar)? {
+        None => push_sentences(words, sentences::LOOKBACK),
+        Some(item) => push_lookback(alloc, words, line_of(text, item.line), &item),
+    }
+}
+
+fn push_lookback(
+    alloc: Global,
+    words: &mut Vec<u8>,
+    line: &[u8],
+    item: &RefusedItem,
+) -> Result<(), AllocError> {
+    let part = find_lookback(alloc, line, item.records)?;
+    push_line(words, item.line, line, part)?;
     words.extend_from_slice(b"This looks back past the first record: ")?;
     push_records(words, item.records)?;
     words.extend_from_slice(b" before item ")?;
-    push_path(words, item.path.as_slice())?;
-    push_round(words, &item)?;
-    push_sentence(words, ".")?;
+    push_place(words, item)?;
     push_sentence(words, sentences::LOOKBACK.cure)
 }
 
 fn push_on_steps(alloc: Global, words: &mut Vec<u8>, text: &[u8]) -> Result<(), AllocError> {
-    let Some(item) = find_item(alloc, text, Refusal::TooManySteps)? else {
-        return push_sentences(words, sentences::STEPS);
-    };
-    let line = line_of(text, item.line);
+    match find_item(alloc, text, Refusal::TooManySteps)? {
+        None => push_sentences(words, sentences::STEPS),
+        Some(item) => push_too_many(words, line_of(text, item.line), &item),
+    }
+}
+
+fn push_too_many(words: &mut Vec<u8>, line: &[u8], item: &RefusedItem) -> Result<(), AllocError> {
     push_line(words, item.line, line, LinePart::of_content(line))?;
     words.extend_from_slice(b"There are more than 1048576 steps up to the end of item ")?;
-    push_path(words, item.path.as_slice())?;
-    push_round(words, &item)?;
-    push_sentence(words, ".")?;
+    push_place(words, item)?;
     push_steps(words, item.steps_of_text)?;
     push_sentence(words, sentences::STEPS.cure)
 }
@@ -164,6 +167,13 @@ fn push_records(words: &mut Vec<u8>, records: u64) -> Result<(), AllocError> {
             words.extend_from_slice(b" records are")
         }
     }
+}
+
+/// Ends a sentence by where the item is.
+fn push_place(words: &mut Vec<u8>, item: &RefusedItem) -> Result<(), AllocError> {
+    push_path(words, item.path.as_slice())?;
+    push_round(words, item)?;
+    push_sentence(words, ".")
 }
 
 /// Puts a path after other words, as scripts of edits have it.

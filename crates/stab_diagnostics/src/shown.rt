@@ -29,18 +29,32 @@ pub(crate) fn push_line(
     let window = window_round(line, part);
     let mut buffer = Buffer::new();
     let digits = buffer.format(number).as_bytes();
+    let cut_before = cut_if(window.start > 0);
     words.extend_from_slice(digits)?;
     words.extend_from_slice(b": ")?;
-    let cut_before = if window.start > 0 { CUT } else { b"" };
-    let cut_behind = if window.end < line.len() { CUT } else { b"" };
     words.extend_from_slice(cut_before)?;
     push_shown(words, window.bytes(line))?;
-    words.extend_from_slice(cut_behind)?;
-    words.push(b'\n')?;
+    words.extend_from_slice(cut_if(window.end < line.len()))?;
     let margin = digits
         .len()
         .saturating_add(cut_before.len())
         .saturating_add(2);
+    push_carets(words, margin, window, part)
+}
+
+/// What is shown where a line is cut, if it is.
+fn cut_if(cut: bool) -> &'static [u8] {
+    if cut { CUT } else { b"" }
+}
+
+/// Ends the line, and puts carets under a part of what is shown of it, after a margin.
+fn push_carets(
+    words: &mut Vec<u8>,
+    margin: usize,
+    window: LinePart,
+    part: LinePart,
+) -> Result<(), AllocError> {
+    words.push(b'\n')?;
     let column = part.start.saturating_sub(window.start);
     push_repeated(words, b' ', margin.saturating_add(column))?;
     let carets = part.end.min(window.end).saturating_sub(part.start).max(1);
