@@ -1,5 +1,5 @@
 -- Rows of numbers: one of them written anew, and looked up.
-use Rattle.stab_regions.proofs.Names.{◌≡◌, ℕ, zero, suc, ◌+◌, ◌<◌, refl, sym, subst, ◌∙◌, ap, arith, Bool, false, List, [], ◌∷◌, ◌++◌, length, drop, get_or, set, ◌==◌, get_or-set_same, get_or-set_other, length-set, ◌⊕◌, odd, row, Toggles}
+use Rattle.stab_regions.proofs.Names.{◌≡◌, ℕ, zero, suc, ◌<◌, refl, sym, subst, ◌∙◌, ap, arith, List, [], ◌∷◌, length, get_or, set, get_or-set_same, get_or-set_other, length-set, ◌⊕◌, odd, row, Toggles}
 
 -- writing a row toggles it
 pub toggles_set : (old : List (List ℕ)) (place : ℕ) (numbers new : List ℕ) → place < length old

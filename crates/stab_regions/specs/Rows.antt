@@ -1,6 +1,6 @@
 -- Rows: the parities that X and Z flip on each qubit, as lists of their numbers, and what they say of the parities' regions.
 -- Source: this project's own.
-use Rattle.std.specs.Prelude.{◌≡◌, ◌≢◌, ℕ, ◌==◌, ◌+◌, Bool, false, List, ◌∷◌, length}
+use Rattle.std.specs.Prelude.{◌≡◌, ◌≢◌, ℕ, ◌+◌, Bool, false, List, length}
 use Rattle.stab_gates.specs.declared.letter.Letter.{Letter}
 use Rattle.stab_gates.specs.declared.letter.Letter.TheVariants.{I, X, Y, Z}
 use Rattle.stab_gates.specs.Letters.{◌⊕◌, letters_anticommute}

@@ -41,7 +41,7 @@ pub fn before_gate(
     }
 }
 
-/// IsPivot what X flips on a qubit with what Z does.
+/// Exchanges what X flips on a qubit with what Z does.
 fn exchange(by_x: &mut [Parities], by_z: &mut [Parities], qubit: usize)
     requires in_range { qubit < length by_x.old }
     requires same_length { length by_z.old ≡ length by_x.old }
@@ -52,7 +52,7 @@ fn exchange(by_x: &mut [Parities], by_z: &mut [Parities], qubit: usize)
     std::mem::swap(&mut by_x[qubit], &mut by_z[qubit]);
 }
 
-/// IsPivot two rows.
+/// Exchanges two rows.
 fn exchange_rows(rows: &mut [Parities], first: usize, second: usize)
     requires first_in_range { first < length rows.old }
     requires second_in_range { second < length rows.old }
