@@ -1,6 +1,6 @@
 //! The commands of the program and their options, as the command line reader is given them.
 ghost use Rattle.std.specs.Prelude.{IfOk};
-ghost use Rattle.clap.specs.Words.{App};
+ghost use Rattle.clap.specs.Words.{App, with_subcommand};
 ghost use Rattle.stab_args.specs.Options.{alone, bare, check, coins, detect, deterministic, deterministic_only, distance, edit, faults, flag, most_errors, named, numbered, one_name, ranged, shot_command, stabilisers, stabsim, valued};
 ghost use Rattle.stab_args.specs.inner.Parts.{IsApp, IsOption, with_common, with_files};
 
@@ -253,6 +253,16 @@ fn bare_command<'a>(alloc: Global) -> Command<'a>
         .subcommand_required(true)
 }
 
+/// A program with one command more, if memory was given for both.
+fn with_command<'a>(
+    program: Result<Command<'a>, AllocError>,
+    command: Result<Command<'a>, AllocError>,
+) -> Result<Command<'a>, AllocError>
+    ensures app { (app inner : App) → IfOk program.entry (IsApp app) → IfOk command.entry (IsApp inner) → IfOk result (IsApp (with_subcommand app inner.top)) }
+{
+    program?.subcommand(command?)
+}
+
 /// The program with its commands. Each is made when the one before it has been put in, so that there are never more than two
 /// to be let go.
 pub(crate) fn app<'a>(
@@ -262,20 +272,20 @@ pub(crate) fn app<'a>(
 ) -> Result<Command<'a>, AllocError>
     ensures app { IfOk result (IsApp (stabsim (record { formats = formats.entry; letters = letters.entry }))) }
 {
-    bare_command(alloc)
-        .subcommand(shot_command(
-            alloc,
-            "sample",
-            help::ABOUT_SAMPLE,
-            help::AFTER_SAMPLE,
-            formats,
-        )?)?
-        .subcommand(detect_command(alloc, formats)?)?
-        .subcommand(stabilisers_command(alloc)?)?
-        .subcommand(edit_command(alloc)?)?
-        .subcommand(check_command(alloc)?)?
-        .subcommand(deterministic_command(alloc, formats)?)?
-        .subcommand(faults_command(alloc, formats)?)?
-        .subcommand(coins_command(alloc, formats)?)?
-        .subcommand(distance_command(alloc, letters)?)
+    let sample = shot_command(
+        alloc,
+        "sample",
+        help::ABOUT_SAMPLE,
+        help::AFTER_SAMPLE,
+        formats,
+    );
+    let program = with_command(Ok(bare_command(alloc)), sample);
+    let program = with_command(program, detect_command(alloc, formats));
+    let program = with_command(program, stabilisers_command(alloc));
+    let program = with_command(program, edit_command(alloc));
+    let program = with_command(program, check_command(alloc));
+    let program = with_command(program, deterministic_command(alloc, formats));
+    let program = with_command(program, faults_command(alloc, formats));
+    let program = with_command(program, coins_command(alloc, formats));
+    with_command(program, distance_command(alloc, letters))
 }
