@@ -1,6 +1,6 @@
 //! The commands of the program and their options, as the command line reader is given them.
 ghost use Rattle.std.specs.Prelude.{IfOk};
-ghost use Rattle.clap.specs.Words.{App, with_subcommand};
+ghost use Rattle.clap.specs.Words.{App, Rule, new_app, with_rule, with_subcommand};
 ghost use Rattle.stab_args.specs.Options.{alone, bare, check, coins, detect, deterministic, deterministic_only, distance, edit, faults, flag, most_errors, named, numbered, one_name, ranged, shot_command, stabilisers, stabsim, valued};
 ghost use Rattle.stab_args.specs.inner.Parts.{IsApp, IsOption, with_common, with_files};
 
@@ -84,31 +84,56 @@ fn deterministic_only<'a>(alloc: Global) -> Result<Arg<'a>, AllocError>
     flag(alloc, "deterministic_only", help::DETERMINISTIC_ONLY).alias("sure_only")
 }
 
+/// A command without options.
+fn named_command<'a>(
+    alloc: Global,
+    name: &'a str,
+    about: &'a str,
+    after_help: &'a str,
+) -> Command<'a>
+    ensures app { IsApp (new_app name.entry.now) result }
+{
+    Command::new(alloc, name)
+        .about(about)
+        .after_help(after_help)
+}
+
+/// A command with one option more, if memory was given for it.
+fn with_option<'a>(
+    command: Result<Command<'a>, AllocError>,
+    option: Arg<'a>,
+) -> Result<Command<'a>, AllocError>
+    ensures app { (app : App) (rule : Rule) → IfOk command.entry (IsApp app) → IsOption rule option.entry → IfOk result (IsApp (with_rule app rule)) }
+{
+    command?.arg(option)
+}
+
 /// A command with the options of every command after its own; `help_in` is the help of `--in`.
 fn with_files<'a>(
     alloc: Global,
-    command: Command<'a>,
+    command: Result<Command<'a>, AllocError>,
     help_in: &'a str,
 ) -> Result<Command<'a>, AllocError>
-    ensures app { (app : App) → IsApp app command.entry → IfOk result (IsApp (with_files app)) }
+    ensures app { (app : App) → IfOk command.entry (IsApp app) → IfOk result (IsApp (with_files app)) }
 {
-    command
-        .arg(valued(alloc, "in", "FILE", help_in))?
-        .arg(valued(alloc, "out", "FILE", help::OUT))
+    let command = with_option(command, valued(alloc, "in", "FILE", help_in));
+    with_option(command, valued(alloc, "out", "FILE", help::OUT))
 }
 
 /// A command with the options of one that runs a circuit after its own; `help_in` is the help of `--in`.
 fn with_common<'a>(
     alloc: Global,
-    command: Command<'a>,
+    command: Result<Command<'a>, AllocError>,
     help_in: &'a str,
 ) -> Result<Command<'a>, AllocError>
-    ensures app { (app : App) → IsApp app command.entry → IfOk result (IsApp (with_common app)) }
+    ensures app { (app : App) → IfOk command.entry (IsApp app) → IfOk result (IsApp (with_common app)) }
 {
-    let command = command
-        .arg(numbered(alloc, "seed", 0, u64::MAX, "0", help::SEED))?
-        .arg(valued(alloc, "coins", "TEXT", help::COINS))?
-        .arg(valued(alloc, "coins_in", "FILE", help::COINS_IN))?;
+    let command = with_option(
+        command,
+        numbered(alloc, "seed", 0, u64::MAX, "0", help::SEED),
+    );
+    let command = with_option(command, valued(alloc, "coins", "TEXT", help::COINS));
+    let command = with_option(command, valued(alloc, "coins_in", "FILE", help::COINS_IN));
     with_files(alloc, command, help_in)
 }
 
@@ -122,12 +147,15 @@ fn shot_command<'a>(
 ) -> Result<Command<'a>, AllocError>
     ensures app { IfOk result (IsApp (alone (shot_command name.entry.now formats.entry))) }
 {
-    let command = Command::new(alloc, name)
-        .about(about)
-        .after_help(after_help)
-        .arg(numbered(alloc, "shots", 0, Shots::MOST as u64, "1", help::SHOTS))?
-        .arg(ranged(alloc, "first_shot", 0, u64::MAX, help::FIRST_SHOT))?
-        .arg(named(alloc, "out_format", formats, "01", help::FORMAT))?;
+    let command = Ok(named_command(alloc, name, about, after_help));
+    let shots = numbered(alloc, "shots", 0, Shots::MOST as u64, "1", help::SHOTS);
+    let command = with_option(command, shots);
+    let first = ranged(alloc, "first_shot", 0, u64::MAX, help::FIRST_SHOT);
+    let command = with_option(command, first);
+    let command = with_option(
+        command,
+        named(alloc, "out_format", formats, "01", help::FORMAT),
+    );
     with_common(alloc, command, help::IN)
 }
 
@@ -135,30 +163,32 @@ fn shot_command<'a>(
 fn stabilisers_command<'a>(alloc: Global) -> Result<Command<'a>, AllocError>
     ensures app { IfOk result (IsApp (alone stabilisers)) }
 {
-    let command = Command::new(alloc, "stabilisers")
-        .about(help::ABOUT_STABILISERS)
-        .after_help(help::AFTER_STABILISERS)
-        .alias("stabilizers")?;
-    with_common(alloc, command, help::IN)
+    let command = named_command(
+        alloc,
+        "stabilisers",
+        help::ABOUT_STABILISERS,
+        help::AFTER_STABILISERS,
+    );
+    with_common(alloc, command.alias("stabilizers"), help::IN)
 }
 
 /// The command `edit`.
 fn edit_command<'a>(alloc: Global) -> Result<Command<'a>, AllocError>
     ensures app { IfOk result (IsApp (alone edit)) }
 {
-    let command = Command::new(alloc, "edit")
-        .about(help::ABOUT_EDIT)
-        .after_help(help::AFTER_EDIT)
-        .arg(ranged(alloc, "qubits", 0, QubitCount::MOST as u64, help::QUBITS))?
-        .arg(numbered(
-            alloc,
-            "stride",
-            1,
-            Stride::MOST as u64,
-            "8192",
-            help::STRIDE,
-        ))?
-        .arg(flag(alloc, "framed", help::FRAMED))?;
+    let command = Ok(named_command(alloc, "edit", help::ABOUT_EDIT, help::AFTER_EDIT));
+    let qubits = ranged(alloc, "qubits", 0, QubitCount::MOST as u64, help::QUBITS);
+    let command = with_option(command, qubits);
+    let stride = numbered(
+        alloc,
+        "stride",
+        1,
+        Stride::MOST as u64,
+        "8192",
+        help::STRIDE,
+    );
+    let command = with_option(command, stride);
+    let command = with_option(command, flag(alloc, "framed", help::FRAMED));
     with_common(alloc, command, help::IN_OF_EDIT)
 }
 
@@ -166,10 +196,8 @@ fn edit_command<'a>(alloc: Global) -> Result<Command<'a>, AllocError>
 fn check_command<'a>(alloc: Global) -> Result<Command<'a>, AllocError>
     ensures app { IfOk result (IsApp (alone check)) }
 {
-    let command = Command::new(alloc, "check")
-        .about(help::ABOUT_CHECK)
-        .after_help(help::AFTER_CHECK);
-    with_files(alloc, command, help::IN)
+    let command = named_command(alloc, "check", help::ABOUT_CHECK, help::AFTER_CHECK);
+    with_files(alloc, Ok(command), help::IN)
 }
 
 /// The command `deterministic`, which takes no coins.
@@ -179,11 +207,17 @@ fn deterministic_command<'a>(
 ) -> Result<Command<'a>, AllocError>
     ensures app { IfOk result (IsApp (alone (deterministic formats.entry))) }
 {
-    let command = Command::new(alloc, "deterministic")
-        .about(help::ABOUT_DETERMINISTIC)
-        .after_help(help::AFTER_DETERMINISTIC)
-        .arg(named(alloc, "out_format", formats, "01", help::FORMAT))?
-        .arg(flag(alloc, "explain", help::EXPLAIN))?;
+    let command = Ok(named_command(
+        alloc,
+        "deterministic",
+        help::ABOUT_DETERMINISTIC,
+        help::AFTER_DETERMINISTIC,
+    ));
+    let command = with_option(
+        command,
+        named(alloc, "out_format", formats, "01", help::FORMAT),
+    );
+    let command = with_option(command, flag(alloc, "explain", help::EXPLAIN));
     with_files(alloc, command, help::IN)
 }
 
@@ -191,12 +225,14 @@ fn deterministic_command<'a>(
 fn faults_command<'a>(alloc: Global, formats: &'a [&'a str]) -> Result<Command<'a>, AllocError>
     ensures app { IfOk result (IsApp (alone (faults formats.entry))) }
 {
-    let command = Command::new(alloc, "faults")
-        .about(help::ABOUT_FAULTS)
-        .after_help(help::AFTER_FAULTS)
-        .arg(one_name(alloc, "out_format", formats, help::FAULT_LAYOUT))?
-        .arg(flag(alloc, "everywhere", help::EVERYWHERE))?
-        .arg(deterministic_only(alloc)?)?;
+    let only = deterministic_only(alloc)?;
+    let command = Ok(named_command(alloc, "faults", help::ABOUT_FAULTS, help::AFTER_FAULTS));
+    let command = with_option(
+        command,
+        one_name(alloc, "out_format", formats, help::FAULT_LAYOUT),
+    );
+    let command = with_option(command, flag(alloc, "everywhere", help::EVERYWHERE));
+    let command = with_option(command, only);
     with_files(alloc, command, help::IN)
 }
 
@@ -204,10 +240,11 @@ fn faults_command<'a>(alloc: Global, formats: &'a [&'a str]) -> Result<Command<'
 fn coins_command<'a>(alloc: Global, formats: &'a [&'a str]) -> Result<Command<'a>, AllocError>
     ensures app { IfOk result (IsApp (alone (coins formats.entry))) }
 {
-    let command = Command::new(alloc, "coins")
-        .about(help::ABOUT_COINS)
-        .after_help(help::AFTER_COINS)
-        .arg(one_name(alloc, "out_format", formats, help::COIN_LAYOUT))?;
+    let command = Ok(named_command(alloc, "coins", help::ABOUT_COINS, help::AFTER_COINS));
+    let command = with_option(
+        command,
+        one_name(alloc, "out_format", formats, help::COIN_LAYOUT),
+    );
     with_files(alloc, command, help::IN)
 }
 
@@ -215,15 +252,22 @@ fn coins_command<'a>(alloc: Global, formats: &'a [&'a str]) -> Result<Command<'a
 fn distance_command<'a>(alloc: Global, letters: &'a [&'a str]) -> Result<Command<'a>, AllocError>
     ensures app { IfOk result (IsApp (alone (distance letters.entry))) }
 {
-    let command = Command::new(alloc, "distance")
-        .about(help::ABOUT_DISTANCE)
-        .after_help(help::AFTER_DISTANCE)
-        .arg(flag(alloc, "everywhere", help::NOISE))?
-        .arg(named(alloc, "letters", letters, "all", help::LETTERS))?
-        .arg(ranged(alloc, "most", 0, MOST_ERRORS, help::MOST))?
-        .arg(flag(alloc, "graphlike", help::GRAPHLIKE))?
-        .arg(deterministic_only(alloc)?)?
-        .arg(flag(alloc, "progress", help::PROGRESS))?;
+    let only = deterministic_only(alloc)?;
+    let command = Ok(named_command(
+        alloc,
+        "distance",
+        help::ABOUT_DISTANCE,
+        help::AFTER_DISTANCE,
+    ));
+    let command = with_option(command, flag(alloc, "everywhere", help::NOISE));
+    let command = with_option(
+        command,
+        named(alloc, "letters", letters, "all", help::LETTERS),
+    );
+    let command = with_option(command, ranged(alloc, "most", 0, MOST_ERRORS, help::MOST));
+    let command = with_option(command, flag(alloc, "graphlike", help::GRAPHLIKE));
+    let command = with_option(command, only);
+    let command = with_option(command, flag(alloc, "progress", help::PROGRESS));
     with_files(alloc, command, help::IN)
 }
 
@@ -231,15 +275,14 @@ fn distance_command<'a>(alloc: Global, letters: &'a [&'a str]) -> Result<Command
 fn detect_command<'a>(alloc: Global, formats: &'a [&'a str]) -> Result<Command<'a>, AllocError>
     ensures app { IfOk result (IsApp (alone (detect formats.entry))) }
 {
-    let append = flag(alloc, "append_observables", help::APPEND);
-    shot_command(
+    let shown = shot_command(
         alloc,
         "detect",
         help::ABOUT_DETECT,
         help::AFTER_DETECT,
         formats,
-    )?
-    .arg(append)
+    );
+    with_option(shown, flag(alloc, "append_observables", help::APPEND))
 }
 
 /// The program without its commands.

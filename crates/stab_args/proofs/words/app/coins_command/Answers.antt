@@ -1,12 +1,6 @@
-use Rattle.stab_args.proofs.Names.{ap, ◌∙◌, codes, new_app, app_of_fields, IsApp}
-use Rattle.stab_args.proofs.CommandLaws.{with_option}
 use Rattle.stab_args.proofs.words.app.coins_command.Goals as goal
 
 pub returns : goal.returns
 returns c =
-    let none : IsApp (new_app (codes "coins")) c.after_help.result = (
-      ap app_of_fields c.after_help.ensures ∙ (ap app_of_fields c.about.ensures ∙ c.new.ensures.app),
-      ap (λ fields. fields.has_globals) c.after_help.ensures ∙ (ap (λ fields. fields.has_globals) c.about.ensures ∙ c.new.ensures.local),
-    ) in
-    let layout = with_option _ c.in_ok-command.command c.one_name.result _ _ c.in_ok-command.ensures c.one_name.ensures.rule none in
+    let layout = c.with_option-command.ensures.app _ _ c.named_command.ensures.app c.one_name.ensures.rule in
     record { app = c.with_files.ensures.app _ layout }

@@ -1,14 +1,8 @@
-use Rattle.stab_args.proofs.Names.{ap, ◌∙◌, new_app, app_of_fields, IsApp}
-use Rattle.stab_args.proofs.CommandLaws.{with_option}
 use Rattle.stab_args.proofs.words.app.shot_command.Goals as goal
 
 pub returns : goal.returns
 returns c =
-    let none : IsApp (new_app c.args.name.now) c.after_help.result = (
-      ap app_of_fields c.after_help.ensures ∙ (ap app_of_fields c.about.ensures ∙ c.new.ensures.app),
-      ap (λ fields. fields.has_globals) c.after_help.ensures ∙ (ap (λ fields. fields.has_globals) c.about.ensures ∙ c.new.ensures.local),
-    ) in
-    let shots = with_option _ c.in_ok-arg.field-0 c.numbered.result _ _ c.in_ok-arg.ensures c.numbered.ensures.rule none in
-    let first = with_option _ c.in_ok-arg-2.field-0 c.ranged.result _ _ c.in_ok-arg-2.ensures c.ranged.ensures.rule shots in
-    let format = with_option _ c.in_ok-command.command c.named.result _ _ c.in_ok-command.ensures c.named.ensures.rule first in
+    let shots = c.with_option-command.ensures.app _ _ c.named_command.ensures.app c.numbered-shots.ensures.rule in
+    let first = c.with_option-command-2.ensures.app _ _ shots c.ranged-first.ensures.rule in
+    let format = c.with_option-command-3.ensures.app _ _ first c.named.ensures.rule in
     record { app = c.with_common.ensures.app _ format }
