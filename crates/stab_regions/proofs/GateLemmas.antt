@@ -1,5 +1,5 @@
 -- Gates on rows: how what X and Z flip before a gate follows from what they flip after it.
-use Rattle.stab_regions.proofs.Names.{◌≡◌, ◌≢◌, ℕ, ◌<◌, refl, sym, subst, ◌∙◌, ap, arith, Bool, false, ◌⊎◌, inl, inr, List, [], length, set, Result, Ok, Err, OnOk, cases_eq, get_or-set_same, get_or-set_other, Letter, I, X, Y, Z, ◌⊕◌, letters_anticommute, Gate, letter_at, letter_image, inverse, back, odd, row, Toggles, MovesLetters}
+use Rattle.stab_regions.proofs.Names.{◌≡◌, ◌≢◌, ℕ, ◌<◌, sym, subst, ◌∙◌, ap, arith, Bool, true, false, ◌&&◌, if◌then◌else◌, ◌⊎◌, inl, inr, List, [], length, set, Result, Ok, Err, OnOk, cases_eq, get_or-set_same, get_or-set_other, Letter, I, X, Y, Z, ◌⊕◌, letters_anticommute, Gate, letter_at, letter_image, inverse, back, has_both, exchanges, odd, row, TogglesWhere, MovesLetters}
 
 -- what a letter flips, by what X and Z flip
 abbrev pub by_parts : Letter → Bool → Bool → Bool
@@ -57,50 +57,56 @@ gate-moves g n q old_x old_z new_x new_z lt m i s long shows =
           m.z_elsewhere shows.z;
     }
 
-pub gate-moves-by : (g : Gate) (x z : Bool → Bool → Bool) (n q : ℕ) (old_x old_z new_x new_z : List (List ℕ)) → q < n
-    → ((a b : Bool) → x a b ≡ x_before g a b) → ((a b : Bool) → z a b ≡ z_before g a b)
-    → Mixes q x z old_x old_z new_x new_z → MovesLetters n (λ i. back g q) old_x old_z new_x new_z
-gate-moves-by g x z n q old_x old_z new_x new_z lt same_x same_z m =
-    gate-moves g n q old_x old_z new_x new_z lt
-    (record { x_here = λ i. m.x_here i ∙ same_x _ _; z_here = λ i. m.z_here i ∙ same_z _ _; x_elsewhere = m.x_elsewhere; z_elsewhere = m.z_elsewhere })
-
 -- what follows of what an answer that is Ok says
 pub on_ok : {A E : Type 0} (r : Result A E) (P Q : Type 0) → (P → Q) → OnOk r P → OnOk r Q
 on_ok (Ok a) P Q f p = f p
 on_ok (Err e) P Q f p = tt
 
--- what each gate does to the rows
+-- what X flips before a gate, and what Z does, if it is made in place: by an exchange, after which one may be added to the other
 
-pub mixes-x : (q : ℕ) (x z new_x : List (List ℕ)) → Toggles x new_x q (row z q) → Mixes q (λ a b. a ⊕ b) (λ a b. b) x z new_x z
-mixes-x q x z new_x t = record { x_here = t.here; z_here = λ i. refl; x_elsewhere = t.elsewhere; z_elsewhere = λ k ne. refl }
+abbrev pub x_in_place : (exchanged x_both : Bool) → Bool → Bool → Bool
+x_in_place exchanged x_both a b = (if exchanged then b else a) ⊕ (x_both && (if exchanged then a else b))
 
-pub mixes-z : (q : ℕ) (x z new_z : List (List ℕ)) → Toggles z new_z q (row x q) → Mixes q (λ a b. a) (λ a b. b ⊕ a) x z x new_z
-mixes-z q x z new_z t = record { x_here = λ i. refl; z_here = t.here; x_elsewhere = λ k ne. refl; z_elsewhere = t.elsewhere }
+abbrev pub z_in_place : (exchanged x_both z_both : Bool) → Bool → Bool → Bool
+z_in_place exchanged x_both z_both a b = (if exchanged then a else b) ⊕ (z_both && x_in_place exchanged x_both a b)
 
-pub mixes-exchanged : (q : ℕ) (x z new_x new_z : List (List ℕ)) → q < length x → q < length z → new_x ≡ set x q (row z q) → new_z ≡ set z q (row x q)
-    → Mixes q (λ a b. b) (λ a b. a) x z new_x new_z
-mixes-exchanged q x z new_x new_z lx lz ex ez = record {
-  x_here = λ i. ap (λ rows. odd i (row rows q)) ex ∙ ap (odd i) (get_or-set_same x q (row z q) [] lx);
-  z_here = λ i. ap (λ rows. odd i (row rows q)) ez ∙ ap (odd i) (get_or-set_same z q (row x q) [] lz);
-  x_elsewhere = λ k ne. ap (λ rows. row rows k) ex ∙ get_or-set_other x q k (row z q) [] ne;
-  z_elsewhere = λ k ne. ap (λ rows. row rows k) ez ∙ get_or-set_other z q k (row x q) [] ne;
-}
+abbrev exchanged_by : Gate → Bool
+exchanged_by g = exchanges (letter_image g X).letter (letter_image g Z).letter
 
--- exchanged rows of which one is then toggled by the other
-pub mixes-exchanged_x : (q : ℕ) (x z mid_x mid_z new_x : List (List ℕ)) → Mixes q (λ a b. b) (λ a b. a) x z mid_x mid_z → Toggles mid_x new_x q (row mid_z q)
-    → Mixes q (λ a b. b ⊕ a) (λ a b. a) x z new_x mid_z
-mixes-exchanged_x q x z mid_x mid_z new_x m t = record {
-  x_here = λ i. t.here i ∙ (λ k. m.x_here i k ⊕ m.z_here i k);
-  z_here = m.z_here;
-  x_elsewhere = λ k ne. t.elsewhere k ne ∙ m.x_elsewhere k ne;
-  z_elsewhere = m.z_elsewhere;
-}
+x-in_place : (g : Gate) (a b : Bool) → x_in_place (exchanged_by g) (has_both (letter_image g X).letter) a b ≡ x_before g a b
+x-in_place g a b = grind arith
 
-pub mixes-exchanged_z : (q : ℕ) (x z mid_x mid_z new_z : List (List ℕ)) → Mixes q (λ a b. b) (λ a b. a) x z mid_x mid_z → Toggles mid_z new_z q (row mid_x q)
-    → Mixes q (λ a b. b) (λ a b. a ⊕ b) x z mid_x new_z
-mixes-exchanged_z q x z mid_x mid_z new_z m t = record {
-  x_here = m.x_here;
-  z_here = λ i. t.here i ∙ (λ k. m.z_here i k ⊕ m.x_here i k);
-  x_elsewhere = m.x_elsewhere;
-  z_elsewhere = λ k ne. t.elsewhere k ne ∙ m.z_elsewhere k ne;
-}
+z-in_place : (g : Gate) (a b : Bool) → z_in_place (exchanged_by g) (has_both (letter_image g X).letter) (has_both (letter_image g Z).letter) a b ≡ z_before g a b
+z-in_place g a b = grind arith
+
+-- a row that is exchanged for another, if the bit is 1
+
+row-exchanged : (bit : Bool) (old new : List (List ℕ)) (q : ℕ) (r : List ℕ) (i : ℕ) → q < length old → new ≡ (if bit then set old q r else old)
+    → odd i (row new q) ≡ (if bit then odd i r else odd i (row old q))
+row-exchanged true old new q r i lt e = ap (λ rows. odd i (row rows q)) e ∙ ap (odd i) (get_or-set_same old q r [] lt)
+row-exchanged false old new q r i lt e = ap (λ rows. odd i (row rows q)) e
+
+row-kept : (bit : Bool) (old new : List (List ℕ)) (q k : ℕ) (r : List ℕ) → k ≢ q → new ≡ (if bit then set old q r else old) → row new k ≡ row old k
+row-kept true old new q k r ne e = ap (λ rows. row rows k) e ∙ get_or-set_other old q k r [] ne
+row-kept false old new q k r ne e = ap (λ rows. row rows k) e
+
+pub images-mix : (g : Gate) (of_x of_z : Letter) (exchanged x_both z_both : Bool) (q : ℕ) (x z mid_x mid_z new_x new_z : List (List ℕ)) → q < length x → q < length z
+    → of_x ≡ (letter_image g X).letter → of_z ≡ (letter_image g Z).letter
+    → exchanged ≡ exchanges of_x of_z → x_both ≡ has_both of_x → z_both ≡ has_both of_z
+    → mid_x ≡ (if exchanged then set x q (row z q) else x) → mid_z ≡ (if exchanged then set z q (row x q) else z)
+    → TogglesWhere x_both mid_x new_x q (row mid_z q) → TogglesWhere z_both mid_z new_z q (row new_x q)
+    → Mixes q (x_before g) (z_before g) x z new_x new_z
+images-mix g of_x of_z exchanged x_both z_both q x z mid_x mid_z new_x new_z lx lz is_x is_z exchanges_is x_is z_is ex ez tx tz =
+    let e : exchanged ≡ exchanged_by g = exchanges_is ∙ (λ k. exchanges (is_x k) (is_z k)) in
+    let fx : x_both ≡ has_both (letter_image g X).letter = x_is ∙ ap has_both is_x in
+    let fz : z_both ≡ has_both (letter_image g Z).letter = z_is ∙ ap has_both is_z in
+    let at_x : (i : ℕ) → odd i (row new_x q) ≡ x_in_place exchanged x_both (odd i (row x q)) (odd i (row z q)) =
+    λ i. tx.here i ∙ (λ k. row-exchanged exchanged x mid_x q (row z q) i lx ex k ⊕ (x_both && row-exchanged exchanged z mid_z q (row x q) i lz ez k)) in
+    record {
+      x_here = λ i. at_x i ∙ (λ k. x_in_place (e k) (fx k) (odd i (row x q)) (odd i (row z q))) ∙ x-in_place g _ _;
+      z_here = λ i.
+          tz.here i ∙ (λ k. row-exchanged exchanged z mid_z q (row x q) i lz ez k ⊕ (z_both && at_x i k))
+          ∙ (λ k. z_in_place (e k) (fx k) (fz k) (odd i (row x q)) (odd i (row z q))) ∙ z-in_place g _ _;
+      x_elsewhere = λ k ne. tx.elsewhere k ne ∙ row-kept exchanged x mid_x q k (row z q) ne ex;
+      z_elsewhere = λ k ne. tz.elsewhere k ne ∙ row-kept exchanged z mid_z q k (row x q) ne ez;
+    }

@@ -1,25 +1,5 @@
 -- Multiplying strings by a letter: the rows that change, and the strings that they then show.
-use Rattle.stab_regions.proofs.Names.{◌≡◌, ◌≢◌, ℕ, ◌<◌, sym, ◌∙◌, ap, arith, Bool, true, false, ◌&&◌, ◌⊎◌, inl, inr, List, cases_eq, Letter, X, Z, ◌⊕◌, letter_product, letters_anticommute, Signed, single, get_or-string_product, letter_at, here_one_letter, off_one_letter, times_where, odd, row, Toggles, MovesLetters, multiplied}
-
--- a row is toggled if the bit is 1, and the others stay
-pub record TogglesWhere (bit : Bool) (old new : List (List ℕ)) (place : ℕ) (numbers : List ℕ) : Type 0 where
-  pub here : (i : ℕ) → odd i (row new place) ≡ odd i (row old place) ⊕ (bit && odd i numbers)
-  pub elsewhere : (k : ℕ) → k ≢ place → row new k ≡ row old k
-
-pub toggles-true : (bit : Bool) (old new : List (List ℕ)) (place : ℕ) (numbers : List ℕ) → bit ≡ true → Toggles old new place numbers → TogglesWhere bit old new place numbers
-toggles-true bit old new place numbers e t = record {
-  here = λ i. t.here i ∙ ap (λ b. odd i (row old place) ⊕ (b && odd i numbers)) (sym e);
-  elsewhere = t.elsewhere;
-}
-
-none : (a : Bool) → a ≡ a ⊕ false
-none a = grind arith
-
-pub toggles-false : (bit : Bool) (old new : List (List ℕ)) (place : ℕ) (numbers : List ℕ) → bit ≡ false → new ≡ old → TogglesWhere bit old new place numbers
-toggles-false bit old new place numbers e same = record {
-  here = λ i. ap (λ rows. odd i (row rows place)) same ∙ none _ ∙ ap (λ b. odd i (row old place) ⊕ (b && odd i numbers)) (sym e);
-  elsewhere = λ k ne. ap (λ rows. row rows k) same;
-}
+use Rattle.stab_regions.proofs.Names.{◌≡◌, ◌≢◌, ℕ, ◌<◌, sym, ◌∙◌, ap, arith, Bool, true, false, ◌&&◌, ◌⊎◌, inl, inr, List, cases_eq, Letter, X, Z, ◌⊕◌, letter_product, letters_anticommute, Signed, single, get_or-string_product, letter_at, here_one_letter, off_one_letter, times_where, odd, row, TogglesWhere, MovesLetters, multiplied}
 
 by-product : (p l m : Letter) → letters_anticommute p m ⊕ (letters_anticommute l p && true) ≡ letters_anticommute p (letter_product l m)
 by-product p l m = grind arith

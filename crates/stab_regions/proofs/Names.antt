@@ -11,7 +11,7 @@ pub use Rattle.std.proofs.lemmas.List.Concat.{flat_map-append}
 pub use Rattle.std.proofs.lemmas.List.FromFn.{length-map-range_with_len, get_or-map-range_with_len}
 pub use Rattle.std.proofs.lemmas.List.Elements.{All-nil, All-cons, All-append, All-map, All-head, All-tail, All-get_or, All-weaker, filter-append, All-take, All-drop}
 pub use Rattle.std.specs.List.{flat_map, list_any, range_with_len}
-pub use Rattle.std.specs.Prelude.{◌==◌, if◌then◌else◌, All, nat_lt, slice_index_or, replicate, Result, Ok, Err, OnOk, slice_set, None, slice_index}
+pub use Rattle.std.specs.Prelude.{Option, Some, ◌==◌, if◌then◌else◌, All, nat_lt, slice_index_or, replicate, Result, Ok, Err, OnOk, slice_set, None, slice_index}
 pub use Rattle.std.specs.Vec.{with_items}
 pub use Rattle.stab_circuit.specs.Cursors.{IsApart, step_shown}
 pub use Rattle.stab_circuit.specs.Items.{Items, done, next, block}
@@ -20,7 +20,9 @@ pub use Rattle.stab_circuit.specs.Views.{circuit_items}
 pub use Rattle.stab_distance.proofs.AscendingLemmas.{named-ascending}
 pub use Rattle.stab_distance.proofs.Totals.{odd-append}
 pub use Rattle.stab_distance.specs.Ascending.{AscendsFrom, IsAscending}
+pub use Rattle.stab_frames.proofs.ImageLemmas.{first_by, second_by, first_controlled, second_controlled}
 pub use Rattle.stab_frames.proofs.SignLemmas.{sign-sign, product-sign_right, product-sign_left, back-letter}
+pub use Rattle.stab_frames.specs.Images.{has_both, exchanges, controlled_letter}
 pub use Rattle.stab_gates.proofs.ParityLemmas.{parity-comm, parity-false, parity-twice, parity-assoc, parity-mid, parity-self}
 pub use Rattle.stab_gates.specs.Letters.{◌⊕◌, letter_product, letters_anticommute}
 pub use Rattle.stab_gates.specs.declared.gate.Gate.{Gate}
@@ -65,7 +67,7 @@ pub use Rattle.stab_regions.specs.Frames.{Frame, frame_after, flipped_coins, all
 pub use Rattle.stab_regions.specs.Laws.{bit_asked, DeterministicBits, RandomBits}
 pub use Rattle.stab_regions.specs.Parities.{detectors_before, parity_region, parity_kept, parity_deterministic, parity_bit, parity_flips}
 pub use Rattle.stab_regions.specs.Regions.{region_of, region_through, keep_region, asks_nothing, asks_observable, is_deterministic, names_newest, times_where, earlier, look_where, Region, region_before, with_looks, keeps_region, before_measured, deterministic_bit}
-pub use Rattle.stab_regions.specs.Rows.{odd, row, ShowsLetters, MovesLetters, multiplied, MovesRegion, Toggles, ShowsLooks, ShowsRegion, bits_at, SameRows}
+pub use Rattle.stab_regions.specs.Rows.{odd, row, ShowsLetters, MovesLetters, multiplied, MovesRegion, Toggles, TogglesWhere, ShowsLooks, ShowsRegion, bits_at, SameRows}
 pub use Rattle.stab_regions.specs.Tables.{steps_before_detector, named_by, region_of_detector, named}
 pub use Rattle.stab_regions.specs.declared.regions.Regions.{Regions}
 pub use Rattle.stab_regions.specs.declared.sites.Asked.{Asked}

@@ -1,5 +1,5 @@
 -- Rows of numbers: one of them written anew, and looked up.
-use Rattle.stab_regions.proofs.Names.{◌≡◌, ℕ, zero, suc, ◌<◌, refl, sym, subst, ◌∙◌, ap, arith, List, [], ◌∷◌, length, get_or, set, get_or-set_same, get_or-set_other, length-set, ◌⊕◌, odd, row, Toggles}
+use Rattle.stab_regions.proofs.Names.{◌≡◌, ℕ, zero, suc, ◌<◌, refl, sym, subst, ◌∙◌, ap, arith, Bool, false, List, [], ◌∷◌, length, get_or, set, get_or-set_same, get_or-set_other, length-set, true, ◌&&◌, parity-false, ◌⊕◌, odd, row, Toggles, TogglesWhere}
 
 -- writing a row toggles it
 pub toggles_set : (old : List (List ℕ)) (place : ℕ) (numbers new : List ℕ) → place < length old
@@ -9,15 +9,30 @@ toggles_set old place numbers new lt same = record {
   elsewhere = λ k ne. get_or-set_other old place k new [] ne;
 }
 
+pub toggles_true : (bit : Bool) (old new : List (List ℕ)) (place : ℕ) (numbers : List ℕ) → bit ≡ true → Toggles old new place numbers → TogglesWhere bit old new place numbers
+toggles_true bit old new place numbers e t = record {
+  here = λ i. t.here i ∙ ap (λ b. odd i (row old place) ⊕ (b && odd i numbers)) (sym e);
+  elsewhere = t.elsewhere;
+}
+
+pub toggles_false : (bit : Bool) (old : List (List ℕ)) (place : ℕ) (numbers : List ℕ) → bit ≡ false → TogglesWhere bit old old place numbers
+toggles_false bit old place numbers e = record {
+  here = λ i. sym (parity-false _) ∙ ap (λ b. odd i (row old place) ⊕ (b && odd i numbers)) (sym e);
+  elsewhere = λ k ne. refl;
+}
+
+pub toggles-as : (a b : Bool) (old new : List (List ℕ)) (place : ℕ) (numbers : List ℕ) → a ≡ b → TogglesWhere a old new place numbers → TogglesWhere b old new place numbers
+toggles-as a b old new place numbers e t = subst (λ bit. TogglesWhere bit old new place numbers) e t
+
 -- a row that is there is what is looked up, whatever the other answer
 pub row-in : (rows : List (List ℕ)) (k : ℕ) (d : List ℕ) → k < length rows → get_or rows k d ≡ row rows k
 row-in [] k d lt = absurd (omega arith)
 row-in (r ∷ rows) zero d lt = refl
 row-in (r ∷ rows) (suc k) d lt = row-in rows k d (omega arith)
 
-pub toggles-by : (old new : List (List ℕ)) (place : ℕ) (rows : List (List ℕ)) (k : ℕ) (d : List ℕ) → k < length rows
-    → Toggles old new place (get_or rows k d) → Toggles old new place (row rows k)
-toggles-by old new place rows k d lt t = subst (Toggles old new place) (row-in rows k d lt) t
+pub toggles-by : (bit : Bool) (old new : List (List ℕ)) (place : ℕ) (rows : List (List ℕ)) (k : ℕ) (d : List ℕ) → k < length rows
+    → TogglesWhere bit old new place (get_or rows k d) → TogglesWhere bit old new place (row rows k)
+toggles-by bit old new place rows k d lt t = subst (TogglesWhere bit old new place) (row-in rows k d lt) t
 
 pub inside-set : (old new : List (List ℕ)) (q : ℕ) (r : List ℕ) → q < length old → new ≡ set old q r → q < length new
 inside-set old new q r lt e = subst (λ n. q < n) (sym (ap length e ∙ length-set old q r)) lt

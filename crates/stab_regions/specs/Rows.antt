@@ -1,6 +1,6 @@
 -- Rows: the parities that X and Z flip on each qubit, as lists of their numbers, and what they say of the parities' regions.
 -- Source: this project's own.
-use Rattle.std.specs.Prelude.{◌≡◌, ◌≢◌, ℕ, ◌+◌, Bool, false, List, length}
+use Rattle.std.specs.Prelude.{◌≡◌, ◌≢◌, ℕ, ◌+◌, Bool, false, ◌&&◌, List, length}
 use Rattle.stab_gates.specs.declared.letter.Letter.{Letter}
 use Rattle.stab_gates.specs.declared.letter.Letter.TheVariants.{I, X, Y, Z}
 use Rattle.stab_gates.specs.Letters.{◌⊕◌, letters_anticommute}
@@ -13,6 +13,11 @@ use Rattle.stab_regions.specs.Regions.{Region, times_where, region_before}
 -- in one row these numbers are named once more, and the other rows stay
 pub record Toggles (old new : List (List ℕ)) (place : ℕ) (numbers : List ℕ) : Type 0 where
   pub here : (i : ℕ) → odd i (row new place) ≡ odd i (row old place) ⊕ odd i numbers
+  pub elsewhere : (k : ℕ) → k ≢ place → row new k ≡ row old k
+
+-- the same, if the bit is 1; else all rows stay
+pub record TogglesWhere (bit : Bool) (old new : List (List ℕ)) (place : ℕ) (numbers : List ℕ) : Type 0 where
+  pub here : (i : ℕ) → odd i (row new place) ≡ odd i (row old place) ⊕ (bit && odd i numbers)
   pub elsewhere : (k : ℕ) → k ≢ place → row new k ≡ row old k
 
 -- the same rows, of which empty ones may be after the others

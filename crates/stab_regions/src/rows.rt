@@ -1,5 +1,5 @@
-ghost use Rattle.std.specs.Prelude.{◌≡◌, ℕ, ◌<◌, length, IfOk, OnOk};
-ghost use Rattle.stab_regions.specs.Rows.{odd, row, Toggles, bits_at, MovesLetters, multiplied};
+ghost use Rattle.std.specs.Prelude.{◌≡◌, ℕ, ◌<◌, Bool, length, IfOk, OnOk};
+ghost use Rattle.stab_regions.specs.Rows.{odd, row, Toggles, TogglesWhere, bits_at, MovesLetters, multiplied};
 
 use crate::parities::Parities;
 use stab_pauli::Letter;
@@ -24,10 +24,31 @@ pub fn toggle(
     Ok(())
 }
 
-/// Toggles in a row the parities of another.
-#[tactic(auto, using(crate::proofs::RowLemmas::toggles_set))]
-pub fn toggle_within(
+/// Does so, if the bit is 1.
+#[tactic(auto, using(crate::proofs::RowLemmas::toggles_true, crate::proofs::RowLemmas::toggles_false))]
+pub fn toggle_if(
     alloc: Global,
+    bit: bool,
+    rows: &mut [Parities],
+    place: usize,
+    parities: &Parities,
+) -> Result<(), AllocError>
+    requires in_range { place < length rows.old }
+    ensures same_length { length rows.new ≡ length rows.old }
+    ensures value { OnOk result (TogglesWhere bit rows.old rows.new place parities.now) }
+{
+    if bit {
+        toggle(alloc, rows, place, parities)
+    } else {
+        Ok(())
+    }
+}
+
+/// Toggles in a row the parities of another, if the bit is 1.
+#[tactic(auto, using(crate::proofs::RowLemmas::toggles_set, crate::proofs::RowLemmas::toggles_true, crate::proofs::RowLemmas::toggles_false))]
+pub fn toggle_within_if(
+    alloc: Global,
+    bit: bool,
     rows: &mut [Parities],
     place: usize,
     other: usize,
@@ -35,9 +56,11 @@ pub fn toggle_within(
     requires in_range { place < length rows.old }
     requires other_in_range { other < length rows.old }
     ensures same_length { length rows.new ≡ length rows.old }
-    ensures value { OnOk result (Toggles rows.old rows.new place (row rows.old other)) }
+    ensures value { OnOk result (TogglesWhere bit rows.old rows.new place (row rows.old other)) }
 {
-    rows[place] = rows[place].merged(alloc, &rows[other])?;
+    if bit {
+        rows[place] = rows[place].merged(alloc, &rows[other])?;
+    }
     Ok(())
 }
 
@@ -76,11 +99,6 @@ pub fn multiply(
     ensures same_z { length by_z.new ≡ length by_z.old }
     ensures strings { OnOk result (MovesLetters (length by_x.old) (multiplied (length by_x.old) letter qubit parities.now) by_x.old by_z.old by_x.new by_z.new) }
 {
-    if letter.anticommutes(Letter::X) {
-        toggle(alloc, by_x, qubit, parities)?;
-    }
-    if letter.anticommutes(Letter::Z) {
-        toggle(alloc, by_z, qubit, parities)?;
-    }
-    Ok(())
+    toggle_if(alloc, letter.anticommutes(Letter::X), by_x, qubit, parities)?;
+    toggle_if(alloc, letter.anticommutes(Letter::Z), by_z, qubit, parities)
 }
