@@ -1,44 +1,33 @@
-//! The program `bench`: times what a tableau does, a plain loop over as many bytes, and whole runs.
+//! The program `bench`: times what a tableau does, whole runs, edits of sessions, and tables of faults.
 //!
-//! Without words it prints one fixed line. With the word `measure` it prints a table for each size,
-//! the time to read a long circuit text, and the times to edit one. With the word `run` and paths it
-//! prints, for the circuit in each of these files, the times to read it and to run it once, and those
-//! of a cursor over its steps. With the word `edit`, a qubit and paths it prints what edits of a
+//! Without words it prints one fixed line. With the word `measure` it prints a table for each size.
+//! With the word `run` and paths it prints, for the circuit in each of these files, the times to read it and
+//! to run it once. With the word `edit`, a qubit and paths it prints what edits of a
 //! session on each of these circuits take. With the word `faults` and paths it prints what the table of
 //! all faults of each of these circuits takes, beside a session that is asked for them by edits.
 //!
-//! - `work`: what is timed.
-//! - `state`: the states and the string that the works take.
-//! - `bytes`: the plain loop.
+//! - `work`: what is timed of a tableau.
+//! - `state`: the states that the works take.
 //! - `clock`: the processor time.
 //! - `columns`: lines of numbers.
-//! - `timing`: does each work, and gives the best of several rounds.
-//! - `groups`: comparing the groups of two states, and reduced rows.
-//! - `report`: the tables.
-//! - `reading`: a long circuit text, and the time to read it.
-//! - `editing`: a circuit of many items, and the time to edit it.
+//! - `timing`: does each work, and prints the best of several rounds.
+//! - `reading`: the time to read a circuit text.
 //! - `running`: circuits in files, and the times to read and to run them.
 //! - `replaying`: edits of a session on a circuit, each beside a whole run.
 //! - `faulting`: tables of all faults, each beside a session that is asked for some of them.
-//! - `walking`: the times of a cursor over the steps of a circuit.
 //!
 //! It is proved safe, and nothing is claimed about the times.
 #![tactic(auto)]
 
-mod bytes;
 mod clock;
 mod columns;
-mod editing;
 mod failure;
 mod faulting;
-mod groups;
 mod reading;
 mod replaying;
-mod report;
 mod running;
 mod state;
 mod timing;
-mod walking;
 mod work;
 
 use failure::Failure;
@@ -73,7 +62,7 @@ fn measure_by<R: CpuClock + Files + AllocGlobal + Print>(
     rest: &[String],
 ) -> Result<(), Failure> {
     match word {
-        "measure" if rest.is_empty() => measure_layers(rt),
+        "measure" if rest.is_empty() => measure_tableau(rt),
         "run" if !rest.is_empty() => running::print_table(rt, rest),
         "edit" => measure_edits(rt, rest),
         "faults" if !rest.is_empty() => faulting::print_table(rt, rest),
@@ -81,13 +70,12 @@ fn measure_by<R: CpuClock + Files + AllocGlobal + Print>(
     }
 }
 
-/// Measures the tableau, reading, and edits of a circuit.
-fn measure_layers<R: CpuClock + AllocGlobal + Print>(rt: &R) -> Result<(), Failure> {
+/// Measures the tableau.
+fn measure_tableau<R: CpuClock + AllocGlobal + Print>(rt: &R) -> Result<(), Failure> {
     for qubits in SIZES {
-        report::print_table(rt, qubits)?;
+        timing::print_table(rt, qubits)?;
     }
-    reading::print_time(rt)?;
-    editing::print_times(rt)
+    Ok(())
 }
 
 /// Measures edits of sessions, by the words for a qubit and for files.

@@ -1,10 +1,6 @@
-ghost use Rattle.std.specs.Prelude.{◌≡◌, None, IfOk};
-ghost use Rattle.stab_circuit.specs.Steps.{check_of};
-ghost use Rattle.stab_circuit.specs.Views.{circuit_items};
-
 use super::columns::print_row;
 use super::failure::Failure;
-use super::{clock, reading, walking};
+use super::{clock, reading};
 use stab_circuit::Circuit;
 use stab_session::{SeedCoins, run_once};
 use std::fs;
@@ -32,17 +28,6 @@ pub fn print_table<R: CpuClock + Files + AllocGlobal + Print>(
     println!(rt; "    bytes    steps  records    read ms     run ms  ns a step  circuit")?;
     for path in paths {
         print_line(rt, path.as_str())?;
-    }
-    print_walks(rt, paths)
-}
-
-/// Prints what cursors take over the steps of the circuits in files.
-fn print_walks<R: CpuClock + Files + AllocGlobal + Print>(
-    rt: &R,
-    paths: &[String],
-) -> Result<(), Failure> {
-    for path in paths {
-        print_walk(rt, path.as_str())?;
     }
     Ok(())
 }
@@ -86,19 +71,8 @@ pub fn whole_of<R: CpuClock + AllocGlobal>(rt: &R, text: &[u8]) -> Result<Whole,
     })
 }
 
-/// Prints what a cursor takes over the steps of the circuit in a file.
-fn print_walk<R: CpuClock + Files + AllocGlobal + Print>(
-    rt: &R,
-    path: &str,
-) -> Result<(), Failure> {
-    let circuit = circuit_of_file(rt, path)?;
-    walking::print_line(rt, &circuit, path)
-}
-
 /// The circuit in a file.
-pub fn circuit_of_file<R: Files + AllocGlobal>(rt: &R, path: &str) -> Result<Circuit, Failure>
-    ensures checked { IfOk result (λ c. check_of (circuit_items c) ≡ None) }
-{
+pub fn circuit_of_file<R: Files + AllocGlobal>(rt: &R, path: &str) -> Result<Circuit, Failure> {
     let text = text_of_file(rt, path)?;
     reading::circuit_of_text(rt.alloc(), text.as_slice())
 }

@@ -1,7 +1,7 @@
-ghost use Rattle.std.specs.Prelude.{◌≡◌, ◌≢◌, ◌<◌, ◌≤◌, length, IfOk};
+ghost use Rattle.std.specs.Prelude.{◌≡◌, ◌≢◌, ◌<◌, ◌≤◌, IfOk};
 ghost use Rattle.stab_gates.specs.Limits.{most_qubits};
 
-use stab_pauli::{Letter, Pauli, Refusal};
+use stab_pauli::Refusal;
 use stab_tableau::{Gate, PairGate, Tableau};
 use std::alloc::Global;
 
@@ -53,24 +53,5 @@ pub fn after(qubit: usize, stride: usize, n: usize) -> usize
         qubit + stride
     } else {
         stride - left
-    }
-}
-
-/// The string of n letters X, Y, Z, X, Y, Z and so on.
-pub fn observable(alloc: Global, n: usize) -> Result<Pauli, Refusal>
-    ensures length { IfOk result (λ p. length p.letters ≡ n) }
-{
-    let mut pauli = Pauli::identity(alloc, n)?;
-    for qubit in 0..n {
-        pauli.set(qubit, letter_in_turn(qubit));
-    }
-    Ok(pauli)
-}
-
-fn letter_in_turn(qubit: usize) -> Letter {
-    match qubit % 3 {
-        0 => Letter::X,
-        1 => Letter::Y,
-        _ => Letter::Z,
     }
 }

@@ -1,11 +1,12 @@
-ghost use Rattle.std.specs.Prelude.{◌≡◌, ◌<◌, ◌≤◌, length, IfOk};
+ghost use Rattle.std.specs.Prelude.{◌≡◌, ◌<◌, ◌≤◌, IfOk};
 ghost use Rattle.stab_gates.specs.Limits.{most_qubits};
 
+use super::columns::print_row;
 use super::failure::Failure;
-use super::work::{TimedWork, Work};
+use super::work::{self, TimedWork, Work};
 use super::{clock, state};
-use stab_pauli::{Letter, Pauli, Refusal};
-use stab_tableau::{Gate, Tableau};
+use stab_pauli::{Letter, Refusal};
+use stab_tableau::{Gate, PairGate, Tableau};
 use std::alloc::Global;
 use std::num::nearest_usize_to_f64;
 use std::time::CpuClock;
@@ -13,9 +14,22 @@ use std::time::CpuClock;
 /// The best of this many rounds counts, since other programs disturb the rest.
 const ROUNDS: u32 = 9;
 
+/// Prints a table of the times of all works on n qubits.
+pub fn print_table<R: CpuClock + AllocGlobal + Print>(rt: &R, n: usize) -> Result<(), Failure>
+    requires several { 1 < n }
+    requires in_range { n ≤ most_qubits }
+{
+    println!(rt; "n = {n}: nanoseconds a call")?;
+    for timed in work::ALL {
+        let time = nanoseconds(rt, n, *timed)?;
+        print_row(rt, &[(time, 11, 1)], timed.name)?;
+    }
+    Ok(())
+}
+
 /// How many nanoseconds of processor time a call of a work takes on n qubits, by the best of several
 /// rounds.
-pub fn nanoseconds<R: CpuClock + AllocGlobal>(
+fn nanoseconds<R: CpuClock + AllocGlobal>(
     rt: &R,
     n: usize,
     timed: TimedWork,
@@ -23,13 +37,11 @@ pub fn nanoseconds<R: CpuClock + AllocGlobal>(
     requires several { 1 < n }
     requires in_range { n ≤ most_qubits }
 {
-    let observable = state::observable(rt.alloc(), n)?;
     let mut least = f64::INFINITY;
     for _ in 0..ROUNDS {
-        least = least.min(time_of_round(rt, &observable, timed)?);
+        least = least.min(time_of_round(rt, n, timed)?);
     }
-    let (passes, calls) = (passes(timed, n), n.min(timed.qubits));
-    Ok(least * 1e9 / nearest_usize_to_f64(passes) / nearest_usize_to_f64(calls))
+    Ok(least * 1e9 / nearest_usize_to_f64(passes(timed, n)) / nearest_usize_to_f64(n))
 }
 
 /// How many passes over the qubits a round has.
@@ -42,14 +54,14 @@ fn passes(timed: TimedWork, n: usize) -> usize
 /// The seconds of a round, from the state that its work starts from.
 fn time_of_round<R: CpuClock + AllocGlobal>(
     rt: &R,
-    observable: &Pauli,
+    n: usize,
     timed: TimedWork,
 ) -> Result<f64, Failure>
-    requires several { 1 < length observable.now.letters }
-    requires in_range { length observable.now.letters ≤ most_qubits }
+    requires several { 1 < n }
+    requires in_range { n ≤ most_qubits }
 {
-    let mut tableau = start_of(rt.alloc(), observable.len(), timed.from_zeros)?;
-    time_of_passes(rt, &mut tableau, observable, timed)
+    let mut tableau = start_of(rt.alloc(), n, timed.from_zeros)?;
+    time_of_passes(rt, &mut tableau, passes(timed, n), timed.work)
 }
 
 /// The state of n qubits that a work starts from.
@@ -65,75 +77,48 @@ fn start_of(alloc: Global, n: usize, from_zeros: bool) -> Result<Tableau, Refusa
 }
 
 /// The seconds of the passes of a round.
-fn time_of_passes<R: CpuClock + AllocGlobal>(
+fn time_of_passes<R: CpuClock>(
     rt: &R,
     tableau: &mut Tableau,
-    observable: &Pauli,
-    timed: TimedWork,
+    passes: usize,
+    work: Work,
 ) -> Result<f64, Failure>
     requires several { 1 < tableau.old.qubits }
-    requires same_length { length observable.now.letters ≡ tableau.old.qubits }
 {
     let start = clock::now(rt);
-    for _ in 0..passes(timed, observable.len()) {
-        perform_on_first(rt.alloc(), tableau, observable, timed.work, timed.qubits)?;
+    for _ in 0..passes {
+        perform_on_all(tableau, work);
     }
     clock::since(rt, start)
 }
 
-/// Does a piece of work once on each of the first qubits, this many of them.
-fn perform_on_first(
-    alloc: Global,
-    tableau: &mut Tableau,
-    observable: &Pauli,
-    work: Work,
-    qubits: usize,
-) -> Result<(), Refusal>
+/// Does a piece of work once on each of the qubits.
+fn perform_on_all(tableau: &mut Tableau, work: Work)
     requires several { 1 < tableau.old.qubits }
-    requires same_length { length observable.now.letters ≡ tableau.old.qubits }
     ensures qubits { tableau.new.qubits ≡ tableau.old.qubits }
 {
-    for qubit in 0..qubits.min(tableau.len()) {
-        perform(alloc, tableau, observable, work, qubit)?;
+    for qubit in 0..tableau.len() {
+        perform(tableau, work, qubit);
     }
-    Ok(())
 }
 
 /// Does a work once on a qubit.
-fn perform(
-    alloc: Global,
-    tableau: &mut Tableau,
-    observable: &Pauli,
-    work: Work,
-    qubit: usize,
-) -> Result<(), Refusal>
+fn perform(tableau: &mut Tableau, work: Work, qubit: usize)
     requires several { 1 < tableau.old.qubits }
     requires in_range { qubit < tableau.old.qubits }
-    requires same_length { length observable.now.letters ≡ tableau.old.qubits }
     ensures qubits { tableau.new.qubits ≡ tableau.old.qubits }
 {
     match work {
-        Work::Gate(gate) => tableau.apply(gate, qubit),
-        Work::PairGate(gate) => {
+        Work::Cx => {
             let other = state::after(qubit, 1, tableau.len());
-            tableau.apply_pair(gate, qubit, other);
+            tableau.apply_pair(PairGate::Cx, qubit, other);
         }
         Work::Measure => measure(tableau, qubit),
-        Work::FixedLetter => {
-            let _ = tableau.fixed_letter(Letter::Z, qubit);
-        }
         Work::FreeApart => {
             tableau.apply(Gate::H, qubit);
             measure(tableau, qubit);
         }
-        Work::Sign => {
-            let _ = tableau.sign_of(observable);
-        }
-        Work::Copy => {
-            let _ = tableau.copy(alloc)?;
-        }
     }
-    Ok(())
 }
 
 /// Measures Z on a qubit.

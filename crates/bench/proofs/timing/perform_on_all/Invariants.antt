@@ -1,5 +1,5 @@
 use Rattle.std.proofs.Common.{◌≡◌}
-use Rattle.bench.proofs.groups.apply_letters.Given as goal
+use Rattle.bench.proofs.timing.perform_on_all.Given as goal
 
 abbrev pub invariant-loop-qubit : goal.invariant-loop-qubit
 invariant-loop-qubit l = l.tableau.qubits ≡ l.fn.tableau.qubits
