@@ -21,6 +21,8 @@ mod cursors;
 #[cfg(test)]
 mod devices;
 #[cfg(test)]
+mod distances;
+#[cfg(test)]
 mod gaps;
 #[cfg(test)]
 mod letters;

@@ -3,8 +3,8 @@ use Rattle.std.specs.Global.{Vec}
 use Rattle.stab_distance.specs.Ascending.{AscendsFrom, IsAscending}
 use Rattle.stab_distance.specs.inner.Lists.{Each}
 use Rattle.stab_distance.proofs.ListLemmas.{each-map, each-push}
-use Rattle.tests_distance.proofs.distances.numbers_of.Goals as goal
-use Rattle.tests_distance.proofs.distances.numbers_of.Goals.{then-bits-n-eq1+in_ok-push, else-bits-n-eq1}
+use Rattle.tests_library.proofs.distances.numbers_of.Goals as goal
+use Rattle.tests_library.proofs.distances.numbers_of.Goals.{then-bits-n-eq1+in_ok-push, else-bits-n-eq1}
 
 -- a number above all of them is put after them
 ascends-last : (m : ℕ) (xs : List ℕ) (x : ℕ) → m ≤ x → AscendsFrom m xs → Each (λ y. y < x) xs → AscendsFrom m (xs ++ x ∷ [])

@@ -1,7 +1,7 @@
 use Rattle.std.proofs.Common.{◌<◌}
 use Rattle.stab_distance.specs.Ascending.{IsAscending}
 use Rattle.stab_distance.specs.inner.Lists.{Each}
-use Rattle.tests_distance.proofs.distances.numbers_of.Given as goal
+use Rattle.tests_library.proofs.distances.numbers_of.Given as goal
 
 abbrev pub invariant-bits : goal.invariant-bits
 invariant-bits l = record {
