@@ -3,13 +3,14 @@
 //! They are proved, and never run: if a clause came to say less than it does, the proof of its
 //! caller here would fail.
 
-ghost use Rattle.std.specs.Prelude.{◌≡◌, ℕ, ◌+◌, ◌<◌, ◌≤◌, [], length, take, min, slice_get, is_some, Some, None, Ok, true, IfOk, IfSome, IfErr, OnOk, OnErr};
+ghost use Rattle.std.specs.Prelude.{◌≡◌, ◌↔◌, ℕ, ◌+◌, ◌<◌, ◌≤◌, [], length, take, min, slice_get, is_some, Some, None, Ok, true, IfOk, IfSome, IfErr, OnOk, OnErr};
 ghost use Rattle.stab_gates.specs.Letters.{letter_phase};
 ghost use Rattle.stab_pauli.specs.Paulis.{commute};
 ghost use Rattle.stab_io.specs.MemoryDevices.{GivesWhatFits, GivesAPiece, TakesWhatFits, FlushesAsSet};
 ghost use Rattle.stab_gates.specs.Limits.{most_qubits};
 ghost use Rattle.stab_tableau.specs.Tableaus.{stabilises};
 ghost use Rattle.stab_tableau.specs.Columns.{destabiliser_of};
+ghost use Rattle.stab_tableau.specs.Groups.{SameGroup};
 ghost use Rattle.stab_tableau.specs.Traces.{member};
 ghost use Rattle.stab_circuit.specs.Paths.{numbers};
 ghost use Rattle.stab_circuit.specs.Edits.{edited, steps_before};
@@ -108,6 +109,14 @@ fn stabiliser(tableau: &mut Tableau, alloc: Global, k: usize) -> Result<Pauli, R
     ensures member { IfOk result (λ p. stabilises tableau.old p ≡ true) }
 {
     tableau.stabiliser(alloc, k)
+}
+
+/// Two states are said to have one group exactly if they do.
+fn told_to_be_of_one_group(one: &mut Tableau, other: &mut Tableau) -> bool
+    requires same_length { other.old.qubits ≡ one.old.qubits }
+    ensures value { (result ≡ true) ↔ SameGroup one.old.qubits (stabilises one.old) (stabilises other.old) }
+{
+    one.same_group(other)
 }
 
 /// A destabiliser is the one of its number.

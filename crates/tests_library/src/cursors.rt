@@ -18,27 +18,39 @@ fn show(
     Ok(())
 }
 
-/// What a cursor at a step of a circuit gives, this many lines; or twice what it gives from the first
-/// step on, if it is started again each time.
+/// What a cursor gives, this many lines; or twice what it gives from the first step on, if it is started again
+/// each time.
 fn shown(
+    alloc: Global,
+    cursor: &mut Cursor,
+    lines: usize,
+    restarts: bool,
+) -> Result<String, Refusal> {
+    let mut text = String::new(alloc);
+    if restarts {
+        cursor.restart();
+        show(alloc, &mut text, cursor, lines)?;
+        cursor.restart();
+    }
+    show(alloc, &mut text, cursor, lines)?;
+    Ok(text)
+}
+
+/// Whether a cursor at a step of a circuit gives these lines.
+fn gives(
     alloc: Global,
     circuit: &str,
     step: usize,
-    lines: usize,
-    restarts: bool,
-) -> Result<String, Fail> {
+    (lines, restarts): (usize, bool),
+    steps: &str,
+) -> Result<bool, Fail> {
     let circuit = read_circuit(alloc, &mut MemoryInput::new(circuit.as_bytes()))?;
-    let mut text = String::new(alloc);
-    if step <= circuit.steps() {
-        let mut cursor = Cursor::at(alloc, &circuit, step)?;
-        for _turn in 0..if restarts { 2 } else { 1 } {
-            if restarts {
-                cursor.restart();
-            }
-            show(alloc, &mut text, &mut cursor, lines)?;
-        }
+    if step > circuit.steps() {
+        return Ok(false);
     }
-    Ok(text)
+    let mut cursor = Cursor::at(alloc, &circuit, step)?;
+    let text = shown(alloc, &mut cursor, lines, restarts)?;
+    Ok(text.as_str() == steps)
 }
 
 // A thousand rounds of a thousand gates and a measurement.
@@ -218,8 +230,8 @@ Some(One(X, 0))
 #[test]
 fn a_cursor_gives_the_unrolled_steps_from_a_place(rt: HostRuntime) -> Result<(), Fail> {
     for &(text, step, lines, restarts, steps) in CASES {
-        let found = shown(rt.alloc(), text, step, lines, restarts)?;
-        assert_eq!(rt; found.as_str(), steps, "{text} from step {step}");
+        let right = gives(rt.alloc(), text, step, (lines, restarts), steps)?;
+        assert!(rt; right, "{text} from step {step}");
     }
     Ok(())
 }

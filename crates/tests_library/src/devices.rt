@@ -85,30 +85,33 @@ fn a_failed_read_is_told(rt: HostRuntime) {
     }
 }
 
-// What the writing of two texts, one after the other, answers if a call fails; whether the writer then
-// has these bytes; and how many calls were made.
+// Whether the first of two texts fails to be written by a writer that fails once, and the second is written.
+fn fails_once(writer: FailingWriter, texts: [&str; 2]) -> bool {
+    let mut out = Device::new(writer);
+    let [first, second] = texts;
+    let failed = write_all(&mut out, first.as_bytes()) == Err(Refusal::WriteFault);
+    failed && write_all(&mut out, second.as_bytes()).is_ok()
+}
+
+// Whether that holds, and the writer then has these bytes after this many calls.
 fn writes(
     alloc: Global,
     fails_at: usize,
     kind: Option<io::ErrorKind>,
     texts: [&str; 2],
-    bytes: &str,
-) -> ([Result<(), Refusal>; 2], bool, usize) {
+    (bytes, made): (&str, usize),
+) -> bool {
     let (mut written, mut calls) = (Vec::new(alloc), 0);
-    let [first, second] = texts;
-    let answers = {
-        let mut out = Device::new(FailingWriter {
+    let failed = fails_once(
+        FailingWriter {
             written: &mut written,
             calls: &mut calls,
             fails_at,
             kind,
-        });
-        [
-            write_all(&mut out, first.as_bytes()),
-            write_all(&mut out, second.as_bytes()),
-        ]
-    };
-    (answers, written.as_slice() == bytes.as_bytes(), calls)
+        },
+        texts,
+    );
+    failed && written.as_slice() == bytes.as_bytes() && calls == made
 }
 
 // Where a writer fails, what it is given, what it then has, and how often it was called.
@@ -125,8 +128,8 @@ const FAILURES: &[(usize, Option<io::ErrorKind>, [&str; 2], &str, usize)] = &[
     ),
 ];
 
-// What two flushes answer, of which the first fails, and a write of nothing.
-fn flushes(alloc: Global) -> ([Result<(), DeviceFault>; 2], Result<usize, DeviceFault>) {
+// Whether the first of two flushes fails, and the second and a write of nothing succeed.
+fn flushes(alloc: Global) -> bool {
     let (mut written, mut calls) = (Vec::new(alloc), 0);
     let mut out = Device::new(FailingWriter {
         written: &mut written,
@@ -134,16 +137,15 @@ fn flushes(alloc: Global) -> ([Result<(), DeviceFault>; 2], Result<usize, Device
         fails_at: 1,
         kind: Some(io::ErrorKind::Interrupted),
     });
-    ([out.flush(), out.flush()], out.write(b""))
+    out.flush() == Err(DeviceFault) && out.flush().is_ok() && out.write(b"") == Ok(0)
 }
 
 #[test]
 fn a_failed_write_or_flush_is_told_and_not_tried_again(rt: HostRuntime) {
     for &(fails_at, kind, texts, bytes, calls) in FAILURES {
-        let found = writes(rt.alloc(), fails_at, kind, texts, bytes);
-        let answers = [Err(Refusal::WriteFault), Ok(())];
-        assert_eq!(rt; found, (answers, true, calls), "{bytes}");
+        let right = writes(rt.alloc(), fails_at, kind, texts, (bytes, calls));
+        assert!(rt; right, "{bytes}");
     }
-    let found = flushes(rt.alloc());
-    assert_eq!(rt; found, ([Err(DeviceFault), Ok(())], Ok(0)));
+    let right = flushes(rt.alloc());
+    assert!(rt; right, "flushes");
 }

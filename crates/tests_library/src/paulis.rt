@@ -66,20 +66,18 @@ fn make(alloc: Global, pauli: &mut Pauli, change: StringChange) -> Result<bool, 
     Ok(true)
 }
 
-// Whether a string that is changed is then this one, and its first X or Y.
-fn changed(
+// Whether a string that is changed is then this one, with this first X or Y.
+fn becomes(
     alloc: Global,
     old: &str,
     change: StringChange,
     new: &str,
-) -> Result<(bool, Option<usize>), Refusal> {
+    first: Option<usize>,
+) -> Result<bool, Refusal> {
     let mut pauli = read(alloc, old)?;
-    let made = make(alloc, &mut pauli, change);
-    let first = pauli.first_x();
-    match both(made, prints(alloc, &pauli, new)) {
-        Ok(right) => Ok((right, first)),
-        Err(refusal) => Err(refusal),
-    }
+    let made = make(alloc, &mut pauli, change)?;
+    let begins = pauli.first_x() == first;
+    both(Ok(made && begins), prints(alloc, &pauli, new))
 }
 
 // Sixty-five letters, none of which is X, Y or Z.
@@ -155,8 +153,8 @@ const CHANGES: &[(&str, StringChange, &str, Option<usize>)] = &[
 #[test]
 fn a_pauli_is_changed(rt: HostRuntime) -> Result<(), Fail> {
     for &(old, change, new, first) in CHANGES {
-        let found = changed(rt.alloc(), old, change, new)?;
-        assert_eq!(rt; found, (true, first), "{old} to {new}");
+        let right = becomes(rt.alloc(), old, change, new, first)?;
+        assert!(rt; right, "{old} to {new}");
     }
     Ok(())
 }
@@ -168,17 +166,23 @@ fn is_cut(alloc: Global, pauli: &Pauli, text: &str, room: usize) -> Result<bool,
     Ok(failed && out.bytes() == &text.as_bytes()[..room.min(text.len())])
 }
 
-// How many of the outputs with too little room keep what they have room for, and whether the whole text is
-// printed.
-fn cuts_of(alloc: Global, text: &str) -> Result<(usize, bool), Refusal> {
-    let pauli = read(alloc, text)?;
-    let mut cuts: usize = 0;
+// Whether each output with too little room keeps what it has room for.
+fn is_cut_everywhere(alloc: Global, pauli: &Pauli, text: &str) -> Result<bool, Refusal> {
     for room in 0..text.len() {
-        if is_cut(alloc, &pauli, text, room)? {
-            cuts = cuts.saturating_add(1);
+        if !is_cut(alloc, pauli, text, room)? {
+            return Ok(false);
         }
     }
-    Ok((cuts, prints(alloc, &pauli, text)?))
+    Ok(true)
+}
+
+// Whether that holds, and the whole text is printed.
+fn is_printed(alloc: Global, text: &str) -> Result<bool, Refusal> {
+    let pauli = read(alloc, text)?;
+    both(
+        is_cut_everywhere(alloc, &pauli, text),
+        prints(alloc, &pauli, text),
+    )
 }
 
 const TEXTS: &[&str] = &[
@@ -190,8 +194,8 @@ const TEXTS: &[&str] = &[
 #[test]
 fn a_failing_output_keeps_a_prefix_of_the_text(rt: HostRuntime) -> Result<(), Fail> {
     for text in TEXTS {
-        let found = cuts_of(rt.alloc(), text)?;
-        assert_eq!(rt; found, (text.len(), true), "{text}");
+        let right = is_printed(rt.alloc(), text)?;
+        assert!(rt; right, "{text}");
     }
     Ok(())
 }
@@ -205,15 +209,14 @@ fn is_repeated(pauli: &Pauli, letter: Letter) -> bool {
     all
 }
 
-// Whether n letters X and n letters Z commute; and whether the product, times i if they don't, is
-// negative and has letters Y alone.
-fn x_times_z(alloc: Global, n: usize) -> Result<(bool, bool, bool), Refusal> {
+// Whether n letters X and n letters Z commute or do not, and the product, times i if they do not, has this sign
+// and letters Y alone.
+fn x_times_z(alloc: Global, n: usize, commutes: bool, negative: bool) -> Result<bool, Refusal> {
     let mut pauli = repeated(alloc, n, Letter::X)?;
     let other = repeated(alloc, n, Letter::Z)?;
-    let commutes = commute(&pauli, &other);
+    let told = commute(&pauli, &other) == commutes;
     let multiplied = multiply(&mut pauli, &other);
-    let all = multiplied && is_repeated(&pauli, Letter::Y);
-    Ok((commutes, pauli.is_negative(), all))
+    Ok(told && multiplied && pauli.is_negative() == negative && is_repeated(&pauli, Letter::Y))
 }
 
 // XZ is -iY, so the product of n is (-i)^n times Y, and i times that for odd n.
@@ -237,8 +240,8 @@ const X_AND_Z: &[(usize, bool, bool)] = &[
 #[test]
 fn strings_of_x_and_z_multiply_over_all_qubits(rt: HostRuntime) -> Result<(), Fail> {
     for &(n, commutes, negative) in X_AND_Z {
-        let found = x_times_z(rt.alloc(), n)?;
-        assert_eq!(rt; found, (commutes, negative, true), "{n}");
+        let right = x_times_z(rt.alloc(), n, commutes, negative)?;
+        assert!(rt; right, "{n}");
     }
     Ok(())
 }

@@ -74,14 +74,11 @@ fn make(rows: &mut PauliRows, change: RowChange) {
     }
 }
 
-// Whether new rows are identities, how many there are, and on how many qubits.
-fn new_rows(alloc: Global) -> Result<(bool, usize, usize), Refusal> {
+// Whether new rows are identities, three of them, on two qubits.
+fn are_new_identities(alloc: Global) -> Result<bool, Refusal> {
     let rows = PauliRows::new(alloc, 3, 2)?;
-    let (count, qubits) = (rows.len(), rows.qubits());
-    match are(alloc, &rows, &["+__", "+__", "+__"]) {
-        Ok(made) => Ok((made, count, qubits)),
-        Err(refusal) => Err(refusal),
-    }
+    let made = rows.len() == 3 && rows.qubits() == 2;
+    both(Ok(made), are(alloc, &rows, &["+__", "+__", "+__"]))
 }
 
 // The letter at a qubit of a row, and whether it has an X part, whether the row is negative, and its first X or Y.
@@ -174,8 +171,8 @@ const CHANGES: &[(&[&str], RowChange, &[&str], (usize, usize), Seen)] = &[
 
 #[test]
 fn rows_are_made_and_changed(rt: HostRuntime) -> Result<(), Fail> {
-    let made = new_rows(rt.alloc())?;
-    assert_eq!(rt; made, (true, 3, 2));
+    let made = are_new_identities(rt.alloc())?;
+    assert!(rt; made, "new rows");
     for (number, &(old, change, new, place, seen)) in CHANGES.iter().enumerate() {
         let hold = changed(rt.alloc(), old, change, new, place, seen)?;
         assert!(rt; hold, "change {number}");
@@ -238,7 +235,7 @@ fn are_told(alloc: Global) -> Result<bool, Refusal> {
 fn letters_far_apart_come_back_from_little_memory(rt: HostRuntime) -> Result<(), Fail> {
     let back = far_apart_come_back(rt.alloc())?;
     let told = are_told(rt.alloc())?;
-    assert_eq!(rt; (back, told), (true, true));
+    assert!(rt; back && told);
     Ok(())
 }
 
@@ -252,38 +249,51 @@ const OTHERS: &[(usize, &[&str], bool, bool)] = &[
     (2, &["+X_", "-_Y"], false, false),
 ];
 
-// Whether rows are those of the test, with their signs and without.
-fn compared(alloc: Global, n: usize, texts: &[&str]) -> Result<(bool, bool), Refusal> {
+// Whether it is found if rows are those of the test, with their signs and without.
+fn are_compared(
+    alloc: Global,
+    n: usize,
+    texts: &[&str],
+    same: bool,
+    letters: bool,
+) -> Result<bool, Refusal> {
     let rows = rows_of(alloc, 3, &["+X_Z", "-_YZ"])?;
     let others = rows_of(alloc, n, texts)?;
-    Ok((rows.same(&others), rows.same_letters(&others)))
+    Ok(rows.same(&others) == same && rows.same_letters(&others) == letters)
 }
 
 #[test]
 fn rows_are_compared_with_and_without_signs(rt: HostRuntime) -> Result<(), Fail> {
     for &(n, texts, same, letters) in OTHERS {
-        let found = compared(rt.alloc(), n, texts)?;
-        assert!(rt; found == (same, letters), "{n} letters, {same}, {letters}");
+        let right = are_compared(rt.alloc(), n, texts, same, letters)?;
+        assert!(rt; right, "{n} letters, {same}, {letters}");
     }
     Ok(())
 }
 
-// Four rows of n letters, the third with Y everywhere and the sign -; and what is seen of the first qubit of each.
-fn seen_behind(alloc: Global, n: usize) -> Result<[Option<Seen>; 4], Refusal> {
+// Whether the third of four rows alone has letters, which are Y, and a sign, as the first qubit shows.
+fn is_third_alone(rows: &PauliRows) -> bool {
+    let none = (Letter::I, false, false, None);
+    shows(rows, (0, 0), none)
+        && shows(rows, (1, 0), none)
+        && shows(rows, (2, 0), (Letter::Y, true, true, Some(0)))
+        && shows(rows, (3, 0), none)
+}
+
+// Whether that holds of rows of n letters, the third of which is set to -YY and so on.
+fn are_others_kept(alloc: Global, n: usize) -> Result<bool, Refusal> {
     let mut rows = PauliRows::new(alloc, 4, n.min(1024))?;
     let mut other = repeated(alloc, n, Letter::Y)?;
     other.negate();
     set_row(&mut rows, 2, &other);
-    Ok([0, 1, 2, 3].map(|a| seen(&rows, a, 0)))
+    Ok(is_third_alone(&rows))
 }
 
 #[test]
 fn a_row_behind_many_keeps_the_others(rt: HostRuntime) -> Result<(), Fail> {
-    let none = Some((Letter::I, false, false, None));
-    let all = Some((Letter::Y, true, true, Some(0)));
     for n in [1, 255, 256, 257, 1024] {
-        let found = seen_behind(rt.alloc(), n)?;
-        assert_eq!(rt; found, [none, none, all, none], "{n}");
+        let kept = are_others_kept(rt.alloc(), n)?;
+        assert!(rt; kept, "{n}");
     }
     Ok(())
 }

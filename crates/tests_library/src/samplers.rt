@@ -180,20 +180,27 @@ fn shots_of_many_batches_are_runs_of_their_own(rt: HostRuntime) -> Result<(), Fa
     Ok(())
 }
 
-/// What refuses a run on one qubit, shots, and shots at once, if something does.
-fn refusals(alloc: Global, text: &str) -> Result<[Option<Fault>; 3], Fault> {
+/// Whether a call was refused for a qubit out of range.
+fn is_refused<T: Drop>(answer: Result<T, Fault>) -> bool {
+    match answer {
+        Ok(_) => false,
+        Err(fault) => fault == Fault::whole(Refusal::QubitOutOfRange),
+    }
+}
+
+/// Whether a run on one qubit, shots, and shots at once are refused so.
+fn are_refused(alloc: Global, text: &str) -> Result<bool, Fault> {
     let circuit = read(alloc, text)?;
-    let run = run_once(alloc, &circuit, 1, &mut ListCoins::new(&[])).err();
-    let sampler = Sampler::new(alloc, &circuit, 1).err();
-    Ok([run, sampler, run_shots(alloc, &circuit, 1, 7, 0, 0).err()])
+    let run = is_refused(run_once(alloc, &circuit, 1, &mut ListCoins::new(&[])));
+    let sampler = is_refused(Sampler::new(alloc, &circuit, 1));
+    Ok(run && sampler && is_refused(run_shots(alloc, &circuit, 1, 7, 0, 0)))
 }
 
 #[test]
 fn too_few_qubits_are_refused(rt: HostRuntime) -> Result<(), Fail> {
-    let fault = Some(Fault::whole(Refusal::QubitOutOfRange));
     for text in ["M 1", "QUBIT_COORDS(0) 1", "REPEAT 2 {\nCX 0 1\n}"] {
-        let found = refusals(rt.alloc(), text)?;
-        assert_eq!(rt; found, [fault, fault, fault], "{text}");
+        let refused = are_refused(rt.alloc(), text)?;
+        assert!(rt; refused, "{text}");
     }
     Ok(())
 }

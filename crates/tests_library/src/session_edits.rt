@@ -101,16 +101,19 @@ fn cost(
     Ok((report, asks))
 }
 
-/// How many coins an opening asks for; and the same of an edit after it.
+/// Whether an opening asks for so many coins, and an edit after it for so many more, and the edit carries out and goes
+/// over so many steps and leaves at most so many copies.
 fn costs(
     alloc: Global,
     circuit: &str,
     place: Path,
     text: &str,
-) -> Result<(u64, [usize; 3], u64), Fault> {
+    (steps, copies, (opening, edit)): ([usize; 2], usize, (u64, u64)),
+) -> Result<bool, Fault> {
     let (_, asked) = cost(alloc, circuit, None, text)?;
-    let (report, asks) = cost(alloc, circuit, Some(place), text)?;
-    Ok((asked, report, asks))
+    let ([applied, framed, kept], asks) = cost(alloc, circuit, Some(place), text)?;
+    let asked_for = asked == opening && asks == opening.saturating_add(edit);
+    Ok([applied, framed] == steps && kept <= copies && asked_for)
 }
 
 /// A place in the outermost list, or in a block of it.
@@ -206,22 +209,10 @@ const COSTS: &[(&str, Item, [usize; 2], usize, (u64, u64))] = &[
 
 #[test]
 fn an_edit_costs_what_it_changes(rt: HostRuntime) -> Result<(), Fail> {
-    for &(circuit, (block, place, text), steps, copies, (opening, edit)) in COSTS {
-        let (asked, [applied, framed, kept], asks) = costs(
-            rt.alloc(),
-            circuit,
-            path(block, place),
-            text,
-        )?;
-        assert!(rt;
-            [applied, framed] == steps,
-            "{circuit}: {applied}, {framed}"
-        );
-        assert!(rt; kept <= copies, "{circuit}: {kept} copies");
-        assert!(rt;
-            (asked, asks) == (opening, opening.saturating_add(edit)),
-            "{circuit}: {asked}, {asks}"
-        );
+    for &(circuit, (block, place, text), steps, copies, coins) in COSTS {
+        let wanted = (steps, copies, coins);
+        let right = costs(rt.alloc(), circuit, path(block, place), text, wanted)?;
+        assert!(rt; right, "{text} in {circuit}");
     }
     Ok(())
 }

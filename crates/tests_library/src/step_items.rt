@@ -4,22 +4,23 @@ use stab_pauli::{MemoryInput, MemoryOutput};
 use std::alloc::Global;
 use std::test::Fail;
 
-/// Whether this is the text of the path of a step's item, and how many steps from there on are the
-/// item's in the same round; or no step at all.
-fn found(
+/// Whether this is the text of the path of a step's item, and this many steps from there on are the item's in the
+/// same round.
+fn is_found(
     alloc: Global,
     circuit: &str,
     step: usize,
     path: &str,
-) -> Result<Option<(bool, usize)>, Fail> {
+    steps: usize,
+) -> Result<bool, Fail> {
     let circuit = read_circuit(alloc, &mut MemoryInput::new(circuit.as_bytes()))?;
     if step >= circuit.steps() {
-        return Ok(None);
+        return Ok(false);
     }
     let item = circuit.item_of_step(step);
     let mut out = MemoryOutput::new(alloc, 64)?;
     write_path(&mut out, &item.path)?;
-    Ok(Some((out.bytes() == path.as_bytes(), item.steps)))
+    Ok(out.bytes() == path.as_bytes() && item.steps == steps)
 }
 
 // Steps 0 and 1 are of item 0. Then come three rounds of five steps, one of item 0 and four of item 2 of the
@@ -58,8 +59,8 @@ const CASES: &[(&str, usize, &str, usize)] = &[
 #[test]
 fn a_step_is_of_the_item_at_its_path(rt: HostRuntime) -> Result<(), Fail> {
     for &(text, step, path, steps) in CASES {
-        let item = found(rt.alloc(), text, step, path)?;
-        assert_eq!(rt; item, Some((true, steps)), "{text} at step {step}");
+        let right = is_found(rt.alloc(), text, step, path, steps)?;
+        assert!(rt; right, "{text} at step {step}");
     }
     Ok(())
 }
