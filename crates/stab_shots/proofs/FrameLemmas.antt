@@ -1,5 +1,5 @@
 -- Frames: the strings of lanes, whose letters are changed at one place.
-use Rattle.stab_shots.proofs.Names.{◌≡◌, ℕ, zero, suc, ◌+◌, ◌-◌, ◌<◌, ◌≤◌, refl, sym, ◌∙◌, ap, Bool, true, false, List, [], ◌∷◌, length, get_or, set, take, arith, map-set, get_or-map, set-get_or, length-replicate, Letter, I, X, Y, Z, letter_product, single, string_product, string_product-empty, string_product-blank_right, Gate, PairGate, letter_image, letter_at, pair_letters, image, image_pair, blank, string_product-set, Letters, plus, times_where, letter_in, lane_letters, letter_times}
+use Rattle.stab_shots.proofs.Names.{◌≡◌, ◌≢◌, Some, None, get_or-set_other, letters_anticommute, letter_product-I, has_x, has_x_bits, letter_where, controlled_letter, first_by, second_by, first_controlled, second_controlled, ℕ, zero, suc, ◌+◌, ◌-◌, ◌<◌, ◌≤◌, refl, sym, ◌∙◌, ap, Bool, true, false, List, [], ◌∷◌, length, get_or, set, take, arith, map-set, get_or-map, set-get_or, length-replicate, Letter, I, X, Y, Z, letter_product, single, string_product, string_product-empty, string_product-blank_right, Gate, PairGate, letter_image, letter_at, pair_letters, image, image_pair, blank, string_product-set, Letters, plus, times_where, letter_in, lane_letters, letter_times}
 
 -- strings one letter longer
 
@@ -53,6 +53,10 @@ times-set true n q letter f size lt =
     ∙ sym (string_product-set n f (blank n) q (get_or f q I) letter size (length-replicate n I) lt)
     ∙ ap (λ w. string_product w (single n q letter).letters) (set-get_or f q I)
 
+times-product : (b : Bool) (more letter : Letter) → letter_times b more letter ≡ letter_product letter (letter_where b more)
+times-product true more letter = refl
+times-product false more letter = sym (letter_product-I letter)
+
 module _ {W : Type 0} (at : W → ℕ → Bool) (l : ℕ) (ws : List (Letters W)) where
   -- the letter that is read at a place
   pub letter-read : (q : ℕ) (w : Letters W) → q < length ws → w ≡ get_or ws q w → letter_in at l w ≡ letter_at (lane_letters at l ws) q
@@ -75,6 +79,32 @@ module _ {W : Type 0} (at : W → ℕ → Bool) (l : ℕ) (ws : List (Letters W)
       map-set (letter_in at l) (set ws a x) b y
       ∙ ap (λ r. set r b (letter_in at l y)) (letter-put a x _ (made ∙ (λ i. letter_at (pair_letters g (letter-read a w la at_a i) (letter-read b v lb at_b i)).letters 0)))
       ∙ ap (set (set (lane_letters at l ws) a _) b) (more ∙ (λ i. letter_at (pair_letters g (letter-read a w la at_a i) (letter-read b v lb at_b i)).letters 1))
+
+  -- a letter that the first controls, and Z put on the first
+  pub control-put : (g : PairGate) (c : Letter) (a b : ℕ) (u v w m x y : Letters W) (apart : Bool) → controlled_letter g ≡ Some c → b ≢ a
+      → a < length ws → b < length ws → u ≡ get_or ws a u → v ≡ get_or ws b v → w ≡ get_or ws a w → m ≡ get_or (set ws a x) b m
+      → apart ≡ letters_anticommute (letter_in at l v) c
+      → letter_in at l x ≡ letter_times apart Z (letter_in at l w)
+      → letter_in at l y ≡ letter_times (at u.x l) c (letter_in at l m)
+      → lane_letters at l (set (set ws a x) b y) ≡ (image_pair g a b (plus (lane_letters at l ws))).letters
+  control-put g c a b u v w m x y apart is other la lb at_u at_b at_a at_m tells first second =
+      let same : m ≡ get_or ws b m = at_m ∙ get_or-set_other ws a b x m other in
+      pair-put g a b w m x y la lb at_a same
+      (first ∙ ap (λ t. letter_times t Z (letter_in at l w)) (tells ∙ ap (λ k. letters_anticommute k c) (letter-read b v lb at_b ∙ sym (letter-read b m lb same)))
+      ∙ times-product _ Z (letter_in at l w)
+      ∙ sym (first_controlled g (letter_in at l w) (letter_in at l m) ∙ ap (λ o. first_by o (letter_in at l w) (letter_in at l m)) is))
+      (second ∙ ap (λ t. letter_times t c (letter_in at l m)) (sym (has_x_bits (at u.x l) (at u.z l)) ∙ ap has_x (letter-read a u la at_u ∙ sym (letter-read a w la at_a)))
+      ∙ times-product _ c (letter_in at l m)
+      ∙ sym (second_controlled g (letter_in at l w) (letter_in at l m) ∙ ap (λ o. second_by o (letter_in at l w) (letter_in at l m)) is))
+
+  -- letters that change places
+  pub exchange-put : (g : PairGate) (a b : ℕ) (w v m : Letters W) → controlled_letter g ≡ None → a < length ws → b < length ws
+      → w ≡ get_or ws a w → v ≡ get_or ws b v → m ≡ w
+      → lane_letters at l (set (set ws a v) b m) ≡ (image_pair g a b (plus (lane_letters at l ws))).letters
+  exchange-put g a b w v m is la lb at_a at_b kept =
+      pair-put g a b w v v m la lb at_a at_b
+      (sym (first_controlled g (letter_in at l w) (letter_in at l v) ∙ ap (λ o. first_by o (letter_in at l w) (letter_in at l v)) is))
+      (ap (letter_in at l) kept ∙ sym (second_controlled g (letter_in at l w) (letter_in at l v) ∙ ap (λ o. second_by o (letter_in at l w) (letter_in at l v)) is))
 
   pub times-put : (b : Bool) (letter : Letter) (q n : ℕ) (w v : Letters W) → length (lane_letters at l ws) ≡ n → q < n → q < length ws → w ≡ get_or ws q w
       → letter_in at l v ≡ letter_times b letter (letter_in at l w)

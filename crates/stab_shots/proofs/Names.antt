@@ -29,6 +29,7 @@ pub use Rattle.stab_circuit.specs.Views.{circuit_items}
 pub use Rattle.stab_circuit.specs.declared.circuit.repeats.Repeat.{Repeat}
 pub use Rattle.stab_frames.proofs.FactorLemmas.{factors-apart}
 pub use Rattle.stab_frames.proofs.FrontLemmas.{fronts-outputs, fronts-matches, fronts-framed, records-flipped, flags-flipped, detectors-flipped, observables-flipped}
+pub use Rattle.stab_frames.proofs.ImageLemmas.{first_by, second_by, first_controlled, second_controlled}
 pub use Rattle.stab_frames.proofs.OtherCoinLemmas.{ones-split}
 pub use Rattle.stab_frames.proofs.OverLemmas.{frame-append, flips-append}
 pub use Rattle.stab_frames.proofs.PivotLemmas.{right-enough}
@@ -40,20 +41,23 @@ pub use Rattle.stab_frames.specs.Flips.{flipped}
 pub use Rattle.stab_frames.specs.FrameSteps.{frame_over, flips_over, flipped_by, letters_by, flips_outcome, letters_measured, letters_after, flips_given, frame_after}
 pub use Rattle.stab_frames.specs.Frames.{plus, Frame, times_where}
 pub use Rattle.stab_frames.specs.Fronts.{AreFronts}
+pub use Rattle.stab_frames.specs.Images.{letter_where, controlled_letter}
 pub use Rattle.stab_frames.specs.Limits.{bytes_of, most_strings}
 pub use Rattle.stab_frames.specs.Pivots.{pivot_at, IsTrueAt, AreTrue, PivotsState, IsNumbered, KeepsTrue}
 pub use Rattle.stab_frames.specs.PivotsOfSteps.{AreRight, AreEnough, IsRightAt}
 pub use Rattle.stab_frames.specs.RunPivots.{RunPivots, pivots_of, changed, IsPivotOf}
 pub use Rattle.stab_frames.specs.inner.Propagates.{factors_anticommute}
-pub use Rattle.stab_gates.proofs.LetterLemmas.{letters_anticommute-comm}
+pub use Rattle.stab_gates.proofs.LetterLemmas.{letters_anticommute-comm, letter_product-I}
 pub use Rattle.stab_gates.proofs.ParityLemmas.{parity-false}
 pub use Rattle.stab_gates.specs.Letters.{◌⊕◌, letter_product, letters_anticommute}
+pub use Rattle.stab_gates.specs.XParts.{has_x}
 pub use Rattle.stab_gates.specs.declared.gate.Gate.{Gate}
 pub use Rattle.stab_gates.specs.declared.gate.PairGate.{PairGate}
 pub use Rattle.stab_gates.specs.declared.letter.Letter.{Letter}
 pub use Rattle.stab_gates.specs.declared.letter.Letter.TheVariants.{I, X, Y, Z}
 pub use Rattle.stab_lines.specs.declared.product.Factor.{Factor}
 pub use Rattle.stab_pauli.proofs.BitLemmas.{two_cases}
+pub use Rattle.stab_pauli.proofs.PlaceLemmas.{has_x_bits}
 pub use Rattle.stab_pauli.proofs.StringLemmas.{string_product-empty, string_product-blank_right, strings_anticommute-comm}
 pub use Rattle.stab_pauli.specs.Paulis.{Signed, single, strings_anticommute, string_product}
 pub use Rattle.stab_recording.proofs.AdvancedLemmas.{coins-on}

@@ -7,9 +7,10 @@ ghost use Rattle.stab_run.specs.Runs.{string_of};
 ghost use Rattle.stab_frames.specs.Frames.{plus, times_where};
 ghost use Rattle.stab_shots.specs.Lanes.{lane_letters};
 
-use crate::letters::{Letters, PairLetters};
+use crate::letters::Letters;
 use crate::word::Word;
 use stab_circuit::Factor;
+use stab_frames::controlled_letter;
 use stab_pauli::{Letter, Pauli};
 use stab_tableau::{Gate, PairGate};
 use std::alloc::{AllocError, Global};
@@ -48,7 +49,7 @@ impl<W: Word> Frames<W> {
         ensures size { length self.new.letters.items ≡ length self.old.letters.items }
         ensures letters { (l : ℕ) → l < W.lanes → lane_letters W.at l self.new.letters.items ≡ (image gate qubit (plus (lane_letters W.at l self.old.letters.items))).letters }
     {
-        self.letters[qubit] = self.letters[qubit].image(gate);
+        self.letters[qubit].apply(gate);
     }
 
     /// Applies a gate to two qubits of each lane's string.
@@ -59,13 +60,19 @@ impl<W: Word> Frames<W> {
         ensures size { length self.new.letters.items ≡ length self.old.letters.items }
         ensures letters { (l : ℕ) → l < W.lanes → lane_letters W.at l self.new.letters.items ≡ (image_pair gate first second (plus (lane_letters W.at l self.old.letters.items))).letters }
     {
-        let pair = PairLetters {
-            first: self.letters[first],
-            second: self.letters[second],
-        };
-        let image = pair.image(gate);
-        self.letters[first] = image.first;
-        self.letters[second] = image.second;
+        match controlled_letter(gate) {
+            Some(letter) => {
+                let controls = self.letters[first].x;
+                let apart = self.letters[second].anticommuting(letter);
+                self.letters[first].multiply(Letter::Z, apart);
+                self.letters[second].multiply(letter, controls);
+            }
+            None => {
+                let kept = self.letters[first];
+                self.letters[first] = self.letters[second];
+                self.letters[second] = kept;
+            }
+        }
     }
 
     /// The lanes whose string anticommutes with a letter on a qubit.

@@ -1,12 +1,13 @@
-ghost use Rattle.std.specs.Prelude.{◌≡◌, ℕ, ◌<◌, IsTrue};
+ghost use Rattle.std.specs.Prelude.{◌≡◌, ℕ, ◌<◌, ◌&&◌, IsTrue, if◌then◌else◌};
 ghost use Rattle.stab_gates.specs.declared.letter.Letter.TheVariants;
-ghost use Rattle.stab_gates.specs.Letters.{letters_anticommute};
-ghost use Rattle.stab_tableau.specs.Gates.{letter_image, pair_letters, letter_at};
+ghost use Rattle.stab_gates.specs.Letters.{◌⊕◌, letters_anticommute};
+ghost use Rattle.stab_tableau.specs.Gates.{letter_image};
 ghost use Rattle.stab_shots.specs.Lanes.{letter_in, letter_times};
 
 use crate::word::Word;
+use stab_frames::Images;
 use stab_pauli::Letter;
-use stab_tableau::{Gate, PairGate};
+use stab_tableau::Gate;
 
 /// The letters of all lanes at a qubit: X if only the X bit is 1, Z if only the Z bit is, and Y if both are.
 #[derive(Clone, Copy)]
@@ -15,11 +16,25 @@ pub struct Letters<W> {
     pub z: W,
 }
 
-/// The letters of all lanes at two qubits.
-#[derive(Clone, Copy)]
-pub struct PairLetters<W> {
-    pub first: Letters<W>,
-    pub second: Letters<W>,
+/// Adds a word to another, if the bit is 1.
+#[inline(always)]
+fn add_if<W: Word>(bit: bool, word: &mut W, other: W)
+    ensures value { (l : ℕ) → l < W.lanes → W.at word.new l ≡ W.at word.old l ⊕ (bit && W.at other l) }
+{
+    if bit {
+        *word = word.xor(other);
+    }
+}
+
+/// Exchanges two words, if the bit is 1.
+#[inline(always)]
+fn exchange_if<W: Word>(bit: bool, word: &mut W, other: &mut W)
+    ensures word { word.new ≡ (if bit then other.old else word.old) }
+    ensures other { other.new ≡ (if bit then word.old else other.old) }
+{
+    if bit {
+        std::mem::swap(word, other);
+    }
 }
 
 impl<W: Word> Letters<W> {
@@ -40,22 +55,19 @@ impl<W: Word> Letters<W> {
         self.x.is_same(&other.x) && self.z.is_same(&other.z)
     }
 
-    /// What a gate makes of the letters, up to signs.
-    pub fn image(self, gate: Gate) -> Letters<W>
-        ensures value { (l : ℕ) → l < W.lanes → letter_in W.at l result ≡ (letter_image gate (letter_in W.at l self)).letter }
+    /// Makes the letters what a gate makes of them, up to signs. It does so in place: words of many lanes would be copied to and fro.
+    #[inline(always)]
+    pub fn apply(&mut self, gate: Gate)
+        ensures value { (l : ℕ) → l < W.lanes → letter_in W.at l self.new ≡ (letter_image gate (letter_in W.at l self.old)).letter }
     {
-        let Letters { x, z } = self;
-        match gate {
-            Gate::I | Gate::X | Gate::Y | Gate::Z => self,
-            Gate::H | Gate::SqrtY | Gate::SqrtYDag => Letters { x: z, z: x },
-            Gate::S | Gate::SDag => Letters { x, z: z.xor(x) },
-            Gate::SqrtX | Gate::SqrtXDag => Letters { x: x.xor(z), z },
-            Gate::CXyz => Letters { x: x.xor(z), z: x },
-            Gate::CZyx => Letters { x: z, z: x.xor(z) },
-        }
+        let images = Images::of(gate);
+        add_if(images.x_has_both(), &mut self.z, self.x);
+        add_if(images.z_has_both(), &mut self.x, self.z);
+        exchange_if(images.exchanges(), &mut self.x, &mut self.z);
     }
 
     /// The lanes whose letter anticommutes with this one.
+    #[inline(always)]
     pub fn anticommuting(self, letter: Letter) -> W
         ensures value { (l : ℕ) → l < W.lanes → W.at result l ≡ letters_anticommute (letter_in W.at l self) letter }
     {
@@ -67,8 +79,7 @@ impl<W: Word> Letters<W> {
         }
     }
 
-    /// Multiplies the letters by this one, in the lanes whose bit is 1. It does so in place: words of many lanes would
-    /// be copied to and fro.
+    /// Multiplies the letters by this one, in the lanes whose bit is 1, in place too.
     #[inline(always)]
     pub fn multiply(&mut self, letter: Letter, lanes: W)
         ensures value { (l : ℕ) → l < W.lanes → letter_in W.at l self.new ≡ letter_times (W.at lanes l) letter (letter_in W.at l self.old) }
@@ -81,52 +92,6 @@ impl<W: Word> Letters<W> {
                 self.z = self.z.xor(lanes);
             }
             Letter::Z => self.z = self.z.xor(lanes),
-        }
-    }
-}
-
-impl<W: Word> PairLetters<W> {
-    /// What a gate on two qubits makes of the letters, up to signs.
-    pub fn image(self, gate: PairGate) -> PairLetters<W>
-        ensures first { (l : ℕ) → l < W.lanes → letter_in W.at l result.first ≡ letter_at (pair_letters gate (letter_in W.at l self.first) (letter_in W.at l self.second)).letters 0 }
-        ensures second { (l : ℕ) → l < W.lanes → letter_in W.at l result.second ≡ letter_at (pair_letters gate (letter_in W.at l self.first) (letter_in W.at l self.second)).letters 1 }
-    {
-        let PairLetters { first, second } = self;
-        match gate {
-            PairGate::Cx => PairLetters {
-                first: Letters {
-                    x: first.x,
-                    z: first.z.xor(second.z),
-                },
-                second: Letters {
-                    x: second.x.xor(first.x),
-                    z: second.z,
-                },
-            },
-            PairGate::Cy => PairLetters {
-                first: Letters {
-                    x: first.x,
-                    z: first.z.xor(second.x.xor(second.z)),
-                },
-                second: Letters {
-                    x: second.x.xor(first.x),
-                    z: second.z.xor(first.x),
-                },
-            },
-            PairGate::Cz => PairLetters {
-                first: Letters {
-                    x: first.x,
-                    z: first.z.xor(second.x),
-                },
-                second: Letters {
-                    x: second.x,
-                    z: second.z.xor(first.x),
-                },
-            },
-            PairGate::Swap => PairLetters {
-                first: second,
-                second: first,
-            },
         }
     }
 }
