@@ -101,8 +101,8 @@ fn cost(
     Ok((report, asks))
 }
 
-/// Whether an opening asks for so many coins, and an edit after it for so many more, and the edit carries out and goes
-/// over so many steps and leaves at most so many copies.
+/// Whether these are the steps that an edit carries out and goes over, the most copies that it leaves, and the coins that the opening
+/// and then the edit ask for.
 fn costs(
     alloc: Global,
     circuit: &str,
