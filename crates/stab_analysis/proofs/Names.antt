@@ -74,14 +74,14 @@ pub use Rattle.stab_shots.specs.declared.shots.Shots.{Shots}
 pub use Rattle.stab_tableau.proofs.ReducedLemmas.{same-reduced}
 pub use Rattle.stab_tableau.proofs.RowsTellLemmas.{rows-tell}
 pub use Rattle.stab_analysis.specs.Checks.{SendsSome, numbers_of, IsCountedBy, number_line}
-pub use Rattle.stab_analysis.specs.CoinTables.{coin_line, coin_text, coins_text, whole_bits, whole_kinds}
+pub use Rattle.stab_analysis.specs.CoinTables.{coin_text, coins_text, whole_bits, whole_kinds}
 pub use Rattle.stab_analysis.specs.Deciders.{checked_bits, deciders}
 pub use Rattle.stab_analysis.specs.Deterministic.{kinds_of, IsDeterministicText}
 pub use Rattle.stab_analysis.specs.Distances.{IsDistanceOf, IsDistanceText, IsRefusedFor, answer_text, letter_name, where_text, what_text, numbered_line, if_graphlike, none_line, distance_line, error_name}
 pub use Rattle.stab_analysis.specs.Endings.{SendsFound, FlushesOrFault, Sends, SendsUnflushed}
 pub use Rattle.stab_analysis.specs.FaultLines.{fault_line, refused_text, bit_text, told_text, random_bit, random_line}
 pub use Rattle.stab_analysis.specs.FaultTables.{GoesOn, fault_of, random_of, set_all, fault_text, table_line, table_lines, IsFirstDecider, IsTableText, table_text}
-pub use Rattle.stab_analysis.specs.Places.{path_of_coin, path_at, bit_of, path_of_bit, adds_to, steps_before_adding, steps_before_bit}
+pub use Rattle.stab_analysis.specs.Places.{path_at, bit_of, path_of_bit, adds_to, steps_before_adding, steps_before_bit}
 pub use Rattle.stab_analysis.specs.Reasons.{bit_name, coordinates_at, decider_text, reason_line, reason_text, DeterministicHasNoDecider, has_bit, found_coordinates}
 pub use Rattle.stab_analysis.specs.Rows.{line_of, lines_of}
 pub use Rattle.stab_analysis.specs.Texts.{row_head, texts_from, texts_joined, placed_coin}

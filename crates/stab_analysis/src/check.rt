@@ -11,15 +11,14 @@ ghost use Rattle.stab_run.specs.Points.{all_coins_of, coins_of};
 ghost use Rattle.stab_analysis.specs.Endings.{Sends};
 ghost use Rattle.stab_analysis.specs.Checks.{EndsCheck, Explains, SendsSome, check_text, number_line, numbers_of, numbers_text};
 
-use crate::ending::finish;
-use crate::fault_line::write_texts;
+use crate::writing::{finish, write_texts};
 use stab_circuit::{Circuit, Cursor, Step, circuit_of_text, read_text};
 use stab_diagnostics::write_explanation;
 use stab_io::{Fault, Input, Output, Refusal};
 use std::alloc::Global;
 
 /// The numbers of a circuit.
-#[derive(Clone, Copy, Debug, PartialEq, Eq)]
+#[derive(Clone, Copy)]
 pub(crate) struct Numbers {
     pub qubits: usize,
     /// Those of the outermost list, a block being one.

@@ -19,7 +19,7 @@ ghost use Rattle.stab_analysis.specs.inner.CoinRows.{HaveFlips, coin_at, places_
 
 use crate::fault_bits::write_row;
 use crate::random::Decider;
-use crate::row_head::write_head;
+use crate::writing::write_head;
 use stab_circuit::{Circuit, Path};
 use stab_coins::CoinRuns;
 use stab_io::{Fault, Output, Refusal, write_all};

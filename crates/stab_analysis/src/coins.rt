@@ -10,7 +10,7 @@ ghost use Rattle.stab_analysis.specs.Texts.{texts_from};
 ghost use Rattle.stab_analysis.specs.inner.CoinRows.{text_at};
 
 use crate::coin_rows::write_parts;
-use crate::ending::finish;
+use crate::writing::finish;
 use stab_circuit::{Circuit, read_circuit};
 use stab_coins::CoinRuns;
 use stab_io::{Fault, Input, Output};

@@ -6,7 +6,7 @@ ghost use Rattle.stab_regions.specs.Faults.{bits_in};
 ghost use Rattle.stab_analysis.specs.Endings.{SendsFound};
 ghost use Rattle.stab_analysis.specs.Deterministic.{EndsDeterministic, IsDeterministicText, kinds_of};
 
-use crate::ending::finish;
+use crate::writing::finish;
 use stab_circuit::{Circuit, read_circuit};
 use stab_io::{Fault, Input, Output};
 use stab_regions::deterministic;

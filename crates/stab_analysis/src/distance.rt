@@ -12,11 +12,10 @@ ghost use Rattle.stab_analysis.specs.Distances.{EndsDistance, IsDistanceOf, IsDi
 ghost use Rattle.stab_analysis.specs.inner.Faults.{SendsAtOnce};
 
 use crate::deterministic::kinds_of;
-use crate::ending::finish;
 use crate::error_lines::write_errors;
-use crate::fault_line::write_texts;
 use crate::faults::refused_for;
 use crate::random::FaultsRefused;
+use crate::writing::{finish, write_texts};
 use itoa::Buffer;
 use stab_circuit::{Circuit, read_circuit};
 use stab_errors::{Answer, ErrorTable, Progress, distance, errors, graphlike_distance};

@@ -9,7 +9,7 @@ ghost use Rattle.stab_errors.specs.Placed.{error_shown};
 ghost use Rattle.stab_analysis.specs.Deterministic.{kinds_of};
 ghost use Rattle.stab_analysis.specs.Distances.{error_name, numbered_line, what_text, where_text};
 
-use crate::fault_line::write_texts;
+use crate::writing::write_texts;
 use itoa::Buffer;
 use stab_circuit::{Circuit, Path, write_path};
 use stab_errors::{Error, ErrorTable};

@@ -1,22 +1,13 @@
 //! The lines that say a fault.
-ghost use Rattle.std.specs.Prelude.{◌≡◌, ◌++◌, codes, decimal, map};
+ghost use Rattle.std.specs.Prelude.{◌≡◌, ◌++◌, codes, decimal};
 ghost use Rattle.stab_io.specs.Devices.{WritesAll};
 ghost use Rattle.stab_analysis.specs.FaultLines.{bit_text, fault_line, told_text, random_bit, random_line};
-ghost use Rattle.stab_analysis.specs.Texts.{placed_coin, texts_joined};
+ghost use Rattle.stab_analysis.specs.Texts.{placed_coin};
 
 use crate::random::{Bit, Decider, FaultsRefused, Random};
+use crate::writing::write_texts;
 use stab_circuit::write_path;
 use stab_io::{Fault, Output, Refusal, write_all};
-
-/// Writes texts one after another.
-pub fn write_texts<O: Output>(out: &mut O, texts: &[&[u8]]) -> Result<(), Refusal>
-    ensures writes { WritesAll (O.seen out.old) (O.seen out.new) (texts_joined (map (λ t. t.now) texts.now)) result }
-{
-    for text in texts {
-        write_all(out, text)?;
-    }
-    Ok(())
-}
 
 /// Writes the line that says a fault: `stabsim: line L: refused N Name`, without `line L: `
 /// if the fault has no line, and a line feed. It takes no memory.

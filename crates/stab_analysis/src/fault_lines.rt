@@ -13,7 +13,7 @@ ghost use Rattle.stab_analysis.specs.Places.{path_at};
 ghost use Rattle.stab_analysis.specs.inner.FaultSites.{IsStretch, site_shown};
 
 use crate::fault_sites::{Site, site_at};
-use crate::row_head::write_head;
+use crate::writing::write_head;
 use stab_circuit::{Circuit, Cursor, Path, Step, StepItem};
 use stab_io::{Output, Refusal, write_all};
 use stab_pauli::Letter;

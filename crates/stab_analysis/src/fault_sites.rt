@@ -10,7 +10,7 @@ use stab_circuit::{Factor, Step};
 use stab_tableau::Gate;
 
 /// A place for faults: a qubit, in front of a step or after it.
-#[derive(Clone, Copy, Debug, PartialEq, Eq)]
+#[derive(Clone, Copy)]
 pub(crate) struct Site {
     pub qubit: usize,
     pub behind: bool,

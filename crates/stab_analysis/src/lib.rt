@@ -3,11 +3,10 @@
 //! In the order in which data flows; each module uses only those before it:
 //!
 //! - `random`: why nothing was written of faults or errors, with the bit that is not the same for all coins and a coin that decides it.
-//! - `ending`: the flush that ends a run.
+//! - `writing`: texts one after another, the front of a row's line, and the flush that ends a run.
 //! - `fault_line`: the lines that say a fault.
 //! - `check`: the command that writes the numbers of a circuit, or what is wrong with it.
 //! - `deterministic`: the command that says which detectors and observables are the same for all random bits.
-//! - `row_head`: the front of a row's line.
 //! - `fault_sites`: the places for faults at a step.
 //! - `fault_lines`, `fault_bits`: a table of faults as lines, and as shots.
 //! - `coin_rows`: the rows of a table of coins.
@@ -42,7 +41,6 @@ mod coins;
 mod deciders;
 mod deterministic;
 mod distance;
-mod ending;
 mod error_lines;
 mod fault_bits;
 mod fault_line;
@@ -52,16 +50,16 @@ mod faults;
 pub mod laws;
 mod random;
 mod reasons;
-mod row_head;
+mod writing;
 
 pub use check::run_check;
 pub use coins::{run_coins, write_coins};
 pub use deterministic::run_deterministic;
 pub use distance::{Distance, find_distance, run_distance, write_distance};
-pub use ending::finish;
-pub use fault_line::{write_fault, write_refused, write_texts};
+pub use fault_line::{write_fault, write_refused};
 pub use faults::run_faults;
 pub use random::{Bit, Decider, FaultsRefused, Random};
 pub use reasons::{has_bit, run_explain, write_why};
 pub use stab_errors::{Progress, Unwatched};
 pub use stab_jobs::{DistanceOptions, ErrorLetters, FaultLayout, Source};
+pub use writing::{finish, write_texts};

@@ -15,10 +15,10 @@ ghost use Rattle.stab_distance.specs.inner.Indexes.{listed};
 
 use crate::coin_rows::placed_coin;
 use crate::deciders::deciders;
-use crate::ending::finish;
-use crate::fault_line::{write_decider, write_texts};
+use crate::fault_line::write_decider;
 use crate::faults::{bit_of, path_of_bit};
 use crate::random::Bit;
+use crate::writing::{finish, write_texts};
 use itoa::Buffer;
 use stab_circuit::{Circuit, Path, read_circuit, write_item_coordinates, write_path};
 use stab_coins::CoinRuns;

@@ -1,7 +1,7 @@
 use Rattle.stab_analysis.proofs.Names.{◌∙◌, ◌++◌, [], ◌∷◌, codes, decimal, refl, subst, TookAndFailed, WritesAll, failed_on, failed_within, path_text, row_head, texts_joined}
 use Rattle.stab_analysis.proofs.FaultTextLaws.{joined-head}
 use Rattle.stab_analysis.proofs.WritingLaws.{failed_second, writes_third}
-use Rattle.stab_analysis.proofs.row_head.write_head.Goals as goal
+use Rattle.stab_analysis.proofs.writing.write_head.Goals as goal
 
 pub returns-in_err-write_texts : goal.returns-in_err-write_texts
 returns-in_err-write_texts g c =

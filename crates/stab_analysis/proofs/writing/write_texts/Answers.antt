@@ -1,6 +1,6 @@
 use Rattle.stab_analysis.proofs.Names.{map, drop, wrote_part, wrote_and_failed, failed_on, texts_joined}
 use Rattle.stab_analysis.proofs.FaultLineLaws.{joined-drop}
-use Rattle.stab_analysis.proofs.fault_line.write_texts.Goals as goal
+use Rattle.stab_analysis.proofs.writing.write_texts.Goals as goal
 
 pub loop-text-preserved : goal.loop-text-preserved
 loop-text-preserved g c =
