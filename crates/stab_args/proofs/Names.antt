@@ -16,7 +16,7 @@ pub use Rattle.clap.specs.Lexer.{long_of, short_of}
 pub use Rattle.clap.specs.Simple.{app_of_fields, on_top, argument_words, built, entered, label_of, names_of, rows_at}
 pub use Rattle.clap.specs.Walk.{rule_of, Held, Names, Outcome, Step, Waiting, Walk, after_flag, after_step, answers_to, bundle, arg_by_index, arg_by_long, long_met, long_or_other, nothing_held, option, idle, positional, next, trailing, subcommand, value, done, waits, plain, refused, plain_word, short_or_plain, subcommand_met, subcommand_or_other, to_positional, walk, walk_from, walked_from, word_met, texts}
 unfoldable pub use Rattle.clap.specs.Walk.{walked}
-pub use Rattle.clap.specs.Words.{Text, AddsAliases, AddsArg, AddsCommandAliases, AddsSubcommand, App, Rule, with_rule, with_subcommand, HasKind, Row, found_of, is_simple, kind_of, rows_of, subcommand_name_of, subcommand_rows_of, is_simple_and_free, Shape, subcommand_of, IsUnsignedIn, ReadsOne, new_app}
+pub use Rattle.clap.specs.Words.{Text, AddsAliases, AddsArg, AddsCommandAliases, AddsSubcommand, App, Rule, with_rule, with_subcommand, HasKind, Row, found_of, is_simple, kind_of, rows_of, subcommand_name_of, subcommand_rows_of, is_simple_and_free, Shape, subcommand_of, IsUnsignedIn, ReadsOne}
 pub use Rattle.clap.specs.declared.builder.arg.Arg.{Arg}
 pub use Rattle.clap.specs.declared.builder.command.Command.{Command}
 pub use Rattle.clap.specs.declared.builder.command.Command.TheViews.{out-Command}
