@@ -199,7 +199,7 @@ impl PauliRows {
         self.powers[a] = Phase::Zero;
     }
 
-    /// IsPivot row a and row b.
+    /// Exchanges row a and row b.
     #[inline(always)]
     pub fn swap(&mut self, a: usize, b: usize)
         requires a_in_range { a < length self.old.rows }

@@ -62,7 +62,7 @@ fn find_leading(rows: &PauliRows, from: usize, place: usize) -> Option<usize>
     None
 }
 
-/// IsPivot two rows, which may be the same.
+/// Exchanges two rows, which may be the same.
 fn exchange(rows: &mut PauliRows, first: usize, second: usize)
     requires first_in_range { first < length rows.old.rows }
     requires second_in_range { second < length rows.old.rows }

@@ -147,7 +147,7 @@ impl Table {
         self.rows.negate_if(row.place(qubit), bit);
     }
 
-    /// IsPivot two rows.
+    /// Exchanges two rows.
     #[inline(always)]
     pub fn exchange(&mut self, row: InverseRow, qubit: usize, other: InverseRow, other_qubit: usize)
         requires in_range { qubit < length self.old }

@@ -192,7 +192,7 @@ pub(crate) fn set(
     row::set(blocks, &mut words[at..at + 8 * blocks], qubit, letter);
 }
 
-/// IsPivot row a and row b.
+/// Exchanges row a and row b.
 #[inline(always)]
 pub(crate) fn swap(words: &mut [u64], count: usize, blocks: usize, a: usize, b: usize)
     requires all { length words.old ≡ 8 * blocks * count }
@@ -214,7 +214,7 @@ pub(crate) fn swap(words: &mut [u64], count: usize, blocks: usize, a: usize, b: 
     swap_at(words, blocks, first, second);
 }
 
-/// IsPivot the rows of this many blocks at word a and at word b, which do not overlap.
+/// Exchanges the rows of this many blocks at word a and at word b, which do not overlap.
 #[inline(always)]
 fn swap_at(words: &mut [u64], blocks: usize, a: usize, b: usize)
     requires a_fits { a + 8 * blocks ≤ length words.old }
