@@ -4,14 +4,14 @@ use stab_circuit::Path;
 use stab_io::Fault;
 
 /// A detector or an observable of a circuit, by its number.
-#[derive(Clone, Copy)]
+#[derive(Clone, Copy, Debug, PartialEq, Eq)]
 pub enum Bit {
     Detector(usize),
     Observable(usize),
 }
 
 /// A coin that decides a detector or observable.
-#[derive(Clone, Copy)]
+#[derive(Clone, Copy, Debug, PartialEq, Eq)]
 pub struct Decider {
     /// Its number.
     pub coin: usize,
@@ -20,7 +20,7 @@ pub struct Decider {
 }
 
 /// A detector or observable that is not the same for all coins.
-#[derive(Clone, Copy)]
+#[derive(Clone, Copy, Debug, PartialEq, Eq)]
 pub struct Random {
     pub bit: Bit,
     /// Where the item is that makes it: its `DETECTOR`, or the first `OBSERVABLE_INCLUDE` of its
@@ -31,7 +31,7 @@ pub struct Random {
 }
 
 /// Why no table of faults, or no distance, was written.
-#[derive(Clone, Copy)]
+#[derive(Clone, Copy, Debug, PartialEq, Eq)]
 pub struct FaultsRefused {
     pub fault: Fault,
     /// With refusal `NotDeterministic`, the first detector or observable that is not the same for

@@ -3,7 +3,7 @@ use crate::numbers::{QubitCount, Shots, Stride};
 use stab_results::Format;
 
 /// Where coins come from: the outcomes of measurements that no stabiliser decides.
-#[derive(Debug, Drop)]
+#[derive(Debug, Drop, PartialEq, Eq)]
 pub enum Source {
     /// Each shot has its own coins of this seed.
     Seed(u64),
@@ -12,7 +12,7 @@ pub enum Source {
 }
 
 /// Of which letters errors are made.
-#[derive(Clone, Copy, Debug)]
+#[derive(Clone, Copy, Debug, PartialEq, Eq)]
 pub enum ErrorLetters {
     /// X, Y and Z, and all products of two of them.
     All,
@@ -21,7 +21,7 @@ pub enum ErrorLetters {
 }
 
 /// Of which errors the distance of a circuit is asked for, and how far.
-#[derive(Clone, Copy, Debug)]
+#[derive(Clone, Copy, Debug, PartialEq, Eq)]
 pub struct DistanceOptions {
     /// Errors everywhere, and not at the places that the circuit marks.
     pub everywhere: bool,
@@ -47,7 +47,7 @@ pub enum FaultLayout {
 }
 
 /// A command, with the options that are its own.
-#[derive(Clone, Copy, Debug)]
+#[derive(Clone, Copy, Debug, PartialEq, Eq)]
 pub enum Command {
     /// Writes the records of each shot.
     Sample {
@@ -94,7 +94,7 @@ pub enum Command {
 }
 
 /// What the words of a command line ask for: a command, and what every command has.
-#[derive(Drop)]
+#[derive(Debug, Drop, PartialEq, Eq)]
 pub struct Job {
     /// The command with its own options.
     pub command: Command,

@@ -3,7 +3,7 @@ use std::marker::Model;
 
 /// Which shots a command takes: at most 1,000,000, one after another, and none beyond the last of a
 /// seed, which is shot 2^64 - 1.
-#[derive(Clone, Copy, Debug)]
+#[derive(Clone, Copy, Debug, PartialEq, Eq)]
 pub struct Shots {
     first: u64,
     number: usize,
@@ -68,7 +68,7 @@ impl Shots {
 }
 
 /// On how many qubits a circuit is edited, at most 1,024.
-#[derive(Clone, Copy, Debug)]
+#[derive(Clone, Copy, Debug, PartialEq, Eq)]
 pub struct QubitCount {
     number: usize,
 }
@@ -112,7 +112,7 @@ impl QubitCount {
 
 /// After how many steps a session keeps a checkpoint, from 1 to 65,536. It changes how long edits take
 /// and how much memory they need, and nothing that is written.
-#[derive(Clone, Copy, Debug)]
+#[derive(Clone, Copy, Debug, PartialEq, Eq)]
 pub struct Stride {
     steps: usize,
 }

@@ -14,7 +14,7 @@ pub enum Format {
 }
 
 /// What the bits of a shot are; only `dets` shows it.
-#[derive(Clone, Copy)]
+#[derive(Clone, Copy, Debug, PartialEq, Eq)]
 pub enum Kinds {
     /// All bits are measurements.
     Measurements,
