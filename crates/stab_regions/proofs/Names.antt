@@ -27,7 +27,6 @@ pub use Rattle.stab_gates.proofs.ParityLemmas.{parity-comm, parity-false, parity
 pub use Rattle.stab_gates.specs.Letters.{◌⊕◌, letter_product, letters_anticommute}
 pub use Rattle.stab_gates.specs.declared.gate.Gate.{Gate}
 pub use Rattle.stab_gates.specs.declared.gate.PairGate.{PairGate}
-pub use Rattle.stab_gates.specs.declared.gate.PairGate.TheVariants.{Cx, Cy, Cz, Swap}
 pub use Rattle.stab_gates.specs.declared.letter.Letter.{Letter}
 pub use Rattle.stab_gates.specs.declared.letter.Letter.TheVariants.{I, X, Y, Z}
 pub use Rattle.stab_lines.specs.Axes.{letter_of}

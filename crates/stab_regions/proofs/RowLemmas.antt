@@ -1,5 +1,5 @@
 -- Rows of numbers: one of them written anew, and looked up.
-use Rattle.stab_regions.proofs.Names.{◌≡◌, ℕ, zero, suc, ◌<◌, refl, sym, subst, ◌∙◌, ap, arith, Bool, false, List, [], ◌∷◌, length, get_or, set, get_or-set_same, get_or-set_other, length-set, true, ◌&&◌, parity-false, ◌⊕◌, odd, row, Toggles, TogglesWhere}
+use Rattle.stab_regions.proofs.Names.{◌≡◌, ℕ, zero, suc, ◌<◌, refl, sym, subst, ◌∙◌, ap, arith, Bool, false, List, [], ◌∷◌, length, get_or, set, get_or-set_same, get_or-set_other, true, ◌&&◌, parity-false, ◌⊕◌, odd, row, Toggles, TogglesWhere}
 
 -- writing a row toggles it
 pub toggles_set : (old : List (List ℕ)) (place : ℕ) (numbers new : List ℕ) → place < length old
@@ -33,6 +33,3 @@ row-in (r ∷ rows) (suc k) d lt = row-in rows k d (omega arith)
 pub toggles-by : (bit : Bool) (old new : List (List ℕ)) (place : ℕ) (rows : List (List ℕ)) (k : ℕ) (d : List ℕ) → k < length rows
     → TogglesWhere bit old new place (get_or rows k d) → TogglesWhere bit old new place (row rows k)
 toggles-by bit old new place rows k d lt t = subst (TogglesWhere bit old new place) (row-in rows k d lt) t
-
-pub inside-set : (old new : List (List ℕ)) (q : ℕ) (r : List ℕ) → q < length old → new ≡ set old q r → q < length new
-inside-set old new q r lt e = subst (λ n. q < n) (sym (ap length e ∙ length-set old q r)) lt
