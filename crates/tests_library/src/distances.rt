@@ -247,7 +247,7 @@ fn a_search_finds_a_least_logical_error(rt: HostRuntime) -> Result<(), Fail> {
     for (number, &(search, detectors, rows, most, wanted)) in CASES.iter().enumerate() {
         let answer = answer_of(rt.alloc(), search, detectors, rows, most)?;
         let right = is_wanted(&answer, wanted);
-        assert!(rt; right, "case {number}: {answer:?}");
+        assert!(rt; right, "case {number}");
     }
     Ok(())
 }
