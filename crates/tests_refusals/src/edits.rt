@@ -1,198 +1,175 @@
-//! Edits of a session.
-use crate::circuits::{NESTED, WITH_PAULI};
-use crate::item_slot::ItemSlot;
+//! Edits, splits and reduced rows of a session.
+use crate::change::{Change, Kind};
+use crate::circuits::{NESTED, ROUND, WITH_PAULI};
+use crate::item_slot::{ItemSlot, item_of, put_back, show_item, take_item};
 use crate::one_drop::OneDrop;
 use crate::sessions::{session_of, show_session};
+use crate::sheet::{circuit_of, show_strings};
 use crate::stop::Stop;
-use crate::trial::{Trial, print_ending, try_call};
-use stab_circuit::{Path, write_circuit};
-use stab_pauli::MemoryOutput;
+use crate::trial::{Ending, ROOM, Trial, compare, print_ending};
+use stab_circuit::{Circuit, write_circuit};
+use stab_pauli::{MemoryOutput, Pauli};
 use stab_session::{Edit, SeedCoins, Session};
 use std::alloc::Global;
 use std::io;
 
-/// An edit of the nested circuit, in its outermost list, or at a path of three numbers; or of the circuit
-/// with a Pauli gate, which is replaced by another, or one that does the same to that state; or of Pauli gates
-/// that are put in at such a path.
-#[derive(Clone, Copy)]
-enum NestedEdit {
-    Insert,
-    InsertBlock,
-    InsertNested,
-    InsertPauliNested,
-    Replace,
-    ReplaceNested,
-    ReplacePauli,
-    ReplaceAlike,
-    Delete,
-    DeleteNested,
-}
+/// The call that gives reduced rows.
+pub const ROWS: &[(&str, Change)] = &[(
+    "Session::reduced_rows",
+    Change(Kind::ReducedRows, NESTED, &[0], b""),
+)];
 
-impl NestedEdit {
-    /// The text of the circuit that it edits.
-    fn circuit(self) -> &'static [u8] {
-        match self {
-            NestedEdit::ReplacePauli | NestedEdit::ReplaceAlike => WITH_PAULI,
-            _ => NESTED,
-        }
-    }
+/// Edits of the nested circuit, in its outermost list, or at a path of three numbers; of the circuit
+/// with a Pauli gate, which is replaced by another, or one that does the same to that state; and splits
+/// of the outer block and the inner one.
+const CHANGES: &[(&str, Change)] = &[
+    (
+        "Session::apply, insertion",
+        Change(Kind::Insert, NESTED, &[1], b"MX 1"),
+    ),
+    (
+        "Session::apply, insertion",
+        Change(Kind::Insert, NESTED, &[1], b"REPEAT 2 {\nH 0\nM 0 1\n}"),
+    ),
+    (
+        "Session::apply, insertion in blocks",
+        Change(Kind::Insert, NESTED, &[2, 1, 1], b"MPP Y0*Y1"),
+    ),
+    (
+        "Session::apply, Paulis in blocks",
+        Change(Kind::Insert, NESTED, &[2, 1, 1], b"X 0 2"),
+    ),
+    (
+        "Session::apply, replacement",
+        Change(Kind::Replace, NESTED, &[1], b"CZ 0 1"),
+    ),
+    (
+        "Session::apply, replacement in blocks",
+        Change(Kind::Replace, NESTED, &[2, 1, 1], b"MRX 0 1 2"),
+    ),
+    (
+        "Session::apply, a Pauli for another",
+        Change(Kind::Replace, WITH_PAULI, &[1], b"Z 2"),
+    ),
+    (
+        "Session::apply, a Pauli for one that does the same",
+        Change(Kind::Replace, WITH_PAULI, &[1], b"Y 2"),
+    ),
+    (
+        "Session::apply, deletion",
+        Change(Kind::Delete, NESTED, &[1], b""),
+    ),
+    (
+        "Session::apply, deletion in blocks",
+        Change(Kind::Delete, NESTED, &[2, 1, 1], b""),
+    ),
+    ("Session::split", Change(Kind::Split, NESTED, &[2], b"")),
+    ("Session::split", Change(Kind::Split, NESTED, &[2, 1], b"")),
+];
 
-    /// Where it is made.
-    fn path(self) -> Path {
-        match self {
-            NestedEdit::InsertNested
-            | NestedEdit::InsertPauliNested
-            | NestedEdit::ReplaceNested
-            | NestedEdit::DeleteNested => Path::new(&[2, 1, 1]),
-            _ => Path::new(&[1]),
-        }
-    }
-
-    /// The text of the item that is put in; none if there is no item.
-    fn text(self) -> &'static [u8] {
-        match self {
-            NestedEdit::Insert => b"MX 1",
-            NestedEdit::InsertBlock => b"REPEAT 2 {\nH 0\nM 0 1\n}",
-            NestedEdit::InsertNested => b"MPP Y0*Y1",
-            NestedEdit::InsertPauliNested => b"X 0 2",
-            NestedEdit::Replace => b"CZ 0 1",
-            NestedEdit::ReplaceNested => b"MRX 0 1 2",
-            NestedEdit::ReplacePauli => b"Z 2",
-            NestedEdit::ReplaceAlike => b"Y 2",
-            NestedEdit::Delete | NestedEdit::DeleteNested => b"",
-        }
-    }
-
-    /// The item that is put in, if there is one.
-    fn slot(self, alloc: Global) -> Result<ItemSlot, Stop> {
-        let text = self.text();
-        if text.is_empty() {
-            return Ok(ItemSlot::empty());
-        }
-        ItemSlot::new(alloc, text)
-    }
-}
-
-/// `Session::apply`, with the edit's item while it is not put in.
-struct Applied {
-    change: NestedEdit,
+/// A call of a session, with an edit's item while it is not put in, and with the rows that it gave.
+#[derive(Drop)]
+pub struct SessionCall {
+    change: Change,
     session: OneDrop<Session<SeedCoins>>,
     item: ItemSlot,
+    rows: OneDrop<Vec<Pauli>>,
 }
 
-// Written out, so that a proof sees the drop of an edit as one call.
-impl Drop for Applied {
-    fn drop(self) {
-        let Applied {
-            change: _,
-            session: _,
-            item: _,
-        } = self;
-    }
-}
-
-impl Applied {
+impl SessionCall {
     /// The edit, with its item.
     fn edit(&mut self) -> Result<Edit, Stop> {
         let place = self.change.path();
-        match self.change {
-            NestedEdit::Insert
-            | NestedEdit::InsertBlock
-            | NestedEdit::InsertNested
-            | NestedEdit::InsertPauliNested => Ok(Edit::Insert {
-                place,
-                item: self.item.take()?,
-            }),
-            NestedEdit::Replace
-            | NestedEdit::ReplaceNested
-            | NestedEdit::ReplacePauli
-            | NestedEdit::ReplaceAlike => Ok(Edit::Replace {
-                place,
-                item: self.item.take()?,
-            }),
-            NestedEdit::Delete | NestedEdit::DeleteNested => Ok(Edit::Delete { place }),
+        if let Kind::Delete = self.change.0 {
+            return Ok(Edit::Delete { place });
+        }
+        let item = take_item(&mut self.item)?;
+        match self.change.0 {
+            Kind::Replace => Ok(Edit::Replace { place, item }),
+            _ => Ok(Edit::Insert { place, item }),
         }
     }
-}
 
-/// The circuit of an edited session.
-fn edited_circuit(alloc: Global, change: NestedEdit) -> Result<MemoryOutput, Stop> {
-    let mut edited = Applied::new(alloc, change)?;
-    edited.call(alloc)?;
-    let mut text = MemoryOutput::new(alloc, 4096)?;
-    write_circuit(&mut text, edited.session.0.circuit())?;
-    Ok(text)
-}
-
-impl Trial for Applied {
-    type Call = NestedEdit;
-
-    fn new(alloc: Global, change: NestedEdit) -> Result<Applied, Stop> {
-        Ok(Applied {
-            change,
-            session: session_of(alloc, change.circuit())?,
-            item: change.slot(alloc)?,
-        })
-    }
-
-    fn call(&mut self, _alloc: Global) -> Result<(), Stop> {
+    /// Makes the edit.
+    fn apply(&mut self) -> Result<(), Stop> {
         let edit = self.edit()?;
         match self.session.0.apply(edit) {
             Ok(_) => Ok(()),
-            Err(refused) => Err(self.item.put_back(refused)),
+            Err(refused) => Err(put_back(&mut self.item, refused)),
         }
+    }
+}
+
+impl Trial for SessionCall {
+    type Call = Change;
+
+    fn new(alloc: Global, change: Change) -> Result<SessionCall, Stop> {
+        Ok(SessionCall {
+            change,
+            session: session_of(alloc, change.1)?,
+            item: item_of(alloc, change.3)?,
+            rows: OneDrop(Vec::new(alloc)),
+        })
+    }
+
+    fn call(&mut self, alloc: Global) -> Result<(), Stop> {
+        match self.change.0 {
+            Kind::ReducedRows => self.rows = OneDrop(self.session.0.reduced_rows(alloc)?),
+            Kind::Split => self.session.0.split(self.change.path(), ROUND)?,
+            _ => self.apply()?,
+        }
+        Ok(())
     }
 
     fn show(&mut self, alloc: Global, out: &mut MemoryOutput) -> Result<(), Stop> {
         show_session(alloc, out, &mut self.session.0)?;
-        self.item.show(out)
-    }
-
-    // A session that is opened with the edited circuit.
-    fn made(alloc: Global, change: NestedEdit) -> Result<Applied, Stop> {
-        let circuit = edited_circuit(alloc, change)?;
-        Ok(Applied {
-            change,
-            session: session_of(alloc, circuit.bytes())?,
-            item: ItemSlot::empty(),
-        })
+        show_item(out, &self.item)?;
+        show_strings(out, self.rows.0.as_slice())
     }
 }
 
-/// Tries each kind of edit.
+/// The text of a circuit.
+fn circuit_text(alloc: Global, circuit: &Circuit) -> Result<MemoryOutput, Stop> {
+    let mut text = MemoryOutput::new(alloc, 4096)?;
+    write_circuit(&mut text, circuit)?;
+    Ok(text)
+}
+
+/// The text of a circuit that is split by itself.
+fn split_text(alloc: Global, change: Change) -> Result<MemoryOutput, Stop> {
+    let mut circuit = circuit_of(alloc, change.1)?;
+    circuit.0.split(change.path(), ROUND)?;
+    circuit_text(alloc, &circuit.0)
+}
+
+/// The text of the circuit of an edited session.
+fn edited_text(alloc: Global, change: Change) -> Result<MemoryOutput, Stop> {
+    let mut edited = SessionCall::new(alloc, change)?;
+    edited.apply()?;
+    circuit_text(alloc, edited.session.0.circuit())
+}
+
+/// What a session shows that is opened with this circuit.
+fn opened(alloc: Global, circuit: &[u8]) -> Result<MemoryOutput, Stop> {
+    let mut out = MemoryOutput::new(alloc, ROOM)?;
+    show_session(alloc, &mut out, &mut session_of(alloc, circuit)?.0)?;
+    Ok(out)
+}
+
+/// Tries a change, and compares with a session that is opened with the changed circuit.
+fn try_change(alloc: Global, change: Change) -> Result<Ending, Stop> {
+    let text = match change.0 {
+        Kind::Split => split_text(alloc, change)?,
+        _ => edited_text(alloc, change)?,
+    };
+    let wanted = opened(alloc, text.bytes())?;
+    compare::<SessionCall>(alloc, change, wanted.bytes())
+}
+
+/// Tries each change.
 pub fn print_all<R: AllocGlobal + Print>(rt: &R) -> io::Result<()> {
-    let changes = [
-        ("Session::apply, insertion", NestedEdit::Insert),
-        ("Session::apply, insertion", NestedEdit::InsertBlock),
-        (
-            "Session::apply, insertion in blocks",
-            NestedEdit::InsertNested,
-        ),
-        (
-            "Session::apply, Paulis in blocks",
-            NestedEdit::InsertPauliNested,
-        ),
-        ("Session::apply, replacement", NestedEdit::Replace),
-        (
-            "Session::apply, replacement in blocks",
-            NestedEdit::ReplaceNested,
-        ),
-        (
-            "Session::apply, a Pauli for another",
-            NestedEdit::ReplacePauli,
-        ),
-        (
-            "Session::apply, a Pauli for one that does the same",
-            NestedEdit::ReplaceAlike,
-        ),
-        ("Session::apply, deletion", NestedEdit::Delete),
-        (
-            "Session::apply, deletion in blocks",
-            NestedEdit::DeleteNested,
-        ),
-    ];
-    for (name, change) in changes {
-        print_ending(rt, name, try_call::<Applied>(rt.alloc(), change))?;
+    for (name, change) in CHANGES {
+        print_ending(rt, name, try_change(rt.alloc(), *change))?;
     }
     Ok(())
 }

@@ -6,58 +6,35 @@ use std::alloc::Global;
 use std::mem;
 
 /// An item, or none.
-pub struct ItemSlot {
-    item: OneDrop<Option<Item>>,
+pub type ItemSlot = OneDrop<Option<Item>>;
+
+/// The item that a text stands for; none for an empty text.
+pub fn item_of(alloc: Global, text: &[u8]) -> Result<ItemSlot, Stop> {
+    if text.is_empty() {
+        return Ok(OneDrop(None));
+    }
+    Ok(OneDrop(Some(read_item(alloc, text)?)))
 }
 
-// Written out, so that a proof sees the drop of a slot as one call.
-impl Drop for ItemSlot {
-    fn drop(self) {
-        let ItemSlot { item: _ } = self;
+/// Takes the item.
+pub fn take_item(slot: &mut ItemSlot) -> Result<Item, Stop> {
+    match mem::replace(slot, OneDrop(None)).value() {
+        Some(item) => Ok(item),
+        None => Err(Stop::from(Refusal::PlaceOutOfRange)),
     }
 }
 
-impl ItemSlot {
-    /// With the item that a text stands for.
-    pub fn new(alloc: Global, text: &[u8]) -> Result<ItemSlot, Stop> {
-        let item = read_item(alloc, text)?;
-        Ok(ItemSlot {
-            item: OneDrop(Some(item)),
-        })
-    }
+/// Puts the item of a refused edit back, and says the fault.
+pub fn put_back(slot: &mut ItemSlot, refused: Refused) -> Stop {
+    let Refused { fault, item } = refused;
+    *slot = OneDrop(item);
+    Stop(fault)
+}
 
-    /// Without an item.
-    pub fn empty() -> ItemSlot {
-        ItemSlot {
-            item: OneDrop(None),
-        }
-    }
-
-    /// Takes the item.
-    pub fn take(&mut self) -> Result<Item, Stop> {
-        match mem::replace(&mut self.item, OneDrop(None)).value() {
-            Some(item) => Ok(item),
-            None => Err(Stop::from(Refusal::PlaceOutOfRange)),
-        }
-    }
-
-    /// Puts an item.
-    pub fn put(&mut self, item: Item) {
-        self.item = OneDrop(Some(item));
-    }
-
-    /// Puts the item of a refused edit, and says its fault.
-    pub fn put_back(&mut self, refused: Refused) -> Stop {
-        let Refused { fault, item } = refused;
-        self.item = OneDrop(item);
-        Stop(fault)
-    }
-
-    /// Writes the item.
-    pub fn show(&self, out: &mut MemoryOutput) -> Result<(), Stop> {
-        if let Some(item) = &self.item.0 {
-            write_one_item(out, item)?;
-        }
-        Ok(())
+/// Writes the item.
+pub fn show_item(out: &mut MemoryOutput, slot: &ItemSlot) -> Result<(), Stop> {
+    match &slot.0 {
+        Some(item) => Ok(write_one_item(out, item)?),
+        None => Ok(()),
     }
 }

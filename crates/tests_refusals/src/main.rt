@@ -9,35 +9,40 @@
 //! - `trial`: a call that is tried, and how it ended; `window`: where memory may be refused.
 //! - `stop`: what ended a call early.
 //! - `sheet`: values as bytes, to be compared; `item_slot`: an item beside a circuit; `one_drop`: values that are let go.
-//! - `outputs`, `strings`, `states`, `circuits`, `runs`, `sessions`, `edits`, `splits`: the calls, by what they work on.
+//! - `change`: calls on a circuit or a session, as rows of tables.
+//! - `strings`, `states`, `circuits`, `runs`, `sessions`, `edits`: the calls, by what they work on.
 //!
 //! It is proved safe. What it finds is tested, not proved.
 #![tactic(auto)]
 
+mod change;
 mod circuits;
 mod edits;
 mod item_slot;
 mod one_drop;
-mod outputs;
 mod runs;
 mod sessions;
 mod sheet;
-mod splits;
 mod states;
 mod stop;
 mod strings;
 mod trial;
 mod window;
 
+use circuits::CircuitCall;
+use edits::SessionCall;
+use sessions::Opening;
+use states::TableauCall;
 use std::io;
+use strings::Making;
+use trial::print_calls;
 
 fn main(rt: HostRuntime) -> io::Result<()> {
-    outputs::print_all(&rt)?;
-    strings::print_all(&rt)?;
-    states::print_all(&rt)?;
-    circuits::print_all(&rt)?;
+    print_calls::<Making, _>(&rt, strings::MAKERS)?;
+    print_calls::<TableauCall, _>(&rt, states::CALLS)?;
+    print_calls::<CircuitCall, _>(&rt, circuits::CALLS)?;
     runs::print_all(&rt)?;
-    sessions::print_all(&rt)?;
-    edits::print_all(&rt)?;
-    splits::print_all(&rt)
+    print_calls::<Opening, _>(&rt, &[("Session::open", ())])?;
+    print_calls::<SessionCall, _>(&rt, edits::ROWS)?;
+    edits::print_all(&rt)
 }

@@ -1,17 +1,17 @@
-//! Opening a session, and its reduced rows.
+//! Opening a session.
 use crate::circuits::NESTED;
 use crate::one_drop::OneDrop;
 use crate::runs::QUBITS;
 use crate::sheet::{
-    State, circuit_of, show_bits, show_circuit, show_coins, show_signs, show_strings,
+    State, circuit_of, show_circuit, show_coins, show_lists, show_signs, show_strings,
 };
 use crate::stop::Stop;
-use crate::trial::{Trial, print_ending, try_call};
+use crate::trial::Trial;
 use stab_circuit::Circuit;
 use stab_pauli::{Letter, MemoryOutput, Pauli};
 use stab_session::{OpenRefused, SeedCoins, Session};
 use std::alloc::Global;
-use std::{io, mem};
+use std::mem;
 
 /// The most steps between two states that a session keeps: few, so that it keeps several.
 const STRIDE: usize = 2;
@@ -52,10 +52,15 @@ pub fn show_session(
     out: &mut MemoryOutput,
     session: &mut Session<SeedCoins>,
 ) -> Result<(), Stop> {
-    show_bits(out, session.records())?;
-    show_bits(out, session.free())?;
-    show_bits(out, session.detectors())?;
-    show_bits(out, session.observables())?;
+    show_lists(
+        out,
+        &[
+            session.records(),
+            session.free(),
+            session.detectors(),
+            session.observables(),
+        ],
+    )?;
     show_circuit(out, session.circuit())?;
     let rows = OneDrop(session.reduced_rows(alloc)?);
     show_strings(out, rows.0.as_slice())?;
@@ -64,7 +69,7 @@ pub fn show_session(
 
 /// `Session::open`, with the circuit and the coins while it is not open, and then with the session.
 #[derive(Drop)]
-struct Opening {
+pub struct Opening {
     circuit: OneDrop<Circuit>,
     coins: SeedCoins,
     session: OneDrop<Option<Session<SeedCoins>>>,
@@ -111,42 +116,4 @@ impl Trial for Opening {
             Some(session) => show_session(alloc, out, session),
         }
     }
-}
-
-/// `Session::reduced_rows`, with the rows that it gave.
-#[derive(Drop)]
-struct Rows {
-    session: OneDrop<Session<SeedCoins>>,
-    rows: OneDrop<Vec<Pauli>>,
-}
-
-impl Trial for Rows {
-    type Call = ();
-
-    fn new(alloc: Global, _call: ()) -> Result<Rows, Stop> {
-        Ok(Rows {
-            session: session_of(alloc, NESTED)?,
-            rows: OneDrop(Vec::new(alloc)),
-        })
-    }
-
-    fn call(&mut self, alloc: Global) -> Result<(), Stop> {
-        self.rows = OneDrop(self.session.0.reduced_rows(alloc)?);
-        Ok(())
-    }
-
-    fn show(&mut self, alloc: Global, out: &mut MemoryOutput) -> Result<(), Stop> {
-        show_session(alloc, out, &mut self.session.0)?;
-        show_strings(out, self.rows.0.as_slice())
-    }
-}
-
-/// Tries each call.
-pub fn print_all<R: AllocGlobal + Print>(rt: &R) -> io::Result<()> {
-    print_ending(rt, "Session::open", try_call::<Opening>(rt.alloc(), ()))?;
-    print_ending(
-        rt,
-        "Session::reduced_rows",
-        try_call::<Rows>(rt.alloc(), ()),
-    )
 }

@@ -19,20 +19,25 @@ pub fn show_bits(out: &mut MemoryOutput, bits: &[bool]) -> Result<(), Stop> {
     Ok(())
 }
 
-/// Writes the four lists of a shot.
-pub fn show_lists(out: &mut MemoryOutput, shot: &Shot) -> Result<(), Stop> {
-    show_bits(out, shot.records.as_slice())?;
-    show_bits(out, shot.free.as_slice())?;
-    show_bits(out, shot.detectors.as_slice())?;
-    show_bits(out, shot.observables.as_slice())
+/// Writes lists of bits.
+pub fn show_lists(out: &mut MemoryOutput, lists: &[&[bool]]) -> Result<(), Stop> {
+    for list in lists {
+        show_bits(out, list)?;
+    }
+    Ok(())
 }
 
-/// Writes the four lists of a shot, if there is one.
-pub fn show_shot(out: &mut MemoryOutput, shot: &Option<Shot>) -> Result<(), Stop> {
-    match shot {
-        Some(shot) => show_lists(out, shot),
-        None => Ok(()),
-    }
+/// Writes the four lists of a shot.
+pub fn show_shot(out: &mut MemoryOutput, shot: &Shot) -> Result<(), Stop> {
+    show_lists(
+        out,
+        &[
+            shot.records.as_slice(),
+            shot.free.as_slice(),
+            shot.detectors.as_slice(),
+            shot.observables.as_slice(),
+        ],
+    )
 }
 
 /// Writes coins 0 to 99.
@@ -98,17 +103,24 @@ fn show_sign<S: State>(
     Ok(())
 }
 
-/// Writes a circuit, and the numbers that it keeps.
-pub fn show_circuit(out: &mut MemoryOutput, circuit: &Circuit) -> Result<(), Stop> {
-    write_circuit(out, circuit)?;
-    let numbers = [
-        circuit.qubits(),
-        circuit.observables(),
-        circuit.steps(),
-        circuit.records(),
-    ];
+/// Writes numbers.
+fn show_numbers(out: &mut MemoryOutput, numbers: &[usize]) -> Result<(), Stop> {
     for number in numbers {
         write_all(out, &number.to_le_bytes())?;
     }
     Ok(())
+}
+
+/// Writes a circuit, and the numbers that it keeps.
+pub fn show_circuit(out: &mut MemoryOutput, circuit: &Circuit) -> Result<(), Stop> {
+    write_circuit(out, circuit)?;
+    show_numbers(
+        out,
+        &[
+            circuit.qubits(),
+            circuit.observables(),
+            circuit.steps(),
+            circuit.records(),
+        ],
+    )
 }

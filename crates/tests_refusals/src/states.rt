@@ -2,18 +2,17 @@
 use crate::one_drop::OneDrop;
 use crate::sheet::{State, show_signs, show_string, show_strings};
 use crate::stop::Stop;
-use crate::trial::{Trial, print_ending, try_call};
+use crate::trial::Trial;
 use stab_pauli::{Letter, MemoryOutput, Pauli};
 use stab_tableau::{CompactTableau, Gate, PairGate, Tableau};
 use std::alloc::Global;
-use std::io;
 
 /// The qubits of the states.
 const QUBITS: usize = 5;
 
 /// A call of a tableau.
 #[derive(Clone, Copy)]
-enum Call {
+pub enum Call {
     New,
     Copy,
     Compact,
@@ -23,9 +22,20 @@ enum Call {
     Destabiliser,
 }
 
+/// The calls.
+pub const CALLS: &[(&str, Call)] = &[
+    ("Tableau::new", Call::New),
+    ("Tableau::copy", Call::Copy),
+    ("Tableau::compact", Call::Compact),
+    ("CompactTableau::tableau", Call::Tableau),
+    ("Tableau::reduced_rows", Call::ReducedRows),
+    ("Tableau::stabiliser", Call::Stabiliser),
+    ("Tableau::destabiliser", Call::Destabiliser),
+];
+
 /// A call of a tableau, with what was given last.
 #[derive(Drop)]
-struct TableauCall {
+pub struct TableauCall {
     call: Call,
     tableau: Tableau,
     state: Tableau,
@@ -65,6 +75,16 @@ fn show_tableau(alloc: Global, out: &mut MemoryOutput, tableau: &mut Tableau) ->
     let rows = OneDrop(tableau.reduced_rows(alloc)?);
     show_strings(out, rows.0.as_slice())?;
     show_signs(alloc, out, tableau)
+}
+
+/// Writes the state that is kept compactly.
+fn show_compact(
+    alloc: Global,
+    out: &mut MemoryOutput,
+    compact: &CompactTableau,
+) -> Result<(), Stop> {
+    let mut kept = compact.tableau(alloc, None)?;
+    show_tableau(alloc, out, &mut kept)
 }
 
 impl Trial for TableauCall {
@@ -107,26 +127,8 @@ impl Trial for TableauCall {
     fn show(&mut self, alloc: Global, out: &mut MemoryOutput) -> Result<(), Stop> {
         show_tableau(alloc, out, &mut self.tableau)?;
         show_tableau(alloc, out, &mut self.state)?;
-        let mut kept = self.compact.tableau(alloc, None)?;
-        show_tableau(alloc, out, &mut kept)?;
+        show_compact(alloc, out, &self.compact)?;
         show_string(out, &self.string)?;
         show_strings(out, self.strings.0.as_slice())
     }
-}
-
-/// Tries each call.
-pub fn print_all<R: AllocGlobal + Print>(rt: &R) -> io::Result<()> {
-    let calls = [
-        ("Tableau::new", Call::New),
-        ("Tableau::copy", Call::Copy),
-        ("Tableau::compact", Call::Compact),
-        ("CompactTableau::tableau", Call::Tableau),
-        ("Tableau::reduced_rows", Call::ReducedRows),
-        ("Tableau::stabiliser", Call::Stabiliser),
-        ("Tableau::destabiliser", Call::Destabiliser),
-    ];
-    for (name, call) in calls {
-        print_ending(rt, name, try_call::<TableauCall>(rt.alloc(), call))?;
-    }
-    Ok(())
 }

@@ -1,65 +1,67 @@
-//! The calls that make a Pauli string.
+//! The calls that make an output in memory or a Pauli string.
 use crate::sheet::show_string;
 use crate::stop::Stop;
-use crate::trial::{Trial, print_ending, try_call};
-use stab_pauli::{Letter, MemoryOutput, Pauli};
+use crate::trial::Trial;
+use stab_pauli::{Letter, MemoryOutput, Pauli, write_all};
 use std::alloc::Global;
-use std::io;
 
 /// More letters than fit into one block of words.
 const LETTERS: usize = 300;
 
-/// A call that makes a string.
+/// A call that makes an output or a string.
 #[derive(Clone, Copy)]
-enum Maker {
+pub enum Maker {
+    Output,
     Identity,
     Single,
     Copy,
 }
 
-/// A call that makes a string, perhaps from another one, with the string that was made last.
+/// The calls.
+pub const MAKERS: &[(&str, Maker)] = &[
+    ("MemoryOutput::new", Maker::Output),
+    ("Pauli::identity", Maker::Identity),
+    ("Pauli::single", Maker::Single),
+    ("Pauli::copy", Maker::Copy),
+];
+
+/// A call that makes an output, before it one without room, or a string, perhaps from another one, with
+/// what was made last.
 #[derive(Drop)]
-struct NewString {
+pub struct Making {
     maker: Maker,
+    output: MemoryOutput,
     source: Pauli,
     made: Pauli,
 }
 
-impl Trial for NewString {
+impl Trial for Making {
     type Call = Maker;
 
-    fn new(alloc: Global, maker: Maker) -> Result<NewString, Stop> {
-        Ok(NewString {
+    fn new(alloc: Global, maker: Maker) -> Result<Making, Stop> {
+        Ok(Making {
             maker,
+            output: MemoryOutput::new(alloc, 0)?,
             source: Pauli::single(alloc, LETTERS, 7, Letter::X)?,
             made: Pauli::identity(alloc, 0)?,
         })
     }
 
     fn call(&mut self, alloc: Global) -> Result<(), Stop> {
-        self.made = match self.maker {
-            Maker::Identity => Pauli::identity(alloc, LETTERS)?,
-            Maker::Single => Pauli::single(alloc, LETTERS, 299, Letter::Y)?,
-            Maker::Copy => self.source.copy(alloc)?,
-        };
+        match self.maker {
+            Maker::Output => self.output = MemoryOutput::new(alloc, 5)?,
+            Maker::Identity => self.made = Pauli::identity(alloc, LETTERS)?,
+            Maker::Single => self.made = Pauli::single(alloc, LETTERS, 299, Letter::Y)?,
+            Maker::Copy => self.made = self.source.copy(alloc)?,
+        }
         Ok(())
     }
 
+    // The output takes as many of these bytes as it has room for.
     fn show(&mut self, _alloc: Global, out: &mut MemoryOutput) -> Result<(), Stop> {
+        let _ = write_all(&mut self.output, b"sixteen");
+        write_all(out, self.output.bytes())?;
         show_string(out, &self.source)?;
         show_string(out, &self.made)
     }
-}
-
-/// Tries each call.
-pub fn print_all<R: AllocGlobal + Print>(rt: &R) -> io::Result<()> {
-    let makers = [
-        ("Pauli::identity", Maker::Identity),
-        ("Pauli::single", Maker::Single),
-        ("Pauli::copy", Maker::Copy),
-    ];
-    for (name, maker) in makers {
-        print_ending(rt, name, try_call::<NewString>(rt.alloc(), maker))?;
-    }
-    Ok(())
 }

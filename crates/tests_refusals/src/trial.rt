@@ -17,13 +17,6 @@ pub trait Trial: Drop {
 
     /// Writes all that contracts name of the values.
     fn show(&mut self, alloc: Global, out: &mut MemoryOutput) -> Result<(), Stop>;
-
-    /// What the call leaves: by itself a call that was made, and refused nothing.
-    fn made(alloc: Global, call: Self::Call) -> Result<Self, Stop> {
-        let mut trial = Self::new(alloc, call)?;
-        trial.call(alloc)?;
-        Ok(trial)
-    }
 }
 
 /// How a call whose requests for memory may be refused ended.
@@ -54,7 +47,7 @@ impl Ending {
 }
 
 /// Room for all that a trial shows.
-const ROOM: usize = 65_536;
+pub const ROOM: usize = 65_536;
 
 /// What a trial shows.
 fn shown<T: Trial>(alloc: Global, trial: &mut T) -> Result<MemoryOutput, Stop> {
@@ -89,17 +82,18 @@ fn call_again<T: Trial>(alloc: Global, trial: &mut T, before: &[u8]) -> Result<E
 }
 
 /// Tries a call, and compares what it shows in the end with these bytes.
-fn compare<T: Trial>(alloc: Global, call: T::Call, wanted: &[u8]) -> Result<Ending, Stop> {
+pub fn compare<T: Trial>(alloc: Global, call: T::Call, wanted: &[u8]) -> Result<Ending, Stop> {
     let mut trial = T::new(alloc, call)?;
     let before = shown(alloc, &mut trial)?;
     let ending = call_again(alloc, &mut trial, before.bytes())?;
     Ok(ending.if_right(shows(alloc, &mut trial, wanted)?))
 }
 
-/// What is to be shown in the end.
+/// What a call shows in the end that is refused nothing.
 fn wanted<T: Trial>(alloc: Global, call: T::Call) -> Result<MemoryOutput, Stop> {
-    let mut made = T::made(alloc, call)?;
-    shown(alloc, &mut made)
+    let mut trial = T::new(alloc, call)?;
+    trial.call(alloc)?;
+    shown(alloc, &mut trial)
 }
 
 /// Tries a call, and compares what it gave with what the same call gives that is refused nothing.
@@ -114,4 +108,15 @@ pub fn print_ending<R: Print>(rt: &R, name: &str, ended: Result<Ending, Stop>) -
         Ok(ending) => println!(rt; "{name}: {}", ending.text()),
         Err(Stop(fault)) => println!(rt; "{name}: WRONG, {fault:?}"),
     }
+}
+
+/// Tries calls, and prints how each ended.
+pub fn print_calls<T: Trial, R: AllocGlobal + Print>(
+    rt: &R,
+    calls: &[(&str, T::Call)],
+) -> io::Result<()> {
+    for (name, call) in calls {
+        print_ending(rt, name, try_call::<T>(rt.alloc(), *call))?;
+    }
+    Ok(())
 }
