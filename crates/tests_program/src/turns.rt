@@ -49,13 +49,18 @@ fn is_in_turn(alloc: Global, script: &LoggedInput) -> Result<bool, AllocError> {
     }
 }
 
+/// Whether the session ends well, with the replies.
+fn replies(alloc: Global, script: &mut LoggedInput) -> Result<bool, Fail> {
+    let mut out = MemoryOutput::new(alloc, 64)?;
+    let status = run_session(alloc, script, &mut out)?;
+    Ok(status == 0 && out.bytes() == b"ok\nok\n1\n".as_slice())
+}
+
 #[test]
 fn each_reply_stands_before_more_of_the_script_is_asked_for(rt: HostRuntime) -> Result<(), Fail> {
     let mut script = LoggedInput::new(rt.alloc(), SCRIPT, 13);
-    let mut out = MemoryOutput::new(rt.alloc(), 64)?;
-    let status = run_session(rt.alloc(), &mut script, &mut out)?;
+    let replied = replies(rt.alloc(), &mut script)?;
     let in_turn = is_in_turn(rt.alloc(), &script)?;
-    let replied = status == 0 && out.bytes() == b"ok\nok\n1\n".as_slice();
-    assert!(rt; in_turn && replied, "status {status}, in turn {in_turn}");
+    assert!(rt; in_turn && replied);
     Ok(())
 }

@@ -2,7 +2,7 @@
 use crate::jobs::job_of;
 use stab_cli::{Job, Source, Usage, write_usage};
 use stab_pauli::MemoryOutput;
-use std::alloc::Global;
+use std::alloc::{AllocError, Global};
 use std::test::Fail;
 
 /// The job that a line asks for. One space separates its words, so that one may be empty.
@@ -11,16 +11,23 @@ fn job_of_line(alloc: Global, line: &str) -> Result<Job, Fail> {
     job_of(alloc, words.as_slice())
 }
 
-/// The text of a job: its command, where its coins come from, and the files that it reads and writes.
+/// The text of the job that a line asks for: its command, where its coins come from, and the files that it reads and writes.
 fn text_of(alloc: Global, line: &str) -> Result<String, Fail> {
-    let Job {
-        command,
-        source,
-        coins_path: _,
-        in_path,
-        out_path,
-    } = job_of_line(alloc, line)?;
-    Ok(format!(in alloc; "{command:?} {source:?} {in_path:?} {out_path:?}")?)
+    let job = job_of_line(alloc, line)?;
+    let text = format!(in alloc;
+        "{:?} {:?} {:?} {:?}",
+        job.command, job.source, job.in_path, job.out_path
+    )?;
+    Ok(text)
+}
+
+/// Reports a line that asks for another job than the one of a text.
+fn expect_job(alloc: Global, line: &str, text: &str) -> Result<(), Fail> {
+    let asked = text_of(alloc, line)?;
+    if asked.as_str() == text {
+        return Ok(());
+    }
+    Err(Fail::new(format_args!("{line:?} asks for {asked}")))
 }
 
 // Lines of words, and the text of their job.
@@ -248,8 +255,7 @@ const JOBS: &[(&str, &str)] = &[
 #[test]
 fn words_ask_for_a_job(rt: HostRuntime) -> Result<(), Fail> {
     for (line, text) in JOBS {
-        let asked = text_of(rt.alloc(), line)?;
-        assert_eq!(rt; asked.as_str(), *text, "{line:?}");
+        expect_job(rt.alloc(), line, text)?;
     }
     Ok(())
 }
@@ -266,27 +272,42 @@ fn names_coins(job: &Job) -> bool {
     }
 }
 
+/// Whether a command with a seed and a file of coins has a job that names that file.
+fn takes_coins(alloc: Global, command: &str) -> Result<bool, Fail> {
+    let words = ["stabsim", command, "--seed", "7", "--coins_in", "a.coins"];
+    let job = job_of(alloc, &words)?;
+    Ok(names_coins(&job))
+}
+
+/// Whether coins in a word name no file.
+fn needs_no_file(alloc: Global) -> Result<bool, Fail> {
+    let job = job_of(alloc, &["stabsim", "sample", "--coins", "1"])?;
+    Ok(job.coins_path.is_none())
+}
+
 #[test]
 fn a_file_of_coins_is_named_and_not_yet_read(rt: HostRuntime) -> Result<(), Fail> {
-    for command in ["sample", "detect", "stabilisers", "edit"] {
-        let words = ["stabsim", command, "--seed", "7", "--coins_in", "a.coins"];
-        let job = job_of(rt.alloc(), &words)?;
-        assert!(rt; names_coins(&job), "{command}");
+    let mut named = needs_no_file(rt.alloc())?;
+    for command in &["sample", "detect", "stabilisers", "edit"] {
+        named &= takes_coins(rt.alloc(), command)?;
     }
-    let job = job_of(rt.alloc(), &["stabsim", "sample", "--coins", "1"])?;
-    assert_eq!(rt; job.coins_path, None);
+    assert!(rt; named);
     Ok(())
+}
+
+/// Whether help that can't be flushed is written, with status 1.
+fn tell_help(alloc: Global, err: &mut MemoryOutput) -> Result<bool, Fail> {
+    let help = Usage::Help(String::from_str(alloc, "help")?);
+    let mut out = MemoryOutput::new(alloc, 99)?;
+    out.fail_flush();
+    let status = write_usage(&help, &mut out, err);
+    Ok(status == 1 && out.bytes() == b"help".as_slice())
 }
 
 #[test]
 fn help_that_cannot_be_flushed_has_status_1(rt: HostRuntime) -> Result<(), Fail> {
-    let help = Usage::Help(String::from_str(rt.alloc(), "help")?);
-    let mut out = MemoryOutput::new(rt.alloc(), 99)?;
-    out.fail_flush();
     let mut err = MemoryOutput::new(rt.alloc(), 99)?;
-    let status = write_usage(&help, &mut out, &mut err);
-    let told = out.bytes() == b"help".as_slice()
-        && err.bytes() == b"stabsim: refused 16 WriteFault\n".as_slice();
-    assert!(rt; told && status == 1);
+    let told = tell_help(rt.alloc(), &mut err)?;
+    assert!(rt; told && err.bytes() == b"stabsim: refused 16 WriteFault\n".as_slice());
     Ok(())
 }
