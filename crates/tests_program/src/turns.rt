@@ -18,8 +18,8 @@ fn run_session(
     script: &mut LoggedInput,
     out: &mut MemoryOutput,
 ) -> Result<u8, Fail> {
-    let job = job_of(alloc, &["stabsim", "edit", "--qubits", "1"])?;
     let mut err = MemoryOutput::new(alloc, 64)?;
+    let job = job_of(alloc, &["stabsim", "edit", "--qubits", "1"])?;
     let status = run_job_watched::<_, _, _, _, KeepsLog, _>(
         alloc,
         &job,

@@ -2,7 +2,7 @@
 use crate::jobs::job_of;
 use stab_cli::{Job, Source, Usage, write_usage};
 use stab_pauli::MemoryOutput;
-use std::alloc::{AllocError, Global};
+use std::alloc::Global;
 use std::test::Fail;
 
 /// The job that a line asks for. One space separates its words, so that one may be empty.
@@ -21,8 +21,9 @@ fn text_of(alloc: Global, line: &str) -> Result<String, Fail> {
     Ok(text)
 }
 
-/// Reports a line that asks for another job than the one of a text.
-fn expect_job(alloc: Global, line: &str, text: &str) -> Result<(), Fail> {
+/// Reports a line of `JOBS` that asks for another job.
+fn expect_job(alloc: Global, row: &str) -> Result<(), Fail> {
+    let (line, text) = row.split_once('|').unwrap_or((row, ""));
     let asked = text_of(alloc, line)?;
     if asked.as_str() == text {
         return Ok(());
@@ -30,232 +31,69 @@ fn expect_job(alloc: Global, line: &str, text: &str) -> Result<(), Fail> {
     Err(Fail::new(format_args!("{line:?} asks for {asked}")))
 }
 
-// Lines of words, and the text of their job.
-const JOBS: &[(&str, &str)] = &[
-    (
-        "stabsim sample",
-        "Sample { format: F01, shots: Shots { first: 0, number: 1 } } Seed(0) None None",
-    ),
-    (
-        "stabsim detect",
-        "Detect { format: F01, shots: Shots { first: 0, number: 1 }, append: false } Seed(0) None None",
-    ),
-    (
-        "stabsim sample --shots 12 --out_format dets --seed 34 --in a.stim --out b/c.dets",
-        "Sample { format: Dets, shots: Shots { first: 0, number: 12 } } Seed(34) Some(\"a.stim\") Some(\"b/c.dets\")",
-    ),
-    (
-        "stabsim detect --out b/c.dets --append_observables --in=a.stim --seed=34 --out_format=dets --shots=12",
-        "Detect { format: Dets, shots: Shots { first: 0, number: 12 }, append: true } Seed(34) Some(\"a.stim\") Some(\"b/c.dets\")",
-    ),
-    (
-        "stabsim sample --first_shot 5 --shots=2",
-        "Sample { format: F01, shots: Shots { first: 5, number: 2 } } Seed(0) None None",
-    ),
-    (
-        "stabsim detect --first_shot=18446744073709551615",
-        "Detect { format: F01, shots: Shots { first: 18446744073709551615, number: 1 }, append: false } Seed(0) None None",
-    ),
-    (
-        "stabsim sample --out_format 01",
-        "Sample { format: F01, shots: Shots { first: 0, number: 1 } } Seed(0) None None",
-    ),
-    (
-        "stabsim sample --out_format b8",
-        "Sample { format: B8, shots: Shots { first: 0, number: 1 } } Seed(0) None None",
-    ),
-    (
-        "stabsim sample --out_format r8",
-        "Sample { format: R8, shots: Shots { first: 0, number: 1 } } Seed(0) None None",
-    ),
-    (
-        "stabsim sample --out_format hits",
-        "Sample { format: Hits, shots: Shots { first: 0, number: 1 } } Seed(0) None None",
-    ),
-    (
-        "stabsim sample --out_format dets",
-        "Sample { format: Dets, shots: Shots { first: 0, number: 1 } } Seed(0) None None",
-    ),
-    (
-        "stabsim sample --shots 0",
-        "Sample { format: F01, shots: Shots { first: 0, number: 0 } } Seed(0) None None",
-    ),
-    (
-        "stabsim sample --shots 1",
-        "Sample { format: F01, shots: Shots { first: 0, number: 1 } } Seed(0) None None",
-    ),
-    (
-        "stabsim sample --shots 007",
-        "Sample { format: F01, shots: Shots { first: 0, number: 7 } } Seed(0) None None",
-    ),
-    (
-        "stabsim sample --shots +7",
-        "Sample { format: F01, shots: Shots { first: 0, number: 7 } } Seed(0) None None",
-    ),
-    (
-        "stabsim sample --shots 1000000",
-        "Sample { format: F01, shots: Shots { first: 0, number: 1000000 } } Seed(0) None None",
-    ),
-    (
-        "stabsim sample --seed 7",
-        "Sample { format: F01, shots: Shots { first: 0, number: 1 } } Seed(7) None None",
-    ),
-    (
-        "stabsim detect --seed 007",
-        "Detect { format: F01, shots: Shots { first: 0, number: 1 }, append: false } Seed(7) None None",
-    ),
-    (
-        "stabsim sample --seed +7",
-        "Sample { format: F01, shots: Shots { first: 0, number: 1 } } Seed(7) None None",
-    ),
-    (
-        "stabsim sample --seed 18446744073709551615",
-        "Sample { format: F01, shots: Shots { first: 0, number: 1 } } Seed(18446744073709551615) None None",
-    ),
-    (
-        "stabsim sample --coins 1",
-        "Sample { format: F01, shots: Shots { first: 0, number: 1 } } List([true]) None None",
-    ),
-    (
-        "stabsim detect --coins 0110",
-        "Detect { format: F01, shots: Shots { first: 0, number: 1 }, append: false } List([false, true, true, false]) None None",
-    ),
-    (
-        "stabsim sample --coins=10",
-        "Sample { format: F01, shots: Shots { first: 0, number: 1 } } List([true, false]) None None",
-    ),
-    (
-        "stabsim sample --coins ",
-        "Sample { format: F01, shots: Shots { first: 0, number: 1 } } List([]) None None",
-    ),
-    (
-        "stabsim sample --coins=",
-        "Sample { format: F01, shots: Shots { first: 0, number: 1 } } List([]) None None",
-    ),
-    (
-        "stabsim sample --seed 7 --coins 10",
-        "Sample { format: F01, shots: Shots { first: 0, number: 1 } } List([true, false]) None None",
-    ),
-    (
-        "stabsim detect --coins 10 --seed 7",
-        "Detect { format: F01, shots: Shots { first: 0, number: 1 }, append: false } List([true, false]) None None",
-    ),
-    (
-        "stabsim sample --seed 7 --coins ",
-        "Sample { format: F01, shots: Shots { first: 0, number: 1 } } List([]) None None",
-    ),
-    (
-        "stabsim edit",
-        "Edit { framed: false, qubits: None, stride: Stride { steps: 8192 } } Seed(0) None None",
-    ),
-    (
-        "stabsim edit --qubits 0",
-        "Edit { framed: false, qubits: Some(QubitCount { number: 0 }), stride: Stride { steps: 8192 } } Seed(0) None None",
-    ),
-    (
-        "stabsim edit --qubits 0017",
-        "Edit { framed: false, qubits: Some(QubitCount { number: 17 }), stride: Stride { steps: 8192 } } Seed(0) None None",
-    ),
-    (
-        "stabsim edit --stride=1 --qubits=1024",
-        "Edit { framed: false, qubits: Some(QubitCount { number: 1024 }), stride: Stride { steps: 1 } } Seed(0) None None",
-    ),
-    (
-        "stabsim edit --framed",
-        "Edit { framed: true, qubits: None, stride: Stride { steps: 8192 } } Seed(0) None None",
-    ),
-    (
-        "stabsim edit --stride 65536",
-        "Edit { framed: false, qubits: None, stride: Stride { steps: 65536 } } Seed(0) None None",
-    ),
-    (
-        "stabsim edit --seed=34 --out b/c.01 --in a.stim",
-        "Edit { framed: false, qubits: None, stride: Stride { steps: 8192 } } Seed(34) Some(\"a.stim\") Some(\"b/c.01\")",
-    ),
-    ("stabsim stabilisers", "Stabilisers Seed(0) None None"),
-    (
-        "stabsim stabilisers --seed=34 --out b/c.rows --in a.stim",
-        "Stabilisers Seed(34) Some(\"a.stim\") Some(\"b/c.rows\")",
-    ),
-    (
-        "stabsim stabilisers --seed 7 --coins 10",
-        "Stabilisers List([true, false]) None None",
-    ),
-    (
-        "stabsim stabilizers --coins=1 --in a.stim",
-        "Stabilisers List([true]) Some(\"a.stim\") None",
-    ),
-    ("stabsim check", "Check Seed(0) None None"),
-    (
-        "stabsim check --out=b.txt --in a.stim",
-        "Check Seed(0) Some(\"a.stim\") Some(\"b.txt\")",
-    ),
-    (
-        "stabsim deterministic",
-        "Deterministic { format: F01 } Seed(0) None None",
-    ),
-    (
-        "stabsim deterministic --out_format=hits --in a.stim",
-        "Deterministic { format: Hits } Seed(0) Some(\"a.stim\") None",
-    ),
-    (
-        "stabsim faults",
-        "Faults { layout: Lines, everywhere: false, deterministic_only: false } Seed(0) None None",
-    ),
-    (
-        "stabsim faults --everywhere --out=b.txt",
-        "Faults { layout: Lines, everywhere: true, deterministic_only: false } Seed(0) None Some(\"b.txt\")",
-    ),
-    (
-        "stabsim faults --sure_only --out_format 01",
-        "Faults { layout: Shots(F01), everywhere: false, deterministic_only: true } Seed(0) None None",
-    ),
-    (
-        "stabsim faults --out_format r8",
-        "Faults { layout: Shots(R8), everywhere: false, deterministic_only: false } Seed(0) None None",
-    ),
-    (
-        "stabsim faults --out_format=dets --sure_only --everywhere",
-        "Faults { layout: Shots(Dets), everywhere: true, deterministic_only: true } Seed(0) None None",
-    ),
-    (
-        "stabsim faults --deterministic_only",
-        "Faults { layout: Lines, everywhere: false, deterministic_only: true } Seed(0) None None",
-    ),
-    (
-        "stabsim deterministic --explain --out_format=b8 --out=b.txt",
-        "Explain Seed(0) None Some(\"b.txt\")",
-    ),
-    (
-        "stabsim coins --in a.stim",
-        "Coins { layout: Lines } Seed(0) Some(\"a.stim\") None",
-    ),
-    (
-        "stabsim coins --out_format hits",
-        "Coins { layout: Shots(Hits) } Seed(0) None None",
-    ),
-    (
-        "stabsim distance",
-        "Distance(DistanceOptions { everywhere: false, letters: All, graphlike: false, most: None, deterministic_only: false, progress: false }) Seed(0) None None",
-    ),
-    (
-        "stabsim distance --everywhere --letters=XZ --most 1000000000 --in=a.stim",
-        "Distance(DistanceOptions { everywhere: true, letters: XAndZ, graphlike: false, most: Some(1000000000), deterministic_only: false, progress: false }) Seed(0) Some(\"a.stim\") None",
-    ),
-    (
-        "stabsim distance --most=0 --graphlike --progress --deterministic_only --letters all",
-        "Distance(DistanceOptions { everywhere: false, letters: All, graphlike: true, most: Some(0), deterministic_only: true, progress: true }) Seed(0) None None",
-    ),
-    (
-        "stabsim distance --sure_only",
-        "Distance(DistanceOptions { everywhere: false, letters: All, graphlike: false, most: None, deterministic_only: true, progress: false }) Seed(0) None None",
-    ),
-];
+/// Lines of words, each with the text of its job after a bar.
+const JOBS: &str =
+    r#"stabsim sample|Sample { format: F01, shots: Shots { first: 0, number: 1 } } Seed(0) None None
+stabsim detect|Detect { format: F01, shots: Shots { first: 0, number: 1 }, append: false } Seed(0) None None
+stabsim sample --shots 12 --out_format dets --seed 34 --in a.stim --out b/c.dets|Sample { format: Dets, shots: Shots { first: 0, number: 12 } } Seed(34) Some("a.stim") Some("b/c.dets")
+stabsim detect --out b/c.dets --append_observables --in=a.stim --seed=34 --out_format=dets --shots=12|Detect { format: Dets, shots: Shots { first: 0, number: 12 }, append: true } Seed(34) Some("a.stim") Some("b/c.dets")
+stabsim sample --first_shot 5 --shots=2|Sample { format: F01, shots: Shots { first: 5, number: 2 } } Seed(0) None None
+stabsim detect --first_shot=18446744073709551615|Detect { format: F01, shots: Shots { first: 18446744073709551615, number: 1 }, append: false } Seed(0) None None
+stabsim sample --out_format 01|Sample { format: F01, shots: Shots { first: 0, number: 1 } } Seed(0) None None
+stabsim sample --out_format b8|Sample { format: B8, shots: Shots { first: 0, number: 1 } } Seed(0) None None
+stabsim sample --out_format r8|Sample { format: R8, shots: Shots { first: 0, number: 1 } } Seed(0) None None
+stabsim sample --out_format hits|Sample { format: Hits, shots: Shots { first: 0, number: 1 } } Seed(0) None None
+stabsim sample --out_format dets|Sample { format: Dets, shots: Shots { first: 0, number: 1 } } Seed(0) None None
+stabsim sample --shots 0|Sample { format: F01, shots: Shots { first: 0, number: 0 } } Seed(0) None None
+stabsim sample --shots 1|Sample { format: F01, shots: Shots { first: 0, number: 1 } } Seed(0) None None
+stabsim sample --shots 007|Sample { format: F01, shots: Shots { first: 0, number: 7 } } Seed(0) None None
+stabsim sample --shots +7|Sample { format: F01, shots: Shots { first: 0, number: 7 } } Seed(0) None None
+stabsim sample --shots 1000000|Sample { format: F01, shots: Shots { first: 0, number: 1000000 } } Seed(0) None None
+stabsim sample --seed 7|Sample { format: F01, shots: Shots { first: 0, number: 1 } } Seed(7) None None
+stabsim detect --seed 007|Detect { format: F01, shots: Shots { first: 0, number: 1 }, append: false } Seed(7) None None
+stabsim sample --seed +7|Sample { format: F01, shots: Shots { first: 0, number: 1 } } Seed(7) None None
+stabsim sample --seed 18446744073709551615|Sample { format: F01, shots: Shots { first: 0, number: 1 } } Seed(18446744073709551615) None None
+stabsim sample --coins 1|Sample { format: F01, shots: Shots { first: 0, number: 1 } } List([true]) None None
+stabsim detect --coins 0110|Detect { format: F01, shots: Shots { first: 0, number: 1 }, append: false } List([false, true, true, false]) None None
+stabsim sample --coins=10|Sample { format: F01, shots: Shots { first: 0, number: 1 } } List([true, false]) None None
+stabsim sample --coins |Sample { format: F01, shots: Shots { first: 0, number: 1 } } List([]) None None
+stabsim sample --coins=|Sample { format: F01, shots: Shots { first: 0, number: 1 } } List([]) None None
+stabsim sample --seed 7 --coins 10|Sample { format: F01, shots: Shots { first: 0, number: 1 } } List([true, false]) None None
+stabsim detect --coins 10 --seed 7|Detect { format: F01, shots: Shots { first: 0, number: 1 }, append: false } List([true, false]) None None
+stabsim sample --seed 7 --coins |Sample { format: F01, shots: Shots { first: 0, number: 1 } } List([]) None None
+stabsim edit|Edit { framed: false, qubits: None, stride: Stride { steps: 8192 } } Seed(0) None None
+stabsim edit --qubits 0|Edit { framed: false, qubits: Some(QubitCount { number: 0 }), stride: Stride { steps: 8192 } } Seed(0) None None
+stabsim edit --qubits 0017|Edit { framed: false, qubits: Some(QubitCount { number: 17 }), stride: Stride { steps: 8192 } } Seed(0) None None
+stabsim edit --stride=1 --qubits=1024|Edit { framed: false, qubits: Some(QubitCount { number: 1024 }), stride: Stride { steps: 1 } } Seed(0) None None
+stabsim edit --framed|Edit { framed: true, qubits: None, stride: Stride { steps: 8192 } } Seed(0) None None
+stabsim edit --stride 65536|Edit { framed: false, qubits: None, stride: Stride { steps: 65536 } } Seed(0) None None
+stabsim edit --seed=34 --out b/c.01 --in a.stim|Edit { framed: false, qubits: None, stride: Stride { steps: 8192 } } Seed(34) Some("a.stim") Some("b/c.01")
+stabsim stabilisers|Stabilisers Seed(0) None None
+stabsim stabilisers --seed=34 --out b/c.rows --in a.stim|Stabilisers Seed(34) Some("a.stim") Some("b/c.rows")
+stabsim stabilisers --seed 7 --coins 10|Stabilisers List([true, false]) None None
+stabsim stabilizers --coins=1 --in a.stim|Stabilisers List([true]) Some("a.stim") None
+stabsim check|Check Seed(0) None None
+stabsim check --out=b.txt --in a.stim|Check Seed(0) Some("a.stim") Some("b.txt")
+stabsim deterministic|Deterministic { format: F01 } Seed(0) None None
+stabsim deterministic --out_format=hits --in a.stim|Deterministic { format: Hits } Seed(0) Some("a.stim") None
+stabsim faults|Faults { layout: Lines, everywhere: false, deterministic_only: false } Seed(0) None None
+stabsim faults --everywhere --out=b.txt|Faults { layout: Lines, everywhere: true, deterministic_only: false } Seed(0) None Some("b.txt")
+stabsim faults --sure_only --out_format 01|Faults { layout: Shots(F01), everywhere: false, deterministic_only: true } Seed(0) None None
+stabsim faults --out_format r8|Faults { layout: Shots(R8), everywhere: false, deterministic_only: false } Seed(0) None None
+stabsim faults --out_format=dets --sure_only --everywhere|Faults { layout: Shots(Dets), everywhere: true, deterministic_only: true } Seed(0) None None
+stabsim faults --deterministic_only|Faults { layout: Lines, everywhere: false, deterministic_only: true } Seed(0) None None
+stabsim deterministic --explain --out_format=b8 --out=b.txt|Explain Seed(0) None Some("b.txt")
+stabsim coins --in a.stim|Coins { layout: Lines } Seed(0) Some("a.stim") None
+stabsim coins --out_format hits|Coins { layout: Shots(Hits) } Seed(0) None None
+stabsim distance|Distance(DistanceOptions { everywhere: false, letters: All, graphlike: false, most: None, deterministic_only: false, progress: false }) Seed(0) None None
+stabsim distance --everywhere --letters=XZ --most 1000000000 --in=a.stim|Distance(DistanceOptions { everywhere: true, letters: XAndZ, graphlike: false, most: Some(1000000000), deterministic_only: false, progress: false }) Seed(0) Some("a.stim") None
+stabsim distance --most=0 --graphlike --progress --deterministic_only --letters all|Distance(DistanceOptions { everywhere: false, letters: All, graphlike: true, most: Some(0), deterministic_only: true, progress: true }) Seed(0) None None
+stabsim distance --sure_only|Distance(DistanceOptions { everywhere: false, letters: All, graphlike: false, most: None, deterministic_only: true, progress: false }) Seed(0) None None"#;
 
 #[test]
 fn words_ask_for_a_job(rt: HostRuntime) -> Result<(), Fail> {
-    for (line, text) in JOBS {
-        expect_job(rt.alloc(), line, text)?;
+    for row in JOBS.lines() {
+        expect_job(rt.alloc(), row)?;
     }
     Ok(())
 }
@@ -295,19 +133,15 @@ fn a_file_of_coins_is_named_and_not_yet_read(rt: HostRuntime) -> Result<(), Fail
     Ok(())
 }
 
-/// Whether help that can't be flushed is written, with status 1.
-fn tell_help(alloc: Global, err: &mut MemoryOutput) -> Result<bool, Fail> {
-    let help = Usage::Help(String::from_str(alloc, "help")?);
-    let mut out = MemoryOutput::new(alloc, 99)?;
-    out.fail_flush();
-    let status = write_usage(&help, &mut out, err);
-    Ok(status == 1 && out.bytes() == b"help".as_slice())
-}
-
 #[test]
 fn help_that_cannot_be_flushed_has_status_1(rt: HostRuntime) -> Result<(), Fail> {
+    let mut out = MemoryOutput::new(rt.alloc(), 99)?;
+    out.fail_flush();
     let mut err = MemoryOutput::new(rt.alloc(), 99)?;
-    let told = tell_help(rt.alloc(), &mut err)?;
-    assert!(rt; told && err.bytes() == b"stabsim: refused 16 WriteFault\n".as_slice());
+    let help = Usage::Help(String::from_str(rt.alloc(), "help")?);
+    let status = write_usage(&help, &mut out, &mut err);
+    let told = out.bytes() == b"help".as_slice()
+        && err.bytes() == b"stabsim: refused 16 WriteFault\n".as_slice();
+    assert!(rt; told && status == 1);
     Ok(())
 }
