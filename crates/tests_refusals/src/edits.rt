@@ -144,15 +144,16 @@ fn split_text(alloc: Global, change: Change) -> Result<MemoryOutput, Stop> {
 
 /// The text of the circuit of an edited session.
 fn edited_text(alloc: Global, change: Change) -> Result<MemoryOutput, Stop> {
-    let mut edited = SessionCall::new(alloc, change)?;
-    edited.apply()?;
-    circuit_text(alloc, edited.session.0.circuit())
+    let mut edited = OneDrop(SessionCall::new(alloc, change)?);
+    edited.0.apply()?;
+    circuit_text(alloc, edited.0.session.0.circuit())
 }
 
 /// What a session shows that is opened with this circuit.
 fn opened(alloc: Global, circuit: &[u8]) -> Result<MemoryOutput, Stop> {
+    let mut session = session_of(alloc, circuit)?;
     let mut out = MemoryOutput::new(alloc, ROOM)?;
-    show_session(alloc, &mut out, &mut session_of(alloc, circuit)?.0)?;
+    show_session(alloc, &mut out, &mut session.0)?;
     Ok(out)
 }
 

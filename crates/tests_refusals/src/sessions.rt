@@ -22,10 +22,6 @@ fn coins() -> SeedCoins {
 }
 
 impl State for Session<SeedCoins> {
-    fn qubits(&self) -> usize {
-        self.qubits()
-    }
-
     fn sign(&mut self, alloc: Global, qubit: usize, letter: Letter) -> Result<Option<bool>, Stop> {
         let n = self.qubits();
         if qubit >= n {

@@ -65,12 +65,12 @@ pub fn show_string(out: &mut MemoryOutput, string: &Pauli) -> Result<(), Stop> {
 
 /// A state of qubits, which single letters may stabilise.
 pub trait State {
-    /// How many qubits there are.
-    fn qubits(&self) -> usize;
-
-    /// The sign of a letter on a qubit, I elsewhere, as by `sign_of`.
+    /// The sign of a letter on a qubit, I elsewhere, as by `sign_of`; none if there is no such qubit.
     fn sign(&mut self, alloc: Global, qubit: usize, letter: Letter) -> Result<Option<bool>, Stop>;
 }
+
+/// No state has more qubits.
+pub const MOST_QUBITS: usize = 5;
 
 /// Writes the signs of all single letters.
 pub fn show_signs<S: State>(
@@ -78,7 +78,7 @@ pub fn show_signs<S: State>(
     out: &mut MemoryOutput,
     state: &mut S,
 ) -> Result<(), Stop> {
-    for qubit in 0..state.qubits() {
+    for qubit in 0..MOST_QUBITS {
         show_sign(alloc, out, state, qubit, Letter::X)?;
         show_sign(alloc, out, state, qubit, Letter::Y)?;
         show_sign(alloc, out, state, qubit, Letter::Z)?;

@@ -1,6 +1,6 @@
 //! The calls of a tableau that take memory.
 use crate::one_drop::OneDrop;
-use crate::sheet::{State, show_signs, show_string, show_strings};
+use crate::sheet::{MOST_QUBITS, State, show_signs, show_string, show_strings};
 use crate::stop::Stop;
 use crate::trial::Trial;
 use stab_pauli::{Letter, MemoryOutput, Pauli};
@@ -8,7 +8,7 @@ use stab_tableau::{CompactTableau, Gate, PairGate, Tableau};
 use std::alloc::Global;
 
 /// The qubits of the states.
-const QUBITS: usize = 5;
+const QUBITS: usize = MOST_QUBITS;
 
 /// A call of a tableau.
 #[derive(Clone, Copy)]
@@ -45,10 +45,6 @@ pub struct TableauCall {
 }
 
 impl State for Tableau {
-    fn qubits(&self) -> usize {
-        self.len()
-    }
-
     fn sign(&mut self, alloc: Global, qubit: usize, letter: Letter) -> Result<Option<bool>, Stop> {
         let n = self.len();
         if qubit >= n {
