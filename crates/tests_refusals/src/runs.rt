@@ -42,7 +42,7 @@ const CALLS: &[(&str, Call)] = &[
     ("run_shots", Call::Shots),
 ];
 
-/// A cursor from that step on.
+/// A cursor from `STEP` on; none if there are fewer steps.
 fn cursor_of<'a>(alloc: Global, circuit: &'a Circuit) -> Result<OneDrop<Option<Cursor<'a>>>, Stop> {
     circuit.check(circuit.qubits())?;
     if circuit.steps() < STEP {
