@@ -3,7 +3,8 @@ ghost use Rattle.std.specs.Prelude.{◌≡◌, ◌<◌, IsTrue};
 
 use crate::format::{Unread, Wrong, read_rows};
 use crate::row::WorkedRow;
-use crate::trial::first_difference;
+use crate::trial::{Failure, try_row};
+use std::alloc::AllocError;
 use std::fmt::{self, Display, Formatter, Write};
 use std::fs::DirEntry;
 use std::{fs, io};
@@ -49,12 +50,17 @@ pub(crate) fn run_folder(rt: &HostRuntime, folder: &str) -> io::Result<Sums> {
         failed: 0,
     };
     for entry in fs::read_dir(rt, folder)? {
-        let entry = entry?;
-        if entry.file_name().ends_with(".rows") {
-            run_file(rt, &entry, &mut sums)?;
-        }
+        run_entry(rt, &entry?, &mut sums)?;
     }
     Ok(sums)
+}
+
+/// Runs the rows of a file, if its name ends in `.rows`.
+fn run_entry(rt: &HostRuntime, entry: &DirEntry, sums: &mut Sums) -> io::Result<()> {
+    if entry.file_name().ends_with(".rows") {
+        return run_file(rt, entry, sums);
+    }
+    Ok(())
 }
 
 /// Runs the rows of a file.
@@ -78,11 +84,20 @@ fn run_file(rt: &HostRuntime, entry: &DirEntry, sums: &mut Sums) -> io::Result<(
 /// Runs rows, which are in a file of this name.
 fn run_rows(rt: &HostRuntime, name: &str, rows: &[WorkedRow], sums: &mut Sums) -> io::Result<()> {
     for row in rows {
-        sums.rows = sums.rows.saturating_add(1);
-        if let Some(difference) = first_difference(rt.alloc(), row)? {
-            sums.count_failure();
-            eprintln!(rt; "{name}, {difference}")?;
-        }
+        run_row(rt, name, row, sums)?;
     }
     Ok(())
+}
+
+/// Runs a row.
+fn run_row(rt: &HostRuntime, name: &str, row: &WorkedRow, sums: &mut Sums) -> io::Result<()> {
+    sums.rows = sums.rows.saturating_add(1);
+    match try_row(rt.alloc(), row) {
+        Ok(()) => Ok(()),
+        Err(Failure::Memory) => Err(AllocError.into()),
+        Err(Failure::Run(report)) => {
+            sums.count_failure();
+            eprintln!(rt; "{name}, {report}")
+        }
+    }
 }

@@ -120,23 +120,46 @@ fn take_field(
     value: &str,
 ) -> Result<Place, Wrong> {
     match field {
-        "words" => row.words.push(String::from_str(alloc, value)?)?,
-        "shows" => row.output.parts.push(String::from_str(alloc, value)?)?,
-        "tells" => row.error.parts.push(String::from_str(alloc, value)?)?,
-        "bytes" => push_bytes(&mut row.output.bytes, value)?,
+        "circuit" => {
+            row.circuits.push(Vec::new(alloc))?;
+            Ok(Place::Circuit)
+        }
+        "script" => Ok(Place::Script),
+        "output" => Ok(Place::Output),
+        "error" => Ok(Place::Error),
+        _ => {
+            take_value(alloc, row, field, value)?;
+            Ok(Place::WorkedRow)
+        }
+    }
+}
+
+/// Takes the value of a field that has no text.
+fn take_value(alloc: Global, row: &mut WorkedRow, field: &str, value: &str) -> Result<(), Wrong> {
+    match field {
+        "words" => push_value(alloc, &mut row.words, value),
+        "shows" => push_value(alloc, &mut row.output.parts, value),
+        "tells" => push_value(alloc, &mut row.error.parts, value),
+        "bytes" => push_bytes(&mut row.output.bytes, value),
+        _ => take_number(row, field, value),
+    }
+}
+
+/// Takes the value of a field that is said once.
+fn take_number(row: &mut WorkedRow, field: &str, value: &str) -> Result<(), Wrong> {
+    match field {
         "status" => row.status = status_of(value)?,
         "room" => row.room = number_of(value)?,
         "devices" => row.on_failing_devices = on_failing(value)?,
-        "circuit" => {
-            row.circuits.push(Vec::new(alloc))?;
-            return Ok(Place::Circuit);
-        }
-        "script" => return Ok(Place::Script),
-        "output" => return Ok(Place::Output),
-        "error" => return Ok(Place::Error),
         _ => return Err(Wrong("no field has this name")),
     }
-    Ok(Place::WorkedRow)
+    Ok(())
+}
+
+/// Puts a value after the others of its field.
+fn push_value(alloc: Global, values: &mut Vec<String>, value: &str) -> Result<(), Wrong> {
+    values.push(String::from_str(alloc, value)?)?;
+    Ok(())
 }
 
 fn status_of(digits: &str) -> Result<u8, Wrong> {

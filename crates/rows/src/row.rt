@@ -41,6 +41,18 @@ impl Drop for WorkedRow {
     }
 }
 
+impl Display for WorkedRow {
+    fn fmt<W: Write>(&self, f: &mut Formatter<W>) -> fmt::Result {
+        let WorkedRow {
+            status,
+            output,
+            error,
+            ..
+        } = self;
+        write!(f, "  wanted  {status}, {output}, {error}")
+    }
+}
+
 impl WorkedRow {
     /// A row that begins at this line, on which nothing else is said yet.
     pub(crate) fn new(alloc: Global, line: usize, name: String) -> WorkedRow {

@@ -2,6 +2,7 @@
 ghost use Rattle.std.specs.Prelude.{◌≡◌, vec_len, IsTrue};
 
 use crate::row::WorkedRow;
+use crate::text::Shown;
 use stab_cli::{Job, Usage, run_job, write_usage};
 use stab_pauli::{CutInput, MemoryOutput};
 use std::alloc::{AllocError, Global};
@@ -68,6 +69,13 @@ impl Drop for Ended {
             err: _,
             status: _,
         } = self;
+    }
+}
+
+impl Display for Ended {
+    fn fmt<W: Write>(&self, f: &mut Formatter<W>) -> fmt::Result {
+        let (out, err) = (Shown(self.out.bytes()), Shown(self.err.bytes()));
+        write!(f, "  found   {}, {out}, {err}", self.status)
     }
 }
 

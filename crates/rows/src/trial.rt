@@ -4,39 +4,19 @@ use crate::run::{Devices, Ended, run};
 use crate::text::Shown;
 use stab_cli::{Job, Usage, parse_words};
 use std::alloc::{AllocError, Global};
-use std::fmt::{self, Display, Formatter, Write};
 
-/// A run that is not what its row wants.
+/// Why a row does not pass.
 #[derive(Drop)]
-pub(crate) struct Difference<'a> {
-    row: &'a WorkedRow,
-    words: &'a str,
-    circuit: &'a [u8],
-    devices: Devices,
-    ended: Ended,
+pub(crate) enum Failure {
+    /// Memory was refused.
+    Memory,
+    /// A run is not what the row wants. This is a report of it.
+    Run(String),
 }
 
-impl<'a> Display for Difference<'a> {
-    fn fmt<W: Write>(&self, f: &mut Formatter<W>) -> fmt::Result {
-        let (row, ended) = (self.row, &self.ended);
-        write!(
-            f,
-            "line {}: {}\n  words   {}\n",
-            row.line, row.name, self.words
-        )?;
-        write!(
-            f,
-            "  circuit {}\n  devices {}\n",
-            Shown(self.circuit),
-            self.devices
-        )?;
-        write!(
-            f,
-            "  wanted  {}, {}, {}\n",
-            row.status, row.output, row.error
-        )?;
-        let (out, err) = (Shown(ended.out.bytes()), Shown(ended.err.bytes()));
-        write!(f, "  found   {}, {out}, {err}", ended.status)
+impl From<AllocError> for Failure {
+    fn from(_error: AllocError) -> Failure {
+        Failure::Memory
     }
 }
 
@@ -56,24 +36,15 @@ struct Trial<'a, 'b> {
 /// There are runs for each line of words and each circuit, or on the empty circuit if there is
 /// none: with and without the last line end of the circuit, and of the script, and, if the row says
 /// so, over devices that fail.
-pub(crate) fn first_difference(
-    alloc: Global,
-    row: &WorkedRow,
-) -> Result<Option<Difference<'_>>, AllocError> {
+pub(crate) fn try_row(alloc: Global, row: &WorkedRow) -> Result<(), Failure> {
     for words in &row.words {
-        if let Some(difference) = difference_with(alloc, row, words.as_str())? {
-            return Ok(Some(difference));
-        }
+        try_words(alloc, row, words.as_str())?;
     }
-    Ok(None)
+    Ok(())
 }
 
 /// The same with these words.
-fn difference_with<'a>(
-    alloc: Global,
-    row: &'a WorkedRow,
-    words: &'a str,
-) -> Result<Option<Difference<'a>>, AllocError> {
+fn try_words(alloc: Global, row: &WorkedRow, words: &str) -> Result<(), Failure> {
     let all = words_of(alloc, words)?;
     let asked = parse_words(alloc, all.as_slice());
     let trial = Trial {
@@ -83,16 +54,7 @@ fn difference_with<'a>(
         circuit: &[],
         asked: &asked,
     };
-    if row.circuits.is_empty() {
-        return trial.difference();
-    }
-    for circuit in &row.circuits {
-        let circuit = circuit.as_slice();
-        if let Some(difference) = (Trial { circuit, ..trial }).difference()? {
-            return Ok(Some(difference));
-        }
-    }
-    Ok(None)
+    trial.try_circuits()
 }
 
 /// The words of a command line, the program's name first.
@@ -104,32 +66,38 @@ fn words_of(alloc: Global, words: &str) -> Result<Vec<&str>, AllocError> {
 }
 
 impl<'a, 'b> Trial<'a, 'b> {
-    /// The first run that is not what the row wants.
-    fn difference(self) -> Result<Option<Difference<'a>>, AllocError> {
-        if let Some(difference) = self.difference_in_ends()? {
-            return Ok(Some(difference));
+    /// The same on each circuit of the row.
+    fn try_circuits(self) -> Result<(), Failure> {
+        if self.row.circuits.is_empty() {
+            return self.try_circuit();
         }
-        if self.row.on_failing_devices {
-            return self.difference_on_devices();
+        for circuit in &self.row.circuits {
+            let circuit = circuit.as_slice();
+            (Trial { circuit, ..self }).try_circuit()?;
         }
-        Ok(None)
+        Ok(())
     }
 
-    /// The same among those with and without a last line end.
-    fn difference_in_ends(self) -> Result<Option<Difference<'a>>, AllocError> {
-        let script = self.row.script.as_slice();
-        for (circuit, script) in [
-            (self.circuit, script),
-            (without_end(self.circuit), script),
-            (self.circuit, without_end(script)),
-            (without_end(self.circuit), without_end(script)),
-        ] {
-            let ended = run(self.alloc, self.asked, circuit, script, self.good())?;
-            if !ended.meets(self.row) {
-                return Ok(Some(self.differs(self.good(), ended)));
-            }
+    /// The same on this circuit.
+    fn try_circuit(self) -> Result<(), Failure> {
+        let (circuit, script) = (self.circuit, self.row.script.as_slice());
+        self.try_good(circuit, script)?;
+        self.try_good(without_end(circuit), script)?;
+        self.try_good(circuit, without_end(script))?;
+        self.try_good(without_end(circuit), without_end(script))?;
+        if self.row.on_failing_devices {
+            return self.try_failing();
         }
-        Ok(None)
+        Ok(())
+    }
+
+    /// A run on these texts, over devices that never fail.
+    fn try_good(self, circuit: &[u8], script: &[u8]) -> Result<(), Failure> {
+        let ended = run(self.alloc, self.asked, circuit, script, self.good())?;
+        if ended.meets(self.row) {
+            return Ok(());
+        }
+        self.fail(self.good(), &ended)
     }
 
     /// Devices that never fail, except an output with the room that the row says.
@@ -140,35 +108,19 @@ impl<'a, 'b> Trial<'a, 'b> {
         }
     }
 
-    fn differs(self, devices: Devices, ended: Ended) -> Difference<'a> {
-        Difference {
-            row: self.row,
-            words: self.words,
-            circuit: self.circuit,
-            devices,
-            ended,
-        }
-    }
-
-    /// The same among those over devices that fail at each place in turn.
-    fn difference_on_devices(self) -> Result<Option<Difference<'a>>, AllocError> {
+    /// The runs over devices that fail at each place in turn.
+    fn try_failing(self) -> Result<(), Failure> {
         let whole = self.run_over(self.good())?;
         let written = whole.out.bytes().len().max(whole.err.bytes().len());
         let places = self.circuit.len().max(written).saturating_add(1);
         for place in 0..=places {
-            if let Some(difference) = self.difference_at(place, &whole)? {
-                return Ok(Some(difference));
-            }
+            self.try_failing_at(place, &whole)?;
         }
-        Ok(None)
+        Ok(())
     }
 
-    /// The same among those whose devices fail at this place, if a run over good ones ends in this way.
-    fn difference_at(
-        self,
-        place: usize,
-        whole: &Ended,
-    ) -> Result<Option<Difference<'a>>, AllocError> {
+    /// The runs over devices that fail at this place, if a run over good ones ends in this way.
+    fn try_failing_at(self, place: usize, whole: &Ended) -> Result<(), Failure> {
         let reads = self.circuit.len().saturating_add(1);
         let reads_fail = place <= reads && whole.err.bytes().is_empty();
         let good = Devices {
@@ -196,18 +148,35 @@ impl<'a, 'b> Trial<'a, 'b> {
                 ..good
             },
         ] {
-            let ended = self.run_over(devices)?;
-            if !ended.follows(whole, devices) {
-                return Ok(Some(self.differs(devices, ended)));
-            }
+            self.try_over(devices, whole)?;
         }
-        Ok(None)
+        Ok(())
+    }
+
+    /// A run over these devices, if one over good ones ends in this way.
+    fn try_over(self, devices: Devices, whole: &Ended) -> Result<(), Failure> {
+        let ended = self.run_over(devices)?;
+        if ended.follows(whole, devices) {
+            return Ok(());
+        }
+        self.fail(devices, &ended)
     }
 
     /// A run over these devices.
     fn run_over(self, devices: Devices) -> Result<Ended, AllocError> {
         let script = self.row.script.as_slice();
         run(self.alloc, self.asked, self.circuit, script, devices)
+    }
+
+    /// The failure of a run that ended so over these devices.
+    fn fail(self, devices: Devices, ended: &Ended) -> Result<(), Failure> {
+        let Trial { row, words, .. } = self;
+        let circuit = Shown(self.circuit);
+        let report = format!(in self.alloc;
+            "line {}: {}\n  words   {words}\n  circuit {circuit}\n  devices {devices}\n{row}\n{ended}",
+            row.line, row.name
+        )?;
+        Err(Failure::Run(report))
     }
 }
 
