@@ -6,6 +6,6 @@ use Rattle.stabsim.specs.declared.files.Reader.TheVariants.{File, Standard, Noth
 
 -- of nothing no bytes are left, and of a file or a stream it is not known which
 abbrev pub bytes_left : Reader → Option (List ℕ)
-bytes_left (File file) = None
+bytes_left (File file error) = None
 bytes_left (Standard stdin) = None
 bytes_left Nothing = Some []

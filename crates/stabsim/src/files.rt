@@ -2,6 +2,8 @@
 //!
 //! A file that is written keeps what it held until there is something to replace it, so a run that
 //! is refused leaves it as it was.
+ghost use Rattle.std.specs.Io.{ReadsAtMost};
+
 use stab_pauli::Refusal;
 use std::fs::{File, Metadata, OpenFile, OpenOptions};
 use std::io::{BufWriter, Read, Stdin, Stdout, Write};
@@ -60,17 +62,23 @@ impl Write for Replaced {
 /// What a job reads.
 #[derive(Drop)]
 pub(crate) enum Reader {
-    File(ReadFile),
+    /// A file, and the error of its last read that failed.
+    File(File, Option<io::Error>),
     Standard(Stdin),
     /// No bytes: at its end from the beginning.
     Nothing,
 }
 
 impl Reader {
+    /// Opens a file to be read.
+    pub(crate) fn open<R: Files<File = File>>(files: &R, path: &str) -> io::Result<Reader> {
+        Ok(Reader::File(fs::open(files, path)?, None))
+    }
+
     /// What the system said to the last read of a file that failed.
     pub(crate) fn error(&self) -> Option<&io::Error> {
         match self {
-            Reader::File(file) => file.error(),
+            Reader::File(_, error) => error.as_ref(),
             _ => None,
         }
     }
@@ -84,9 +92,23 @@ impl Read for Reader {
 
     fn read(&mut self, buf: &mut [u8]) -> io::Result<usize> {
         match self {
-            Reader::File(file) => file.read(buf),
+            Reader::File(file, error) => read_noted(file, error, buf),
             Reader::Standard(stdin) => stdin.read(buf),
             Reader::Nothing => Ok(0),
+        }
+    }
+}
+
+/// Reads a file, and notes the error of a read that fails.
+fn read_noted(file: &mut File, noted: &mut Option<io::Error>, buf: &mut [u8]) -> io::Result<usize>
+    ensures bound { ReadsAtMost result buf.new }
+{
+    match file.read(buf) {
+        Ok(count) => Ok(count),
+        Err(error) => {
+            let kind = error.kind();
+            *noted = Some(error);
+            Err(kind.into())
         }
     }
 }
@@ -167,39 +189,6 @@ impl<W: Write> Write for NotedWriter<W> {
 
     fn flush(&mut self) -> io::Result<()> {
         self.writer.flush()
-    }
-}
-
-/// A file that is read, which keeps the error of its last read that failed.
-#[derive(Drop)]
-pub(crate) struct ReadFile {
-    file: File,
-    error: Option<io::Error>,
-}
-
-impl ReadFile {
-    /// Opens a file to be read.
-    pub(crate) fn open<R: Files<File = File>>(files: &R, path: &str) -> io::Result<ReadFile> {
-        let file = fs::open(files, path)?;
-        Ok(ReadFile { file, error: None })
-    }
-
-    /// What the system said to the last read that failed.
-    pub(crate) fn error(&self) -> Option<&io::Error> {
-        self.error.as_ref()
-    }
-}
-
-impl Read for ReadFile {
-    fn read(&mut self, buf: &mut [u8]) -> io::Result<usize> {
-        match self.file.read(buf) {
-            Ok(count) => Ok(count),
-            Err(error) => {
-                let kind = error.kind();
-                self.error = Some(error);
-                Err(kind.into())
-            }
-        }
     }
 }
 

@@ -11,9 +11,7 @@
 mod files;
 mod progress;
 
-use files::{
-    FirstLine, NotedWriter, ReadFile, Reader, Replaced, STANDARD_INPUT, Sink, Writer, are_one_file,
-};
+use files::{FirstLine, NotedWriter, Reader, Replaced, STANDARD_INPUT, Sink, Writer, are_one_file};
 use progress::SearchProgress;
 use stab_cli::{
     CoinsFault, Command, FaultLayout, Job, NO_COINS, NoWatcher, Source, Usage, parse_words,
@@ -21,6 +19,7 @@ use stab_cli::{
 };
 use stab_pauli::{Device, Fault, Output, Refusal, write_all};
 use stab_results::Format;
+use std::alloc::{AllocError, Global};
 use std::io::{BufWriter, IsTerminal};
 use std::process::ExitCode;
 use std::rt::Env;
@@ -42,7 +41,7 @@ const HINT: &str = "stabsim: what is wrong and where: give the same circuit to `
 fn main(rt: HostRuntime) -> ExitCode {
     // A standard stream that is closed would leave its number to the next file that is opened. A
     // directory takes it, which can be neither read nor written: that stream then fails, and no other.
-    let _held = [fs::open(&rt, "/"), fs::open(&rt, "/"), fs::open(&rt, "/")];
+    let _held = (fs::open(&rt, "/"), fs::open(&rt, "/"), fs::open(&rt, "/"));
     let status = match job(&rt) {
         Ok(job) => run_hinted(&rt, job),
         Err(usage) => {
@@ -101,17 +100,28 @@ fn run_with_coins<E: Output>(rt: &HostRuntime, mut job: Job, err: &mut E) -> u8 
 
 /// The coins of a file; or the status of the program, once the reason why there are none is reported.
 fn coins_of_file<E: Output>(rt: &HostRuntime, path: &str, err: &mut E) -> Result<Vec<bool>, u8> {
-    let mut file = match ReadFile::open(rt, path) {
+    let mut file = match Reader::open(rt, path) {
         Ok(file) => file,
         Err(error) => return Err(tell_path(rt, Refusal::ReadFault, path, Some(&error), err)),
     };
     match read_coins(rt.alloc(), &mut Device::new(&mut file)) {
         Ok(coins) => Ok(coins),
-        Err(CoinsFault::Wrong) => Err(tell_mistake(NO_COINS, err)),
-        Err(CoinsFault::Unread(Refusal::OutOfMemory)) => {
-            Err(tell_fault(Refusal::OutOfMemory, err))
-        }
-        Err(CoinsFault::Unread(refusal)) => Err(tell_path(rt, refusal, path, file.error(), err)),
+        Err(fault) => Err(tell_coins(rt, fault, path, file.error(), err)),
+    }
+}
+
+/// Writes why a file has no coins, and answers the status.
+fn tell_coins<E: Output>(
+    rt: &HostRuntime,
+    fault: CoinsFault,
+    path: &str,
+    error: Option<&io::Error>,
+    err: &mut E,
+) -> u8 {
+    match fault {
+        CoinsFault::Wrong => tell_mistake(NO_COINS, err),
+        CoinsFault::Unread(Refusal::OutOfMemory) => tell_fault(Refusal::OutOfMemory, err),
+        CoinsFault::Unread(refusal) => tell_path(rt, refusal, path, error, err),
     }
 }
 
@@ -135,8 +145,8 @@ fn shared_file(rt: &HostRuntime, job: &Job) -> Option<&'static str> {
 /// and any other command reads standard input.
 fn run_opened<E: Output>(rt: &HostRuntime, job: &Job, err: &mut E) -> u8 {
     match &job.in_path {
-        Some(path) => match ReadFile::open(rt, path.as_str()) {
-            Ok(file) => run_created(rt, job, Reader::File(file), err),
+        Some(path) => match Reader::open(rt, path.as_str()) {
+            Ok(file) => run_created(rt, job, file, err),
             Err(error) => tell_path(rt, Refusal::ReadFault, path.as_str(), Some(&error), err),
         },
         None if job.reads_script() => run_created(rt, job, Reader::Nothing, err),
@@ -206,11 +216,7 @@ fn run_on<E: Output>(
     if let (Some(path), Some(error)) = (&job.in_path, input.error()) {
         name_file(rt, path.as_str(), Some(error), err);
     }
-    let is_empty = match job.command {
-        Command::Distance(_) => progress.is_over_nothing(),
-        _ => writer.is_empty(),
-    };
-    if status == 0 && is_empty && is_on_marks(job.command) {
+    if status == 0 && is_on_no_marks(job.command, progress.is_over_nothing(), writer.is_empty()) {
         let _ = write_all(err, NO_MARKS.as_bytes());
     }
     status
@@ -224,16 +230,16 @@ fn shows_progress(command: Command) -> bool {
     }
 }
 
-/// Whether a command looks at marked places alone, and shows whether there are none: `distance` by a search over no
+/// Whether a command looked at marked places alone, and shows that there are none: `distance` by a search over no
 /// errors, and `faults` by no byte, except in the format b8, in which a fault may be of no byte.
-fn is_on_marks(command: Command) -> bool {
+fn is_on_no_marks(command: Command, is_over_nothing: bool, is_empty: bool) -> bool {
     match command {
         Command::Faults {
             layout,
             everywhere,
             ..
-        } => !everywhere && layout != FaultLayout::Shots(Format::B8),
-        Command::Distance(options) => !options.everywhere,
+        } => is_empty && !everywhere && layout != FaultLayout::Shots(Format::B8),
+        Command::Distance(options) => is_over_nothing && !options.everywhere,
         _ => false,
     }
 }
@@ -266,11 +272,19 @@ fn tell_path<E: Output>(
 
 /// If memory suffices, writes a file's name and what the system said, if it said anything.
 fn name_file<E: Output>(rt: &HostRuntime, path: &str, error: Option<&io::Error>, err: &mut E) {
-    let line = match error {
-        Some(error) => format!(in rt.alloc(); "stabsim: {path}: {error}\n"),
-        None => format!(in rt.alloc(); "stabsim: {path}\n"),
-    };
-    if let Ok(line) = line {
+    if let Ok(line) = line_of_file(rt.alloc(), path, error) {
         let _ = write_all(err, line.as_bytes());
+    }
+}
+
+/// The line of a file's name and of what the system said, if it said anything.
+fn line_of_file(
+    alloc: Global,
+    path: &str,
+    error: Option<&io::Error>,
+) -> Result<String, AllocError> {
+    match error {
+        Some(error) => format!(in alloc; "stabsim: {path}: {error}\n"),
+        None => format!(in alloc; "stabsim: {path}\n"),
     }
 }
