@@ -30,6 +30,9 @@ else:
 # The longest, in seconds, that anything is waited for.
 LONGEST = 60
 
+# The size of the window.
+USUAL = (1280, 900)
+
 # Keys as the browser is given them while they are held down.
 HELD = {
     "x": {"key": "x", "code": "KeyX", "text": "x", "windowsVirtualKeyCode": 88},
@@ -233,6 +236,6 @@ class Page:
 def open_browser():
     options = webdriver.ChromeOptions()
     options.binary_location = CHROMIUM
-    for word in ("--headless=new", "--no-sandbox", "--disable-gpu", "--window-size=1280,900"):
+    for word in ("--headless=new", "--no-sandbox", "--disable-gpu", "--window-size={},{}".format(*USUAL)):
         options.add_argument(word)
     return webdriver.Chrome(options=options, service=Service(DRIVER))

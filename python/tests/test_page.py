@@ -9,7 +9,7 @@ import urllib.parse
 
 import pytest
 import stabsim
-from browsing import needs_browser
+from browsing import USUAL, needs_browser
 from stabsim import codes
 
 pytestmark = needs_browser
@@ -52,6 +52,22 @@ def test_it_shows_the_circuit_and_folds_its_blocks(page):
     assert not page.texts(inner)
     page.unfold(BLOCK)
     page.wait(lambda: page.texts(inner))
+
+
+def fills_its_pane(page, width):
+    """Whether the picture, between its two bars, is as high as the pane leaves room for, in a window this wide."""
+    [_, top, _, height], [_, picture, _, drawn], [_, bar, _, low] = (page.box(it) for it in ("#layout", "#picture", "#stage .bar.low"))
+    inner = page.browser.execute_script("return innerWidth")
+    return inner == width and picture + drawn == bar and bar + low == top + height and drawn > 100
+
+
+@pytest.mark.parametrize("size", [(1920, 1080), (2560, 1440), (1280, 700), USUAL])
+def test_the_picture_fills_its_pane_at_any_size(page, size):
+    try:
+        page.browser.set_window_size(*size)
+        page.wait(lambda: fills_its_pane(page, size[0]))
+    finally:
+        page.browser.set_window_size(*USUAL)
 
 
 def test_an_item_is_put_in_and_taken_back(page):
