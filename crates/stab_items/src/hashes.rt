@@ -1,7 +1,7 @@
 ghost use Rattle.std.specs.Prelude.{◌+◌, ◌≤◌, length};
 
 /// How many slots the table of known lines has.
-pub(crate) const LINE_SLOTS: usize = 4096;
+pub(crate) const LINE_SLOTS: usize = 32_768;
 
 /// How many slots the table of known stretches has.
 pub(crate) const STRETCH_SLOTS: usize = 1024;
@@ -44,7 +44,7 @@ pub(crate) fn line_hash(text: &[u8]) -> Hash {
     let both = before_end(first, ends) ^ behind.rotate_left(29);
     let sum = (both ^ (both >> 32)).wrapping_mul(SPREAD);
     Hash {
-        slot: (sum >> 52) as usize,
+        slot: (sum >> 49) as usize,
         check: (sum >> 36 & 0xFFFF) as u16,
     }
 }

@@ -16,7 +16,7 @@ const FEW: usize = 256;
 const PATIENCE: u32 = 8192;
 
 /// A line that was known makes up for this many that were not.
-const WORTH: u32 = 64;
+const WORTH: u32 = 4;
 
 /// A line that was read, and the instruction that it means. Contracts see both.
 struct KnownLine<'a> {

@@ -56,7 +56,7 @@ fn read_control(word: &[u8]) -> Result<Control, Refusal>
 fn control_targets(alloc: Global, words_text: &[u8]) -> Result<Sequence<ControlTarget>, Refusal>
     ensures gives { Gives result (by_turns (words words_text.now)) }
 {
-    let mut found = Sequence::new(alloc);
+    let mut found = Vec::new(alloc);
     let mut rest = words_text;
     while let Some((word, after)) = first_word(rest) {
         let control = read_control(word)?;
@@ -67,7 +67,7 @@ fn control_targets(alloc: Global, words_text: &[u8]) -> Result<Sequence<ControlT
         found.push(ControlTarget { control, qubit })?;
         rest = after;
     }
-    Ok(found)
+    Ok(Sequence::of(found))
 }
 
 /// The pair of two qubits.
@@ -93,15 +93,15 @@ fn pair(target: ControlTarget) -> Result<ControlledPair, Refusal>
 
 /// The pairs, and those of more controls and qubits after them.
 fn with_pairs(
-    mut found: Sequence<ControlledPair>,
+    mut found: Vec<ControlledPair>,
     targets: &[ControlTarget],
 ) -> Result<Sequence<ControlledPair>, Refusal>
-    ensures gives { Gives result (follows found (each paired targets.now)) }
+    ensures gives { Gives result (follows found.items (each paired targets.now)) }
 {
     for target in targets {
         found.push(pair(*target)?)?;
     }
-    Ok(found)
+    Ok(Sequence::of(found))
 }
 
 /// The pair of a qubit and the one that the first word is, and what follows the word, if this is
@@ -143,7 +143,7 @@ pub fn controlled_pairs(
 ) -> Result<Sequence<ControlledPair>, Refusal>
     ensures gives { Gives result (controlled_of (words words_text.now)) }
 {
-    let mut found = Sequence::new(alloc);
+    let mut found = Vec::new(alloc);
     let mut rest = words_text;
     while let Some((pair, after)) = pair_at_front(rest) {
         found.push(pair)?;

@@ -70,14 +70,14 @@ fn are_factors(word: &[u8]) -> bool
 fn factors(alloc: Global, word: &[u8]) -> Result<Sequence<Factor>, Refusal>
     ensures gives { Gives result (each factor_of (slice_split (is_byte 42) word.now)) }
 {
-    let mut found = Sequence::new(alloc);
+    let mut found = Vec::new(alloc);
     let mut rest = Some(word);
     while let Some(bytes) = rest {
         let (piece, after) = first_piece(bytes, b'*');
         found.push(factor(piece)?)?;
         rest = after;
     }
-    Ok(found)
+    Ok(Sequence::of(found))
 }
 
 /// Whether one of the factors is on the qubit.

@@ -35,7 +35,7 @@ pub enum Kind {
 }
 
 // Long circuits are lists of instructions: what they do is in place if it is short.
-const _: () = prove!(size_of::<Kind>() <= 32);
+const _: () = prove!(size_of::<Kind>() <= 56);
 
 // Written out, so that a proof sees the drop of a value as one call, and not one for each of its parts.
 impl Drop for Kind {

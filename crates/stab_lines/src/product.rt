@@ -73,9 +73,9 @@ pub(crate) fn copied_products(
 ) -> Result<Sequence<Product>, AllocError>
     ensures ok { IfOk result (λ s. s ≡ products.now) }
 {
-    let mut all = Sequence::new(alloc);
+    let mut all = Vec::new(alloc);
     for product in products.as_slice() {
         all.push(product.copy(alloc)?)?;
     }
-    Ok(all)
+    Ok(Sequence::of(all))
 }

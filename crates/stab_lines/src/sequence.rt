@@ -1,18 +1,28 @@
-ghost use Rattle.std.specs.Prelude.{◌≡◌, List, ◌∷◌, [], ◌++◌, length, OnOk, OnErr};
+ghost use Rattle.std.specs.Prelude.{◌≡◌, List, [], IfOk};
 
 use std::alloc::{AllocError, Global};
 use std::marker::Model;
 
-/// A vector that contracts see as the list of its elements.
+/// A list that contracts see as such. A single element takes no memory: most instructions of texts in which no line comes again have one.
 #[derive(Drop)]
 pub struct Sequence<T> {
-    elements: Vec<T>,
+    elements: Elements<T>,
+}
+
+/// How they are kept.
+#[derive(Drop)]
+enum Elements<T> {
+    One([T; 1]),
+    List(Vec<T>),
 }
 
 impl<T> Model for Sequence<T> {
+    ghost use Rattle.std.specs.Prelude.{List};
+    ghost use Rattle.stab_lines.specs.inner.Sequences.{elements_shown};
+
     ghost Value = { List T };
 
-    ghost view = { λ s. s.elements.items };
+    ghost view = { λ s. elements_shown s.elements };
 }
 
 impl<T> Sequence<T> {
@@ -21,7 +31,7 @@ impl<T> Sequence<T> {
         ensures value { result ≡ [] }
     {
         Sequence {
-            elements: Vec::new(alloc),
+            elements: Elements::List(Vec::new(alloc)),
         }
     }
 
@@ -29,7 +39,10 @@ impl<T> Sequence<T> {
     pub fn as_slice(&self) -> &[T]
         ensures value { result.now ≡ self.now }
     {
-        self.elements.as_slice()
+        match &self.elements {
+            Elements::One(element) => element.as_slice(),
+            Elements::List(list) => list.as_slice(),
+        }
     }
 }
 
@@ -40,9 +53,8 @@ impl Sequence<u8> {
     pub(crate) fn of_bytes(alloc: Global, bytes: &[u8]) -> Result<Sequence<u8>, AllocError>
         ensures ok { IfOk result (λ s. s ≡ bytes.now) }
     {
-        let mut elements = Vec::new(alloc);
-        elements.extend_from_slice(bytes)?;
-        Ok(Sequence { elements })
+        let list = Vec::from_slice(alloc, bytes)?;
+        Ok(Sequence::of(list))
     }
 }
 
@@ -53,19 +65,39 @@ impl<T: Copy> Sequence<T> {
     pub fn copy(&self, alloc: Global) -> Result<Sequence<T>, AllocError>
         ensures ok { IfOk result (λ s. s ≡ self.now) }
     {
-        let mut elements = Vec::new(alloc);
-        elements.extend_from_slice(self.as_slice())?;
-        Ok(Sequence { elements })
+        match &self.elements {
+            Elements::One(element) => Ok(Sequence {
+                elements: Elements::One(*element),
+            }),
+            Elements::List(list) => {
+                let copy = Vec::from_slice(alloc, list.as_slice())?;
+                Ok(Sequence {
+                    elements: Elements::List(copy),
+                })
+            }
+        }
     }
 }
 
 impl<T: Drop> Sequence<T> {
-    /// Adds an element at the end; if memory is refused the sequence stays as it was.
-    pub(crate) fn push(&mut self, element: T) -> Result<(), AllocError>
-        ensures ok { OnOk result (self.new ≡ self.old ++ element ∷ []) }
-        ensures err { OnErr result (self.new ≡ self.old) }
+    ghost use Rattle.std.specs.Prelude.{◌≡◌};
+
+    /// The elements of a vector.
+    pub(crate) fn of(mut list: Vec<T>) -> Sequence<T>
+        ensures value { result ≡ list.items }
     {
-        self.elements.push(element)?;
-        Ok(())
+        if list.len() != 1 {
+            return Sequence {
+                elements: Elements::List(list),
+            };
+        }
+        match list.pop() {
+            Some(element) => Sequence {
+                elements: Elements::One([element]),
+            },
+            None => Sequence {
+                elements: Elements::List(list),
+            },
+        }
     }
 }

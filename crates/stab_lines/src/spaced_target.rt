@@ -150,14 +150,14 @@ pub fn targets_in_front<T: SpacedTarget>(
 ) -> Result<Option<(Sequence<T::Kept>, Option<&[u8]>)>, Refusal>
     ensures tells { TellsTargets T.meaning bytes.now result }
 {
-    let mut found = Sequence::new(alloc);
+    let mut found = Vec::new(alloc);
     let mut rest = bytes;
     while let Some((target, after)) = T::in_front(rest) {
         found.push(target)?;
         rest = after;
     }
     match behind_line_end(rest) {
-        Some(after) => Ok(Some((found, after))),
+        Some(after) => Ok(Some((Sequence::of(found), after))),
         None => Ok(None),
     }
 }

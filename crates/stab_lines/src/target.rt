@@ -251,13 +251,13 @@ fn first_target<T: Target>(alloc: Global, bytes: &[u8]) -> Result<Option<(T::Kep
 pub fn targets<T: Target>(alloc: Global, words_text: &[u8]) -> Result<Sequence<T::Kept>, Refusal>
     ensures gives { Gives result (each T.meaning (words words_text.now)) }
 {
-    let mut found = Sequence::new(alloc);
+    let mut found = Vec::new(alloc);
     let mut rest = words_text;
     while let Some((target, after)) = first_target::<T>(alloc, rest)? {
         found.push(target)?;
         rest = after;
     }
-    Ok(found)
+    Ok(Sequence::of(found))
 }
 
 /// The records' numbers.
@@ -274,7 +274,7 @@ pub fn lookbacks(alloc: Global, words_text: &[u8]) -> Result<Lookbacks, Refusal>
 pub fn pairs(alloc: Global, qubits: &[Qubit]) -> Result<Sequence<Pair>, Refusal>
     ensures gives { Gives result (pairs_of qubits.now) }
 {
-    let mut found = Sequence::new(alloc);
+    let mut found = Vec::new(alloc);
     let mut rest = qubits;
     while rest.len() > 1 {
         let first = rest[0];
@@ -286,7 +286,7 @@ pub fn pairs(alloc: Global, qubits: &[Qubit]) -> Result<Sequence<Pair>, Refusal>
         rest = rest.split_at(2).1;
     }
     if rest.is_empty() {
-        Ok(found)
+        Ok(Sequence::of(found))
     } else {
         Err(Refusal::BadPairing)
     }

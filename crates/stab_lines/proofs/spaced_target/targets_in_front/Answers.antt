@@ -4,5 +4,5 @@ use Rattle.stab_lines.proofs.spaced_target.targets_in_front.Goals as goal
 
 pub loop-target-preserved : goal.loop-target-preserved
 loop-target-preserved g c =
-    target_more g.T.SpacedTarget.meaning c.args.bytes.now c.loop-target.rest.now c.in-Some.after.now c.loop-target.found (c.in-Some.target ∷ []) c.push.new.self
-    c.loop-target.invariant c.in-Some.ensures.value c.in_ok-push.ensures.ok
+    target_more g.T.SpacedTarget.meaning c.args.bytes.now c.loop-target.rest.now c.in-Some.after.now c.loop-target.found.items (c.in-Some.target ∷ []) c.push.new.self.items
+    c.loop-target.invariant c.in-Some.ensures.value c.in_ok-push.ensures.items
