@@ -91,4 +91,4 @@ pub use Rattle.stab_circuit.specs.inner.Judgements.{IsShallow, IsShallowItem, Be
 pub use Rattle.stab_circuit.specs.inner.Repeats.{first_with_steps, finer_by, finer, repeat_as, repeats_in}
 pub use Rattle.stab_circuit.specs.inner.Splices.{Splice, splice_at, splice_block, splice_of, spliced, IsWithin}
 pub use Rattle.stab_circuit.specs.inner.Stretches.{AreStretches, WereStretches, items_in}
-pub use Rattle.stab_circuit.specs.inner.Walks.{kind_steps, walk_left, levels_left, ahead, weight, weight_at, walk_weight, SameKind, Takes, GoesOn, level_left, IsNested, level_weight, levels_weight, IsWalk}
+pub use Rattle.stab_circuit.specs.inner.Walks.{kind_steps, walk_left, levels_left, ahead, weight, weight_at, walk_weight, SameKind, Takes, level_left, IsNested, level_weight, levels_weight, IsWalk}

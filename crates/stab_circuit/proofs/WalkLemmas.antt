@@ -1,5 +1,5 @@
 -- One step of a walk over nested blocks.
-use Rattle.stab_circuit.proofs.Names.{◌≡◌, ◌≤◌, ◌<◌, refl, ap, sym, ◌∙◌, ℕ, ◌+◌, ◌*◌, ◌-◌, zero, suc, min, true, List, [], ◌∷◌, ◌++◌, length, drop, get_or, arith, drop-cons, append-nil, append_assoc, Bor, subst, Some, None, vec_capacity, length-append, drop_all, Level, Walk, Items, OneItem, operation, repeat, done, before, listed, depth, Step, rounds, unroll, kind_steps, level_left, levels_left, IsNested, weight, weight_at, level_weight, levels_weight, ahead, walk_left, walk_weight, IsWalk, SameKind, Takes, GoesOn, before-join, depth_at, unroll-join}
+use Rattle.stab_circuit.proofs.Names.{◌≡◌, ◌≤◌, ◌<◌, refl, ap, sym, ◌∙◌, ℕ, ◌+◌, ◌*◌, ◌-◌, zero, suc, min, List, [], ◌∷◌, ◌++◌, length, drop, get_or, arith, drop-cons, append-nil, append_assoc, Bor, subst, Some, None, vec_capacity, length-append, drop_all, Level, Walk, Items, OneItem, operation, repeat, done, before, listed, depth, Step, rounds, unroll, kind_steps, level_left, levels_left, IsNested, weight, weight_at, level_weight, levels_weight, ahead, walk_left, walk_weight, IsWalk, SameKind, Takes, before-join, depth_at, unroll-join}
 use Rattle.std.specs.List.{slice_get}
 
 -- an item before others
@@ -83,13 +83,11 @@ taken_weight t x h e =
 abbrev pub past_item : Walk → Walk
 past_item w = record { kind = w.kind; within = w.within; top = past_one w.top; around = w.around }
 
-pub taken : (old new : Walk) (x : Bor OneItem) → IsWalk old → old.top.place < length old.top.items.now → x.now ≡ get_or old.top.items.now old.top.place x.now
-    → new.top ≡ past_one old.top → new.around ≡ old.around → Takes old new (Some x)
-taken old new x w h e top around = (
-  taken_left old.top (levels_left [] old.around.items) x.now h e
-      ∙ (λ i. unroll (before x.now done) ++ (level_left (sym top i) ++ levels_left [] (sym around i).items)),
-  omega (arith, taken_weight old.top x.now h e, ap level_weight top, ap (λ v. levels_weight v.items) around),
-  omega (arith, w.shallow, depth_at old.top.items.now old.top.place x.now h e, ap (λ v. length v.items) around),
+pub taken : (w : Walk) (x : OneItem) → IsWalk w → w.top.place < length w.top.items.now → x ≡ get_or w.top.items.now w.top.place x → Takes w (past_item w) x
+taken w x walks h e = (
+  taken_left w.top (levels_left [] w.around.items) x h e,
+  omega (arith, taken_weight w.top x h e),
+  omega (arith, walks.shallow, depth_at w.top.items.now w.top.place x h e),
 )
 
 -- into a block, which comes ahead of the level outside
@@ -183,14 +181,14 @@ same_given : (old new : Walk) → SameKind old new → drop old.within (kind_ste
 same_given old new s e = (λ i. drop (s.within i) (kind_steps (s.kind i))) ∙ e
 
 -- the steps of a block that was taken
-block_taken : (a b : Walk) (x : Bor OneItem) (count : ℕ) (tag : List ℕ) (body : Items) → drop a.within (kind_steps a.kind) ≡ [] → Takes a b (Some x) → x.now ≡ repeat count tag body
+block_taken : (a b : Walk) (x : OneItem) (count : ℕ) (tag : List ℕ) (body : Items) → drop a.within (kind_steps a.kind) ≡ [] → Takes a b x → x ≡ repeat count tag body
     → walk_left a ≡ rounds count (unroll body) ++ ahead b
 block_taken a b x count tag body e t is =
     given_left a e ∙ t.0 ∙ ap (λ y. unroll (before y done) ++ ahead b) is ∙ ap (λ l. l ++ ahead b) (append-nil (rounds count (unroll body)))
 
 -- a block without steps was taken
-pub goes_past : (a b : Walk) (x : Bor OneItem) (count : ℕ) (tag : List ℕ) (body : Items) → drop a.within (kind_steps a.kind) ≡ [] → SameKind a b → Takes a b (Some x) → x.now ≡ repeat count tag body
-    → min (length (unroll body)) 1048577 ≤ 0 → GoesOn (walk_left a) (walk_left b) a b true
+pub goes_past : (a b : Walk) (x : OneItem) (count : ℕ) (tag : List ℕ) (body : Items) → drop a.within (kind_steps a.kind) ≡ [] → SameKind a b → Takes a b x → x ≡ repeat count tag body
+    → min (length (unroll body)) 1048577 ≤ 0 → (walk_left b ≡ walk_left a) × (walk_weight b < walk_weight a)
 goes_past a b x count tag body e s t is empty =
     let nothing : unroll body ≡ [] = no_steps (unroll body) (omega arith) in (
       given_left b (same_given a b s e)
@@ -200,9 +198,9 @@ goes_past a b x count tag body e s t is empty =
     )
 
 -- a block was taken and entered
-pub goes_in : (a b c : Walk) (x : Bor OneItem) (count : ℕ) (tag : List ℕ) (body : Bor (List OneItem)) → drop a.within (kind_steps a.kind) ≡ [] → SameKind a b → Takes a b (Some x) → x.now ≡ repeat count tag (listed body.now)
+pub goes_in : (a b c : Walk) (x : OneItem) (count : ℕ) (tag : List ℕ) (body : Bor (List OneItem)) → drop a.within (kind_steps a.kind) ≡ [] → SameKind a b → Takes a b x → x ≡ repeat count tag (listed body.now)
     → 0 < count → SameKind b c → ahead c ≡ (unroll (listed body.now) ++ rounds (count - 1) (unroll (listed body.now))) ++ ahead b → walk_weight c ≡ weight_at body.now 0 (count - 1) + walk_weight b
-    → GoesOn (walk_left a) (walk_left c) a c true
+    → (walk_left c ≡ walk_left a) × (walk_weight c < walk_weight a)
 goes_in a b c x count tag body e s t is some u left heavy = (
   given_left c (same_given b c u (same_given a b s e))
       ∙ left

@@ -45,11 +45,11 @@ pub struct Walk<'a> {
 }
 
 impl<'a> Walk<'a> {
-    ghost use Rattle.std.specs.Prelude.{◌≡◌, ◌≤◌, ◌<◌, ◌+◌, ◌∷◌, ◌++◌, [], None, length, drop, map, IfOk, IfSome, IfNone};
+    ghost use Rattle.std.specs.Prelude.{◌≡◌, ◌≤◌, ◌<◌, ◌+◌, ◌∷◌, ◌++◌, [], Some, None, length, drop, map, IfOk, IfSome, IfNone};
     ghost use Rattle.stab_items.specs.Items.{depth, listed};
     ghost use Rattle.stab_items.specs.Steps.{unroll, detector, rounds as rounds_of};
     ghost use Rattle.stab_circuit.specs.Cursors.{step_shown, lookbacks_of, steps_shown, IsApart, IsApartAlone};
-    ghost use Rattle.stab_circuit.specs.inner.Walks.{kind_steps, ahead, walk_left, walk_weight, weight_at, IsWalk, SameKind, Takes, GoesOn};
+    ghost use Rattle.stab_circuit.specs.inner.Walks.{kind_steps, ahead, walk_left, walk_weight, weight_at, IsItemOf, IsWalk, SameKind, Takes, GoesOn, Reaches};
 
     /// A walk over items from a place on, with room for every level.
     #[tactic(auto, using(crate::proofs::WalkLemmas::begun_at))]
@@ -103,16 +103,15 @@ impl<'a> Walk<'a> {
         Some(step)
     }
 
-    /// The item at the place in the innermost block, which the walk goes past.
-    fn take(&mut self) -> Option<&'a Item>
+    /// Goes past this item, which is at the place in the innermost block.
+    fn take(&mut self, item: &'a Item)
         requires walks { IsWalk self.old }
+        requires here { IsItemOf self.old.top (Some item) }
         ensures walks { IsWalk self.new }
         ensures same { SameKind self.old self.new }
-        ensures taken { Takes self.old self.new result }
+        ensures taken { Takes self.old self.new item.now }
     {
-        let item = self.top.item()?;
         self.top.place += 1;
-        Some(item)
     }
 
     /// Goes into a block, to the first of one round and this many more.
@@ -138,7 +137,7 @@ impl<'a> Walk<'a> {
         requires done { length self.old.top.items.now ≤ self.old.top.place }
         ensures walks { IsWalk self.new }
         ensures same { SameKind self.old self.new }
-        ensures goes { GoesOn (ahead self.old) (ahead self.new) self.old self.new result }
+        ensures goes { GoesOn self.old self.new result }
     {
         if self.top.rounds > 0 {
             self.top.rounds -= 1;
@@ -154,16 +153,32 @@ impl<'a> Walk<'a> {
         }
     }
 
-    /// Goes on to what comes after an instruction that has no more steps. False at the end of all.
-    fn go_on(&mut self) -> bool
+    /// The item that comes next, after the blocks that are at their end. `None` at the end of all.
+    fn reach(&mut self) -> Option<&'a Item>
+        requires walks { IsWalk self.old }
+        ensures walks { IsWalk self.new }
+        ensures same { SameKind self.old self.new }
+        ensures reached { Reaches self.old self.new result }
+    {
+        'levels: loop {
+            if let Some(item) = self.top.item() {
+                return Some(item);
+            }
+            if !self.leave() {
+                return None;
+            }
+        }
+    }
+
+    /// Begins this item, which is at the place, after an instruction that has no more steps.
+    fn begin(&mut self, item: &'a Item)
         requires walks { IsWalk self.old }
         requires given { drop self.old.within (kind_steps self.old.kind) ≡ [] }
+        requires here { IsItemOf self.old.top (Some item) }
         ensures walks { IsWalk self.new }
-        ensures goes { GoesOn (walk_left self.old) (walk_left self.new) self.old self.new result }
+        ensures goes { (walk_left self.new ≡ walk_left self.old) × (walk_weight self.new < walk_weight self.old) }
     {
-        let Some(item) = self.take() else {
-            return self.leave();
-        };
+        self.take(item);
         match item.part() {
             Part::Tick => {}
             Part::Operation { kind, .. } => {
@@ -182,7 +197,6 @@ impl<'a> Walk<'a> {
                 }
             }
         }
-        true
     }
 
     /// The next step, or `None` if none is left, and then for ever.
@@ -194,14 +208,11 @@ impl<'a> Walk<'a> {
         ensures none { IfNone result ((walk_left self.old ≡ []) × (walk_left self.new ≡ [])) }
     {
         'walk: loop {
-            match self.step() {
-                Some(step) => return Some(step),
-                None => {
-                    if !self.go_on() {
-                        return None;
-                    }
-                }
+            if let Some(step) = self.step() {
+                return Some(step);
             }
+            let item = self.reach()?;
+            self.begin(item);
         }
     }
 
@@ -255,12 +266,11 @@ impl<'a> Walk<'a> {
             if let Some(steps) = self.steps(most) {
                 return Some(steps);
             }
+            let item = self.reach()?;
             if let Some(detectors) = self.detectors(most) {
                 return Some(Steps::Detectors(detectors));
             }
-            if !self.go_on() {
-                return None;
-            }
+            self.begin(item);
         }
     }
 }

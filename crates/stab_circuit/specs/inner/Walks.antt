@@ -85,15 +85,19 @@ pub record SameKind (old new : Walk) : Type 0 where
   pub kind : new.kind ≡ old.kind
   pub within : new.within ≡ old.within
 
--- an item of the innermost block was taken, or there was none
-abbrev pub Takes : Walk → Walk → Option (Bor OneItem) → Type 0
-Takes old new None = (ahead new ≡ ahead old) × (walk_weight new ≡ walk_weight old) × (length new.top.items.now ≤ new.top.place)
-Takes old new (Some x) = (ahead old ≡ unroll (before x.now done) ++ ahead new) × (walk_weight old ≡ weight (before x.now done) + walk_weight new) × (depth_of x.now + length new.around.items ≤ 16)
+-- an item of the innermost block was taken
+abbrev pub Takes : Walk → Walk → OneItem → Type 0
+Takes old new x = (ahead old ≡ unroll (before x done) ++ ahead new) × (walk_weight old ≡ weight (before x done) + walk_weight new) × (depth_of x + length new.around.items ≤ 16)
 
--- the walk went on with the same steps left, and has less to walk over; or it is at the end
-abbrev pub GoesOn : List Step → List Step → Walk → Walk → Bool → Type 0
-GoesOn before after old new true = (after ≡ before) × (walk_weight new < walk_weight old)
-GoesOn before after old new false = (before ≡ []) × (after ≡ [])
+-- the same steps are ahead, and there is less to walk over; or the walk is at the end
+abbrev pub GoesOn : Walk → Walk → Bool → Type 0
+GoesOn old new true = (ahead new ≡ ahead old) × (walk_weight new < walk_weight old)
+GoesOn old new false = (ahead old ≡ []) × (ahead new ≡ [])
+
+-- the walk is at an item with the same steps ahead, and has no more to walk over; or it is at the end
+abbrev pub Reaches : Walk → Walk → Option (Bor OneItem) → Type 0
+Reaches old new None = (ahead old ≡ []) × (ahead new ≡ [])
+Reaches old new (Some x) = (ahead new ≡ ahead old) × (walk_weight new ≤ walk_weight old) × IsItemOf new.top (Some x)
 
 -- of the steps that were to be left out this many are still to be, and there is less to walk over; or the walk is at the end
 abbrev pub Passes : ℕ → Walk → Walk → Option ℕ → Type 0

@@ -61,9 +61,8 @@ impl<'a> Walk<'a> {
         ensures walks { IsWalk self.new }
         ensures passes { Passes count self.old self.new result }
     {
-        let Some(item) = self.take() else {
-            return if self.leave() { Some(count) } else { None };
-        };
+        let item = self.reach()?;
+        self.take(item);
         let rest = match item.part() {
             Part::Tick => count,
             Part::Operation { kind, .. } => self.pass_steps(kind, count),
