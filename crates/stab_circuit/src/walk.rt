@@ -231,8 +231,8 @@ impl<'a> Walk<'a> {
         Some(steps)
     }
 
-    /// The detectors that are next in the innermost block, up to this many, unless none does.
-    fn detectors(&mut self, most: usize) -> Option<Detectors<'a>>
+    /// The detectors that are next in the innermost block, up to this many, unless this item, which is at the place, is none.
+    fn detectors(&mut self, item: &'a Item, most: usize) -> Option<Detectors<'a>>
         requires walks { IsWalk self.old }
         requires some { 0 < most }
         requires given { drop self.old.within (kind_steps self.old.kind) ≡ [] }
@@ -241,6 +241,7 @@ impl<'a> Walk<'a> {
         ensures within { IfSome result (λ d. (0 < length (lookbacks_of d)) × (length (lookbacks_of d) ≤ most)) }
         ensures none { IfNone result (self.new ≡ self.old) }
     {
+        item.detector()?;
         let ahead = part(self.top.items, self.top.place, most)?;
         let detectors = Detectors::at_front(ahead);
         let count = detectors.len();
@@ -267,7 +268,7 @@ impl<'a> Walk<'a> {
                 return Some(steps);
             }
             let item = self.reach()?;
-            if let Some(detectors) = self.detectors(most) {
+            if let Some(detectors) = self.detectors(item, most) {
                 return Some(Steps::Detectors(detectors));
             }
             self.begin(item);
