@@ -28,7 +28,7 @@ use std::alloc::AllocError;
 // A frame touches few of the steps on its way: this many steps are looked at at once.
 const PART: usize = 32;
 
-// Fewer measurements than this are sooner passed one by one.
+// Fewer pairs or measurements than this are sooner passed one by one.
 const FEW: usize = 4;
 
 /// Propagates a frame over steps to a run with these coins, and says over how many it
@@ -168,6 +168,10 @@ fn propagate_pairs(propagation: &mut Propagation, axis: Axis, pairs: &[Controlle
     ensures length { length propagation.new.letters ≡ length propagation.old.letters }
     ensures goes { GoesFreely (length propagation.old.letters) (map (controlled_step axis) pairs.now) propagation.old propagation.new }
 {
+    if pairs.len() < FEW {
+        propagate_each_pair(propagation, axis, pairs);
+        return;
+    }
     let mut done = 0;
     while done < pairs.len() {
         let count = PART.min(pairs.len() - done);
@@ -240,8 +244,7 @@ fn propagate_few_measurements<D: Draw, C: Coins>(
     ensures missing { IfOk result (λ count. count < length targets.now → IsMissing known.entry.strings.now.strings known.entry.free.now (propagation.old.coin + length targets.now)) }
 {
     let letter = measurement.axis.letter();
-    let few = targets.len() < FEW;
-    if few || !known.draw.is_still() || anticommutes_some(propagation.letters(), letter, targets) {
+    if !known.draw.is_still() || anticommutes_some(propagation.letters(), letter, targets) {
         return propagate_each_measurement(propagation, known, coins, measurement, targets);
     }
     propagation.skip_still(known.free, targets.len())?;
@@ -267,6 +270,9 @@ fn propagate_measurements<D: Draw, C: Coins>(
     ensures goes { IfOk result (λ count. GoesOver (length propagation.old.letters) known.entry.strings.now.strings known.entry.free.now (D.changes known.entry.draw.now (C.sequence coins.old)) (take count (map (measured measurement) targets.now)) propagation.old propagation.new) }
     ensures missing { IfOk result (λ count. count < length targets.now → IsMissing known.entry.strings.now.strings known.entry.free.now (propagation.old.coin + length targets.now)) }
 {
+    if targets.len() < FEW {
+        return propagate_each_measurement(propagation, known, coins, measurement, targets);
+    }
     let mut done = 0;
     while done < targets.len() {
         let count = PART.min(targets.len() - done);
