@@ -11,7 +11,7 @@ use std::alloc::{AllocError, Global};
 pub const NO_COINS: &str = "stabsim: coins are 0 and 1\n";
 
 /// Why a file gave no coins.
-#[derive(Clone, Copy)]
+#[derive(Clone, Copy, Debug)]
 pub enum CoinsFault {
     /// It was not read whole, by `TooLong` or `ReadFault`, or memory was refused.
     Unread(Refusal),

@@ -1,4 +1,6 @@
 ghost use Rattle.std.specs.Prelude.{◌≡◌, None, IfOk, IfErr};
+ghost use Rattle.stab_io.specs.Devices.{WritesAllOrFault};
+ghost use Rattle.stab_items.specs.Prints.{printed};
 ghost use Rattle.stab_items.specs.Steps.{check_of};
 ghost use Rattle.stab_circuit.specs.Views.{circuit_items};
 ghost use Rattle.stab_circuit.specs.Readings.{ReadsCircuit, ReadsInput, ReadsItem, IsPlaced, is_of_circuit, is_of_item};
@@ -13,8 +15,8 @@ pub(crate) mod stretches;
 
 use crate::input::{MOST_BYTES, read_text};
 pub use repeats::Repeat;
-use stab_io::{Fault, Input, Refusal};
-use stab_items::{Item, STEPS_CAP, Summary, items_summary, read_lines};
+use stab_io::{Fault, Input, Output, Refusal};
+use stab_items::{Item, STEPS_CAP, Summary, items_summary, read_lines, write_all_items};
 use std::alloc::Global;
 use std::marker::Model;
 pub use step_items::StepItem;
@@ -205,4 +207,16 @@ pub fn read_item(alloc: Global, text: &[u8]) -> Result<Item, Fault>
         Some(item) => Ok(item),
         None => Err(Fault::whole(Refusal::BadLine)),
     }
+}
+
+/// Writes the circuit's text, and takes no memory: each instruction by its first name, four
+/// spaces for each open block, a line feed after every line, nothing for the empty circuit.
+/// It does not flush.
+///
+/// Fault `WriteFault` with line 0 if a write failed; what was written is then a prefix of the
+/// text, and nothing more is tried.
+pub fn write_circuit<O: Output>(out: &mut O, circuit: &Circuit) -> Result<(), Fault>
+    ensures writes { WritesAllOrFault (O.seen out.old) (O.seen out.new) (printed (circuit_items circuit.now)) result }
+{
+    write_all_items(out, circuit.items()).map_err(Fault::whole)
 }

@@ -7,10 +7,9 @@
 //! - `path`: the places of items.
 //! - `edit`: how a circuit is edited at a path, and which steps that changes.
 //! - `judge`, `commit`: judging an edit by what items keep, and making it.
-//! - `circuit`: circuits, reading one, editing one, splitting a round off a block, the item at a path,
-//!   the item that a step belongs to, the steps after each occurrence of an item in blocks, and the blocks
-//!   of which the steps come again.
-//! - `print`: the one text of a circuit.
+//! - `circuit`: circuits, reading one, printing one, editing one, splitting a round off a block, the item at
+//!   a path, the item that a step belongs to, the steps after each occurrence of an item in blocks, and the
+//!   blocks of which the steps come again.
 //! - `step`, `instruction`, `steps`: the steps of an instruction, one at a time and together.
 //! - `detectors`: detectors one after the other.
 //! - `same`: instructions and items that stand for the same steps.
@@ -51,20 +50,20 @@ mod instruction;
 mod judge;
 pub mod laws;
 mod path;
-mod print;
 mod same;
 mod step;
 mod steps;
 mod walk;
 
-pub use circuit::{Circuit, Repeat, StepItem, circuit_of_text, read_circuit, read_item};
+pub use circuit::{
+    Circuit, Repeat, StepItem, circuit_of_text, read_circuit, read_item, write_circuit,
+};
 pub use cursor::Cursor;
 pub use detectors::Detectors;
 pub use edit::{Edit, Refused, Span};
 pub use input::read_text;
 pub use instruction::{controlled_gate, measured_step};
 pub use path::{Path, write_path};
-pub use print::write_circuit;
 pub use stab_items::{Item, write_item_coordinates, write_one_item};
 pub use stab_lines::{Axis, ControlledPair, Factor, MeasureTarget, Measurement, Qubit};
 pub use step::Step;

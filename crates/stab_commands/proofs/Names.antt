@@ -69,7 +69,7 @@ pub use Rattle.stab_lines.specs.Lines.{is_byte, content_of, ends_with_byte}
 pub use Rattle.stab_lines.specs.Words.{is_number, value}
 pub use Rattle.stab_pauli.specs.Paulis.{Signed, with_sign, minus}
 pub use Rattle.stab_pauli.specs.Texts.{pauli_text}
-pub use Rattle.stab_recording.specs.declared.run.Shot.{Shot}
+pub use Rattle.stab_recording.specs.declared.whole.Shot.{Shot}
 pub use Rattle.stab_regions.proofs.FaultTableLemmas.{deterministic-found}
 pub use Rattle.stab_regions.specs.FaultLaws.{DeterministicParities}
 pub use Rattle.stab_regions.specs.Faults.{AreDeterministic, IsDeterministic, bits_in}

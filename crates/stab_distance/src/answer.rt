@@ -1,5 +1,7 @@
+//! What a search answers, and who hears how far it is.
+
 /// The answer of a search for the least logical error of a table.
-#[derive(Drop)]
+#[derive(Debug, Drop)]
 pub enum Answer {
     /// A least logical error: the numbers of its rows in the table, in ascending order.
     Least(Vec<usize>),

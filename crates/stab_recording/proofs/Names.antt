@@ -141,7 +141,7 @@ pub use Rattle.stab_recording.specs.declared.replay.Plan.{Plan}
 pub use Rattle.stab_recording.specs.declared.replay.Replay.{Replay}
 pub use Rattle.stab_recording.specs.declared.rest.OldRest.{OldRest}
 pub use Rattle.stab_recording.specs.declared.rest_frame.RestFrame.{RestFrame}
-pub use Rattle.stab_recording.specs.declared.run.Shot.{Shot}
+pub use Rattle.stab_recording.specs.declared.whole.Shot.{Shot}
 pub use Rattle.stab_recording.specs.inner.Advanced.{behind_rounds}
 pub use Rattle.stab_recording.specs.inner.Arrivals.{IsArrival}
 pub use Rattle.stab_recording.specs.inner.FoldedReplays.{IsRoundsBehind, IsAlike, MayComeAgain, IsFolding, IsSegment, HasCopied, MayGoOver, HasFramed, HasStringsAgain, with_folded, IsAsAt, DiffersFrom, IsOfOwn, StandsAs, IsFound, IsEndIn, HasGone}

@@ -3,13 +3,11 @@
 //! In the order in which data flows; each module uses only those before it, except that `rest_frame`, `moved`, `laying`, `rhythm`,
 //! `earlier`, `folding_again` and `runs` add calls to the replay of `replay`:
 //!
-//! - `bits`: whether there is a 1 among bits.
 //! - `checkpoint`: checkpoints, which are copies of the state before a step; when they are kept, and how they move.
 //! - `meeting`: whether another run agrees with a checkpoint, or a run with one of its own again.
 //! - `folding`: what a run gave, given again.
 //! - `frames_between`: the frame by which a run differs from a checkpoint.
 //! - `framed_copies`: what a run gave, given again as a frame changes it.
-//! - `run`: what a run gives.
 //! - `states`, `rest_of_run`: states that a frame changes, and a frame over the rest of a run.
 //! - `rest_frame`, `moved`, `laying`, `rhythm`, `earlier`, `folding_again`, `replay`: a run from a checkpoint on, up to a
 //!   checkpoint of an older run at which they agree, or from which a frame goes on; where its checkpoints are, and
@@ -42,7 +40,6 @@
 //! private contracts cite.
 #![tactic(auto)]
 
-mod bits;
 mod checkpoint;
 mod conjugating;
 mod counting;
@@ -63,7 +60,6 @@ mod rest;
 mod rest_frame;
 mod rest_of_run;
 mod rhythm;
-mod run;
 mod runs;
 mod sampler;
 mod states;
@@ -71,22 +67,21 @@ mod together;
 mod whole;
 mod with_pivots;
 
-pub use bits::has_one;
 pub use checkpoint::{Checkpoint, Meeting, count_before, lay_all, shifted, take_moved};
 pub use counting::lengths_behind;
 pub use flips::{flip_outputs, sum_additions};
 pub use folding::{give_again, part_between};
 pub use framed_copies::{append_framed, lengths_propagated, pivot_again};
 pub use frames_between::frame_between;
-pub use meeting::{are_fixed, comes_again, may_have_coin, meets};
+pub use meeting::{are_fixed, comes_again, has_one, may_have_coin, meets};
 pub use opening::record_run;
 pub use past_places::{PauliChange, propagate_places};
 pub use recording::{Followed, Recording};
 pub use replay::{End, Plan, Replay};
 pub use rest_frame::RestFrame;
 pub use rest_of_run::propagate_rest;
-pub use run::Shot;
 pub use sampler::{Sampler, run_once};
 pub use states::{apply_frame, framed_checkpoint};
 pub use together::taken_together;
+pub use whole::Shot;
 pub use with_pivots::{RunWithPivots, run_with_pivots};

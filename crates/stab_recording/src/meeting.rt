@@ -8,7 +8,6 @@ ghost use Rattle.stab_run.specs.Records.{ones};
 ghost use Rattle.stab_run.specs.ProgramStates.{output_of};
 ghost use Rattle.stab_recording.specs.Meets.{Meets, ComesAgain};
 
-use crate::bits::has_one;
 use crate::checkpoint::Checkpoint;
 use stab_io::Refusal;
 use stab_pauli::Pauli;
@@ -235,4 +234,17 @@ fn end_alike(bits: &[bool], others: &[bool], count: usize) -> bool
     ensures value { IsTrue result ↔ (drop (length bits.now - count) bits.now ≡ drop (length others.now - count) others.now) }
 {
     last(bits, count) == last(others, count)
+}
+
+/// Whether there is a 1 among bits.
+pub fn has_one(bits: &[bool]) -> bool
+    ensures one { result ≡ true → 1 ≤ ones bits.now }
+    ensures none { result ≡ false → ones bits.now ≡ 0 }
+{
+    for bit in bits {
+        if *bit {
+            return true;
+        }
+    }
+    false
 }

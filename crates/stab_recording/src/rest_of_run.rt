@@ -6,8 +6,8 @@ ghost use Rattle.stab_run.specs.ProgramStates.{StepFits};
 ghost use Rattle.stab_frames.specs.Propagations.{IsPlaced};
 ghost use Rattle.stab_recording.specs.RestFrames.{AreInOrder, Stabilise, FramesSome, IsRestFrame};
 
-use crate::bits::has_one;
 use crate::checkpoint::Checkpoint;
+use crate::meeting::has_one;
 use crate::states::framed_checkpoint;
 use stab_circuit::Cursor;
 use stab_frames::{Pivots, Propagation, Stop, propagate_steps};

@@ -8,8 +8,7 @@ ghost use Rattle.stab_run.specs.Runs.{run_of};
 ghost use Rattle.stab_run.specs.Points.{all_coins_of};
 ghost use Rattle.stab_run.specs.Laws.{DependsOnCoinsAt};
 
-use crate::run::Shot;
-use crate::whole::run_whole;
+use crate::whole::{Shot, run_whole};
 use stab_circuit::{Circuit, Repeat};
 use stab_io::{Fault, Refusal};
 use stab_rounds::find_rounds;

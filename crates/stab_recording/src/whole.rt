@@ -12,12 +12,24 @@ ghost use Rattle.stab_run.specs.Points.{all_coins_of, with_additions};
 ghost use Rattle.stab_recording.specs.inner.Shots.{IsShotOf};
 
 use crate::replay::Replay;
-use crate::run::Shot;
 use crate::runs::pivots_of_frames;
 use stab_circuit::{Circuit, Repeat};
 use stab_io::Refusal;
 use stab_run::{Coins, Outputs, observables as summed};
 use std::alloc::{AllocError, Global};
+
+/// What one run of a circuit gives; true stands for 1.
+#[derive(Drop)]
+pub struct Shot {
+    /// The records, one for each measured target that has one.
+    pub records: Vec<bool>,
+    /// For each coin number, whether the coin decided the outcome.
+    pub free: Vec<bool>,
+    /// The parity of each detector's records.
+    pub detectors: Vec<bool>,
+    /// The parity of each observable's records, in the order of their numbers.
+    pub observables: Vec<bool>,
+}
 
 /// Carries out all steps of a circuit on n qubits that are 0 at first. Rounds, of a block or written out, are carried out until a state
 /// comes again; from there on they give again what they gave, or a frame is propagated over them. There is room for this many records

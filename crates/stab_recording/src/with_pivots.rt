@@ -8,8 +8,7 @@ ghost use Rattle.stab_circuit.specs.Views.{circuit_items};
 ghost use Rattle.stab_recording.specs.RunsWithPivots.{IsRunWithPivots};
 
 use crate::replay::Replay;
-use crate::run::Shot;
-use crate::whole::shot_of;
+use crate::whole::{Shot, shot_of};
 use stab_circuit::Circuit;
 use stab_frames::{PivotRecorder, Pivots};
 use stab_io::Refusal;

@@ -63,7 +63,7 @@ pub use Rattle.stab_pauli.specs.Paulis.{Signed, single, strings_anticommute, str
 pub use Rattle.stab_recording.proofs.AdvancedLemmas.{coins-on}
 pub use Rattle.stab_recording.proofs.AgainLemmas.{more-rounds, behind-later, repeat-here, repeats-behind, behind-more}
 pub use Rattle.stab_recording.specs.RunsWithPivots.{IsRunWithPivots}
-pub use Rattle.stab_recording.specs.declared.run.Shot.{Shot}
+pub use Rattle.stab_recording.specs.declared.whole.Shot.{Shot}
 pub use Rattle.stab_recording.specs.inner.Advanced.{behind_rounds}
 pub use Rattle.stab_results.proofs.GroupLemmas.{next_group}
 pub use Rattle.stab_results.specs.Formats.{number, b8_bytes}

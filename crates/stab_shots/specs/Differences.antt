@@ -5,7 +5,7 @@ use Rattle.stab_gates.specs.declared.letter.Letter.{Letter}
 use Rattle.stab_pauli.specs.Paulis.{Signed}
 use Rattle.stab_circuit.specs.Steps.{Step}
 use Rattle.stab_run.specs.Points.{RunOutput, joined, all_coins_of, with_additions}
-use Rattle.stab_recording.specs.declared.run.Shot.{Shot}
+use Rattle.stab_recording.specs.declared.whole.Shot.{Shot}
 use Rattle.stab_frames.specs.Flips.{flipped}
 use Rattle.stab_frames.specs.Frames.{Frame}
 use Rattle.stab_frames.specs.RunPivots.{RunPivots, changed}

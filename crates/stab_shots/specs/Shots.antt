@@ -2,7 +2,7 @@
 -- Source: this project's own.
 use Rattle.std.specs.Prelude.{◌≡◌, ℕ, ◌<◌, Bool, List, length, slice_index_or}
 use Rattle.stab_circuit.specs.Items.{Items}
-use Rattle.stab_recording.specs.declared.run.Shot.{Shot}
+use Rattle.stab_recording.specs.declared.whole.Shot.{Shot}
 use Rattle.stab_run.specs.Runs.{run_of}
 use Rattle.stab_shots.specs.declared.shots.Shots.{Shots}
 use Rattle.stab_shots.specs.Lanes.{lane_bits}

@@ -3,6 +3,7 @@
 //! - `tableau`: a state, its gates, the sign of any Pauli, measurements, stabilisers and destabilisers, and states
 //!   that are kept in little memory.
 //! - `collapse`: what a measurement answers, and what it does to the rows of a state.
+//! - `observable`: what is measured, a string or a letter on a qubit.
 //! - `table`: the two rows that a state keeps for each qubit, all in one allocation.
 //! - `supports`: at which places the rows of 32 qubits may have X or Y, so that a measurement looks at no rows in vain.
 //! - `inverse_rows`: how gates change the rows of a qubit.

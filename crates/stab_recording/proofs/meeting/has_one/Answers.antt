@@ -1,6 +1,6 @@
 use Rattle.stab_recording.proofs.Names.{arith}
 use Rattle.stab_recording.proofs.BitLemmas.{none-further, counted}
-use Rattle.stab_recording.proofs.bits.has_one.Goals as goal
+use Rattle.stab_recording.proofs.meeting.has_one.Goals as goal
 
 pub returns-then-bit-clause-one : goal.returns-then-bit-clause-one
 returns-then-bit-clause-one c = λ e. omega (arith, counted c.loop-bit.bit-index c.args.bits.now c.if-bit.true)
