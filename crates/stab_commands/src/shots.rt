@@ -3,7 +3,7 @@
 //! All shots of a list of coins are the same run, which is made once; so is a shot of a seed that is alone. More shots of a seed are
 //! run by batches of lanes, all propagated over one run by its pivots. If these take too much memory, each batch has a run made for it,
 //! which is recorded in parts.
-ghost use Rattle.std.specs.Prelude.{◌≡◌, ℕ, ◌+◌, ◌<◌, ◌≤◌, None, IfOk, IfSome, IfErr};
+ghost use Rattle.std.specs.Prelude.{◌≡◌, ℕ, ◌+◌, ◌*◌, ◌<◌, ◌≤◌, None, IfOk, IfSome, IfErr};
 ghost use Rattle.stab_io.specs.Refusals.{whole};
 ghost use Rattle.stab_io.specs.declared.refusal.Refusal.TheVariants.{OutOfMemory};
 ghost use Rattle.stab_circuit.specs.Items.{Items};
@@ -25,7 +25,7 @@ use stab_jobs::{Shots, Source};
 use stab_recording::run_once;
 use stab_results::{Format, Kinds};
 use stab_run::{Coins, ListCoins, SeedCoins};
-use stab_shots::{LaneCoins, Reference, SeedLanes, Shots as LaneShots, Wide, Word, run_lanes};
+use stab_shots::{Draw, Reference, SeedLanes, Shots as LaneShots, Wide, Word, run_lanes};
 use std::alloc::Global;
 
 /// Runs a circuit once, and writes what is shown of it this many times.
@@ -47,7 +47,7 @@ fn send_copies<O: Output, C: Coins>(
 
 /// Runs this many shots, at most as many as there are lanes, with the coins of the lanes, and writes what is shown of each. What
 /// the shots give replaces what the lists had.
-fn send_batch<O: Output, W: Word, C: LaneCoins<W>>(
+fn send_batch<O: Output, W: Word, C: Draw<W>>(
     alloc: Global,
     circuit: &Circuit,
     reference: Option<&Reference>,
@@ -85,7 +85,7 @@ fn send_batch<O: Output, W: Word, C: LaneCoins<W>>(
 }
 
 /// Runs this many shots of a seed from a first one on, by batches of this many lanes, and writes what is shown of each.
-fn send_batches<O: Output, W: Word, C: LaneCoins<W>>(
+fn send_batches<O: Output, const N: usize>(
     alloc: Global,
     circuit: &Circuit,
     reference: Option<&Reference>,
@@ -100,15 +100,16 @@ fn send_batches<O: Output, W: Word, C: LaneCoins<W>>(
     requires checked { check_of (circuit_items circuit.now) ≡ None }
     requires reference { IfSome reference (λ r. IsReference (qubits_of (circuit_items circuit.now)) (circuit_items circuit.now) r.now) }
     requires some { 0 < lanes }
-    requires few { lanes ≤ W.lanes }
+    requires few { lanes ≤ 64 * N }
+    requires narrow { N ≤ 16 }
     requires in_range { first + shots ≤ shots_of_seed }
     ensures sends { SendsUnflushed (of_shots (λ shot. shown_bytes format shown (run_of (qubits_of (circuit_items circuit.now)) (seed_coin seed shot) (circuit_items circuit.now))) first shots) (O.seen out.old) (O.seen out.new) result }
 {
-    let mut lists: LaneShots<W> = LaneShots::with_room(alloc, circuit.records())?;
+    let mut lists: LaneShots<Wide<N>> = LaneShots::with_room(alloc, circuit.records())?;
     let mut sent = 0;
     while sent < shots {
         let batch = (shots - sent).min(lanes);
-        let mut coins = C::of_seed(seed, first + sent as u64, batch);
+        let mut coins = SeedLanes::<N>::of_seed(seed, first + sent as u64, batch);
         send_batch(
             alloc, circuit, reference, out, format, shown, &mut coins, &mut lists, batch,
         )?;
@@ -139,19 +140,19 @@ fn send_wide<O: Output>(
     ensures sends { SendsUnflushed (of_shots (λ shot. shown_bytes format shown (run_of (qubits_of (circuit_items circuit.now)) (seed_coin seed shot) (circuit_items circuit.now))) first shots) (O.seen out.old) (O.seen out.new) result }
 {
     if lanes <= 64 {
-        send_batches::<O, Wide<1>, SeedLanes<1>>(
+        send_batches::<O, 1>(
             alloc, circuit, reference, out, format, shown, seed, first, shots, lanes,
         )
     } else if lanes <= 256 {
-        send_batches::<O, Wide<4>, SeedLanes<4>>(
+        send_batches::<O, 4>(
             alloc, circuit, reference, out, format, shown, seed, first, shots, lanes,
         )
     } else if lanes <= 512 {
-        send_batches::<O, Wide<8>, SeedLanes<8>>(
+        send_batches::<O, 8>(
             alloc, circuit, reference, out, format, shown, seed, first, shots, lanes,
         )
     } else {
-        send_batches::<O, Wide<16>, SeedLanes<16>>(
+        send_batches::<O, 16>(
             alloc, circuit, reference, out, format, shown, seed, first, shots, lanes,
         )
     }

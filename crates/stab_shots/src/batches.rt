@@ -11,7 +11,7 @@ ghost use Rattle.stab_shots.specs.References.{IsReference};
 ghost use Rattle.stab_shots.specs.Seeds.{shot_coins};
 ghost use Rattle.stab_shots.specs.Shots.{AreRuns, IsShot, AreShots};
 
-use crate::coins::{LaneCoins, SeedLanes};
+use crate::coins::SeedLanes;
 use crate::lanes::write_lane;
 use crate::reference::Reference;
 use crate::run::run_checked_batch;
@@ -66,32 +66,31 @@ fn push_lanes<W: Word>(
     Ok(())
 }
 
-/// Runs this many shots of a seed from a first one on, by batches of this many lanes.
-fn run_batches<W: Word, C: LaneCoins<W>>(
+/// Runs this many shots of a seed from a first one on, by batches of 64 * N.
+fn run_batches<const N: usize>(
     alloc: Global,
     circuit: &Circuit,
     n: usize,
     seed: u64,
     first: u64,
     number: usize,
-    lanes: usize,
 ) -> Result<Vec<Shot>, Refusal>
     requires in_range { n ≤ most_qubits }
     requires checked { check_within n (circuit_items circuit.now) ≡ None }
-    requires some { 0 < lanes }
-    requires few { lanes ≤ W.lanes }
+    requires some { 0 < N }
+    requires few { N ≤ 4 }
     ensures number { IfOk result (λ s. length s.items ≡ number) }
     ensures shots { IfOk result (λ s. AreShots n (shot_coins seed first) (circuit_items circuit.now) s.items) }
     ensures err { IfErr result (λ r. r ≡ OutOfMemory) }
 {
     let mut shots = Vec::with_capacity(alloc, number)?;
-    let mut lists: Shots<W> = Shots::with_room(alloc, circuit.records())?;
+    let mut lists: Shots<Wide<N>> = Shots::with_room(alloc, circuit.records())?;
     let found = Reference::of_checked(alloc, circuit, n)?;
     let reference = found.as_ref();
     let mut made = 0;
     while made < number {
-        let batch = (number - made).min(lanes);
-        let mut coins = C::of_seed(seed, first.wrapping_add(made as u64), batch);
+        let batch = (number - made).min(64 * N);
+        let mut coins = SeedLanes::<N>::of_seed(seed, first.wrapping_add(made as u64), batch);
         run_checked_batch(alloc, circuit, n, reference, &mut coins, &mut lists)?;
         push_lanes(alloc, &lists, batch, &mut shots)?;
         made += batch;
@@ -115,9 +114,9 @@ fn run_by_number(
     ensures err { IfErr result (λ r. r ≡ OutOfMemory) }
 {
     if number <= 64 {
-        run_batches::<Wide<1>, SeedLanes<1>>(alloc, circuit, n, seed, first, number, 64)
+        run_batches::<1>(alloc, circuit, n, seed, first, number)
     } else {
-        run_batches::<Wide<4>, SeedLanes<4>>(alloc, circuit, n, seed, first, number, 256)
+        run_batches::<4>(alloc, circuit, n, seed, first, number)
     }
 }
 

@@ -21,14 +21,6 @@ pub trait Draw<W: Word>: Drop {
         ensures same { sequences self.new ≡ sequences self.old };
 }
 
-/// The coins of shots of a seed, one in each lane.
-pub trait LaneCoins<W: Word>: Draw<W> {
-    /// The coins of this many shots of a seed from a first one on. Numbers of shots go on from 2^64 - 1 with 0. Of further lanes
-    /// none is made.
-    fn of_seed(seed: u64, first: u64, count: usize) -> Self
-        ensures value { (l t : ℕ) → l < count → Self.sequences result l t ≡ seed_coin seed ((first + l) % 2 ^ 64) t };
-}
-
 /// This many shots of a seed, numbered one after another from a first one on. Numbers go on from 2^64 - 1 with 0.
 #[derive(Clone, Copy)]
 pub(crate) struct SeededShots {
@@ -84,6 +76,20 @@ impl<const N: usize> Model for SeedLanes<N> {
     ghost invariant = { λ c. ForSome c.group (λ group. AreCoinsOfParts c.shots group N c.parts) };
 }
 
+impl<const N: usize> SeedLanes<N> {
+    /// The coins of this many shots of a seed from a first one on. Numbers of shots go on from 2^64 - 1 with 0. Of further lanes
+    /// none is made.
+    pub fn of_seed(seed: u64, first: u64, count: usize) -> SeedLanes<N>
+        ensures value { (l t : ℕ) → l < count → lane_coin result l t ≡ seed_coin seed ((first + l) % 2 ^ 64) t }
+    {
+        SeedLanes {
+            shots: SeededShots { seed, first, count },
+            group: None,
+            parts: [[0; 64]; N],
+        }
+    }
+}
+
 impl<const N: usize> Draw<Wide<N>> for SeedLanes<N> {
     ghost sequences = { lane_coin };
 
@@ -94,16 +100,6 @@ impl<const N: usize> Draw<Wide<N>> for SeedLanes<N> {
             self.group = Some(group);
         }
         Wide::new(coins_at(&self.parts, (t % 64) as usize))
-    }
-}
-
-impl<const N: usize> LaneCoins<Wide<N>> for SeedLanes<N> {
-    fn of_seed(seed: u64, first: u64, count: usize) -> SeedLanes<N> {
-        SeedLanes {
-            shots: SeededShots { seed, first, count },
-            group: None,
-            parts: [[0; 64]; N],
-        }
     }
 }
 

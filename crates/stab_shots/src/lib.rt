@@ -59,7 +59,7 @@ mod word;
 
 pub use batches::run_shots;
 pub use blocks::{write_blocks, write_bytes, write_part, write_row};
-pub use coins::{Draw, LaneCoins, SeedLanes};
+pub use coins::{Draw, SeedLanes};
 pub use flips::flip_bits;
 pub use lanes::write_lane;
 pub use reference::Reference;

@@ -1,4 +1,5 @@
-use Rattle.stab_shots.proofs.Names.{arith, ◌∙◌, ◌+◌, ◌<◌, ap, subst, circuit_items, shot_coins, IsReference, AreRuns}
+use Rattle.stab_shots.proofs.Names.{arith, ◌∙◌, ◌+◌, ◌*◌, ◌<◌, ap, subst, circuit_items, shot_coins, wide_bit, IsReference, AreRuns}
+use Rattle.stab_shots.specs.declared.wide.Wide.{Wide}
 use Rattle.stab_shots.proofs.BatchLemmas.{lane-coins}
 use Rattle.stab_shots.proofs.RecordedLemmas.{if-copied}
 use Rattle.stab_shots.proofs.batches.run_batches.Goals as goal
@@ -17,8 +18,8 @@ loop-made-preserved g c =
       number = c.in_ok-push_lanes.ensures.number ∙ ap (λ k. k + c.min-batch.result) so_far.number;
       shots = c.in_ok-push_lanes.ensures.shots c.args.n (shot_coins c.args.seed c.args.first) items so_far.shots
           (λ l less.
-          let within : l < g.W.Word.lanes = omega (arith, less, c.min-batch.ensures, c.requires.few) in
-          subst (λ coins. AreRuns g.W.Word.at l c.args.n coins items c.run_checked_batch.new.shots)
+          let within : l < 64 * g.row.N = omega (arith, less, c.min-batch.ensures) in
+          subst (λ coins. AreRuns (λ (w : Wide g.row.N). wide_bit w.words) l c.args.n coins items c.run_checked_batch.new.shots)
           (lane-coins c.args.seed c.args.first c.loop-made.made _ l _ so_far.number (λ t. c.of_seed-coins.ensures.value l t less))
           (c.in_ok-run_checked_batch.ensures.runs l within));
     }
