@@ -98,28 +98,6 @@ fn run_batches<const N: usize>(
     Ok(shots)
 }
 
-/// Runs this many shots of a seed from a first one on, 64 at once if there are no more, else 256.
-fn run_by_number(
-    alloc: Global,
-    circuit: &Circuit,
-    n: usize,
-    seed: u64,
-    first: u64,
-    number: usize,
-) -> Result<Vec<Shot>, Refusal>
-    requires in_range { n ≤ most_qubits }
-    requires checked { check_within n (circuit_items circuit.now) ≡ None }
-    ensures number { IfOk result (λ s. length s.items ≡ number) }
-    ensures shots { IfOk result (λ s. AreShots n (shot_coins seed first) (circuit_items circuit.now) s.items) }
-    ensures err { IfErr result (λ r. r ≡ OutOfMemory) }
-{
-    if number <= 64 {
-        run_batches::<1>(alloc, circuit, n, seed, first, number)
-    } else {
-        run_batches::<4>(alloc, circuit, n, seed, first, number)
-    }
-}
-
 /// Runs this many shots of a seed from a first one on, on n qubits, at most 1,024. Numbers of shots go on from 2^64 - 1 with 0.
 ///
 /// Each shot is the run that `stab_recording::run_once` makes with `SeedCoins` of its number. The tableau goes through the circuit
@@ -139,5 +117,9 @@ pub fn run_shots(
     ensures refused { Refuses result (check_within n (circuit_items circuit.now)) }
 {
     circuit.check(n)?;
-    run_by_number(alloc, circuit, n, seed, first, number).map_err(Fault::whole)
+    if number <= 64 {
+        run_batches::<1>(alloc, circuit, n, seed, first, number).map_err(Fault::whole)
+    } else {
+        run_batches::<4>(alloc, circuit, n, seed, first, number).map_err(Fault::whole)
+    }
 }

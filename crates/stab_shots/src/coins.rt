@@ -99,7 +99,9 @@ impl<const N: usize> Draw<Wide<N>> for SeedLanes<N> {
             write_parts(self.shots, group, &mut self.parts);
             self.group = Some(group);
         }
-        Wide::new(coins_at(&self.parts, (t % 64) as usize))
+        Wide {
+            words: coins_at(&self.parts, (t % 64) as usize),
+        }
     }
 }
 

@@ -1,4 +1,4 @@
-ghost use Rattle.std.specs.Prelude.{◌≡◌, ◌≤◌, ◌<◌, ◌^◌, None, true, min, is_some, length, IfOk, IfSome, IfErr};
+ghost use Rattle.std.specs.Prelude.{◌≡◌, ◌≤◌, None, true, min, is_some, length, IfOk, IfSome, IfErr};
 ghost use Rattle.stab_io.specs.declared.refusal.Refusal.TheVariants.{OutOfMemory};
 ghost use Rattle.stab_io.specs.Refusals.{Refuses};
 ghost use Rattle.stab_gates.specs.Limits.{most_qubits};
@@ -32,13 +32,6 @@ pub fn most_pivots(n: usize) -> usize
     ensures value { result ≡ most_of n }
 {
     4_194_304 / (n / 4 + 128)
-}
-
-/// More steps than any circuit has.
-pub fn all_steps() -> usize
-    ensures large { 2 ^ 63 ≤ result }
-{
-    usize::MAX
 }
 
 impl Reference {

@@ -16,7 +16,6 @@ use crate::coins::Draw;
 use crate::lanes::Lanes;
 use crate::measure::RecordedPivots;
 use crate::part::propagate_along;
-use crate::reference::all_steps;
 use crate::word::Word;
 use stab_circuit::{Circuit, Repeat};
 use stab_io::Refusal;
@@ -282,7 +281,7 @@ pub fn propagate_all<W: Word, D: Draw<W>>(
         draw,
         lanes,
         from,
-        all_steps(),
+        usize::MAX,
     )?;
     Ok(())
 }

@@ -7,17 +7,10 @@ use crate::word::Word;
 /// The bits of 64 * N lanes: that of lane l is bit l % 64 of word l / 64.
 #[derive(Clone, Copy)]
 pub struct Wide<const N: usize> {
-    words: [u64; N],
+    pub(crate) words: [u64; N],
 }
 
 impl<const N: usize> Wide<N> {
-    /// The bits of 64 * N lanes, of which each word has 64.
-    pub(crate) fn new(words: [u64; N]) -> Wide<N>
-        ensures value { result.words ≡ words.entry }
-    {
-        Wide { words }
-    }
-
     /// 1 in the lane of this number, if there is such a one, and 0 in all others.
     #[tactic(auto, using(crate::proofs::UnitLemmas::one_wide_bit, crate::proofs::UnitLemmas::no_wide_bit))]
     pub(crate) fn one(lane: usize) -> Wide<N>

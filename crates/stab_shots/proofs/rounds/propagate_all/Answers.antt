@@ -4,8 +4,8 @@ use Rattle.stab_shots.proofs.rounds.propagate_all.Goals as goal
 pub returns-clause-advanced : goal.returns-clause-advanced
 returns-clause-advanced g c =
     let items = circuit_items c.args.circuit.now in
-    let all = c.in_ok-from.from + c.all_steps.result in
+    let all = c.in_ok-from.from + 18446744073709551615 in
     subst (λ xs. ArePropagated g.W.Word.at g.W.Word.lanes c.args.recorded_pivots (g.D.Draw.sequences c.args.draw.now) xs c.propagate_along.new.number c.propagate_along.new.lanes)
-    (take_all all (unroll items) (omega (arith, c.all_steps.ensures.large, check-steps items (check-whole c.args.recorded_pivots.strings.now.qubits items c.requires.checked))))
+    (take_all all (unroll items) (omega (arith, check-steps items (check-whole c.args.recorded_pivots.strings.now.qubits items c.requires.checked))))
     (subst (λ coins. ArePropagated g.W.Word.at g.W.Word.lanes c.args.recorded_pivots coins (take all (unroll items)) c.propagate_along.new.number c.propagate_along.new.lanes)
     c.propagate_blocks.ensures.same_coins (c.in_ok-propagate_along.ensures {u = tt}).advanced)

@@ -8,6 +8,5 @@ returns-clause-value g c = λ l lt.
     let shots = c.self.inside.shots in
     let now = c.if-ne.self-inside in
     let are : AreCoinsOfParts shots (t / 64) g.row.N now.parts = search rules in
-    ap (λ words. wide_bit words l) c.new.ensures.value
-    ∙ coins-parts shots (t / 64) g.row.N t now.parts c.coins_at.result are c.coins_at.ensures.value refl l lt
+    coins-parts shots (t / 64) g.row.N t now.parts c.coins_at.result are c.coins_at.ensures.value refl l lt
     ∙ ap (λ s. lane_coin s l t) c.self.view_is
