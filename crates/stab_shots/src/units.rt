@@ -20,8 +20,13 @@ impl UnitWord for u64 {
 }
 
 impl<const N: usize> UnitWord for Wide<N> {
+    #[tactic(auto, using(crate::proofs::UnitLemmas::one_wide_bit, crate::proofs::UnitLemmas::no_wide_bit))]
     fn one(lane: usize) -> Wide<N> {
-        Wide::one(lane)
+        let mut words = [0; N];
+        if lane / 64 < N {
+            words[lane / 64] = 1 << (lane % 64);
+        }
+        Wide { words }
     }
 }
 

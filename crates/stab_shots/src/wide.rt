@@ -1,4 +1,4 @@
-ghost use Rattle.std.specs.Prelude.{◌≡◌, ◌==◌, ℕ, ◌*◌, ◌<◌};
+ghost use Rattle.std.specs.Prelude.{◌≡◌, ℕ, ◌*◌, ◌<◌};
 ghost use Rattle.stab_shots.specs.Words.{wide_bit};
 ghost use Rattle.std.proofs.Math.Nat.{mul-mod_right};
 
@@ -8,21 +8,6 @@ use crate::word::Word;
 #[derive(Clone, Copy)]
 pub struct Wide<const N: usize> {
     pub(crate) words: [u64; N],
-}
-
-impl<const N: usize> Wide<N> {
-    /// 1 in the lane of this number, if there is such a one, and 0 in all others.
-    #[tactic(auto, using(crate::proofs::UnitLemmas::one_wide_bit, crate::proofs::UnitLemmas::no_wide_bit))]
-    pub(crate) fn one(lane: usize) -> Wide<N>
-        ensures value { (l : ℕ) → l < 64 * N → wide_bit result.words l ≡ (l == lane) }
-    {
-        let mut words = [0; N];
-        if lane / 64 >= N {
-            return Wide { words };
-        }
-        words[lane / 64] = 1 << (lane % 64);
-        Wide { words }
-    }
 }
 
 impl<const N: usize> Word for Wide<N> {

@@ -1,4 +1,4 @@
-use Rattle.stab_shots.proofs.Names.{rules, refl, ◌/◌, ◌∙◌, ap, wide_bit, lane_coin, AreCoinsOfParts}
+use Rattle.stab_shots.proofs.Names.{rules, refl, ◌/◌, ◌∙◌, ap, lane_coin, AreCoinsOfParts}
 use Rattle.stab_shots.proofs.SeedLemmas.{coins-parts}
 use Rattle.stab_shots.proofs.coins.SeedLanesDrawWide.coins.Goals as goal
 
