@@ -13,11 +13,6 @@ checked_on_own_qubits items checked = rw (not_below (qubits_of items)) checked
 pub memory_alone : (A : Type 0) (f : Fault) (n : ℕ) (items : Items) → check_of items ≡ None → n ≡ qubits_of items → Refuses {A = A} (Err f) (check_within n items) → f ≡ whole OutOfMemory
 memory_alone A f n items checked e refuses = subst (λ given. Refuses {A = A} (Err f) given) (ap (λ m. check_within m items) e ∙ checked_on_own_qubits items checked) refuses
 
--- the same for any answer of a call
-pub memory_or_ok : {A : Type 0} (r : Result A Fault) (n : ℕ) (items : Items) → check_of items ≡ None → n ≡ qubits_of items → Refuses r (check_within n items) → IfErr r (λ f. f ≡ whole OutOfMemory)
-memory_or_ok (Ok x) n items checked e refuses = tt
-memory_or_ok {A = A} (Err f) n items checked e refuses = memory_alone A f n items checked e refuses
-
 -- an error that is passed on is no value
 pub passed_no_value : {T : Type 0} (P : T → Type 0) (f : Fault) (r : Result T Fault) → IsErrAnd r (λ y. y ≡ f) → IfOk r P
 passed_no_value P f (Ok x) is = absurd is

@@ -9,10 +9,10 @@ pub use Rattle.std.proofs.lemmas.Nat.{and_mask}
 pub use Rattle.std.proofs.lemmas.Nat.Bits.{bit_at-lt}
 pub use Rattle.std.specs.Int.{bit_at}
 pub use Rattle.std.specs.List.{slice_split, flat_map}
-pub use Rattle.std.specs.Prelude.{All, IfOk, bytes_eq, IfErr, bit_and, IfSome}
+pub use Rattle.std.specs.Prelude.{All, IfOk, bytes_eq, IfErr, bit_and}
 pub use Rattle.std.specs.Result.{IsErrAnd}
 pub use Rattle.stab_analysis.proofs.CheckLaws.{steps_counted}
-pub use Rattle.stab_analysis.proofs.MemoryLaws.{memory_or_ok, memory_alone}
+pub use Rattle.stab_analysis.proofs.MemoryLaws.{memory_alone}
 pub use Rattle.stab_analysis.proofs.SendingLaws.{sent_batch, batches_break_off, sent_shot, shots_break_off, cut_off_as, sends_none, cut_off_here, sends_cut_off, sends_finished, parts_join}
 pub use Rattle.stab_analysis.proofs.RandomLaws.{first_random_is, deterministic_before, all_deterministic}
 pub use Rattle.stab_analysis.proofs.WritingLaws.{written}

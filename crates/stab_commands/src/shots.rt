@@ -3,9 +3,7 @@
 //! All shots of a list of coins are the same run, which is made once; so is a shot of a seed that is alone. More shots of a seed are
 //! run by batches of lanes, all propagated over one run by its pivots. If these take too much memory, each batch has a run made for it,
 //! which is recorded in parts.
-ghost use Rattle.std.specs.Prelude.{◌≡◌, ℕ, ◌+◌, ◌*◌, ◌<◌, ◌≤◌, None, IfOk, IfSome, IfErr};
-ghost use Rattle.stab_io.specs.Refusals.{whole};
-ghost use Rattle.stab_io.specs.declared.refusal.Refusal.TheVariants.{OutOfMemory};
+ghost use Rattle.std.specs.Prelude.{◌≡◌, ℕ, ◌+◌, ◌*◌, ◌<◌, ◌≤◌, None, IfSome};
 ghost use Rattle.stab_circuit.specs.Items.{Items};
 ghost use Rattle.stab_circuit.specs.Steps.{check_of, qubits_of};
 ghost use Rattle.stab_circuit.specs.Views.{circuit_items};
@@ -158,15 +156,6 @@ fn send_wide<O: Output>(
     }
 }
 
-/// The reference of a circuit, if it has one.
-fn reference_of(alloc: Global, circuit: &Circuit) -> Result<Option<Reference>, Fault>
-    requires checked { check_of (circuit_items circuit.now) ≡ None }
-    ensures reference { IfOk result (λ found. IfSome found (λ r. IsReference (qubits_of (circuit_items circuit.now)) (circuit_items circuit.now) r)) }
-    ensures err { IfErr result (λ f. f ≡ whole OutOfMemory) }
-{
-    Reference::of(alloc, circuit, circuit.qubits())
-}
-
 /// Runs this many shots of a seed from a first one on, in this many lanes at once, and writes what is shown of each. Shots that fill
 /// no batch go in no more lanes than they need.
 fn send_in_lanes<O: Output>(
@@ -189,7 +178,7 @@ fn send_in_lanes<O: Output>(
 {
     let lanes = lanes.min(shots);
     let full = shots - shots % lanes;
-    let found = reference_of(alloc, circuit)?;
+    let found = Reference::of(alloc, circuit, circuit.qubits())?;
     let reference = found.as_ref();
     send_wide(
         alloc, circuit, reference, out, format, shown, seed, first, full, lanes,
