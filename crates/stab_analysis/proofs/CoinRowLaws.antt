@@ -20,10 +20,6 @@ step_within n items r k are within =
     (sym (ap (λ l. get_or l k 0) are.steps ∙ get_or-map (step_of_coin (unroll items)) (free_coins n items) k 0 0 inside))
     (free-step-within (run_of n zero_coins items).free (unroll items) k (flags-of-run n zero_coins items) inside)
 
--- there are as many steps as coins
-pub steps_counted : (n : ℕ) (items : Items) (r : CoinRuns) → AreCoinRuns n items r → length r.steps.items ≡ length r.numbers.items
-steps_counted n items r are = ap length are.steps ∙ length-map (free_coins n items) (step_of_coin (unroll items)) ∙ sym (ap length are.numbers)
-
 -- lanes
 
 -- the lanes of all bits of a run

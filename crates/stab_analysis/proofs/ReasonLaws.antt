@@ -5,9 +5,6 @@ use Rattle.stab_analysis.proofs.CountLaws.{numbers_of_runs}
 
 -- numbers with a property
 
-no_more : (i : ℕ) → i + 0 ≡ i
-no_more i = omega arith
-
 -- those of this many and of the next
 pub where-next : (f : ℕ → Bool) (i k : ℕ) → numbers_where f i (suc k) ≡ numbers_where f i k ++ (if f (i + k) then (i + k) ∷ [] else [])
 where-next f i zero = ap (λ j. if f j then j ∷ [] else []) {x = i} {y = i + 0} (omega arith)
