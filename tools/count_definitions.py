@@ -23,7 +23,7 @@ THEOREMS = {
     "distance": ["stab_analysis.Distances.EndsDistance"],
     "edit": ["stab_commands.ScriptEndings.EndsPlainEdit"],
     "edit --framed": ["stab_commands.ScriptEndings.EndsEdit"],
-    "a job and its status": ["stab_commands.Jobs.EndsJob"],
+    "a job and its status": ["stab_cli.Jobs.EndsJob"],
     "what a session is": ["stab_session.Headline.IsRunOfItems", "stab_session.Sessions.IsSignIn", "stab_tableau.Reduced.AreReduced"],
     "an edit of a session": ["stab_session.SessionEdits.IsEditedBy", "stab_session.SessionEdits.IsAsBefore"],
 }

@@ -1,5 +1,5 @@
 pub mod Usages
-pub use Rattle.stab_commands.specs.Jobs
+pub mod Jobs
 pub use Rattle.stab_commands.specs.Outputs
 pub use Rattle.stab_args.specs.Coins
 pub use Rattle.stab_args.specs.Options

@@ -1,15 +1,20 @@
 //! The command line of stabsim: its words, and the jobs that they ask for.
 //!
-//! All names that a user of the program's parts needs, in one place. The words are those of `stab_args`, and the
-//! commands and jobs those of `stab_commands`, passed on; each crate says what is proved about them.
+//! All names that a user of the program's parts needs, in one place. The words are those of `stab_args`, the jobs those
+//! of `stab_jobs`, and the commands those of `stab_commands`, passed on; each crate says what is proved about them.
+//! Here is what answers the status of the program:
 //!
+//! - `status`: running a job.
 //! - `usage`: reporting words that ask for no job.
 //!
 //! Source: this project's own.
 //!
-//! Proved: `write_usage` writes the text of words that ask for no job, with its status (`specs/Usages.antt`).
+//! Proved: `run_job` carries what is proved of each command for a job, with its status and the lines that report its
+//! fault (`specs/Jobs.antt`). `write_usage` writes the text of words that ask for no job, with its status
+//! (`specs/Usages.antt`).
 #![tactic(auto)]
 
+mod status;
 mod usage;
 
 pub use stab_analysis::{
@@ -18,9 +23,12 @@ pub use stab_analysis::{
 };
 pub use stab_args::{CoinsFault, NO_COINS, Usage, parse_words, read_coins};
 pub use stab_commands::{
+    run_detect, run_detect_shots, run_edit, run_edit_watched, run_sample, run_sample_shots,
+    run_stabilisers,
+};
+pub use stab_jobs::{
     Command, DistanceOptions, ErrorLetters, FaultLayout, Job, QubitCount, Shots, Source, Stride,
-    run_detect, run_detect_shots, run_edit, run_edit_watched, run_job, run_job_watched, run_sample,
-    run_sample_shots, run_stabilisers,
 };
 pub use stab_script::{KeepsLog, LoggedInput, LoggedRead, NoWatcher, Watcher};
+pub use status::{run_job, run_job_watched};
 pub use usage::write_usage;

@@ -18,10 +18,10 @@ pub use Rattle.stab_analysis.proofs.RandomLaws.{first_random_is, deterministic_b
 pub use Rattle.stab_analysis.proofs.WritingLaws.{written}
 pub use Rattle.stab_analysis.specs.Deciders.{deciders}
 pub use Rattle.stab_analysis.specs.Deterministic.{IsDeterministicText}
-pub use Rattle.stab_analysis.specs.Distances.{IsDistanceText, answer_text, IsDistanceOf, IsRefusedFor, EndsDistance}
+pub use Rattle.stab_analysis.specs.Distances.{IsDistanceText, answer_text, IsDistanceOf, IsRefusedFor}
 pub use Rattle.stab_analysis.specs.Endings.{GaveCircuit, Sends}
 pub use Rattle.stab_analysis.specs.FaultLines.{refused_text}
-pub use Rattle.stab_analysis.specs.FaultTables.{IsFirstDecider, IsFirstRandom, EndsFaults, fault_of}
+pub use Rattle.stab_analysis.specs.FaultTables.{IsFirstDecider, IsFirstRandom}
 pub use Rattle.stab_analysis.specs.Places.{bit_of, path_of_bit, path_of_coin}
 pub use Rattle.stab_analysis.specs.Reasons.{DeterministicHasNoDecider}
 pub use Rattle.stab_analysis.specs.Rows.{lines_of, line_of}

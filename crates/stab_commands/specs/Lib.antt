@@ -8,5 +8,4 @@ pub mod ScriptEndings
 pub mod ScriptTurns
 pub use Rattle.stab_jobs.specs.Limits
 pub mod Stabilisers
-pub mod Jobs
 pub mod inner

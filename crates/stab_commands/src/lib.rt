@@ -16,13 +16,12 @@
 //! - `session_answers`: requests of a script, answered from a session.
 //! - `session_edit`: a script, answered from a session that is opened for it.
 //! - `edit`: the command that edits a circuit by a script.
-//! - `status`: running a job, with the status of the program.
 //! - `shot_laws`: outputs of parts are joined to that of all shots.
 //! - `script_laws`: each script has an answer, and no other if it asks for no distance.
 //! - `laws`: the laws of what commands write, passed on.
 //!
-//! Jobs are those of `stab_jobs`; the commands that write about a circuit in one go are those of `stab_analysis`, passed
-//! on; what the lines of a script ask for, and the texts of replies, are `stab_script`'s.
+//! The commands that write about a circuit in one go are those of `stab_analysis`, passed on; what the lines of a script
+//! ask for, and the texts of replies, are `stab_script`'s.
 //!
 //! Sources: Stim's commands `sample` and `detect` with its result formats, for the commands of those names;
 //! `docs/use/stim.md` says where they differ. How shots go through a circuit at once, all other commands and the script
@@ -35,9 +34,8 @@
 //! nothing of that. `run_stabilisers` ends by such cases, over the reduced rows of the state after shot 0; memory is then
 //! refused before the first row. `edit_circuit` writes exactly the replies that `specs/Scripts.antt` of `stab_script`
 //! gives for the script and the circuit's items, or ends by its own cases (`specs/ScriptEndings.antt`), and the reply to
-//! each line is written before more of the script is asked for (`specs/ScriptTurns.antt`). `run_job` carries the same for
-//! each command for a job, with its status and the lines that report its fault. `specs/inner/` has what only private
-//! contracts cite.
+//! each line is written before more of the script is asked for (`specs/ScriptTurns.antt`). `specs/inner/` has what
+//! only private contracts cite.
 #![tactic(auto)]
 
 mod bits;
@@ -56,7 +54,6 @@ mod session_edit;
 pub mod shot_laws;
 mod shots;
 mod stabilisers;
-mod status;
 mod widths;
 
 pub use bits::Shown;
@@ -68,9 +65,6 @@ pub use stab_analysis::{
     Bit, Decider, FaultsRefused, Progress, Random, Unwatched, run_check, run_coins,
     run_deterministic, run_distance, run_explain, run_faults, write_fault, write_refused,
 };
-pub use stab_jobs::{
-    Command, DistanceOptions, ErrorLetters, FaultLayout, Job, QubitCount, Shots, Source, Stride,
-};
+pub use stab_jobs::{DistanceOptions, ErrorLetters, FaultLayout, Shots, Source};
 pub use stab_script::{KeepsLog, LoggedInput, LoggedRead, NoWatcher, Watcher};
 pub use stabilisers::run_stabilisers;
-pub use status::{run_job, run_job_watched};

@@ -4,7 +4,7 @@
 //! - `files`: the files and streams that a run reads and writes.
 //! - `progress`: how far a search for a distance is.
 //!
-//! All that a job does is in `stab_commands`, and what words ask for in `stab_args`; here the words,
+//! All that a job does is in `stab_cli`, and what words ask for in `stab_args`; here the words,
 //! files, standard streams and the status meet.
 #![tactic(auto)]
 

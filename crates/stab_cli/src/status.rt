@@ -2,16 +2,13 @@
 ghost use Rattle.std.specs.Prelude.{◌≡◌, ◌≤◌, IfSome, None, false};
 ghost use Rattle.stab_gates.specs.Limits.{most_qubits};
 ghost use Rattle.stab_analysis.specs.FaultTables.{fault_of, random_of};
-ghost use Rattle.stab_commands.specs.Jobs.{EndsCommand, EndsJob, reads_script, refusing_none};
-ghost use Rattle.stab_commands.specs.Jobs.{CommandInTurn};
+ghost use Rattle.stab_cli.specs.Jobs.{CommandInTurn, EndsCommand, EndsJob, reads_script, refusing_none};
 
-use crate::edit::run_edit_watched;
-use crate::run::{run_detect_shots, run_sample_shots};
-use crate::stabilisers::run_stabilisers;
 use stab_analysis::{
     FaultsRefused, Progress, Unwatched, run_check, run_coins, run_deterministic, run_distance,
     run_explain, run_faults, write_refused,
 };
+use stab_commands::{run_detect_shots, run_edit_watched, run_sample_shots, run_stabilisers};
 use stab_io::{Fault, Input, Output};
 use stab_jobs::{Command, Job, QubitCount};
 use stab_script::{NoWatcher, Watcher};

@@ -1,5 +1,7 @@
-use Rattle.stab_commands.proofs.Names.{subst, sym, EndsFaults, fault_of, EndsDistance}
-use Rattle.stab_commands.proofs.status.run_command.Goals as goal
+use Rattle.std.proofs.Common.{subst, sym}
+use Rattle.stab_analysis.specs.Distances.{EndsDistance}
+use Rattle.stab_analysis.specs.FaultTables.{EndsFaults, fault_of}
+use Rattle.stab_cli.proofs.status.run_command.Goals as goal
 
 pub returns-in-Faults-clause-ends : goal.returns-in-Faults-clause-ends
 returns-in-Faults-clause-ends g c =
