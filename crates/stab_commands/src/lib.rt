@@ -9,16 +9,13 @@
 //! - `shots`: the shots of a circuit, written one after another.
 //! - `run`: the commands that write the shots of a circuit.
 //! - `stabilisers`: the command that writes the stabilisers of the state after a run.
-//! - `deterministic_bits`: which detectors and observables are the same for all random bits.
-//! - `distances`: the distance of a circuit.
-//! - `coin_replies`: the table of coins, and why a detector or an observable is random.
+//! - `circuit_replies`: what a script asks of its circuit as a whole: deterministic bits, coins and the distance.
 //! - `marks`: the bits that changes are counted from.
 //! - `session_answers`: requests of a script, answered from a session.
 //! - `session_edit`: a script, answered from a session that is opened for it.
 //! - `edit`: the command that edits a circuit by a script.
-//! - `shot_laws`: outputs of parts are joined to that of all shots.
 //! - `script_laws`: each script has an answer, and no other if it asks for no distance.
-//! - `laws`: the laws of what commands write, passed on.
+//! - `laws`: outputs of parts are joined to that of all shots; other laws of what commands write, passed on.
 //!
 //! The commands that write about a circuit in one go are those of `stab_analysis`, passed on; what the lines of a script
 //! ask for, and the texts of replies, are `stab_script`'s.
@@ -39,9 +36,7 @@
 #![tactic(auto)]
 
 mod bits;
-mod coin_replies;
-mod deterministic_bits;
-mod distances;
+mod circuit_replies;
 mod edit;
 mod lanes;
 pub mod laws;
@@ -51,7 +46,6 @@ mod run;
 pub mod script_laws;
 mod session_answers;
 mod session_edit;
-pub mod shot_laws;
 mod shots;
 mod stabilisers;
 mod widths;

@@ -1,7 +1,5 @@
 //! Answers from a session: edits of it, and what is shown of it.
-use crate::coin_replies::{show_coins, show_why};
-use crate::deterministic_bits::show_deterministic;
-use crate::distances::show_distance;
+use crate::circuit_replies::{show_coins, show_deterministic, show_distance, show_why};
 use crate::marks::{first_mark, mark_at};
 use stab_analysis::Bit;
 use stab_circuit::{Item, Path, read_item};

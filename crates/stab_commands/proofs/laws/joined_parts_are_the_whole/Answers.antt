@@ -1,6 +1,6 @@
 use Rattle.stab_commands.proofs.Names.{shot_bytes, detected, run_of_shot, parts_join}
 use Rattle.stab_results.specs.declared.format.Kinds.TheVariants.{Measurements}
-use Rattle.stab_commands.proofs.shot_laws.joined_parts_are_the_whole.Goals as goal
+use Rattle.stab_commands.proofs.laws.joined_parts_are_the_whole.Goals as goal
 
 pub returns : goal.returns
 returns c = record {

@@ -1,6 +1,6 @@
 use Rattle.stab_commands.proofs.Names.{circuit_items}
 use Rattle.stab_commands.proofs.DeterministicBitLaws.{deterministic_shown}
-use Rattle.stab_commands.proofs.deterministic_bits.show_deterministic.Goals as goal
+use Rattle.stab_commands.proofs.circuit_replies.show_deterministic.Goals as goal
 
 pub returns-clause-shows : goal.returns-clause-shows
 returns-clause-shows c =
