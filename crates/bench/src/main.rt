@@ -8,7 +8,7 @@
 //!
 //! - `work`: what is timed of a tableau.
 //! - `state`: the states that the works take.
-//! - `clock`: the processor time.
+//! - `clock`: the processor time. `failure`: why nothing was measured.
 //! - `columns`: lines of numbers.
 //! - `timing`: does each work, and prints the best of several rounds.
 //! - `reading`: the time to read a circuit text.

@@ -6,6 +6,9 @@
 //!
 //! All that a job does is in `stab_cli`, and what words ask for in `stab_args`; here the words,
 //! files, standard streams and the status meet.
+//!
+//! It is proved safe. What it writes to its streams is what `stab_cli` proves of its calls; that it opens the
+//! files that are named is tested.
 #![tactic(auto)]
 
 mod files;

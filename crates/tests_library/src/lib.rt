@@ -2,8 +2,19 @@
 //! examples.
 //!
 //! They are here, and not in the layers, because a crate with tests is proved twice: once for
-//! those who use it, and once more with its tests. Beside them are callers, in `clauses`, that
-//! are proved for what they ensure.
+//! those who use it, and once more with its tests.
+//!
+//! - `letters`, `paulis`, `texts`, `rows`: Pauli letters and strings, their texts, and rows of them.
+//! - `states`: stabiliser states. `devices`: inputs and outputs that fail.
+//! - `circuits`, `circuit_edits`, `cursors`, `gaps`, `step_items`: circuits, their edits and their steps.
+//! - `coins`, `samplers`: coins, and runs by them. `results`: entries of results.
+//! - `rounds`, `written`: rounds that come again, in blocks and written out, of the cases of `round_cases`.
+//! - `sessions`, `session_edits`: sessions that are refused, and what edits cost.
+//! - `distances`: the search for a least logical error.
+//! - `answers`: what is found beside what is wanted.
+//! - `clauses`: callers that are proved for what they ensure, and never run.
+//!
+//! It is proved safe. What it finds is tested, not proved.
 #![tactic(auto)]
 
 #[cfg(test)]

@@ -2,6 +2,11 @@
 //!
 //! It reads a circuit, runs it, takes two shots of it, opens a session on it, edits it, and prints what each step gives.
 //! `docs/build/library.md` goes through it, call by call.
+//!
+//! - `shown`: bits and rows as they are printed.
+//! - `failure`: why the tour ended early.
+//!
+//! It is proved safe, and nothing is claimed about what it prints.
 #![tactic(auto)]
 
 mod failure;
