@@ -1,5 +1,5 @@
 //! The coins that decide, and the steps at which they do.
-ghost use Rattle.std.specs.Prelude.{◌≡◌, ◌+◌, ◌<◌, ◌^◌, ◌++◌, ◌∷◌, [], All, drop, length, map, slice_index_or, take, if◌then◌else◌, false, None, IfOk, IfErr, OnOk};
+ghost use Rattle.std.specs.Prelude.{◌≡◌, ◌+◌, ◌<◌, ◌^◌, ◌++◌, ◌∷◌, [], All, drop, length, map, take, if◌then◌else◌, None, IfOk, IfErr, OnOk};
 ghost use Rattle.stab_io.specs.declared.refusal.Refusal.TheVariants.{OutOfMemory};
 ghost use Rattle.stab_circuit.specs.Steps.{check_of, unroll};
 ghost use Rattle.stab_circuit.specs.Cursors.{step_shown, IsApart};
@@ -10,6 +10,7 @@ ghost use Rattle.stab_coins.specs.Places.{step_of_coin};
 ghost use Rattle.stab_coins.specs.inner.Groups.{coins_together};
 
 use stab_circuit::{Circuit, Cursor, Step, Steps};
+use stab_frames::bit_at;
 use stab_io::Refusal;
 use std::alloc::{AllocError, Global};
 
@@ -46,13 +47,6 @@ fn coins_of_all(steps: Steps) -> usize
     }
 }
 
-/// Whether the coin of a number decides.
-fn is_free(free: &[bool], coin: usize) -> bool
-    ensures value { result ≡ slice_index_or free.now coin false }
-{
-    free.get(coin).copied().unwrap_or(false)
-}
-
 /// Puts a number after others, if it is to be put.
 fn push_if<T: Copy + Drop>(numbers: &mut Vec<T>, here: bool, number: T) -> Result<(), AllocError>
     ensures value { OnOk result (numbers.new.items ≡ numbers.old.items ++ (if here then number ∷ [] else [])) }
@@ -78,7 +72,7 @@ impl CoinPlaces {
         ensures steps { OnOk result (self.new.steps.items ≡ self.old.steps.items ++ one_places_from number (take count (drop coin free.now))) }
     {
         for taken in 0..count {
-            let here = is_free(free, coin + taken);
+            let here = bit_at(free, coin + taken);
             push_if(&mut self.numbers, here, (coin + taken) as u64)?;
             push_if(&mut self.steps, here, number + taken)?;
         }

@@ -15,16 +15,6 @@ module _ {A : Type 0} (letters : A → List Letter) where
       within : k < length strings
       within = omega (arith, lt, ap length same, length-map kept letters, length-map strings letters)
 
--- how many may be kept is no large number
-pub strings-few : (n : ℕ) → most_strings n ≤ 16777216
-strings-few n =
-    let within : most_strings n * bytes_of n ≤ 16777216 = div-mul-le_self 16777216 (bytes_of n) in
-    let apart : most_strings n * bytes_of n ≡ most_strings n * (n / 4) + 128 * most_strings n = times (most_strings n) (n / 4) in
-    omega (arith, within, apart)
-  where
-    times : (q c : ℕ) → q * (c + 128) ≡ q * c + 128 * q
-    times q c = grind arith
-
 -- strings with those from one number up to another after them again, one after another
 module _ (strings : List (List Letter)) (from to : ℕ) where
   abbrev others : List (List Letter)

@@ -56,7 +56,7 @@ mod propagation;
 pub mod run_laws;
 pub mod step_laws;
 
-pub use bits::{append_flipped, append_flipped_additions, between, count_ones};
+pub use bits::{append_flipped, append_flipped_additions, between, bit_at, count_ones};
 pub use framed_states::apply_frame_to;
 pub use letters::{Images, controlled_letter};
 pub use other_coins::propagate_with_coins;

@@ -271,34 +271,3 @@ module _ (m : ℕ) (p q : List ℕ) (lp : length p ≡ 8 * m) (lq : length q ≡
 pub record CoversBefore (k mask : ℕ) (row : List ℕ) : Type 0 where
   pub within : (b : ℕ) → chooses mask b ≡ true → b < k
   pub blank : (b : ℕ) → b < k → chooses mask b ≡ false → chunk (8 * b) 8 row ≡ replicate 8 0
-
-pub covers-none : (row : List ℕ) → CoversBefore 0 0 row
-covers-none row = record { within = λ b one. clash (chooses 0 b) one (none-chosen b); blank = λ b lt none. absurd (omega arith) }
-
-pub covers-free : (k mask : ℕ) (row : List ℕ) → CoversBefore k mask row → chooses mask k ≡ false
-covers-free k mask row covers = by_bit (chooses mask k) refl
-  where
-    by_bit : (b : Bool) → chooses mask k ≡ b → chooses mask k ≡ false
-    by_bit false e = e
-    by_bit true e = absurd (let lt = covers.within k e in omega arith)
-
-pub covers-more : (k mask : ℕ) (row : List ℕ) → CoversBefore k mask row → (next : ℕ) (some : Bool) → chooses next k ≡ some
-    → ((j : ℕ) → j ≢ k → chooses next j ≡ chooses mask j) → (some ≡ false → chunk (8 * k) 8 row ≡ replicate 8 0) → CoversBefore (k + 1) next row
-covers-more k mask row covers next some here others zeros = record {
-  within = λ b one. within b one (same_or_not b k);
-  blank = λ b lt none. blank b lt none (same_or_not b k);
-}
-  where
-    within : (b : ℕ) → chooses next b ≡ true → (b ≡ k) ⊎ (b ≢ k) → b < k + 1
-    within b one (inl e) = omega arith
-    within b one (inr ne) = let lt = covers.within b (sym (others b ne) ∙ one) in omega arith
-
-    blank : (b : ℕ) → b < k + 1 → chooses next b ≡ false → (b ≡ k) ⊎ (b ≢ k) → chunk (8 * b) 8 row ≡ replicate 8 0
-    blank b lt none (inl e) = ap (λ n. chunk (8 * n) 8 row) e ∙ zeros (sym here ∙ ap (chooses next) (sym e) ∙ none)
-    blank b lt none (inr ne) = covers.blank b (omega arith) (sym (others b ne) ∙ none)
-
-pub covers-all : (k m mask : ℕ) (row : List ℕ) → k ≡ m → CoversBefore k mask row → CoversLetters m mask row
-covers-all k m mask row e covers = record {
-  within = λ b lb one. let lt = covers.within b one in omega arith;
-  blank = λ b lt none. covers.blank b (omega arith) none;
-}

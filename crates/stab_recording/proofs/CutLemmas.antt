@@ -23,7 +23,3 @@ get-drop (suc k) j (x ∷ xs) = get-drop k j xs ∙ ap (slice_get (x ∷ xs)) (s
 
 pub ones-take : (c : ℕ) (bits : List Bool) → ones (take c bits) + ones (drop c bits) ≡ ones bits
 ones-take c bits = sym (ones-append (take c bits) (drop c bits)) ∙ ap ones (take-append-drop c bits)
-
--- no more of the first bits are 1 than of all
-pub ones-first : (k : ℕ) (bits : List Bool) → ones (take k bits) ≤ ones bits
-ones-first k bits = omega (arith, ones-take k bits)

@@ -81,10 +81,10 @@ pub use Rattle.stab_run.proofs.LookbackLemmas.{looked_up-near, looked_up-far, lo
 pub use Rattle.stab_run.proofs.PointLemmas.{outcomes-counted, flags-are-coins, records-are-records, rest-joined, front-output, HasAtMost, outputs-short, cut, rest-output, flags-given, records-gathered, flags-counted}
 pub use Rattle.stab_run.proofs.RecordLemmas.{ones-append}
 pub use Rattle.stab_run.proofs.RoundLemmas.{rounds-append, rounds-rounds, rounds-within, length-rounds, rounds-again}
-pub use Rattle.stab_run.proofs.RunLemmas.{after-append, outputs-append, joined-nothing, joined-assoc, IsRun-none, fits-steps, run-steps}
+pub use Rattle.stab_run.proofs.RunLemmas.{after-append, outputs-append, joined-nothing, joined-assoc, IsRun-none, fits-steps}
 pub use Rattle.stab_run.proofs.SoundLemmas.{sound-run}
 pub use Rattle.stab_run.proofs.StateLemmas.{run-state, run_of-same}
-pub use Rattle.stab_run.proofs.StepsLeftLemmas.{take-empty, drop-empty, take-none, drop-none, take-steps, drop-steps, take-all, asks-all}
+pub use Rattle.stab_run.proofs.StepsLeftLemmas.{take-empty, drop-empty, take-none, drop-none, take-steps, drop-steps, take-all}
 pub use Rattle.stab_run.specs.Cuts.{lengths_of, rest_of, front_of}
 pub use Rattle.stab_run.specs.Ends.{AgreeBack, with_coin}
 pub use Rattle.stab_run.specs.Laws.{AgreeAt, IsSoundRun, DependsOnCoinsAt}

@@ -18,23 +18,6 @@ near-front K a e (suc k) [] h most = h
 near-front K a e (suc k) (c ∷ cs) h most = (h.0, h.1, near-front K c.step e k cs h.2 most)
 
 module _ (n : ℕ) (coins : ℕ → Bool) (ys : List Step) where
-  -- before the first step
-  pub own-begins : (r : Replay) → IsAtStep n coins ys r → r.step ≡ 0 → r.applied ≡ 0 → r.framed ≡ 0 → r.laid.items ≡ [] → IsOwnRun n coins ys r
-  own-begins r at step applied framed laid = record {
-    replay = record {
-      at_step = at;
-      checkpoints = subst (All (IsCheckpoint n coins ys)) (sym laid) (λ k d lt. absurd (omega (arith, lt)));
-      near = subst (λ cs. Near (length ys) (0 ∷ checkpoint_steps cs ++ r.step ∷ [])) (sym laid) (omega arith, let le = at.within in omega (arith, le), tt);
-    };
-    counted = omega (arith, step, applied, framed);
-    order = omega arith;
-    within = omega arith;
-    ascending = at.within;
-    base = omega arith;
-    same = refl;
-    missed = λ number le lt. tt;
-  }
-
   -- some steps further
   pub own-on : (r s : Replay) → IsOwnRun n coins ys r → IsAtStep n coins ys s → s.laid.items ≡ r.laid.items → (s.applied + s.framed) + r.step ≡ (r.applied + r.framed) + s.step
       → r.step ≤ s.step → IsOwnRun n coins ys s

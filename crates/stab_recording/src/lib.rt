@@ -12,7 +12,7 @@
 //! - `rest_frame`, `moved`, `laying`, `rhythm`, `earlier`, `folding_again`, `replay`: a run from a checkpoint on, up to a
 //!   checkpoint of an older run at which they agree, or from which a frame goes on; where its checkpoints are, and
 //!   loop folding: rounds of a block that come again in it, exactly or up to a frame.
-//! - `together`, `runs`: short rounds, of which some are taken as one; runs, which are replays of all steps with no older run.
+//! - `together`, `runs`: which rounds of blocks are looked at; runs, which are replays of all steps with no older run.
 //! - `whole`, `with_pivots`, `sampler`: what a run gives; the same with a pivot for each random outcome; one circuit made ready for
 //!   many runs.
 //! - `counting`, `past_places`, `flips`: for edits by Pauli gates, how long a run's lists are after some steps, a frame
@@ -82,6 +82,6 @@ pub use rest_frame::RestFrame;
 pub use rest_of_run::propagate_rest;
 pub use sampler::{Sampler, run_once};
 pub use states::{apply_frame, framed_checkpoint};
-pub use together::taken_together;
+pub use together::{MOST_SINGLE, is_long, taken_together};
 pub use whole::Shot;
 pub use with_pivots::{RunWithPivots, run_with_pivots};

@@ -16,7 +16,7 @@ ghost use Rattle.stab_recording.specs.inner.Runs.{IsOwnRun};
 use crate::meeting::are_fixed;
 use crate::replay::Replay;
 use crate::rhythm::end_of;
-use crate::together::taken_together;
+use crate::together::{MOST_SINGLE, is_long, taken_together};
 use stab_circuit::{Circuit, Cursor, Repeat};
 use stab_frames::{PivotRecorder, Pivots};
 use stab_io::Refusal;
@@ -25,24 +25,12 @@ use stab_run::{Coins, Outputs};
 use stab_tableau::Tableau;
 use std::alloc::Global;
 
-/// How many rounds of a block are carried out one by one. All others are carried out in one go.
-const MOST_SINGLE: usize = 64;
-
-/// How many steps a block has at least for its rounds to be looked at.
-const LEAST_STEPS: usize = 2048;
-
 /// How many rounds a block has at least for a frame to be propagated over some.
 const LEAST_FRAMED: usize = 4;
 
 /// If no coin decided, a run waits this many rounds for a state that comes again with its signs: what is given again then costs
 /// nothing.
 const MOST_AWAITED: usize = 8;
-
-/// Whether a block has enough steps that it is worth looking whether its rounds come again: each look finds its place in
-/// the steps anew.
-fn is_long(repeat: Repeat) -> bool {
-    repeat.rounds.saturating_mul(repeat.length) >= LEAST_STEPS
-}
 
 /// Whether a frame can come to be propagated over rounds of a block.
 fn can_have_frame(repeats: &[Repeat]) -> bool {

@@ -1,4 +1,4 @@
-//! Short rounds, of which some are taken as one.
+//! Which rounds of a block are looked at, to see whether they come again: not those of few steps, of which some are taken as one.
 
 ghost use Rattle.std.specs.Prelude.{◌≡◌, ◌+◌, ◌*◌, ◌<◌, ◌≤◌, ◌^◌, List};
 ghost use Rattle.stab_circuit.specs.Steps.{Step};
@@ -6,11 +6,23 @@ ghost use Rattle.stab_circuit.specs.Repeats.{IsRepeat};
 
 use stab_circuit::Repeat;
 
+/// How many rounds of a block are looked at one by one. All others are gone over in one go.
+pub const MOST_SINGLE: usize = 64;
+
+/// How many steps a block has at least for its rounds to be looked at.
+const LEAST_STEPS: usize = 2048;
+
 /// How many steps a round has at least that is taken by itself: what is done at the end of one costs about as much as some hundred.
 const LEAST_TOGETHER: usize = 512;
 
 /// How many such rounds there are at least, so that enough are left for what comes again.
 const LEAST_ROUNDS: usize = 8;
+
+/// Whether a block has enough steps that it is worth looking whether its rounds come again: each look finds its place in
+/// the steps anew.
+pub fn is_long(repeat: Repeat) -> bool {
+    repeat.rounds.saturating_mul(repeat.length) >= LEAST_STEPS
+}
 
 /// The rounds of a repeat, or, if they are short, as many of them taken as one as make some hundred steps. Rounds that are left at
 /// the end are no part of it.

@@ -199,9 +199,3 @@ fits-steps n m xs ys rest e same fits =
       subst (All (StepFits m)) (take-append_seam ys rest) (All-take (StepFits m) (length ys) (ys ++ rest) all),
       subst (All (StepFits m)) (drop-append_seam ys rest) (All-drop (StepFits m) (length ys) (ys ++ rest) all),
     )
-
--- a run of the others, after one of the first
-pub run-steps : (n m : ℕ) (c d : ℕ → Bool) (xs ys rest : List Step) (a b new : ProgramState) → xs ≡ ys ++ rest → m ≡ n → d ≡ c
-    → IsRun m d ys a b → IsRun n c rest b new → IsRun n c xs a new
-run-steps n m c d xs ys rest a b new e same_size same_coins f g =
-    subst (λ zs. IsRun n c zs a new) (sym e) (IsRun-append n c ys rest a b new (IsRun-same n m c d ys a b same_size same_coins f) g)

@@ -43,7 +43,3 @@ take-whole (suc k) (x ∷ xs) l = ap (λ t. x ∷ t) (take-whole k xs (omega ari
 
 pub take-all : (from count : ℕ) (all : List Step) → length all ≤ from + count → take (from + count) all ≡ all
 take-all from count all enough = take-whole (from + count) all enough
-
-pub asks-all : (from count old mid new : ℕ) (all : List Step) → length all ≤ from + count → mid ≤ old + all_coins_of (take from all)
-    → new + all_coins_of (take from all) ≤ mid + all_coins_of (take (from + count) all) → new ≤ old + all_coins_of all
-asks-all from count old mid new all enough before behind = omega (arith, before, behind, ap all_coins_of (take-all from count all enough))

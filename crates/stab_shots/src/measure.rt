@@ -1,5 +1,5 @@
 //! One measurement, on lanes that are propagated over what is recorded of a run. Lanes keep flips in place of bits.
-ghost use Rattle.std.specs.Prelude.{◌≡◌, ℕ, ◌+◌, ◌<◌, false, All, length, slice_index_or, IfOk, OnOk};
+ghost use Rattle.std.specs.Prelude.{◌≡◌, ℕ, ◌+◌, ◌<◌, All, length, IfOk, OnOk};
 ghost use Rattle.stab_pauli.specs.Paulis.{Signed, single, strings_anticommute};
 ghost use Rattle.stab_lines.specs.Products.{names_twice};
 ghost use Rattle.stab_run.specs.Runs.{string_of};
@@ -11,7 +11,7 @@ use crate::coins::Draw;
 use crate::lanes::Lanes;
 use crate::word::Word;
 use stab_circuit::Factor;
-use stab_frames::Pivots;
+use stab_frames::{Pivots, bit_at};
 use stab_pauli::Letter;
 use std::alloc::AllocError;
 
@@ -21,13 +21,6 @@ use std::alloc::AllocError;
 pub struct RecordedPivots<'a> {
     pub strings: &'a Pivots,
     pub free: &'a [bool],
-}
-
-/// Whether the outcome of a coin number was random.
-fn is_random(free: &[bool], coin: usize) -> bool
-    ensures value { result ≡ slice_index_or free.now coin false }
-{
-    free.get(coin).copied().unwrap_or(false)
 }
 
 /// Propagates all lanes over the outcome of the next coin, by the lanes that anticommute with what is measured. Gives which
@@ -51,7 +44,7 @@ pub fn decide<W: Word, D: Draw<W>>(
 {
     let coin = lanes.free.len();
     lanes.free.push(false)?;
-    if !is_random(recorded_pivots.free, coin) {
+    if !bit_at(recorded_pivots.free, coin) {
         return Ok(anticommuting);
     }
     let flips = draw.coins(coin as u64);

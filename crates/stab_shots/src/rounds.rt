@@ -19,15 +19,9 @@ use crate::part::propagate_along;
 use crate::word::Word;
 use stab_circuit::{Circuit, Repeat};
 use stab_io::Refusal;
-use stab_recording::taken_together;
+use stab_recording::{MOST_SINGLE, is_long, taken_together};
 use stab_rounds::find_rounds;
 use std::alloc::{AllocError, Global};
-
-/// How many rounds of a block are gone over one by one, to see whether lanes come again. All others are gone over in one go.
-const MOST_SINGLE: usize = 64;
-
-/// How many steps a block has at least for its rounds to be looked at.
-const LEAST_STEPS: usize = 2048;
 
 /// Gives what lanes flip in those rounds after the ones done in which they flip again what they flipped since a checkpoint: whole
 /// periods. Says how many rounds are done then.
@@ -192,7 +186,7 @@ fn propagate_block<W: Word, D: Draw<W>>(
     ensures advanced { IfOk result (λ next. ArePropagated W.at W.lanes recorded_pivots.entry (D.sequences draw.old) (take next (unroll (circuit_items circuit.now))) number.new lanes.new) }
     ensures err { IfErr result (λ r. r ≡ OutOfMemory) }
 {
-    if repeat.rounds.saturating_mul(repeat.length) < LEAST_STEPS {
+    if !is_long(repeat) {
         return Ok(from);
     }
     let before = repeat.first - from;

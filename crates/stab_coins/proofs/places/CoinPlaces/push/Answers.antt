@@ -3,8 +3,8 @@ use Rattle.stab_coins.proofs.places.CoinPlaces.push.Goals as goal
 
 pub loop-taken-preserved : goal.loop-taken-preserved
 loop-taken-preserved c = record {
-  numbers = places-put c.args.self.now.numbers.items _ _ c.args.coin c.args.coin c.loop-taken.taken c.args.free.now c.is_free-here.result c.loop-taken.invariant.numbers
-      c.is_free-here.ensures.value c.in_ok-push_if.ensures.value;
-  steps = places-put c.args.self.now.steps.items _ _ c.args.number c.args.coin c.loop-taken.taken c.args.free.now c.is_free-here.result c.loop-taken.invariant.steps
-      c.is_free-here.ensures.value c.in_ok-push_if-2.ensures.value;
+  numbers = places-put c.args.self.now.numbers.items _ _ c.args.coin c.args.coin c.loop-taken.taken c.args.free.now c.bit_at-here.result c.loop-taken.invariant.numbers
+      c.bit_at-here.ensures.value c.in_ok-push_if.ensures.value;
+  steps = places-put c.args.self.now.steps.items _ _ c.args.number c.args.coin c.loop-taken.taken c.args.free.now c.bit_at-here.result c.loop-taken.invariant.steps
+      c.bit_at-here.ensures.value c.in_ok-push_if-2.ensures.value;
 }
