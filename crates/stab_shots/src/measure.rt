@@ -1,5 +1,5 @@
 //! One measurement, on lanes that are propagated over what is recorded of a run. Lanes keep flips in place of bits.
-ghost use Rattle.std.specs.Prelude.{◌≡◌, ℕ, ◌+◌, ◌<◌, All, length, IfOk, OnOk};
+ghost use Rattle.std.specs.Prelude.{◌≡◌, ℕ, ◌+◌, ◌<◌, false, All, length, IfOk, OnOk};
 ghost use Rattle.stab_pauli.specs.Paulis.{Signed, single, strings_anticommute};
 ghost use Rattle.stab_lines.specs.Products.{names_twice};
 ghost use Rattle.stab_run.specs.Runs.{string_of};
