@@ -20,8 +20,10 @@ from stabsim import codes
 from stabsim.codes.dense import dense_circuit
 
 CALLS = 5
-# Few shots and many.
-SHOTS = (1, 2, 64, 65, 1_000)
+# Few shots and many, on each side of the numbers of lanes.
+SHOTS = (1, 2, 8, 16, 17, 64, 65, 256, 1_000)
+# How many qubits a text has whose lines have one target each.
+QUBITS = 64
 # Surface codes by distance and rounds, of which shots are measured for an hour, by runs of at least this many seconds.
 SIZES = ((3, 3), (7, 7), (13, 13), (21, 21), (21, 349))
 SECONDS = 5
@@ -64,7 +66,13 @@ def time_shots(program: Path, path: Path) -> None:
         "`X 0`, 1,048,576 rounds": "REPEAT 1048576 {\n    X 0\n}\n",
         "`H 0`, `M 0`, 500,000 rounds": "REPEAT 500000 {\n    H 0\n    M 0\n}\n",
         "surface code, distance 21, 300 rounds": codes.surface_code(21, 300),
+        "the same written out": codes.surface_code(21, 300, written_out=True),
+        "surface code, distance 7, 1,000 rounds": codes.surface_code(7, 1_000),
+        "colour code, distance 7, 300 rounds": codes.colour_code(7, 300),
+        "repetition code, distance 25, 1,000 rounds": codes.repetition_code(25, 1_000),
         "Bacon–Shor code 8x8, 200 rounds": codes.bacon_shor_code(8, 200),
+        "dense, 256 qubits, 20,000 steps": dense_circuit(256, 20_000),
+        f"one target a line, {QUBITS} qubits": "".join(f"H {number % QUBITS}\nM {number % QUBITS}\n" for number in range(100_000)),
     }
     head("Circuit", *(f"{shots:,}" for shots in SHOTS))
     start = least(program, "--version")
