@@ -10,7 +10,7 @@ use Rattle.clap.specs.Faults.{fault_of}
 use Rattle.clap.specs.declared.error.kind.ErrorKind.{ErrorKind}
 use Rattle.clap.specs.declared.error.kind.ErrorKind.TheVariants.{DisplayHelp, DisplayVersion}
 use Rattle.stab_gates.specs.Limits.{most_qubits}
-use Rattle.stab_recording.specs.Limits.{most_stride}
+use Rattle.stab_circuit.specs.Limits.{most_stride}
 use Rattle.stab_jobs.specs.Limits.{ShotRange, last_shot, most_shots, shots_of_seed}
 use Rattle.stab_args.specs.Coins.{coin_text}
 use Rattle.stab_args.specs.Options.{KeptNames, format_names, letter_names, most_errors, most_seed, stabsim}

@@ -7,7 +7,7 @@ use Rattle.clap.specs.Simple.{new_shape, on_top}
 use Rattle.clap.specs.declared.builder.action.ArgAction.TheVariants.{SetTrue}
 use Rattle.clap.specs.declared.builder.value_parser.ValueParser.TheVariants.{Names, Unsigned}
 use Rattle.stab_gates.specs.Limits.{most_qubits}
-use Rattle.stab_recording.specs.Limits.{most_stride}
+use Rattle.stab_circuit.specs.Limits.{most_stride}
 use Rattle.stab_jobs.specs.Limits.{last_shot, most_shots}
 
 -- names if the reader keeps them

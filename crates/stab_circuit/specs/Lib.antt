@@ -3,6 +3,7 @@ pub use Rattle.stab_items.specs.Circuits
 pub use Rattle.stab_items.specs.Steps
 pub use Rattle.stab_items.specs.Prints
 pub use Rattle.stab_items.specs.Nothings
+pub mod Limits
 pub mod Views
 pub mod Inputs
 pub mod Readings

@@ -2,7 +2,7 @@
 
 ghost use Rattle.std.specs.Prelude.{◌≤◌, IfSome};
 ghost use Rattle.stab_gates.specs.Limits.{most_qubits};
-ghost use Rattle.stab_recording.specs.Limits.{most_stride};
+ghost use Rattle.stab_circuit.specs.Limits.{most_stride};
 ghost use Rattle.stab_commands.specs.ScriptEndings.{EndsEdit, EndsPlainEdit};
 ghost use Rattle.stab_commands.specs.ScriptTurns.{EditsInTurn};
 

@@ -4,7 +4,7 @@ ghost use Rattle.stab_io.specs.Refusals.{IsCallFault};
 ghost use Rattle.stab_gates.specs.Limits.{most_qubits};
 ghost use Rattle.stab_circuit.specs.Steps.{check_within};
 ghost use Rattle.stab_circuit.specs.Views.{circuit_items};
-ghost use Rattle.stab_recording.specs.Limits.{most_stride};
+ghost use Rattle.stab_circuit.specs.Limits.{most_stride};
 ghost use Rattle.stab_script.specs.Scripts.{opened, IsAnswerToAll};
 ghost use Rattle.stab_commands.specs.ScriptEndings.{EndsScript, EndsOn};
 ghost use Rattle.stab_commands.specs.ScriptTurns.{TakesTurns};

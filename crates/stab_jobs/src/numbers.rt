@@ -119,7 +119,7 @@ pub struct Stride {
 
 impl Model for Stride {
     ghost use Rattle.std.specs.Prelude.{ℕ, ◌≤◌};
-    ghost use Rattle.stab_recording.specs.Limits.{most_stride};
+    ghost use Rattle.stab_circuit.specs.Limits.{most_stride};
 
     ghost Value = { ℕ };
 
@@ -132,7 +132,7 @@ impl Model for Stride {
 
 impl Stride {
     ghost use Rattle.std.specs.Prelude.{◌≡◌, ◌≤◌};
-    ghost use Rattle.stab_recording.specs.Limits.{most_stride};
+    ghost use Rattle.stab_circuit.specs.Limits.{most_stride};
 
     /// The greatest stride.
     pub const MOST: usize = 65_536;

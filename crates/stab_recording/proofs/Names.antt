@@ -1,102 +1,82 @@
 -- What the proofs of this crate take from std, from crates below and from its definitions.
-pub use Rattle.std.proofs.Common.{◌≡◌, ℕ, ◌+◌, ◌-◌, ◌≤◌, sym, ◌∙◌, ap, subst, Bool, List, ◌++◌, take, drop, arith, suc, ◌*◌, ◌<◌, refl, [], ◌∷◌, append_assoc, length, get_or, add-one, Option, zero, false, inl, inr, true, reverse, ◌^◌, map, Some, None, slice_get, All, ◌/◌, ◌%◌, max, ◌⊎◌, IsSomeAnd, replicate, min, not, set, append-nil, ◌≢◌, ◌&&◌, ◌||◌, nat_lt, ◌↔◌, Vec, Global, vec_capacity, ⊎_elim, rules, IsTrue}
-pub use Rattle.std.proofs.Math.Bool.{beq}
-pub use Rattle.std.proofs.Math.Nat.{add-mul, mul-le-mul_right, mul-le-mul_left, le-div_iff_mul-le, div-mul-le_self}
-pub use Rattle.std.proofs.Math.Seq.{take-add, drop-cons, take-suc, take-length, drop-append_seam, take-append-add, drop-append-add}
+pub use Rattle.std.proofs.Common.{◌≡◌, ℕ, ◌+◌, ◌-◌, ◌≤◌, sym, ◌∙◌, ap, subst, Bool, List, ◌++◌, take, drop, arith, suc, ◌*◌, ◌<◌, refl, [], ◌∷◌, append_assoc, length, get_or, add-one, Option, zero, false, inl, inr, true, reverse, ◌^◌, map, Some, None, slice_get, All, ◌/◌, ◌⊎◌, IsSomeAnd, replicate, min, not, set, append-nil, ◌≢◌, ◌&&◌, ◌||◌, nat_lt, ◌↔◌, Vec, Global, vec_capacity, rules, IsTrue}
+pub use Rattle.std.proofs.Math.Nat.{add-mul, mul-le-mul_right, mul-le-mul_left, div-mul-le_self}
+pub use Rattle.std.proofs.Math.Seq.{take-add, drop-cons, take-suc, take-length, drop-append_seam, take-append-add}
 pub use Rattle.std.proofs.lemmas.Bool.{cases_lt, le-leb, lt-leb, or_cases, or_from}
 pub use Rattle.std.proofs.lemmas.Bool.Decides.{leb_tells}
 pub use Rattle.std.proofs.lemmas.Grind.{div_ceil_times}
-pub use Rattle.std.proofs.lemmas.List.{take-append-drop, drop-drop, length-take-le, length-drop, take_at, drop_at, take-append-le, drop-append-le, take-take, reverse-append, length-append, length-take, drop-take, take_all, take_min, take-map, get_or-drop, replicate-append-replicate, get_or-take, get_or_append_left, get_or-append-add, drop_all, map-append, length-replicate, drop-map, drop_more, length-map, length-reverse, reverse-reverse, drop-set-add, take-set-le, length-set}
-pub use Rattle.std.proofs.lemmas.List.Elements.{All-drop, All-head, All-tail, All-weaker, All-get_or, All-take, All-append, All-nil, All-cons, All-push, All-map}
-pub use Rattle.std.proofs.lemmas.Option.{get_or_from_slice_get, slice_get-map, slice_get_within, same_Some, IfSome_then, slice_get_past, none-some, slice_get-get_or, slice_get_read}
+pub use Rattle.std.proofs.lemmas.List.{take-append-drop, drop-drop, length-take-le, length-drop, take_at, drop_at, take-append-le, drop-append-le, take-take, reverse-append, length-append, length-take, drop-take, take_all, get_or-drop, get_or-take, get_or_append_left, get_or-append-add, map-append, length-replicate}
+pub use Rattle.std.proofs.lemmas.List.Elements.{All-drop, All-head, All-tail, All-weaker, All-get_or, All-take, All-append, All-nil, All-cons, All-push}
+pub use Rattle.std.proofs.lemmas.Option.{get_or_from_slice_get, slice_get_within, same_Some, IfSome_then, slice_get_past, none-some, slice_get-get_or, slice_get_read}
 pub use Rattle.std.proofs.lemmas.Result.{IfOk-weaker}
 pub use Rattle.std.proofs.lemmas.Slice.Eq.{slice_eq-Decides}
 pub use Rattle.std.specs.Bool.{Decides}
 pub use Rattle.std.specs.Cmp.{booleans_Decides}
 pub use Rattle.std.specs.List.{list_any}
 pub use Rattle.std.specs.Option.{option_map}
-pub use Rattle.std.specs.Prelude.{IfSome, if◌then◌else◌, nat_le, MatchOption, Result, IfOk, Ok, Err, OnErr}
-pub use Rattle.stab_circuit.specs.Cursors.{IsApart, CursorState, steps_shown, lookbacks_of}
+pub use Rattle.std.specs.Prelude.{IfSome, if◌then◌else◌, nat_le, Result, IfOk}
+pub use Rattle.stab_circuit.specs.Cursors.{CursorState}
 pub use Rattle.stab_circuit.specs.Items.{Items}
 pub use Rattle.stab_circuit.specs.Repeats.{round_of, IsRepeat, AreRepeats}
-pub use Rattle.stab_circuit.specs.Rounds.{interleaved}
-pub use Rattle.stab_circuit.specs.Steps.{Step, rounds, looks_too_far, one, two, controlled, collapse, product, detector, observable, most_steps, controlled_step, measured, unroll, check_within, makes, lookbacks, records_of, observables_of}
+pub use Rattle.stab_circuit.specs.Steps.{Step, rounds, looks_too_far, one, two, controlled, collapse, product, detector, observable, most_steps, unroll, check_within, makes, lookbacks, records_of, observables_of}
 pub use Rattle.stab_circuit.specs.Views.{circuit_items}
 pub use Rattle.stab_circuit.specs.declared.circuit.repeats.Repeat.{Repeat}
-pub use Rattle.stab_circuit.specs.declared.edit.Span.{Span}
-pub use Rattle.stab_frames.proofs.AgainLemmas.{come-conjugated, gone-over-seen, looks-front, true-conjugated-at, true-conjugated}
-pub use Rattle.stab_frames.proofs.EditLemmas.{fronts-go-on, fronts-take-paulis, same-lengths, gates-fit}
-pub use Rattle.stab_frames.proofs.FlipLemmas.{flipped-empty, flipped-joined, flipped-nothing, additions-empty, unflipped-output, unflipped-matches, length-flipped, flipped-apart, looked_up-flipped}
+pub use Rattle.stab_frames.proofs.AgainLemmas.{come-conjugated, gone-over-seen, true-conjugated-at, true-conjugated}
+pub use Rattle.stab_frames.proofs.FlipLemmas.{flipped-empty, length-flipped, flipped-apart}
 pub use Rattle.stab_frames.proofs.FramedCopyLemmas.{conjugated-next, conjugated-none, conjugated-all}
-pub use Rattle.stab_frames.proofs.FramedLemmas.{conjugated-blank, conjugated-stabiliser, conjugated-pauli}
-pub use Rattle.stab_frames.proofs.FrontLemmas.{group-origin, gates-give-nothing}
+pub use Rattle.stab_frames.proofs.FramedLemmas.{conjugated-pauli}
+pub use Rattle.stab_frames.proofs.FrontLemmas.{group-origin}
 pub use Rattle.stab_frames.proofs.OtherCoinLemmas.{ones-split}
 pub use Rattle.stab_frames.proofs.OverLemmas.{enough-append}
 pub use Rattle.stab_frames.proofs.PivotAtLemmas.{get-append, get-behind, pivot-equal, pivot-past}
-pub use Rattle.stab_frames.proofs.PivotLemmas.{enough-before, right-enough}
 pub use Rattle.stab_frames.proofs.PropagatedLemmas.{over-append}
 pub use Rattle.stab_frames.proofs.PropagationLemmas.{mixed-set}
-pub use Rattle.stab_frames.proofs.RunPivotLemmas.{run-pivots}
-pub use Rattle.stab_frames.proofs.StartLemmas.{framed-same, framed-paulis, framed-exchanged}
-pub use Rattle.stab_frames.proofs.StepLemmas.{over-framed, outputs-matches}
 pub use Rattle.stab_frames.proofs.StillLemmas.{still-base}
 pub use Rattle.stab_frames.proofs.StillPropagationLemmas.{ones-within}
 pub use Rattle.stab_frames.proofs.TrueLemmas.{true-front, true-rest, true-append, true-same, true-none}
 pub use Rattle.stab_frames.specs.AgainLaws.{DiffersBack, AreFramedOver}
 pub use Rattle.stab_frames.specs.Ends.{MayHaveCoin}
-pub use Rattle.stab_frames.specs.Flips.{flipped_output, flipped, flipped_additions, Matches, unflipped}
+pub use Rattle.stab_frames.specs.Flips.{flipped_output, flipped, flipped_additions}
 pub use Rattle.stab_frames.specs.FrameSteps.{frame_over, flips_over, frame_after, flipped_by, letters_by, letters_after, flips_given}
-pub use Rattle.stab_frames.specs.Frames.{Frame, PointsDifferBy, frame_of, identity_frame, times_where}
-pub use Rattle.stab_frames.specs.Fronts.{AreFronts}
+pub use Rattle.stab_frames.specs.Frames.{Frame, PointsDifferBy, times_where}
 pub use Rattle.stab_frames.specs.Limits.{most_strings}
 pub use Rattle.stab_frames.specs.Lookbacks.{LooksWithin}
 pub use Rattle.stab_frames.specs.OtherCoins.{coins_from, pivots_between, PropagatesToOthers}
-pub use Rattle.stab_frames.specs.Pivots.{AreTrue, PivotsState, pivot_at, kept_with, IsNumbered, IsTrueAt, kept_again, KeepsTrue, front_kept, cut_to}
-pub use Rattle.stab_frames.specs.PivotsOfSteps.{AreEnough, AreRight, IsEnoughAt}
+pub use Rattle.stab_frames.specs.Pivots.{AreTrue, PivotsState, pivot_at, kept_with, IsNumbered, IsTrueAt, KeepsTrue, front_kept, cut_to}
+pub use Rattle.stab_frames.specs.PivotsOfSteps.{AreEnough, IsEnoughAt}
 pub use Rattle.stab_frames.specs.Propagations.{PropagationState, frame_at, PropagatesWith, IsGone, PropagatesOver, IsPlaced}
 pub use Rattle.stab_frames.specs.RunPivots.{RunPivots, same_coins}
-pub use Rattle.stab_frames.specs.Starts.{letters_on}
 pub use Rattle.stab_frames.specs.Stops.{IsStop}
-pub use Rattle.stab_frames.specs.declared.pivot_recorder.PivotRecorder.{PivotRecorder}
 pub use Rattle.stab_frames.specs.declared.propagate.Stop.{Stop}
 pub use Rattle.stab_frames.specs.declared.propagate.Stop.TheVariants.{Gone, NoString}
 pub use Rattle.stab_gates.proofs.ParityLemmas.{parity-false}
 pub use Rattle.stab_gates.specs.Letters.{◌⊕◌}
-pub use Rattle.stab_gates.specs.declared.gate.Gate.{Gate}
 pub use Rattle.stab_gates.specs.declared.letter.Letter.{Letter}
 pub use Rattle.stab_gates.specs.declared.letter.Letter.TheVariants.{I, X, Y, Z}
-pub use Rattle.stab_lines.specs.declared.axis.Axis.{Axis}
-pub use Rattle.stab_lines.specs.declared.control.ControlledPair.{ControlledPair}
-pub use Rattle.stab_lines.specs.declared.operation.Measurement.{Measurement}
-pub use Rattle.stab_lines.specs.declared.range.MeasureTarget.{MeasureTarget}
 pub use Rattle.stab_pauli.proofs.SignedLemmas.{length-product}
 pub use Rattle.stab_pauli.proofs.StringLemmas.{string_product-blank, string_product-self}
 pub use Rattle.stab_pauli.specs.Paulis.{with_sign, strings_anticommute, string_product, Signed, single, minus, anticommute}
 pub use Rattle.stab_run.proofs.CoinLemmas.{coins-append, coins-steps, coins-few, coins-are}
 pub use Rattle.stab_run.proofs.FitLemmas.{check-fits, check-steps, check-whole, counted-steps}
-pub use Rattle.stab_run.proofs.FixedLemmas.{fixed-future, fixed-front}
+pub use Rattle.stab_run.proofs.FixedLemmas.{fixed-future}
 pub use Rattle.stab_run.proofs.FutureBackLemmas.{same-future-back, records-made}
 pub use Rattle.stab_run.proofs.FutureLemmas.{same-future}
 pub use Rattle.stab_run.proofs.LookbackLemmas.{looked_up-near, looked_up-far, looked_up-zeros, or-left, or-right}
-pub use Rattle.stab_run.proofs.PointLemmas.{outcomes-counted, flags-are-coins, records-are-records, rest-joined, front-output, HasAtMost, outputs-short, cut, rest-output, flags-given, records-gathered, flags-counted}
+pub use Rattle.stab_run.proofs.PointLemmas.{outcomes-counted, flags-are-coins, records-are-records, rest-joined, front-output, HasAtMost, outputs-short, cut, rest-output, flags-given, records-gathered}
 pub use Rattle.stab_run.proofs.RecordLemmas.{ones-append}
-pub use Rattle.stab_run.proofs.RoundLemmas.{rounds-append, rounds-rounds, rounds-within, length-rounds, rounds-again}
-pub use Rattle.stab_run.proofs.RunLemmas.{after-append, outputs-append, joined-nothing, joined-assoc, IsRun-none, fits-steps}
+pub use Rattle.stab_run.proofs.RoundLemmas.{rounds-append, rounds-rounds, rounds-within, length-rounds}
+pub use Rattle.stab_run.proofs.RunLemmas.{after-append, outputs-append}
 pub use Rattle.stab_run.proofs.SoundLemmas.{sound-run}
 pub use Rattle.stab_run.proofs.StateLemmas.{run-state, run_of-same}
-pub use Rattle.stab_run.proofs.StepsLeftLemmas.{take-empty, drop-empty, take-none, drop-none, take-steps, drop-steps, take-all}
 pub use Rattle.stab_run.specs.Cuts.{lengths_of, rest_of, front_of}
 pub use Rattle.stab_run.specs.Ends.{AgreeBack, with_coin}
 pub use Rattle.stab_run.specs.Laws.{AgreeAt, IsSoundRun, DependsOnCoinsAt}
 pub use Rattle.stab_run.specs.Points.{origin, joined, all_coins_of, point_after, outputs, Point, RunOutput, with_additions, nothing, given, next_point, coins_of, state_at}
 pub use Rattle.stab_run.specs.ProgramStates.{ProgramState, IsAt, IsRun, program_state, StepFits, output_of}
 pub use Rattle.stab_run.specs.Records.{looked_up, ones}
-pub use Rattle.stab_run.specs.RoundLaws.{copies}
-pub use Rattle.stab_run.specs.Runs.{run, gate_of, string_of, when, collapsed, flip_of, State, start}
+pub use Rattle.stab_run.specs.Runs.{run, string_of, when, collapsed, flip_of, State, start}
 unfoldable pub use Rattle.stab_run.specs.Runs.{run_of}
-pub use Rattle.stab_run.specs.declared.records.Addition.{Addition}
 pub use Rattle.stab_run.specs.declared.records.Lengths.{Lengths}
-pub use Rattle.stab_run.specs.declared.records.Outputs.{Outputs}
 pub use Rattle.stab_tableau.proofs.ReducedLemmas.{same-letters}
 pub use Rattle.stab_tableau.proofs.TestLemmas.{and-left, and-right, not_both, not-true, same_test}
 pub use Rattle.stab_tableau.specs.Columns.{chosen_product, CommutesWithAll, IsGenerated, stabiliser_of, destabiliser_of}
@@ -107,47 +87,30 @@ pub use Rattle.stab_tableau.specs.Rules.{is_free_by}
 pub use Rattle.stab_tableau.specs.Tableaus.{TableauState, stabilises}
 pub use Rattle.stab_tableau.specs.Traces.{member, outcome, projected}
 pub use Rattle.stab_recording.specs.Checkpoints.{IsCheckpoint, checkpoint_steps, IsRunFromStart}
-pub use Rattle.stab_recording.specs.Counts.{last_until, MayBeMet, EndsAt, NoneBefore, IsCounted}
-pub use Rattle.stab_recording.specs.FramedReplays.{IsOldRun, HaveMoved, IsFramedAt, HaveSameFuture}
+pub use Rattle.stab_recording.specs.FramedReplays.{IsOldRun, HaveSameFuture}
 pub use Rattle.stab_recording.specs.FramesFrom.{flips_since, AreCompared, IsFrameFrom, flips_behind}
 pub use Rattle.stab_recording.specs.LaidCheckpoints.{laid, all_laid, moved, moved_copy, moved_lengths}
-pub use Rattle.stab_recording.specs.LongerLists.{longer, AreBelow}
-pub use Rattle.stab_recording.specs.Meets.{ComesAgain, Meets}
+pub use Rattle.stab_recording.specs.Meets.{Meets}
 pub use Rattle.stab_recording.specs.Parts.{between}
-pub use Rattle.stab_recording.specs.PassedPlaces.{IsFrameBetween, IsBeforePiece, IsBeforePlaces}
-pub use Rattle.stab_recording.specs.PauliSpans.{ArePaulis, DifferByPaulis, DifferAtPlaces}
 pub use Rattle.stab_recording.specs.PivotLists.{KeepsPivots, IsSpliced}
-pub use Rattle.stab_recording.specs.Recordings.{IsRecording, IsSpan, AgreeBehindSpan, AgreeBackBehindSpan, IsSameRecording, Follows}
 pub use Rattle.stab_recording.specs.Replays.{MeetsAt, Misses, EndsSoon, step_among_new, IsReplay, Ascending, IsEnd, IsFramed, IsAtStep, IsAtStop, IsOnWay, spacing_of, StopsAt, BeginsAt, IsPlacedAt, copy_of}
-pub use Rattle.stab_recording.specs.RestFrames.{AreInOrder, with_states, AreFramedCheckpoints, IsRestFrame, IsDropped, Ending, over, gone, dropped, AreEnoughBy, IsFramedBehind, Stabilise, FramesSome, IsLastApart}
+pub use Rattle.stab_recording.specs.RestFrames.{AreInOrder, AreFramedCheckpoints, IsRestFrame, Ending, AreEnoughBy, IsFramedBehind, Stabilise, FramesSome, IsLastApart}
 pub use Rattle.stab_recording.specs.Samplers.{SamplerState}
-pub use Rattle.stab_recording.specs.Spacing.{Near, last_of, IsSpaced, Sparse}
+pub use Rattle.stab_recording.specs.Spacing.{Near, last_of}
 pub use Rattle.stab_recording.specs.declared.checkpoint.Checkpoint.{Checkpoint}
 pub use Rattle.stab_recording.specs.declared.checkpoint.Meeting.{Meeting}
-pub use Rattle.stab_recording.specs.declared.conjugating.Conjugating.{Conjugating}
-pub use Rattle.stab_recording.specs.declared.conjugating.PastPlaces.{PastPlaces}
 pub use Rattle.stab_recording.specs.declared.earlier.Earlier.{Earlier}
 pub use Rattle.stab_recording.specs.declared.folding_again.Segment.{Segment}
-pub use Rattle.stab_recording.specs.declared.past_places.PauliChange.{PauliChange}
-pub use Rattle.stab_recording.specs.declared.recording.Followed.{Followed}
-pub use Rattle.stab_recording.specs.declared.recording.Prepared.{Prepared}
-pub use Rattle.stab_recording.specs.declared.recording.Recording.{Recording}
-pub use Rattle.stab_recording.specs.declared.recording.Rest.{Rest}
 pub use Rattle.stab_recording.specs.declared.replay.Arrival.{Arrival}
 pub use Rattle.stab_recording.specs.declared.replay.Arrival.TheVariants.{Between, Behind, Met}
-pub use Rattle.stab_recording.specs.declared.replay.End.{End}
-pub use Rattle.stab_recording.specs.declared.replay.End.TheVariants.{Last, Joined, Framed}
+pub use Rattle.stab_recording.specs.declared.replay.End.TheVariants.{Last, Joined}
 pub use Rattle.stab_recording.specs.declared.replay.Plan.{Plan}
 pub use Rattle.stab_recording.specs.declared.replay.Replay.{Replay}
-pub use Rattle.stab_recording.specs.declared.rest.OldRest.{OldRest}
 pub use Rattle.stab_recording.specs.declared.rest_frame.RestFrame.{RestFrame}
 pub use Rattle.stab_recording.specs.declared.whole.Shot.{Shot}
 pub use Rattle.stab_recording.specs.inner.Advanced.{behind_rounds}
 pub use Rattle.stab_recording.specs.inner.Arrivals.{IsArrival}
 pub use Rattle.stab_recording.specs.inner.FoldedReplays.{IsRoundsBehind, IsAlike, MayComeAgain, IsFolding, IsSegment, HasCopied, MayGoOver, HasFramed, HasStringsAgain, with_folded, IsAsAt, DiffersFrom, IsOfOwn, StandsAs, IsFound, IsEndIn, HasGone}
-pub use Rattle.stab_recording.specs.inner.FramedRecordings.{StaysNear, span_meeting, IsPut, HasConjugated, copies_conjugated, IsPastPlaces, IsConjugating, no_lengths}
-pub use Rattle.stab_recording.specs.inner.OldRests.{conjugated_end, copies_moved, HasRoomFor}
-pub use Rattle.stab_recording.specs.inner.Prepared.{IsCount, Begins, HasCopy, IsRest, IsOldRest, IsPrepared, IsCommitted, copies_behind, end_of, no_frame, IsTableauBehind, meeting_of, HasRoom, end_of as stop_of}
 pub use Rattle.stab_recording.specs.inner.RestFrameStates.{last_state, with_state, with_cursor, IsBeside, IsApartFrom}
 pub use Rattle.stab_recording.specs.inner.Shots.{IsShotOf}
 pub use Rattle.stab_recording.specs.inner.Runs.{plan_of_run, IsOwnRun}

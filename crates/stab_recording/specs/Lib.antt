@@ -5,15 +5,9 @@ pub mod Meets
 pub mod Parts
 pub mod FramesFrom
 pub mod Samplers
-pub mod Limits
 pub mod RunsWithPivots
 pub mod PivotLists
 pub mod RestFrames
 pub mod FramedReplays
 pub mod Replays
-pub mod LongerLists
-pub mod PauliSpans
-pub mod PassedPlaces
-pub mod Counts
-pub mod Recordings
 pub mod inner

@@ -5,6 +5,3 @@ pub mod Arrivals
 pub mod RestFrameStates
 pub mod FoldedReplays
 pub mod Runs
-pub mod OldRests
-pub mod Prepared
-pub mod FramedRecordings

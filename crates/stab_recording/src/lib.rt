@@ -1,4 +1,4 @@
-//! Recorded runs: loops that fold, checkpoints on the way, and edits as a splice and a frame.
+//! Recorded runs: checkpoints on the way, rounds that are given again, and frames over what is left of a run.
 //!
 //! In the order in which data flows; each module uses only those before it, except that `rest_frame`, `moved`, `laying`, `rhythm`,
 //! `earlier`, `folding_again` and `runs` add calls to the replay of `replay`:
@@ -15,36 +15,26 @@
 //! - `together`, `runs`: which rounds of blocks are looked at; runs, which are replays of all steps with no older run.
 //! - `whole`, `with_pivots`, `sampler`: what a run gives; the same with a pivot for each random outcome; one circuit made ready for
 //!   many runs.
-//! - `counting`, `past_places`, `flips`: for edits by Pauli gates, how long a run's lists are after some steps, a frame
-//!   past the changed places, and lists changed in place.
-//! - `recording`, `rest`, `conjugating`, `opening`: the recording of a circuit with its checkpoints, how it follows an edit, and how it
-//!   is made for the first time.
 //!
-//! Coins, one step and the laws of runs are `stab_run`'s, frames `stab_frames`'. What edits are, and which steps they change, is
-//! `stab_circuit`'s: here an edit is a span of steps that changed.
+//! Coins, one step and the laws of runs are `stab_run`'s, frames `stab_frames`'. What is recorded of a circuit, and how it follows
+//! an edit, is `stab_splices`'.
 //!
 //! Sources: Stim's circuit file format, for what the steps of a circuit do to records, detectors and observables;
 //! D. Gottesman, Stabilizer codes and quantum error correction (1997), and S. Aaronson and D. Gottesman, Improved
 //! simulation of stabilizer circuits (2004), section III, for its qubits; C. Gidney, Stim: a fast stabilizer circuit
-//! simulator (2021), for Pauli frames. When checkpoints are kept, how loops fold and how a recording follows an edit is this
-//! project's own.
+//! simulator (2021), for Pauli frames. When checkpoints are kept, and how loops fold, is this project's own.
 //!
 //! Proved: a run gives the records, flags, detectors and observables that the group rules of `stab_run`
 //! (`specs/Runs.antt`) give for the circuit's unrolled steps, and depends on no coin but those that decide; its trace is
-//! sound. Each shot of a sampler is such a run, whatever became of the shots before it. What is recorded is the run of the
-//! circuit's steps from the first one on, whatever edits it followed, with checkpoints at most a stride apart
-//! (`specs/Recordings.antt`); if memory is refused it is as before. How many steps an edit takes, and between which
-//! checkpoints, is in `specs/Counts.antt`, and how many coins it asks for in the contract of `Recording::follow`. `meets`
+//! sound. Each shot of a sampler is such a run, whatever became of the shots before it. A replay gives what comes after a checkpoint of
+//! its circuit's run, and ends after the last step or at a checkpoint of the older run (`specs/Replays.antt`). `meets`
 //! answers yes exactly if the other run comes to the state of the checkpoint, with the same records as far back as is
 //! looked, and with the same coin to come unless none decides any more (`specs/Meets.antt`). `specs/inner/` has what only
 //! private contracts cite.
 #![tactic(auto)]
 
 mod checkpoint;
-mod conjugating;
-mod counting;
 mod earlier;
-mod flips;
 mod folding;
 mod folding_again;
 mod framed_copies;
@@ -52,11 +42,7 @@ mod frames_between;
 mod laying;
 mod meeting;
 mod moved;
-mod opening;
-mod past_places;
-mod recording;
 mod replay;
-mod rest;
 mod rest_frame;
 mod rest_of_run;
 mod rhythm;
@@ -68,15 +54,10 @@ mod whole;
 mod with_pivots;
 
 pub use checkpoint::{Checkpoint, Meeting, count_before, lay_all, shifted, take_moved};
-pub use counting::lengths_behind;
-pub use flips::{flip_outputs, sum_additions};
 pub use folding::{give_again, part_between};
 pub use framed_copies::{append_framed, lengths_propagated, pivot_again};
 pub use frames_between::frame_between;
 pub use meeting::{are_fixed, comes_again, has_one, may_have_coin, meets};
-pub use opening::record_run;
-pub use past_places::{PauliChange, propagate_places};
-pub use recording::{Followed, Recording};
 pub use replay::{End, Plan, Replay};
 pub use rest_frame::RestFrame;
 pub use rest_of_run::propagate_rest;

@@ -36,12 +36,12 @@ pub use Rattle.stab_io.specs.declared.refusal.Refusal.{Refusal}
 pub use Rattle.stab_io.specs.declared.refusal.Refusal.TheVariants.{OutOfMemory, TooDeep, QubitOutOfRange, LookbackTooFar, TooManySteps}
 pub use Rattle.stab_pauli.proofs.StringLemmas.{string_product-blank, string_product-blank_right, string_product-assoc, string_product-comm, length-string_product}
 pub use Rattle.stab_pauli.specs.Paulis.{single, string_product, Signed, with_sign}
-pub use Rattle.stab_recording.proofs.SpacingLemmas.{count-spaced}
+pub use Rattle.stab_splices.proofs.SpacingLemmas.{count-spaced}
 pub use Rattle.stab_recording.specs.Checkpoints.{checkpoint_steps}
-pub use Rattle.stab_recording.specs.Counts.{IsCounted, AgreeAsFarAsLooked}
-pub use Rattle.stab_recording.specs.PauliSpans.{DifferByPaulis}
-pub use Rattle.stab_recording.specs.Recordings.{IsRecording, AgreeBehindSpan, AgreeBackBehindSpan}
-pub use Rattle.stab_recording.specs.declared.recording.Recording.{Recording}
+pub use Rattle.stab_splices.specs.Counts.{IsCounted, AgreeAsFarAsLooked}
+pub use Rattle.stab_splices.specs.PauliSpans.{DifferByPaulis}
+pub use Rattle.stab_splices.specs.Recordings.{IsRecording, AgreeBehindSpan, AgreeBackBehindSpan}
+pub use Rattle.stab_splices.specs.declared.recording.Recording.{Recording}
 pub use Rattle.stab_run.proofs.FitLemmas.{check-qubits, check-whole, check-steps}
 pub use Rattle.stab_run.proofs.PointLemmas.{records-are-records}
 pub use Rattle.stab_run.proofs.SoundLemmas.{sound-run}

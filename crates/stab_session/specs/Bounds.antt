@@ -9,7 +9,7 @@ use Rattle.stab_circuit.specs.declared.edit.Edit.{Edit}
 use Rattle.stab_run.specs.Runs.{run, start}
 use Rattle.stab_run.specs.Points.{Point, point_of}
 use Rattle.stab_run.specs.Laws.{AgreeAt}
-use Rattle.stab_recording.specs.Counts.{AgreeAsFarAsLooked, IsCounted}
+use Rattle.stab_splices.specs.Counts.{AgreeAsFarAsLooked, IsCounted}
 use Rattle.stab_session.specs.Sessions.{SessionState}
 
 -- how many steps a session's circuit has

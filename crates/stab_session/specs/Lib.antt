@@ -1,4 +1,4 @@
-pub use Rattle.stab_recording.specs.Counts
+pub use Rattle.stab_splices.specs.Counts
 pub mod Sessions
 pub mod Headline
 pub mod SessionEdits

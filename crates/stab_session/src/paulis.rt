@@ -9,7 +9,7 @@ ghost use Rattle.stab_circuit.specs.declared.edit.Edit.{Edit};
 ghost use Rattle.stab_circuit.specs.declared.edit.Span.{Span};
 ghost use Rattle.stab_run.specs.Runs.{gate_of};
 ghost use Rattle.stab_frames.specs.Starts.{letters_on};
-ghost use Rattle.stab_recording.specs.PauliSpans.{DifferByPaulis};
+ghost use Rattle.stab_splices.specs.PauliSpans.{DifferByPaulis};
 ghost use Rattle.stab_session.specs.inner.Pendings.{pending_path, IsBegun};
 ghost use Rattle.stab_session.specs.inner.PauliItems.{ArePauliItems, AreAccepted, IsPauliItem, IsPauliEdit, is_pauli_gate, is_pauli_kind, taken_items};
 
@@ -20,7 +20,7 @@ use stab_io::Refusal;
 use stab_items::Part;
 use stab_lines::Kind;
 use stab_pauli::Pauli;
-use stab_recording::PauliChange;
+use stab_splices::PauliChange;
 use std::alloc::Global;
 
 /// A Pauli gate on each of some qubits, one after another.

@@ -5,8 +5,8 @@ pub use edits::Report;
 use stab_circuit::Circuit;
 use stab_io::{Fault, Refusal};
 use stab_pauli::Pauli;
-use stab_recording::{Recording, record_run};
 use stab_run::Coins;
+use stab_splices::{Recording, record_run};
 use stab_tableau::Tableau;
 use std::alloc::Global;
 use std::marker::Model;
@@ -73,7 +73,7 @@ impl<C: Coins> Session<C> {
     ghost use Rattle.stab_tableau.specs.Reduced.{AreReduced};
     ghost use Rattle.stab_circuit.specs.Steps.{unroll, check_within};
     ghost use Rattle.stab_circuit.specs.Views.{circuit_items};
-    ghost use Rattle.stab_recording.specs.Limits.{most_stride};
+    ghost use Rattle.stab_circuit.specs.Limits.{most_stride};
     ghost use Rattle.stab_run.specs.Records.{ones};
     ghost use Rattle.stab_run.specs.Runs.{run_of};
     ghost use Rattle.stab_run.specs.Points.{all_coins_of};

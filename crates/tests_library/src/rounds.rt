@@ -1,6 +1,6 @@
 //! Blocks whose rounds come again: what runs, shots and sessions give of them, and where they are in the steps.
 ghost use Rattle.std.specs.Prelude.{◌≤◌};
-ghost use Rattle.stab_recording.specs.Limits.{most_stride};
+ghost use Rattle.stab_circuit.specs.Limits.{most_stride};
 
 use crate::round_cases::{CASES, Case};
 use stab_circuit::{Repeat, read_circuit};

@@ -1,7 +1,7 @@
 //! Rounds that are written out: where they are found, and what runs and sessions give of them. If a circuit has a block, none are
 //! looked for, so each line is carried out.
 ghost use Rattle.std.specs.Prelude.{◌≤◌};
-ghost use Rattle.stab_recording.specs.Limits.{most_stride};
+ghost use Rattle.stab_circuit.specs.Limits.{most_stride};
 
 use crate::rounds::{are_same, session_gives, shot_of};
 use stab_circuit::{Repeat, read_circuit};

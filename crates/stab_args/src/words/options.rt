@@ -2,7 +2,7 @@
 ghost use Rattle.std.specs.Prelude.{◌≡◌, ◌≤◌, ℕ, Option, Some, None, IfOk, IfErr, IfSome, IfNone, option_map, codes, string_bytes};
 ghost use Rattle.clap.specs.Words.{IsUnsignedIn, first_of, found_of, has_subcommand, one_of, rows_of, subcommand_rows_of};
 ghost use Rattle.stab_gates.specs.Limits.{most_qubits};
-ghost use Rattle.stab_recording.specs.Limits.{most_stride};
+ghost use Rattle.stab_circuit.specs.Limits.{most_stride};
 ghost use Rattle.stab_jobs.specs.Limits.{last_shot, most_shots, shots_of_seed};
 ghost use Rattle.stab_args.specs.Asked.{AreLetters, AreShots, IsAskedDistance, IsCommand, IsFirst, IsJob, IsLayout, IsNamed, IsSet, IsSource, IsWritten, IsWrittenIfGiven, RefusesCoins, RefusesOptions, RefusesShots, first_beside_coins};
 ghost use Rattle.stab_args.specs.Options.{most_errors, most_seed};

@@ -11,7 +11,7 @@ use Rattle.stab_circuit.specs.declared.edit.Span.{Span}
 use Rattle.stab_circuit.specs.declared.edit.Edit.TheVariants.{Insert, Replace, Delete}
 use Rattle.stab_session.specs.declared.pending.Pending.{Pending}
 use Rattle.stab_session.specs.declared.pending.Pending.TheVariants.{Inserted, Replaced, Deleted}
-use Rattle.stab_recording.specs.Recordings.{IsSpan}
+use Rattle.stab_splices.specs.Recordings.{IsSpan}
 
 -- where the edit was made
 abbrev pub pending_path : Pending → Path

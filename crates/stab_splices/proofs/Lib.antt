@@ -1,0 +1,26 @@
+mod Names
+pub mod FramedLemmas
+pub mod FrameStartReplayLemmas
+pub mod FlippedReplayLemmas
+pub mod EndingLemmas
+pub mod RestFrameLemmas
+pub mod RestLemmas
+pub mod PropagatedCopyLemmas
+mod LengthLemmas
+pub mod SamePivotsLemmas
+pub mod PauliSpanLemmas
+pub mod FrameBetweenLemmas
+mod PlaceLemmas
+pub mod FramedRunLemmas
+mod RecordedLemmas
+mod FollowLemmas
+mod CountLemmas
+mod SpliceLemmas
+mod PropagatedEndLemmas
+mod CourseLemmas
+pub mod SpacingLemmas
+mod StateLemmas
+mod ConjugateSpacingLemmas
+mod FlipSignLemmas
+mod ConjugatingLemmas
+mod TellLemmas

@@ -1,0 +1,76 @@
+-- States put in place of those of copies, from the last on.
+use Rattle.stab_splices.proofs.Names.{◌≡◌, ℕ, zero, suc, ◌-◌, ◌<◌, ◌≤◌, refl, ◌∙◌, ap, arith, List, [], ◌∷◌, ◌++◌, length, take, drop, map, reverse, set, get_or, length-map, length-reverse, length-append, length-take, length-drop, reverse-reverse, take-take, TableauState, Checkpoint, Meeting, moved_copy, all_laid, with_states, OldRest, copies_moved}
+
+-- the last state is put first: then the others are put before it
+pub states-last : (ts : List TableauState) (t : TableauState) (cs : List Checkpoint) (d : Checkpoint) → length ts < length cs
+    → with_states ts (set cs (length ts) (record (get_or cs (length ts) d) { tableau = t })) ≡ with_states (ts ++ t ∷ []) cs
+states-last [] t [] d within = absurd (omega arith)
+states-last [] t (c ∷ cs) d within = refl
+states-last (s ∷ ts) t [] d within = absurd (omega arith)
+states-last (s ∷ ts) t (c ∷ cs) d within = ap (λ rest. record c { tableau = s } ∷ rest) (states-last ts t cs d (omega arith))
+
+same-length : (ts : List TableauState) (cs : List Checkpoint) → length (with_states ts cs) ≡ length cs
+same-length [] cs = refl
+same-length (t ∷ ts) [] = refl
+same-length (t ∷ ts) (c ∷ cs) = ap suc (same-length ts cs)
+
+-- a list of which the first ones stayed, and others came after
+take-front : {X : Type 0} (k : ℕ) (xs ys : List X) → k ≤ length xs → take k (take k xs ++ ys) ≡ take k xs
+take-front zero xs ys le = refl
+take-front (suc k) [] ys le = absurd (omega arith)
+take-front (suc k) (x ∷ xs) ys le = ap (λ zs. x ∷ zs) (take-front k xs ys (omega arith))
+
+drop-front : {X : Type 0} (k : ℕ) (xs ys : List X) → k ≤ length xs → drop k (take k xs ++ ys) ≡ ys
+drop-front zero xs ys le = refl
+drop-front (suc k) [] ys le = absurd (omega arith)
+drop-front (suc k) (x ∷ xs) ys le = drop-front k xs ys (omega arith)
+
+module _ (k K : ℕ) (ts : List TableauState) (cs put : List Checkpoint) (within : k ≤ length cs) (is : put ≡ take k cs ++ with_states ts (drop k cs)) where
+  pub put-length : length put ≡ length cs
+  put-length =
+      omega (
+        arith,
+        ap length is,
+        length-append (take k cs) (with_states ts (drop k cs)),
+        same-length ts (drop k cs),
+        length-take k cs,
+        length-drop k cs,
+        within,
+      )
+
+  pub put-front : take k put ≡ take k cs
+  put-front = ap (take k) is ∙ take-front k cs (with_states ts (drop k cs)) within
+
+  -- moved, and laid after others, which were laid after those before
+  pub put-laid : (m : ℕ) (s : Meeting) (room taken left others mid laid : List Checkpoint) → m ≤ k → room ≡ [] → taken ≡ room ++ reverse (map (moved_copy s) (drop k put))
+      → left ≡ take k put → mid ≡ all_laid K (reverse others) (take m left) → laid ≡ all_laid K (reverse taken) mid
+      → laid ≡ all_laid K (map (moved_copy s) (with_states ts (drop k cs))) (all_laid K (reverse others) (take m cs))
+  put-laid m s room taken left others mid laid order empty took kept between done =
+      done ∙ (λ i. all_laid K (conjugated i) ((between ∙ ap (all_laid K (reverse others)) (ap (take m) (kept ∙ put-front) ∙ take-take m k cs order)) i))
+    where
+      conjugated : reverse taken ≡ map (moved_copy s) (with_states ts (drop k cs))
+      conjugated =
+          ap reverse (took ∙ ap (λ zs. zs ++ reverse (map (moved_copy s) (drop k put))) empty)
+          ∙ reverse-reverse (map (moved_copy s) (drop k put))
+          ∙ ap (map (moved_copy s)) (ap (drop k) is ∙ drop-front k cs (with_states ts (drop k cs)) within)
+
+pub copies-long : (rest : OldRest) (cs : List Checkpoint) → length (copies_moved rest cs) ≡ length cs - rest.number
+copies-long rest cs =
+    omega (
+      arith,
+      length-map (with_states rest.conjugated.items (drop rest.number cs)) (moved_copy rest.meeting),
+      same-length rest.conjugated.items (drop rest.number cs),
+      length-drop rest.number cs,
+    )
+
+pub taken-long : (s : Meeting) (k : ℕ) (put room taken : List Checkpoint) → taken ≡ room ++ reverse (map (moved_copy s) (drop k put)) → room ≡ [] → length taken ≡ length put - k
+taken-long s k put room taken is empty =
+    omega (
+      arith,
+      ap length is,
+      ap length empty,
+      length-append room (reverse (map (moved_copy s) (drop k put))),
+      length-reverse (map (moved_copy s) (drop k put)),
+      length-map (drop k put) (moved_copy s),
+      length-drop k put,
+    )

@@ -1,0 +1,50 @@
+use Rattle.stab_splices.proofs.Names.{◌+◌, refl, sym, ◌∙◌, ap, subst, arith, length, drop, All, All-drop, unroll, circuit_items, PropagationState, StepFits, check-fits, AreInOrder, IsRestFrame}
+use Rattle.stab_splices.proofs.ConjugatingLemmas.{behind-order, advanced-few}
+use Rattle.stab_splices.proofs.recording.Recording.conjugating.Goals as goal
+
+pub propagate_rest-requires-clause-fits : goal.propagate_rest-requires-clause-fits
+propagate_rest-requires-clause-fits c =
+    let ys = unroll (circuit_items c.args.circuit.now) in
+    let n = c.args.self.now.tableau.qubits in
+    subst (λ k. All (StepFits k) c.in_ok-cursor.cursor.left) (sym c.requires.letters)
+    (subst (All (StepFits n)) (sym c.in_ok-cursor.ensures.steps)
+    (All-drop (StepFits n) c.args.span.new_end ys (check-fits n (circuit_items c.args.circuit.now) ys c.requires.checked refl c.requires.apart)))
+
+pub propagate_rest-requires-clause-order : goal.propagate_rest-requires-clause-order
+propagate_rest-requires-clause-order c =
+    let f = c.requires.follows.3 in
+    let cs = c.args.self.now.checkpoints.items in
+    subst (AreInOrder c.args.span.old_end (c.args.span.old_end + length c.in_ok-cursor.cursor.left)) (sym (c.split_at.ensures.back ∙ ap (drop c.args.inside) c.as_slice.ensures.value))
+    (subst (λ zs. AreInOrder c.args.span.old_end (c.args.span.old_end + length zs) (drop c.args.inside cs)) (sym c.in_ok-cursor.ensures.steps)
+    (behind-order f.count f.kept f.span c.args.inside c.requires.behind))
+
+pub returns-clause-conjugating : goal.returns-clause-conjugating
+returns-clause-conjugating c =
+    let n = c.args.self.now.tableau.qubits in
+    let ys = unroll (circuit_items c.args.circuit.now) in
+    let cs = c.args.self.now.checkpoints.items in
+    let advanced : IsRestFrame n c.args.self.now.strings.strings c.args.self.now.outputs.free.items c.args.self.now.window (drop c.args.span.new_end ys) c.args.span.old_end (drop c.args.inside cs)
+    c.propagate_rest.new.conjugated.items c.args.passed.propagation c.propagate_rest.new.propagation =
+    subst (λ x. x)
+    (λ i. IsRestFrame (c.requires.letters i) c.args.self.now.strings.strings (c.as_slice-2.ensures.value i) c.args.self.now.window (c.in_ok-cursor.ensures.steps i) c.args.span.old_end
+    ((c.split_at.ensures.back ∙ ap (drop c.args.inside) c.as_slice.ensures.value) i) c.propagate_rest.new.conjugated.items c.args.passed.propagation c.propagate_rest.new.propagation)
+    (c.in_ok-advanced.ensures.advanced c.if-not-advanced.false) in
+    record {
+      from = refl;
+      passed = refl;
+      number = refl;
+      meeting = c.meeting_behind.ensures.value;
+      advanced = subst (IsRestFrame n c.args.self.now.strings.strings c.args.self.now.outputs.free.items c.args.self.now.window (drop c.args.span.new_end ys) c.args.span.old_end (drop c.args.inside cs)
+          c.propagate_rest.new.conjugated.items c.args.passed.propagation) (sym c.propagation-2.view_is) advanced;
+      room = record {
+        nothing = c.in_ok-with_capacity.ensures.items;
+        room = omega (arith, c.in_ok-with_capacity.ensures.capacity, c.len.ensures, c.args.self.now.checkpoints.ok.0);
+        few =
+            omega (
+              arith,
+              advanced-few n c.args.self.now.strings.strings c.args.self.now.outputs.free.items c.args.self.now.window (drop c.args.span.new_end ys) c.args.span.old_end c.args.inside cs
+                  c.propagate_rest.new.conjugated.items c.args.passed.propagation c.propagate_rest.new.propagation advanced c.requires.inside,
+            );
+        letters = ap (λ (w : PropagationState). length w.letters) c.propagation-2.view_is ∙ c.propagate_rest.ensures.length ∙ c.requires.letters;
+      };
+    }

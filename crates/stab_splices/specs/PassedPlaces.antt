@@ -1,0 +1,45 @@
+-- Passed places: a frame on its way between an old run and a new one, past places at which Pauli gates are in the one or the other.
+-- Source: this project's own.
+use Rattle.std.specs.Prelude.{◌≡◌, ℕ, ◌+◌, ◌≤◌, Bool, false, List, All, length, take, drop, replicate, Option}
+use Rattle.stab_gates.specs.declared.letter.Letter.{Letter}
+use Rattle.stab_circuit.specs.Steps.{Step, most_steps}
+use Rattle.stab_circuit.specs.declared.edit.Span.{Span}
+use Rattle.stab_run.specs.Points.{RunOutput, origin, joined, point_after, outputs}
+use Rattle.stab_run.specs.ProgramStates.{StepFits}
+use Rattle.stab_frames.specs.Fronts.{AreFronts}
+use Rattle.stab_frames.specs.Pivots.{AreTrue}
+use Rattle.stab_frames.specs.Propagations.{PropagationState, frame_at}
+use Rattle.stab_splices.specs.PauliSpans.{DifferAtPlaces}
+use Rattle.stab_splices.specs.declared.past_places.PauliChange.{PauliChange}
+
+-- after this many steps an old run and a new one differ by a frame that began after some records, and what both had given differed by
+-- some flips; what was recorded of the old run is true of it there with the steps that the new one has left, and so are the flags
+pub record IsFrameBetween (n : ℕ) (coins : ℕ → Bool) (xs ys : List Step) (strings : ℕ → Option (List Letter)) (free : List Bool) (base : ℕ) (front : RunOutput)
+    (old new : ℕ) (w : PropagationState) : Type 0 where
+  pub old_fit : All (StepFits n) xs
+  pub new_fit : All (StepFits n) ys
+  pub old_within : old ≤ length xs
+  pub new_within : new ≤ length ys
+  pub fronts : AreFronts n coins coins (take old xs) (take new ys) (frame_at base w) (joined front w.flips)
+  pub coin : w.coin ≡ (point_after n coins (take old xs) origin).coin
+  pub are_true : AreTrue n coins strings (drop new ys) (point_after n coins (take old xs) origin)
+  pub flags : (outputs n coins (drop new ys) (point_after n coins (take old xs) origin)).free ≡ drop w.coin free
+  pub flagged : ℕ
+  pub unflagged : w.flips.free ≡ replicate flagged false
+
+-- such a frame is before a piece of this many steps, which both runs have next; these steps are left of the new one
+pub record IsBeforePiece (n : ℕ) (coins : ℕ → Bool) (xs ys : List Step) (strings : ℕ → Option (List Letter)) (free : List Bool) (base : ℕ) (front : RunOutput)
+    (old new gap : ℕ) (left : List Step) (w : PropagationState) : Type 0 where
+  pub between : IsFrameBetween n coins xs ys strings free base front old new w
+  pub left_is : left ≡ drop new ys
+  pub shared : take gap (drop old xs) ≡ take gap (drop new ys)
+  pub old_within : old + gap ≤ length xs
+  pub new_within : new + gap ≤ length ys
+  pub few : length ys ≤ most_steps
+
+-- it is before the places of a change within a span
+pub record IsBeforePlaces (n : ℕ) (coins : ℕ → Bool) (xs ys : List Step) (strings : ℕ → Option (List Letter)) (free : List Bool) (base : ℕ) (front : RunOutput)
+    (s : Span) (change : PauliChange) (left : List Step) (w : PropagationState) : Type 0 where
+  pub between : IsFrameBetween n coins xs ys strings free base front s.first s.first w
+  pub left_is : left ≡ drop s.first ys
+  pub differ : DifferAtPlaces n xs ys s change

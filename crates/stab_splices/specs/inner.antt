@@ -1,0 +1,3 @@
+pub mod OldRests
+pub mod Prepared
+pub mod FramedRecordings

@@ -1,0 +1,398 @@
+ghost use Rattle.std.specs.Prelude.{◌≡◌, ℕ, ◌+◌, ◌-◌, ◌*◌, ◌^◌, ◌<◌, ◌≤◌, [], ◌∷◌, None, Some, true, Bool, List, All, length, take, drop, slice_get, vec_capacity, IfSome, IfOk, IfErr, OnOk, OnErr, ◌++◌};
+ghost use Rattle.stab_io.specs.declared.refusal.Refusal.TheVariants.{OutOfMemory};
+ghost use Rattle.stab_circuit.specs.Steps.{Step, unroll, observables_of, check_of, check_within};
+ghost use Rattle.stab_circuit.specs.Views.{circuit_items};
+ghost use Rattle.stab_circuit.specs.Cursors.{IsApart};
+ghost use Rattle.stab_circuit.specs.Repeats.{AreRepeats};
+ghost use Rattle.stab_run.specs.Records.{ones};
+ghost use Rattle.stab_run.specs.Points.{all_coins_of};
+ghost use Rattle.stab_frames.specs.Propagations.{IsPlaced};
+ghost use Rattle.stab_recording.specs.Checkpoints.{checkpoint_steps};
+ghost use Rattle.stab_recording.specs.Spacing.{Near, last_of};
+ghost use Rattle.stab_splices.specs.declared.past_places.PauliChange.{PauliChange};
+ghost use Rattle.stab_splices.specs.Counts.{IsCounted};
+ghost use Rattle.stab_splices.specs.Recordings.{IsRecording, IsSameRecording, IsSpan, Follows, AgreeBehindSpan, AgreeBackBehindSpan};
+ghost use Rattle.stab_splices.specs.inner.Prepared.{IsCount};
+ghost use Rattle.stab_splices.specs.inner.OldRests.{HasRoomFor};
+ghost use Rattle.stab_splices.specs.inner.FramedRecordings.{StaysNear, IsPastPlaces, IsConjugating, IsPut, HasConjugated, span_meeting};
+
+use crate::counting::lengths_behind;
+use crate::flips::{flip_outputs, sum_additions};
+use crate::past_places::{PauliChange, propagate_places};
+use crate::recording::{Followed, Recording};
+use crate::rest::{OldRest, end_place};
+use stab_circuit::{Circuit, Cursor, Repeat, Span};
+use stab_frames::Propagation;
+use stab_io::Refusal;
+use stab_recording::{Checkpoint, Meeting, count_before, propagate_rest, shifted};
+use stab_rounds::find_rounds;
+use stab_run::{Coins, Lengths};
+use stab_tableau::Tableau;
+use std::alloc::Global;
+
+/// Rounds that are written out are looked for if this many steps are left: to carry fewer out takes no longer.
+const WORTH_FINDING: usize = 65_536;
+
+/// Lists move with these if they stay as long as they are.
+const NO_LENGTHS: Lengths = Lengths {
+    records: 0,
+    free: 0,
+    detectors: 0,
+    additions: 0,
+};
+
+/// A frame that went past the places of a change, in memory of its own.
+#[derive(Drop)]
+struct PastPlaces {
+    /// How long the lists are where the frame begins.
+    from: Lengths,
+    /// The frame, with what it flipped from there on.
+    propagation: Propagation,
+    /// The copies that are between the places, conjugated, where they are now.
+    copies: Vec<Checkpoint>,
+}
+
+/// What a frame makes of a recording, in memory of its own.
+#[derive(Drop)]
+struct Conjugating {
+    /// How long the lists are where the frame begins.
+    from: Lengths,
+    /// The copies between the places of the change, conjugated, where they are now.
+    passed: Vec<Checkpoint>,
+    /// The run after them, with the frame and what it flipped from where it began.
+    rest: OldRest,
+}
+
+/// How many of some copies are before a step, if this many of the first are.
+fn count_within(copies: &[Checkpoint], before: usize, step: usize) -> usize
+    requires in_range { before ≤ length copies.now }
+    ensures order { before ≤ result }
+    ensures within { result ≤ length copies.now }
+    ensures among { All (λ c. c.step < step) (take (result - before) (drop before copies.now)) }
+    ensures behind { IfSome (slice_get copies.now result) (λ c. step ≤ c.step) }
+{
+    let (_, behind) = copies.split_at(before);
+    before + count_before(behind, step)
+}
+
+/// The last of a step and those of copies, if each is at least the one before, and at most a stride
+/// after it.
+fn last_near(step: usize, copies: &[Checkpoint], stride: usize) -> Option<usize>
+    ensures near { IfSome result (λ last. Near stride (step ∷ checkpoint_steps copies.now)) }
+    ensures value { IfSome result (λ last. last_of step (checkpoint_steps copies.now) ≡ last) }
+{
+    let mut last = step;
+    for copy in copies {
+        if copy.step < last || copy.step - last > stride {
+            return None;
+        }
+        last = copy.step;
+    }
+    Some(last)
+}
+
+/// Whether the copy with a number, once it has moved with a span after which it is, or the last
+/// step if there is none, is at most a stride from a step that is not after the span.
+fn stays_near(
+    step: usize,
+    copies: &[Checkpoint],
+    number: usize,
+    span: Span,
+    total: usize,
+    stride: usize,
+) -> bool
+    ensures near { result ≡ true → StaysNear stride span total step (slice_get copies.now number) }
+{
+    let last = step.saturating_add(stride);
+    if step > span.new_end {
+        return false;
+    }
+    match copies.get(number) {
+        Some(copy) => {
+            span.old_end <= copy.step && shifted(span.old_end, span.new_end, copy.step) <= last
+        }
+        None => total <= last,
+    }
+}
+
+/// Where a span ends, among the old steps and the new ones.
+fn meeting_behind(span: Span) -> Meeting
+    ensures value { result ≡ span_meeting span }
+{
+    Meeting {
+        old_step: span.old_end,
+        new_step: span.new_end,
+        old_lengths: NO_LENGTHS,
+        new_lengths: NO_LENGTHS,
+    }
+}
+
+/// A frame passed the steps from one to another, and none was carried out.
+fn framed_between(begin: usize, end: usize) -> Followed
+    requires order { begin ≤ end }
+    ensures applied { result.applied ≡ 0 }
+    ensures counted { (result.applied + result.framed) + begin ≡ end }
+{
+    Followed {
+        applied: 0,
+        framed: (end - begin) as u64,
+    }
+}
+
+/// Where rounds come again in an edited circuit: also where they are written out, if many steps are left after what changed.
+///
+/// Refusal `OutOfMemory` alone.
+fn rounds_of(alloc: Global, circuit: &Circuit, span: Span) -> Result<Vec<Repeat>, Refusal>
+    requires checked { check_of (circuit_items circuit.now) ≡ None }
+    ensures are { IfOk result (λ rs. AreRepeats 0 (unroll (circuit_items circuit.now)) rs.items) }
+    ensures err { IfErr result (λ r. r ≡ OutOfMemory) }
+{
+    let left = circuit.steps().saturating_sub(span.new_end);
+    if left < WORTH_FINDING {
+        let blocks = circuit.repeats(alloc)?;
+        return Ok(blocks);
+    }
+    let found = find_rounds(alloc, circuit)?;
+    Ok(found)
+}
+
+impl Recording {
+    /// Propagates a frame past the places of a change of Pauli gates within a span, from the copy before it on,
+    /// which has the number one less than the one count of copies; those up to the other count are within
+    /// the span. `None` if it can't give the run there.
+    ///
+    /// Refusal `OutOfMemory` alone.
+    fn past_places(
+        &self,
+        alloc: Global,
+        circuit: &Circuit,
+        span: Span,
+        before: usize,
+        inside: usize,
+        change: &PauliChange,
+    ) -> Result<Option<PastPlaces>, Refusal>
+        requires checked { check_within self.now.tableau.qubits (circuit_items circuit.now) ≡ None }
+        requires same_length { length change.now.string.letters ≡ self.now.tableau.qubits }
+        requires follows { (coins : ℕ → Bool) × (K : ℕ) × Follows self.now.tableau.qubits coins K (unroll (circuit_items circuit.now)) span (Some change.now) self.now }
+        requires before { IsCount (span.first + 1) self.now.checkpoints.items before }
+        requires order { before ≤ inside }
+        requires inside { inside ≤ length self.now.checkpoints.items }
+        ensures passed { IfOk result (λ found. IfSome found (λ p. IsPastPlaces (unroll (circuit_items circuit.now)) span before inside change.now self.now p.from p.propagation p.copies.items)) }
+        ensures apart { OnOk result (All IsApart (unroll (circuit_items circuit.now))) }
+        ensures err { IfErr result (λ r. r ≡ OutOfMemory) }
+    {
+        let copy = &self.checkpoints[before - 1];
+        let mut cursor = Cursor::at(alloc, circuit, copy.step)?;
+        let from = lengths_behind(&mut cursor, span.first - copy.step, copy.lengths);
+        let free = self.outputs.free.as_slice();
+        let mut propagation = Propagation::new(alloc, self.tableau.len(), free, from.free)?;
+        let (_, behind) = self.checkpoints.as_slice().split_at(before);
+        let (within, _) = behind.split_at(inside - before);
+        let mut passed = Vec::new(alloc);
+        let went = propagate_places(
+            alloc,
+            within,
+            span.first,
+            change,
+            &self.strings,
+            free,
+            &mut cursor,
+            &mut propagation,
+            &mut passed,
+        )?;
+        if !went {
+            return Ok(None);
+        }
+        Ok(Some(PastPlaces {
+            from,
+            propagation,
+            copies: passed,
+        }))
+    }
+
+    /// Propagates a frame that went past the places of a change on over the steps after its span, past the
+    /// copies from a number on. `None` if it can't give the run after it. Copies are looked at in the
+    /// memory of a spare tableau if there is one.
+    ///
+    /// Refusal `OutOfMemory` alone.
+    fn conjugating(
+        &self,
+        alloc: Global,
+        circuit: &Circuit,
+        span: Span,
+        inside: usize,
+        passed: PastPlaces,
+        spare: &mut Option<Tableau>,
+    ) -> Result<Option<Conjugating>, Refusal>
+        requires checked { check_within self.now.tableau.qubits (circuit_items circuit.now) ≡ None }
+        requires follows { (coins : ℕ → Bool) × (K : ℕ) × (change : PauliChange) × Follows self.now.tableau.qubits coins K (unroll (circuit_items circuit.now)) span (Some change) self.now }
+        requires apart { All IsApart (unroll (circuit_items circuit.now)) }
+        requires letters { length passed.propagation.letters ≡ self.now.tableau.qubits }
+        requires placed { IsPlaced self.now.outputs.free.items passed.propagation }
+        requires few { passed.propagation.coin + length (drop span.new_end (unroll (circuit_items circuit.now))) < 2 ^ 63 }
+        requires inside { inside ≤ length self.now.checkpoints.items }
+        requires behind { IfSome (slice_get self.now.checkpoints.items inside) (λ c. span.old_end ≤ c.step) }
+        ensures conjugating { IfOk result (λ found. IfSome found (IsConjugating (unroll (circuit_items circuit.now)) span inside passed self.now)) }
+        ensures err { IfErr result (λ r. r ≡ OutOfMemory) }
+    {
+        let PastPlaces {
+            from,
+            mut propagation,
+            copies,
+        } = passed;
+        let mut cursor = Cursor::at(alloc, circuit, span.new_end)?;
+        let (_, behind) = self.checkpoints.as_slice().split_at(inside);
+        let mut conjugated = Vec::new(alloc);
+        let advanced = propagate_rest(
+            alloc,
+            behind,
+            span.old_end,
+            &self.strings,
+            self.outputs.free.as_slice(),
+            self.window,
+            &mut cursor,
+            &mut propagation,
+            &mut conjugated,
+            spare,
+        )?;
+        if !advanced {
+            return Ok(None);
+        }
+        Ok(Some(Conjugating {
+            from,
+            passed: copies,
+            rest: OldRest {
+                number: inside,
+                meeting: meeting_behind(span),
+                propagation,
+                conjugated,
+                room: Vec::with_capacity(alloc, self.checkpoints.len() - inside)?,
+            },
+        }))
+    }
+
+    /// Puts what a frame made of the run in place. It takes no memory.
+    fn put(&mut self, conjugating: Conjugating, before: usize, stride: usize)
+        requires room { HasRoomFor self.old.tableau.qubits conjugating.rest self.old.checkpoints.items }
+        requires count { length conjugating.passed.items + before ≡ conjugating.rest.number }
+        ensures put { IsPut self.old before stride conjugating self.new }
+    {
+        let Conjugating {
+            from,
+            mut passed,
+            rest,
+        } = conjugating;
+        flip_outputs(&mut self.outputs, from, &rest.propagation, 0);
+        sum_additions(&mut self.observables, self.outputs.additions.as_slice());
+        passed.reverse();
+        self.put_rest(rest, before, &mut passed, stride);
+    }
+
+    /// Makes this the run of an edited circuit, whose steps differ within the span by Pauli gates alone,
+    /// as a change says, by conjugating it where it lies. `None`, and nothing has changed, where a frame
+    /// can't give the new run, or a copy must be laid. Copies are looked at in the memory of a spare tableau
+    /// if there is one.
+    ///
+    /// Refusal `OutOfMemory` alone; then nothing has changed either.
+    fn conjugate(
+        &mut self,
+        alloc: Global,
+        circuit: &Circuit,
+        span: Span,
+        change: &PauliChange,
+        stride: usize,
+        spare: &mut Option<Tableau>,
+    ) -> Result<Option<Followed>, Refusal>
+        requires checked { check_within self.old.tableau.qubits (circuit_items circuit.now) ≡ None }
+        requires same_length { length change.now.string.letters ≡ self.old.tableau.qubits }
+        requires follows { (coins : ℕ → Bool) × Follows self.old.tableau.qubits coins stride (unroll (circuit_items circuit.now)) span (Some change.now) self.old }
+        ensures conjugated { IfOk result (λ found. IfSome found (λ f. (coins : ℕ → Bool) → Follows self.old.tableau.qubits coins stride (unroll (circuit_items circuit.now)) span (Some change.now) self.old → HasConjugated self.old.tableau.qubits coins stride (unroll (circuit_items circuit.now)) (observables_of (circuit_items circuit.now)) span self.old f self.new)) }
+        ensures apart { IfOk result (λ found. IfSome found (λ _. All IsApart (unroll (circuit_items circuit.now)))) }
+        ensures none { IfOk result (λ found. found ≡ None → self.new ≡ self.old) }
+        ensures unchanged { OnErr result (self.new ≡ self.old) }
+        ensures err { IfErr result (λ r. r ≡ OutOfMemory) }
+    {
+        if circuit.observables() != self.observables.len() {
+            return Ok(None);
+        }
+        let total = circuit.steps();
+        let copies = self.checkpoints.as_slice();
+        let before = count_before(copies, span.first + 1);
+        let inside = count_within(copies, before, span.old_end);
+        let begin = copies[before - 1].step;
+        let Some(passed) = self.past_places(alloc, circuit, span, before, inside, change)? else {
+            return Ok(None);
+        };
+        let Some(last) = last_near(begin, passed.copies.as_slice(), stride) else {
+            return Ok(None);
+        };
+        if !stays_near(last, copies, inside, span, total, stride) {
+            return Ok(None);
+        }
+        let Some(conjugating) = self.conjugating(alloc, circuit, span, inside, passed, spare)?
+        else {
+            return Ok(None);
+        };
+        let end = end_place(
+            copies,
+            inside + conjugating.rest.conjugated.len(),
+            span,
+            total,
+        );
+        let followed = framed_between(begin, end);
+        self.put(conjugating, before, stride);
+        Ok(Some(followed))
+    }
+
+    /// Makes this the run of an edited circuit, whose steps differ within the span, and says how
+    /// many steps were carried out for it, and how many a frame was propagated over. The run is as before if
+    /// memory is refused.
+    ///
+    /// If old and new steps differ by Pauli gates alone, they differ as the given change says. A frame then conjugates
+    /// the run in place, and no step is carried out. Else, and if that can't be, steps are carried out anew, in
+    /// the memory of a spare tableau if there is one, and one of the two that are then at hand is the next spare.
+    pub fn follow<C: Coins>(
+        &mut self,
+        alloc: Global,
+        circuit: &Circuit,
+        span: Span,
+        paulis: Option<PauliChange>,
+        stride: usize,
+        coins: &mut C,
+        spare: &mut Option<Tableau>,
+    ) -> Result<Followed, Refusal>
+        requires checked { check_within self.old.tableau.qubits (circuit_items circuit.now) ≡ None }
+        requires stride { 1 ≤ stride }
+        requires follows { Follows self.old.tableau.qubits (C.sequence coins.old) stride (unroll (circuit_items circuit.now)) span paulis self.old }
+        requires same_length { IfSome paulis (λ p. length p.string.letters ≡ self.old.tableau.qubits) }
+        ensures kept { OnOk result (IsRecording self.old.tableau.qubits (C.sequence coins.old) stride (unroll (circuit_items circuit.now)) (observables_of (circuit_items circuit.now)) self.new) }
+        ensures apart { OnOk result (All IsApart (unroll (circuit_items circuit.now))) }
+        ensures qubits { self.new.tableau.qubits ≡ self.old.tableau.qubits }
+        ensures unchanged { OnErr result (IsSameRecording self.new self.old) }
+        ensures same_coins { C.sequence coins.new ≡ C.sequence coins.old }
+        ensures asks { IfOk result (λ f. C.asks coins.new ≤ C.asks coins.old + f.applied) }
+        ensures asks_free { OnOk result (C.asks coins.new ≤ C.asks coins.old + ones self.new.outputs.free.items) }
+        ensures asked { C.asks coins.new ≤ C.asks coins.old + all_coins_of (unroll (circuit_items circuit.now)) }
+        ensures asked_behind { C.asks coins.new ≤ C.asks coins.old + ((length (unroll (circuit_items circuit.now)) - span.first) + stride) }
+        ensures applied { IfOk result (λ f. f.applied + f.framed ≤ (length (unroll (circuit_items circuit.now)) - span.first) + stride) }
+        ensures few { IfOk result (λ f. (xs : List Step) (count far : ℕ) → IsRecording self.old.tableau.qubits (C.sequence coins.old) stride xs count self.old → IsSpan xs (unroll (circuit_items circuit.now)) span → AgreeBehindSpan self.old.tableau.qubits (C.sequence coins.old) xs (unroll (circuit_items circuit.now)) span far → f.applied + f.framed ≤ ((span.new_end - span.first) + 2 * stride) + far) }
+        ensures counted { IfOk result (λ f. (xs : List Step) (count : ℕ) → IsRecording self.old.tableau.qubits (C.sequence coins.old) stride xs count self.old → IsSpan xs (unroll (circuit_items circuit.now)) span → IsCounted (AgreeBehindSpan self.old.tableau.qubits (C.sequence coins.old) xs (unroll (circuit_items circuit.now)) span) (AgreeBackBehindSpan self.old.tableau.qubits (C.sequence coins.old) xs (unroll (circuit_items circuit.now)) span) (checkpoint_steps self.old.checkpoints.items) span.first span.old_end span.new_end (length (unroll (circuit_items circuit.now))) (f.applied + f.framed)) }
+        ensures err { IfErr result (λ r. r ≡ OutOfMemory) }
+    {
+        if let Some(change) = paulis {
+            if let Some(followed) = self.conjugate(alloc, circuit, span, &change, stride, spare)? {
+                return Ok(followed);
+            }
+        }
+        let rounds = rounds_of(alloc, circuit, span)?;
+        self.replay(
+            alloc,
+            circuit,
+            rounds.as_slice(),
+            span,
+            stride,
+            coins,
+            spare,
+        )
+    }
+}

@@ -1,0 +1,214 @@
+ghost use Rattle.std.specs.Prelude.{◌≡◌, ℕ, ◌+◌, ◌^◌, ◌<◌, ◌≤◌, Bool, [], true, List, All, length, take, drop, IfOk, IfErr, IfSome, OnOk};
+ghost use Rattle.stab_io.specs.declared.refusal.Refusal.TheVariants.{OutOfMemory};
+ghost use Rattle.stab_circuit.specs.Steps.{Step};
+ghost use Rattle.stab_circuit.specs.declared.edit.Span.{Span};
+ghost use Rattle.stab_run.specs.Points.{RunOutput};
+ghost use Rattle.stab_run.specs.ProgramStates.{StepFits};
+ghost use Rattle.stab_frames.specs.Pivots.{pivot_at};
+ghost use Rattle.stab_frames.specs.Propagations.{IsPlaced, PropagatesOver};
+ghost use Rattle.stab_recording.specs.Checkpoints.{IsCheckpoint};
+ghost use Rattle.stab_recording.specs.RestFrames.{AreEnoughBy};
+ghost use Rattle.stab_splices.specs.PassedPlaces.{IsFrameBetween, IsBeforePiece, IsBeforePlaces};
+
+use stab_circuit::Cursor;
+use stab_frames::{Pivots, Propagation, Stop, propagate_steps};
+use stab_io::Refusal;
+use stab_pauli::Pauli;
+use stab_recording::{Checkpoint, count_before, framed_checkpoint};
+use std::alloc::{AllocError, Global};
+
+/// Pauli gates that are where others stood, at one place or at several: the same at each.
+#[derive(Drop)]
+pub struct PauliChange {
+    /// The letters of the old gates at a place and of the new ones, multiplied.
+    pub string: Pauli,
+    /// How many steps the old gates take at each place.
+    pub old: usize,
+    /// How many steps the new gates take at each place.
+    pub new: usize,
+    /// How many steps are after each place, up to the next one, and after the last, up to the end
+    /// of what the change spans.
+    pub gaps: Vec<usize>,
+}
+
+/// Passes this many steps of a cursor. False if fewer are left.
+fn skip_steps(cursor: &mut Cursor, count: usize) -> bool
+    ensures all { cursor.new.all ≡ cursor.old.all }
+    ensures within { result ≡ true → count ≤ length cursor.old.left }
+    ensures left { result ≡ true → cursor.new.left ≡ drop count cursor.old.left }
+{
+    let mut left = count;
+    while left > 0 {
+        let Some(steps) = cursor.next_steps(left) else {
+            return false;
+        };
+        left -= steps.len();
+    }
+    true
+}
+
+/// Propagates a frame over exactly this many steps of a cursor. False if fewer are left, or a string
+/// is missing.
+///
+/// Refusal of memory alone.
+fn propagate_exactly(
+    propagation: &mut Propagation,
+    strings: &Pivots,
+    free: &[bool],
+    cursor: &mut Cursor,
+    count: usize,
+) -> Result<bool, AllocError>
+    requires same_length { strings.now.qubits ≡ length propagation.old.letters }
+    requires fits { All (StepFits (length propagation.old.letters)) cursor.old.left }
+    requires placed { IsPlaced free.now propagation.old }
+    requires few { propagation.old.coin + length cursor.old.left < 2 ^ 63 }
+    ensures all { cursor.new.all ≡ cursor.old.all }
+    ensures length { length propagation.new.letters ≡ length propagation.old.letters }
+    ensures placed { OnOk result (IsPlaced free.now propagation.new) }
+    ensures within { IfOk result (λ went. went ≡ true → count ≤ length cursor.old.left) }
+    ensures left { IfOk result (λ went. went ≡ true → cursor.new.left ≡ drop count cursor.old.left) }
+    ensures propagated { IfOk result (λ went. went ≡ true → PropagatesOver (length propagation.old.letters) (pivot_at strings.now.strings free.now) (take count cursor.old.left) propagation.old propagation.new) }
+    ensures enough { IfOk result (λ went. went ≡ true → AreEnoughBy (length propagation.old.letters) (pivot_at strings.now.strings free.now) free.now cursor.old.left count propagation.old) }
+{
+    let propagated = propagate_steps(propagation, strings, free, cursor, count, 0, false)?;
+    Ok(propagated.stop != Stop::NoString && propagated.steps == count)
+}
+
+/// How far a step is after a place, if that is no less than one number and no more than another.
+fn behind_place(step: usize, place: usize, least: usize, most: usize) -> Option<usize>
+    ensures some { IfSome result (λ behind. (least ≤ behind) × (behind ≤ most) × (place + behind ≡ step)) }
+{
+    let behind = step.checked_sub(place)?;
+    if least <= behind && behind <= most {
+        Some(behind)
+    } else {
+        None
+    }
+}
+
+/// Propagates a frame over the steps of a gap, which a cursor has next. They come after `old` steps of the old run
+/// and `new` steps of the new one, and are the same in both. It goes past copies of the old run that are among them. It
+/// makes each such copy one of the new run, after others. False if a string is missing, or a copy
+/// is elsewhere.
+///
+/// Refusal `OutOfMemory` alone.
+fn propagate_piece(
+    alloc: Global,
+    copies: &[Checkpoint],
+    old: usize,
+    new: usize,
+    gap: usize,
+    strings: &Pivots,
+    free: &[bool],
+    cursor: &mut Cursor,
+    propagation: &mut Propagation,
+    passed: &mut Vec<Checkpoint>,
+) -> Result<bool, Refusal>
+    requires same_length { strings.now.qubits ≡ length propagation.old.letters }
+    requires fits { All (StepFits (length propagation.old.letters)) cursor.old.left }
+    requires placed { IsPlaced free.now propagation.old }
+    requires few { propagation.old.coin + length cursor.old.left < 2 ^ 63 }
+    requires same_qubits { All (λ c. c.tableau.qubits ≡ length propagation.old.letters) copies.now }
+    ensures all { cursor.new.all ≡ cursor.old.all }
+    ensures length { length propagation.new.letters ≡ length propagation.old.letters }
+    ensures placed { OnOk result (IsPlaced free.now propagation.new) }
+    ensures left { IfOk result (λ went. went ≡ true → cursor.new.left ≡ drop gap cursor.old.left) }
+    ensures coin { IfOk result (λ went. went ≡ true → propagation.new.coin + length cursor.new.left ≤ propagation.old.coin + length cursor.old.left) }
+    ensures count { IfOk result (λ went. went ≡ true → length passed.new.items ≡ length passed.old.items + length copies.now) }
+    ensures between { IfOk result (λ went. went ≡ true → (coins : ℕ → Bool) (xs : List Step) (base : ℕ) (front : RunOutput) → IsBeforePiece (length propagation.old.letters) coins xs cursor.old.all (pivot_at strings.now.strings free.now) free.now base front old new gap cursor.old.left propagation.old → IsFrameBetween (length propagation.old.letters) coins xs cursor.old.all (pivot_at strings.now.strings free.now) free.now base front (old + gap) (new + gap) propagation.new) }
+    ensures copies { IfOk result (λ went. went ≡ true → (coins : ℕ → Bool) (xs : List Step) (base : ℕ) (front : RunOutput) → IsBeforePiece (length propagation.old.letters) coins xs cursor.old.all (pivot_at strings.now.strings free.now) free.now base front old new gap cursor.old.left propagation.old → All (IsCheckpoint (length propagation.old.letters) coins xs) copies.now → All (IsCheckpoint (length propagation.old.letters) coins cursor.old.all) passed.old.items → All (IsCheckpoint (length propagation.old.letters) coins cursor.old.all) passed.new.items) }
+    ensures err { IfErr result (λ r. r ≡ OutOfMemory) }
+{
+    let mut gone = 0;
+    for copy in copies {
+        let Some(behind) = behind_place(copy.step, old, gone, gap) else {
+            return Ok(false);
+        };
+        if !propagate_exactly(propagation, strings, free, cursor, behind - gone)? {
+            return Ok(false);
+        }
+        passed.push(Checkpoint {
+            step: new.saturating_add(behind),
+            lengths: copy.lengths,
+            tableau: framed_checkpoint(alloc, &copy.tableau, propagation.letters())?,
+        })?;
+        gone = behind;
+    }
+    Ok(propagate_exactly(propagation, strings, free, cursor, gap - gone)?)
+}
+
+/// The first copies of some, after this many, that are before a step or at it.
+fn copies_until(copies: &[Checkpoint], from: usize, step: usize) -> &[Checkpoint]
+    requires in_range { from ≤ length copies.now }
+    ensures value { (count : ℕ) × (result.now ≡ take count (drop from copies.now)) }
+{
+    let (_, behind) = copies.split_at(from);
+    let count = count_before(behind, step.saturating_add(1));
+    let (first, _) = behind.split_at(count);
+    first
+}
+
+/// Propagates a frame that begins before a step, which both runs have, past the places of a change of Pauli
+/// gates, the first of which is at that step, and over what is between them and after the
+/// last. A cursor is at that step of the new run. At each place the frame is multiplied by the string
+/// of the change. Copies of the old run that are there are made copies of the new one, in order.
+///
+/// False if a string is missing, or a copy is among the gates of a place, or after all. What it
+/// made so far is then irrelevant.
+///
+/// Refusal `OutOfMemory` alone.
+pub fn propagate_places(
+    alloc: Global,
+    copies: &[Checkpoint],
+    first: usize,
+    change: &PauliChange,
+    strings: &Pivots,
+    free: &[bool],
+    cursor: &mut Cursor,
+    propagation: &mut Propagation,
+    passed: &mut Vec<Checkpoint>,
+) -> Result<bool, Refusal>
+    requires same_length { strings.now.qubits ≡ length propagation.old.letters }
+    requires string { length change.now.string.letters ≡ length propagation.old.letters }
+    requires fits { All (StepFits (length propagation.old.letters)) cursor.old.left }
+    requires placed { IsPlaced free.now propagation.old }
+    requires few { propagation.old.coin + length cursor.old.left < 2 ^ 63 }
+    requires same_qubits { All (λ c. c.tableau.qubits ≡ length propagation.old.letters) copies.now }
+    requires nothing { passed.old.items ≡ [] }
+    ensures length { length propagation.new.letters ≡ length propagation.old.letters }
+    ensures placed { OnOk result (IsPlaced free.now propagation.new) }
+    ensures coin { IfOk result (λ went. went ≡ true → propagation.new.coin ≤ propagation.old.coin + length cursor.old.left) }
+    ensures count { IfOk result (λ went. went ≡ true → length passed.new.items ≡ length copies.now) }
+    ensures between { IfOk result (λ went. went ≡ true → (coins : ℕ → Bool) (xs : List Step) (base : ℕ) (front : RunOutput) (s : Span) → s.first ≡ first → IsBeforePlaces (length propagation.old.letters) coins xs cursor.old.all (pivot_at strings.now.strings free.now) free.now base front s change.now cursor.old.left propagation.old → IsFrameBetween (length propagation.old.letters) coins xs cursor.old.all (pivot_at strings.now.strings free.now) free.now base front s.old_end s.new_end propagation.new) }
+    ensures copies { IfOk result (λ went. went ≡ true → (coins : ℕ → Bool) (xs : List Step) (base : ℕ) (front : RunOutput) (s : Span) → s.first ≡ first → IsBeforePlaces (length propagation.old.letters) coins xs cursor.old.all (pivot_at strings.now.strings free.now) free.now base front s change.now cursor.old.left propagation.old → All (IsCheckpoint (length propagation.old.letters) coins xs) copies.now → All (IsCheckpoint (length propagation.old.letters) coins cursor.old.all) passed.new.items) }
+    ensures err { IfErr result (λ r. r ≡ OutOfMemory) }
+{
+    let mut old = first;
+    let mut new = first;
+    for gap in change.gaps.as_slice() {
+        if !skip_steps(cursor, change.new) {
+            return Ok(false);
+        }
+        propagation.multiply(&change.string);
+        old = old.saturating_add(change.old);
+        new = new.saturating_add(change.new);
+        let here = copies_until(copies, passed.len(), old.saturating_add(*gap));
+        if !propagate_piece(
+            alloc,
+            here,
+            old,
+            new,
+            *gap,
+            strings,
+            free,
+            cursor,
+            propagation,
+            passed,
+        )? {
+            return Ok(false);
+        }
+        old = old.saturating_add(*gap);
+        new = new.saturating_add(*gap);
+    }
+    Ok(passed.len() == copies.len())
+}

@@ -1,0 +1,377 @@
+ghost use Rattle.std.specs.Prelude.{◌≡◌, ℕ, ◌+◌, ◌-◌, ◌*◌, ◌<◌, ◌≤◌, Bool, [], None, List, All, length, take, reverse, slice_get, vec_capacity, IfSome, OnOk, OnErr, IfOk, IfErr};
+ghost use Rattle.stab_io.specs.declared.refusal.Refusal.TheVariants.{OutOfMemory};
+ghost use Rattle.stab_gates.specs.Limits.{most_qubits};
+ghost use Rattle.stab_circuit.specs.Steps.{Step, unroll, observables_of, check_of, check_within};
+ghost use Rattle.stab_circuit.specs.Views.{circuit_items};
+ghost use Rattle.stab_circuit.specs.Repeats.{AreRepeats};
+ghost use Rattle.stab_circuit.specs.Cursors.{IsApart};
+ghost use Rattle.stab_run.specs.Records.{ones};
+ghost use Rattle.stab_run.specs.Points.{all_coins_of};
+ghost use Rattle.stab_splices.specs.Counts.{IsCounted};
+ghost use Rattle.stab_run.specs.ProgramStates.{output_of};
+ghost use Rattle.stab_frames.specs.Pivots.{front_kept};
+ghost use Rattle.stab_recording.specs.Checkpoints.{checkpoint_steps};
+ghost use Rattle.stab_recording.specs.LaidCheckpoints.{all_laid};
+ghost use Rattle.stab_splices.specs.Recordings.{IsRecording, IsSameRecording, IsSpan, Follows, AgreeBehindSpan, AgreeBackBehindSpan};
+ghost use Rattle.stab_splices.specs.inner.Prepared.{Begins, HasCopy, IsRest, IsOldRest, HasRoom, IsPrepared, copies_behind, IsCommitted};
+ghost use Rattle.stab_recording.specs.PivotLists.{IsSpliced};
+
+use crate::flips::flip_outputs;
+use crate::rest::OldRest;
+use stab_circuit::{Circuit, Cursor, Repeat, Span};
+use stab_frames::{PivotRecorder, Pivots, Propagation, count_ones};
+use stab_io::Refusal;
+use stab_pauli::Pauli;
+use stab_recording::{Checkpoint, End, Meeting, Plan, Replay, RestFrame, count_before};
+use stab_run::{Coins, Outputs, observables};
+use stab_tableau::Tableau;
+use std::alloc::{AllocError, Global};
+
+/// A run that is kept: the state after the last step, what the steps gave, copies of the state on
+/// the way, the first before the first step, and pivots of its free outcomes. Its steps
+/// look back to no more records than its lookback window.
+#[derive(Drop)]
+pub struct Recording {
+    pub tableau: Tableau,
+    pub outputs: Outputs,
+    pub observables: Vec<bool>,
+    pub checkpoints: Vec<Checkpoint>,
+    pub strings: Pivots,
+    pub window: u32,
+}
+
+/// How an edit was followed: how many steps were carried out for it, and how many a frame was propagated over.
+#[derive(Clone, Copy)]
+pub struct Followed {
+    pub applied: u64,
+    pub framed: u64,
+}
+
+/// What a replay leaves, in memory of its own.
+#[derive(Drop)]
+struct Prepared {
+    outputs: Outputs,
+    observables: Vec<bool>,
+    strings: Pivots,
+    window: u32,
+    // The copies laid on the way, the last first.
+    laid: Vec<Checkpoint>,
+    rest: Rest,
+}
+
+/// What comes after the steps of a replay.
+#[derive(Drop)]
+enum Rest {
+    /// Nothing: this is the state after the last step.
+    Nothing(Tableau),
+    /// The old run from a copy on.
+    Old(OldRest),
+}
+
+impl Recording {
+    /// The run of no steps.
+    pub fn new(alloc: Global, n: usize) -> Result<Recording, Refusal>
+        requires in_range { n ≤ most_qubits }
+        ensures kept { (coins : ℕ → Bool) (K : ℕ) → IfOk result (IsRecording n coins K [] 0) }
+        ensures err { IfErr result (λ r. r ≡ OutOfMemory) }
+    {
+        let tableau = Tableau::new(alloc, n)?;
+        let outputs = Outputs::new(alloc);
+        let first = Checkpoint {
+            step: 0,
+            lengths: outputs.lengths(),
+            tableau: tableau.compact(alloc)?,
+        };
+        let checkpoints = vec![in alloc; first]?;
+        Ok(Recording {
+            tableau,
+            outputs,
+            observables: Vec::new(alloc),
+            checkpoints,
+            strings: Pivots::new(alloc, n),
+            window: 0,
+        })
+    }
+
+    /// The pivots of the first steps, which have these flags.
+    ///
+    /// Refusal `OutOfMemory` alone.
+    fn front_pivots(&self, alloc: Global, free: &[bool]) -> Result<PivotRecorder, Refusal>
+        ensures strings { IfOk result (λ pivots. pivots.strings ≡ front_kept (ones free.now) self.now.strings) }
+        ensures window { IfOk result (λ pivots. pivots.window ≡ self.now.window) }
+        ensures string { IfOk result (λ pivots. length pivots.string.letters ≡ self.now.tableau.qubits) }
+        ensures err { IfErr result (λ r. r ≡ OutOfMemory) }
+    {
+        let string = Pauli::identity(alloc, self.tableau.len())?;
+        let strings = self.strings.front(alloc, count_ones(free))?;
+        Ok(PivotRecorder {
+            strings,
+            window: self.window,
+            string,
+        })
+    }
+
+    /// A replay from the copy with a number on, in the memory of a spare tableau if there is one.
+    fn resume<'a>(
+        &self,
+        alloc: Global,
+        circuit: &'a Circuit,
+        number: usize,
+        spare: Option<Tableau>,
+    ) -> Result<Replay<'a>, Refusal>
+        requires in_range { number < length self.now.checkpoints.items }
+        requires checked { check_of (circuit_items circuit.now) ≡ None }
+        requires within { IfSome (slice_get self.now.checkpoints.items number) (λ copy. copy.step ≤ length (unroll (circuit_items circuit.now))) }
+        ensures begins { IfOk result (λ replay. IfSome (slice_get self.now.checkpoints.items number) (λ copy. Begins (unroll (circuit_items circuit.now)) self.now copy replay)) }
+        ensures err { IfErr result (λ r. r ≡ OutOfMemory) }
+    {
+        let copy = &self.checkpoints[number];
+        let string = Pauli::identity(alloc, self.tableau.len())?;
+        let tableau = copy.tableau.tableau(alloc, spare)?;
+        let outputs = self.outputs.front(alloc, copy.lengths)?;
+        let pivots = self.front_pivots(alloc, outputs.free.as_slice())?;
+        let cursor = Cursor::at(alloc, circuit, copy.step)?;
+        Ok(Replay {
+            tableau,
+            string,
+            outputs,
+            pivots,
+            cursor,
+            step: copy.step,
+            applied: 0,
+            framed: 0,
+            laid: Vec::new(alloc),
+        })
+    }
+
+    /// Makes this the run of an edited circuit, whose steps differ within the span, by carrying out
+    /// steps anew, and says how many were, and how many a frame was propagated over. In repeats of the circuit's steps
+    /// what rounds gave is given again, if they come again. The run is as before if memory is refused.
+    ///
+    /// The replay goes on in the memory of a spare tableau if there is one, and one of the two
+    /// that are then at hand is the next spare.
+    pub(crate) fn replay<C: Coins>(
+        &mut self,
+        alloc: Global,
+        circuit: &Circuit,
+        repeats: &[Repeat],
+        span: Span,
+        stride: usize,
+        coins: &mut C,
+        spare: &mut Option<Tableau>,
+    ) -> Result<Followed, Refusal>
+        requires checked { check_within self.old.tableau.qubits (circuit_items circuit.now) ≡ None }
+        requires repeats { AreRepeats 0 (unroll (circuit_items circuit.now)) repeats.now }
+        requires stride { 1 ≤ stride }
+        requires follows { Follows self.old.tableau.qubits (C.sequence coins.old) stride (unroll (circuit_items circuit.now)) span None self.old }
+        ensures kept { OnOk result (IsRecording self.old.tableau.qubits (C.sequence coins.old) stride (unroll (circuit_items circuit.now)) (observables_of (circuit_items circuit.now)) self.new) }
+        ensures apart { OnOk result (All IsApart (unroll (circuit_items circuit.now))) }
+        ensures qubits { self.new.tableau.qubits ≡ self.old.tableau.qubits }
+        ensures unchanged { OnErr result (IsSameRecording self.new self.old) }
+        ensures same_coins { C.sequence coins.new ≡ C.sequence coins.old }
+        ensures asks { IfOk result (λ f. C.asks coins.new ≤ C.asks coins.old + f.applied) }
+        ensures asks_free { OnOk result (C.asks coins.new ≤ C.asks coins.old + ones self.new.outputs.free.items) }
+        ensures asked { C.asks coins.new ≤ C.asks coins.old + all_coins_of (unroll (circuit_items circuit.now)) }
+        ensures asked_behind { C.asks coins.new ≤ C.asks coins.old + ((length (unroll (circuit_items circuit.now)) - span.first) + stride) }
+        ensures applied { IfOk result (λ f. f.applied + f.framed ≤ (length (unroll (circuit_items circuit.now)) - span.first) + stride) }
+        ensures few { IfOk result (λ f. (xs : List Step) (count far : ℕ) → IsRecording self.old.tableau.qubits (C.sequence coins.old) stride xs count self.old → IsSpan xs (unroll (circuit_items circuit.now)) span → AgreeBehindSpan self.old.tableau.qubits (C.sequence coins.old) xs (unroll (circuit_items circuit.now)) span far → f.applied + f.framed ≤ ((span.new_end - span.first) + 2 * stride) + far) }
+        ensures counted { IfOk result (λ f. (xs : List Step) (count : ℕ) → IsRecording self.old.tableau.qubits (C.sequence coins.old) stride xs count self.old → IsSpan xs (unroll (circuit_items circuit.now)) span → IsCounted (AgreeBehindSpan self.old.tableau.qubits (C.sequence coins.old) xs (unroll (circuit_items circuit.now)) span) (AgreeBackBehindSpan self.old.tableau.qubits (C.sequence coins.old) xs (unroll (circuit_items circuit.now)) span) (checkpoint_steps self.old.checkpoints.items) span.first span.old_end span.new_end (length (unroll (circuit_items circuit.now))) (f.applied + f.framed)) }
+        ensures err { IfErr result (λ r. r ≡ OutOfMemory) }
+    {
+        let before = count_before(self.checkpoints.as_slice(), span.first + 1);
+        let mut replay = self.resume(alloc, circuit, before - 1, spare.take())?;
+        let plan = Plan {
+            total: circuit.steps(),
+            stride,
+            old_end: span.old_end,
+            new_end: span.new_end,
+            next: count_before(self.checkpoints.as_slice(), span.old_end).max(before),
+            base: replay.outputs.records.len(),
+            window: self.window,
+        };
+        let end = replay.follow(
+            alloc,
+            circuit,
+            repeats,
+            self.checkpoints.as_slice(),
+            &self.outputs,
+            &self.strings,
+            plan,
+            coins,
+        )?;
+        let place = self.place_of(&end, replay.step, span, plan.total);
+        let followed = Followed {
+            applied: replay.applied,
+            framed: replay.framed + (place - replay.step) as u64,
+        };
+        let prepared = self.prepare(alloc, replay, end, circuit.observables(), spare)?;
+        self.commit(prepared, before, stride, spare);
+        Ok(followed)
+    }
+
+    /// Gathers what the run of the edited circuit is made of, and takes all memory for it.
+    fn prepare(
+        &mut self,
+        alloc: Global,
+        replay: Replay,
+        end: End,
+        count: usize,
+        spare: &mut Option<Tableau>,
+    ) -> Result<Prepared, Refusal>
+        requires in_range { HasCopy self.old.tableau.qubits self.old.checkpoints.items end }
+        requires same_length { replay.pivots.strings.qubits ≡ self.old.strings.qubits }
+        ensures unchanged { IsSameRecording self.new self.old }
+        ensures prepared { IfOk result (IsPrepared self.old replay.entry count end) }
+        ensures room { IfOk result (λ p. HasRoom self.new.tableau.qubits p.rest self.new.checkpoints.items) }
+        ensures capacity { IfOk result (λ p. length self.new.checkpoints.items + length p.laid.items ≤ vec_capacity self.new.checkpoints) }
+        ensures err { IfErr result (λ r. r ≡ OutOfMemory) }
+    {
+        let Replay {
+            tableau,
+            mut outputs,
+            pivots,
+            mut laid,
+            step,
+            ..
+        } = replay;
+        let PivotRecorder {
+            mut strings,
+            window,
+            ..
+        } = pivots;
+        let rest = self.rest(alloc, tableau, &mut outputs, &mut strings, step, end, spare)?;
+        strings.cut();
+        let observables = observables(alloc, count, outputs.additions.as_slice())?;
+        self.checkpoints.reserve(laid.len())?;
+        laid.reverse();
+        Ok(Prepared {
+            outputs,
+            observables,
+            strings,
+            window,
+            laid,
+            rest,
+        })
+    }
+
+    /// What comes after a replay that ended before a step with this tableau, these outputs and
+    /// these strings, to which those after it are appended. A tableau that is not needed is the next
+    /// spare.
+    ///
+    /// Refusal `OutOfMemory` alone.
+    fn rest(
+        &self,
+        alloc: Global,
+        tableau: Tableau,
+        outputs: &mut Outputs,
+        strings: &mut Pivots,
+        step: usize,
+        end: End,
+        spare: &mut Option<Tableau>,
+    ) -> Result<Rest, Refusal>
+        requires in_range { HasCopy self.now.tableau.qubits self.now.checkpoints.items end }
+        requires same_length { strings.old.qubits ≡ self.now.strings.qubits }
+        ensures rest { IfOk result (IsRest self.now tableau (output_of outputs.old) strings.old step end (output_of outputs.new) strings.new) }
+        ensures room { IfOk result (λ rest. HasRoom self.now.tableau.qubits rest self.now.checkpoints.items) }
+        ensures err { IfErr result (λ r. r ≡ OutOfMemory) }
+    {
+        match end {
+            End::Last => Ok(Rest::Nothing(tableau)),
+            End::Joined(number) => {
+                *spare = Some(tableau);
+                let propagation = Propagation::new(alloc, self.tableau.len(), &[], 0)?;
+                let framed = RestFrame {
+                    number,
+                    compared: 0,
+                    propagation,
+                    conjugated: Vec::new(alloc),
+                };
+                self.old_rest(alloc, outputs, strings, step, framed)
+            }
+            End::Framed(framed) => {
+                *spare = Some(tableau);
+                self.old_rest(alloc, outputs, strings, step, framed)
+            }
+        }
+    }
+
+    /// The run from an old copy on, as a frame flips it that is propagated on from there, to come after a replay that ended before a step
+    /// with these outputs and these strings, to which those after it are appended.
+    ///
+    /// Refusal `OutOfMemory` alone.
+    fn old_rest(
+        &self,
+        alloc: Global,
+        outputs: &mut Outputs,
+        strings: &mut Pivots,
+        step: usize,
+        framed: RestFrame,
+    ) -> Result<Rest, Refusal>
+        requires in_range { framed.number < length self.now.checkpoints.items }
+        requires few { framed.number + length framed.conjugated.items ≤ length self.now.checkpoints.items }
+        requires letters { length framed.propagation.letters ≡ self.now.tableau.qubits }
+        requires same_length { strings.old.qubits ≡ self.now.strings.qubits }
+        ensures rest { IfOk result (λ rest. IfSome (slice_get self.now.checkpoints.items framed.number) (IsOldRest self.now (output_of outputs.old) strings.old step framed.number framed.compared framed.propagation framed.conjugated.items (output_of outputs.new) strings.new rest)) }
+        ensures room { IfOk result (λ rest. HasRoom self.now.tableau.qubits rest self.now.checkpoints.items) }
+        ensures err { IfErr result (λ r. r ≡ OutOfMemory) }
+    {
+        let RestFrame {
+            number,
+            compared,
+            propagation,
+            conjugated,
+        } = framed;
+        let copy = &self.checkpoints[number];
+        let lengths = outputs.lengths();
+        outputs.append_rest(&self.outputs, copy.lengths)?;
+        flip_outputs(outputs, lengths, &propagation, compared);
+        self.append_strings(strings, copy.lengths.free, outputs.free.as_slice())?;
+        Ok(Rest::Old(OldRest {
+            number,
+            meeting: Meeting {
+                old_step: copy.step,
+                new_step: step,
+                old_lengths: copy.lengths,
+                new_lengths: lengths,
+            },
+            propagation,
+            conjugated,
+            room: Vec::with_capacity(alloc, self.checkpoints.len() - number)?,
+        }))
+    }
+
+    /// Puts what was prepared in place. It takes no memory. A tableau that is replaced is the next
+    /// spare.
+    fn commit(
+        &mut self,
+        prepared: Prepared,
+        before: usize,
+        stride: usize,
+        spare: &mut Option<Tableau>,
+    )
+        requires room { HasRoom self.old.tableau.qubits prepared.rest self.old.checkpoints.items }
+        requires capacity { length self.old.checkpoints.items + length prepared.laid.items ≤ vec_capacity self.old.checkpoints }
+        requires behind { before + length (copies_behind prepared.rest self.old.checkpoints.items) ≤ length self.old.checkpoints.items }
+        ensures committed { IsCommitted self.old prepared before stride self.new }
+    {
+        let Prepared {
+            outputs,
+            observables,
+            strings,
+            window,
+            mut laid,
+            rest,
+        } = prepared;
+        self.outputs = outputs;
+        self.observables = observables;
+        self.strings = strings;
+        self.window = window;
+        match rest {
+            Rest::Nothing(tableau) => {
+                *spare = Some(std::mem::replace(&mut self.tableau, tableau));
+                self.lay_behind(before, &mut laid, stride);
+            }
+            Rest::Old(rest) => self.put_rest(rest, before, &mut laid, stride),
+        }
+    }
+}
