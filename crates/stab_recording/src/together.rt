@@ -1,6 +1,6 @@
 //! Which rounds of a block are looked at, to see whether they come again: not those of few steps, of which some are taken as one.
 
-ghost use Rattle.std.specs.Prelude.{◌≡◌, ◌+◌, ◌*◌, ◌<◌, ◌≤◌, ◌^◌, List};
+ghost use Rattle.std.specs.Prelude.{◌≡◌, ◌+◌, ◌*◌, ◌<◌, ◌≤◌, ◌^◌, nat_le, List};
 ghost use Rattle.stab_circuit.specs.Steps.{Step};
 ghost use Rattle.stab_circuit.specs.Repeats.{IsRepeat};
 
@@ -20,7 +20,9 @@ const LEAST_ROUNDS: usize = 8;
 
 /// Whether a block has enough steps that it is worth looking whether its rounds come again: each look finds its place in
 /// the steps anew.
-pub fn is_long(repeat: Repeat) -> bool {
+pub fn is_long(repeat: Repeat) -> bool
+    ensures value { result ≡ nat_le 2048 (repeat.rounds * repeat.length) }
+{
     repeat.rounds.saturating_mul(repeat.length) >= LEAST_STEPS
 }
 
