@@ -8,7 +8,7 @@
 //! - `states`: stabiliser states. `devices`: inputs and outputs that fail.
 //! - `circuits`, `circuit_edits`, `cursors`, `gaps`, `step_items`: circuits, their edits and their steps.
 //! - `coins`, `samplers`: coins, and runs by them. `results`: entries of results.
-//! - `rounds`, `written`: rounds that come again, in blocks and written out, of the cases of `round_cases`.
+//! - `rounds`: where rounds are that come again, in blocks and written out, and that their pivots count once.
 //! - `sessions`, `session_edits`: sessions that are refused, and what edits cost.
 //! - `distances`: the search for a least logical error.
 //! - `answers`: what is found beside what is wanted.
@@ -42,8 +42,6 @@ mod paulis;
 #[cfg(test)]
 mod results;
 #[cfg(test)]
-mod round_cases;
-#[cfg(test)]
 mod rounds;
 #[cfg(test)]
 mod rows;
@@ -59,5 +57,3 @@ mod states;
 mod step_items;
 #[cfg(test)]
 mod texts;
-#[cfg(test)]
-mod written;

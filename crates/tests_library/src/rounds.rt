@@ -1,145 +1,10 @@
-//! Blocks whose rounds come again: what runs, shots and sessions give of them, and where they are in the steps.
-ghost use Rattle.std.specs.Prelude.{◌≤◌};
-ghost use Rattle.stab_circuit.specs.Limits.{most_stride};
-
-use crate::round_cases::{CASES, Case};
+//! Rounds that come again, in blocks and written out: where they are in the steps, and that their pivots count once.
 use stab_circuit::{Repeat, read_circuit};
 use stab_pauli::MemoryInput;
-use stab_session::{SeedCoins, Session, Shot, run_once};
-use stab_shots::{Reference, run_shots};
+use stab_rounds::find_rounds;
+use stab_shots::Reference;
 use std::alloc::Global;
 use std::test::Fail;
-
-/// The lines of a case, with the block as it is.
-fn in_a_block(alloc: Global, case: Case) -> Result<Vec<u8>, Fail> {
-    let (before, first_line, _, body, behind) = case;
-    let mut text = Vec::from_slice(alloc, before.as_bytes())?;
-    text.extend_from_slice(first_line.as_bytes())?;
-    text.extend_from_slice(body.as_bytes())?;
-    text.extend_from_slice(b"}\n")?;
-    text.extend_from_slice(behind.as_bytes())?;
-    Ok(text)
-}
-
-/// A block that does nothing. In a circuit with a block no written rounds are looked for, so each
-/// step of the lines after is carried out.
-const STILL_BLOCK: &str = "REPEAT 2 {\nI 0\n}\n";
-
-/// The lines of a case, with the block written out, if each step is carried out.
-fn written_out(alloc: Global, case: Case) -> Result<Vec<u8>, Fail> {
-    let (before, _, rounds, body, behind) = case;
-    let mut text = Vec::from_slice(alloc, STILL_BLOCK.as_bytes())?;
-    text.extend_from_slice(before.as_bytes())?;
-    for _ in 0..rounds {
-        text.extend_from_slice(body.as_bytes())?;
-    }
-    text.extend_from_slice(behind.as_bytes())?;
-    Ok(text)
-}
-
-/// What a run of a text gives with some coins.
-pub(crate) fn shot_of(alloc: Global, text: &[u8], number: u64) -> Result<Shot, Fail> {
-    let circuit = read_circuit(alloc, &mut MemoryInput::new(text))?;
-    Ok(run_once(alloc, &circuit, 12, &mut SeedCoins::new(3, number))?)
-}
-
-/// Whether two runs gave the same.
-pub(crate) fn are_same(one: &Shot, other: &Shot) -> bool {
-    one.records.as_slice() == other.records.as_slice()
-        && one.free.as_slice() == other.free.as_slice()
-        && one.detectors.as_slice() == other.detectors.as_slice()
-        && one.observables.as_slice() == other.observables.as_slice()
-}
-
-/// Whether a block gives what it gives written out, if no round comes again, with some coins.
-fn agrees(alloc: Global, case: Case, number: u64) -> Result<bool, Fail> {
-    let block = in_a_block(alloc, case)?;
-    let lines = written_out(alloc, case)?;
-    let one = shot_of(alloc, block.as_slice(), number)?;
-    let other = shot_of(alloc, lines.as_slice(), number)?;
-    Ok(are_same(&one, &other))
-}
-
-#[test]
-fn blocks_give_what_they_give_written_out(rt: HostRuntime) -> Result<(), Fail> {
-    let mut same = true;
-    for case in CASES {
-        for number in 0..3 {
-            same &= agrees(rt.alloc(), case, number)?;
-        }
-    }
-    assert!(rt; same);
-    Ok(())
-}
-
-/// Whether shots of a block that go at once give what runs of the block written out give.
-fn shots_agree(alloc: Global, case: Case) -> Result<bool, Fail> {
-    let block = in_a_block(alloc, case)?;
-    let lines = written_out(alloc, case)?;
-    let circuit = read_circuit(alloc, &mut MemoryInput::new(block.as_slice()))?;
-    let shots = run_shots(alloc, &circuit, 12, 3, 0, 3)?;
-    let mut same = shots.len() == 3;
-    for number in 0..shots.len() {
-        let run = shot_of(alloc, lines.as_slice(), number as u64)?;
-        same &= are_same(&shots[number], &run);
-    }
-    Ok(same)
-}
-
-#[test]
-fn shots_of_blocks_give_what_runs_give_written_out(rt: HostRuntime) -> Result<(), Fail> {
-    let mut same = true;
-    for case in CASES {
-        same &= shots_agree(rt.alloc(), case)?;
-    }
-    assert!(rt; same);
-    Ok(())
-}
-
-/// Whether a session on a text, with copies a stride apart, gives what a run gave with the same coins.
-pub(crate) fn session_gives(
-    alloc: Global,
-    text: &[u8],
-    stride: usize,
-    shot: &Shot,
-) -> Result<bool, Fail>
-    requires above { 1 ≤ stride }
-    requires within { stride ≤ most_stride }
-{
-    let circuit = read_circuit(alloc, &mut MemoryInput::new(text))?;
-    let Ok(session) = Session::open(alloc, circuit, 12, stride, SeedCoins::new(3, 1)) else {
-        return Ok(false);
-    };
-    Ok(
-        session.records() == shot.records.as_slice()
-            && session.free() == shot.free.as_slice()
-            && session.detectors() == shot.detectors.as_slice()
-            && session.observables() == shot.observables.as_slice(),
-    )
-}
-
-/// Whether a session on a block, with copies a stride apart, gives what a run gives of the block written out.
-fn session_agrees(alloc: Global, case: Case, stride: usize) -> Result<bool, Fail>
-    requires above { 1 ≤ stride }
-    requires within { stride ≤ most_stride }
-{
-    let block = in_a_block(alloc, case)?;
-    let lines = written_out(alloc, case)?;
-    let shot = shot_of(alloc, lines.as_slice(), 1)?;
-    session_gives(alloc, block.as_slice(), stride, &shot)
-}
-
-#[test]
-fn sessions_on_blocks_give_what_runs_give_written_out(rt: HostRuntime) -> Result<(), Fail> {
-    let mut same = true;
-    for case in CASES {
-        same &= session_agrees(rt.alloc(), case, 7)?;
-        same &= session_agrees(rt.alloc(), case, 100)?;
-        same &= session_agrees(rt.alloc(), case, 2048)?;
-    }
-    assert!(rt; same);
-    Ok(())
-}
 
 /// After a step, a block of two steps; one without a step, one of one round and a step alone; and at step 9 one of three steps,
 /// of which the last looks back to three records before the round.
@@ -192,5 +57,54 @@ fn a_pivot_that_rounds_have_again_counts_once(rt: HostRuntime) -> Result<(), Fai
     let circuit = read_circuit(rt.alloc(), &mut MemoryInput::new(text.as_bytes()))?;
     let reference = Reference::of(rt.alloc(), &circuit, 1)?;
     assert!(rt; reference.is_some());
+    Ok(())
+}
+
+/// The lines before rounds, those of a round, how many rounds there are, and the lines after them.
+type Case = (&'static str, &'static str, usize, &'static str);
+
+/// The lines of a case.
+fn text_of(alloc: Global, case: Case) -> Result<Vec<u8>, Fail> {
+    let (before, round, count, behind) = case;
+    let mut text = Vec::from_slice(alloc, before.as_bytes())?;
+    for _ in 0..count {
+        text.extend_from_slice(round.as_bytes())?;
+    }
+    text.extend_from_slice(behind.as_bytes())?;
+    Ok(text)
+}
+
+/// Where rounds of three steps are found, of which the first is another one: the place at step 0 never comes again, that at
+/// step 1 not as a round, and the next one that is tried is four steps further or after that, at step 6.
+#[test]
+fn written_rounds_stand_in_the_steps(rt: HostRuntime) -> Result<(), Fail> {
+    let alloc = rt.alloc();
+    let case = (
+        "H 0\nM 0\nDETECTOR rec[-1]\n",
+        "X 1\nM 0\nDETECTOR rec[-1] rec[-2]\n",
+        3000,
+        "M 1\n",
+    );
+    let text = text_of(alloc, case)?;
+    let circuit = read_circuit(alloc, &mut MemoryInput::new(text.as_slice()))?;
+    let wanted = [Repeat {
+        first: 6,
+        length: 3,
+        rounds: 2999,
+        window: 2,
+    }];
+    let found = find_rounds(alloc, &circuit)?;
+    assert!(rt; found.as_slice() == wanted.as_slice());
+    Ok(())
+}
+
+/// Rounds that have few steps in all are not looked for.
+#[test]
+fn rounds_of_few_steps_are_not_found(rt: HostRuntime) -> Result<(), Fail> {
+    let alloc = rt.alloc();
+    let text = text_of(alloc, ("H 0\n", "X 1\nM 0\n", 4000, "M 1\n"))?;
+    let circuit = read_circuit(alloc, &mut MemoryInput::new(text.as_slice()))?;
+    let found = find_rounds(alloc, &circuit)?;
+    assert!(rt; found.is_empty());
     Ok(())
 }
