@@ -45,7 +45,7 @@ def records_of(step: Step) -> int:
 
 
 def uses_coin(step: Step) -> bool:
-    return step[0] == "measure"
+    return bool(step[0] == "measure")
 
 
 def qubits_of(step: Step) -> list[int]:
