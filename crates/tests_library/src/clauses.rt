@@ -3,7 +3,7 @@
 //! They are proved, and never run: if a clause came to say less than it does, the proof of its
 //! caller here would fail.
 
-ghost use Rattle.std.specs.Prelude.{◌≡◌, ◌↔◌, ℕ, ◌+◌, ◌<◌, ◌≤◌, [], length, take, min, slice_get, is_some, Some, None, Ok, true, IfOk, IfSome, IfErr, OnOk, OnErr};
+ghost use Rattle.std.specs.Prelude.{◌≡◌, ◌↔◌, ℕ, ◌+◌, ◌*◌, ◌<◌, ◌≤◌, nat_le, [], length, take, min, slice_get, is_some, Some, None, Ok, true, IfOk, IfSome, IfErr, OnOk, OnErr};
 ghost use Rattle.stab_gates.specs.Letters.{letter_phase};
 ghost use Rattle.stab_pauli.specs.Paulis.{commute};
 ghost use Rattle.stab_io.specs.MemoryDevices.{GivesWhatFits, GivesAPiece, TakesWhatFits, FlushesAsSet};
@@ -29,11 +29,12 @@ ghost use Rattle.stab_shots.specs.References.{zero_coins, most_pivots, IsReferen
 ghost use Rattle.stab_session.specs.Sessions.{IsSignIn};
 ghost use Rattle.stab_session.specs.Bounds.{steps_from_change, steps_near_change, most_refused_asks, most_checkpoints, AgreeBehind, IsCountOf};
 
-use stab_circuit::{Circuit, Item, Path, Refused};
+use stab_circuit::{Circuit, Item, Path, Refused, Repeat};
 use stab_pauli::{
     CutInput, Device, DeviceFault, Input, Letter, MemoryInput, MemoryOutput, Output, Pauli, Phase,
     Refusal,
 };
+use stab_recording::is_long;
 use stab_session::{Coins, Edit, OpenRefused, Report, Session, Shot, run_once};
 use stab_shots::{Reference, run_shots};
 use stab_tableau::Tableau;
@@ -222,6 +223,13 @@ fn recorded_reference(
     ensures refused { Refuses result (check_within n (circuit_items circuit.now)) }
 {
     Reference::of(alloc, circuit, n)
+}
+
+/// A block is said to be long if it has 2,048 steps.
+fn told_to_be_long(repeat: Repeat) -> bool
+    ensures value { result ≡ nat_le 2048 (repeat.rounds * repeat.length) }
+{
+    is_long(repeat)
 }
 
 /// A refused opening gives the circuit back.
