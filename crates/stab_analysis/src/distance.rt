@@ -24,10 +24,19 @@ use stab_jobs::DistanceOptions;
 use std::alloc::Global;
 
 /// The errors of a circuit, and what a search found among them.
-#[derive(Drop)]
 pub struct Distance {
     errors: ErrorTable,
     answer: Answer,
+}
+
+// Written out, so that a proof sees the drop of a value as one call, and not one for each of its parts.
+impl Drop for Distance {
+    fn drop(self) {
+        let Distance {
+            errors: _,
+            answer: _,
+        } = self;
+    }
 }
 
 /// Searches the errors of a circuit as the options ask for.

@@ -11,10 +11,16 @@ use std::marker::Model;
 /// that of the steps that are left.
 ///
 /// It keeps a place within nested blocks, and no list of steps.
-#[derive(Drop)]
 pub struct Cursor<'a> {
     items: &'a [Item],
     walk: Walk<'a>,
+}
+
+// Written out, so that a proof sees the drop of a value as one call, and not one for each of its parts.
+impl Drop for Cursor<'_> {
+    fn drop(self) {
+        let Cursor { items: _, walk: _ } = self;
+    }
 }
 
 impl<'a> Model for Cursor<'a> {

@@ -33,7 +33,6 @@ impl<'a> Level<'a> {
 }
 
 /// A place within nested blocks.
-#[derive(Drop)]
 pub struct Walk<'a> {
     // The instruction that is under way, and how many of its steps were given.
     kind: Option<&'a Kind>,
@@ -42,6 +41,18 @@ pub struct Walk<'a> {
     top: Level<'a>,
     // The outermost list first.
     around: Vec<Level<'a>>,
+}
+
+// Written out, so that a proof sees the drop of a value as one call, and not one for each of its parts.
+impl Drop for Walk<'_> {
+    fn drop(self) {
+        let Walk {
+            kind: _,
+            within: _,
+            top: _,
+            around: _,
+        } = self;
+    }
 }
 
 impl<'a> Walk<'a> {

@@ -22,12 +22,23 @@ use stab_shots::{Reference, Shots, UnitLanes, UnitWord, flip_bits, run_lanes};
 use std::alloc::Global;
 
 /// The run of a circuit with all coins 0, which coins decide in it, and what leads runs with other coins.
-#[derive(Drop)]
 pub struct CoinRuns {
     zero: Shot,
     numbers: Vec<u64>,
     steps: Vec<usize>,
     reference: Option<Reference>,
+}
+
+// Written out, so that a proof sees the drop of a value as one call, and not one for each of its parts.
+impl Drop for CoinRuns {
+    fn drop(self) {
+        let CoinRuns {
+            zero: _,
+            numbers: _,
+            steps: _,
+            reference: _,
+        } = self;
+    }
 }
 
 /// How many bytes the bits of lanes take at most, one for each eight lanes, besides the room that a growing list keeps free.

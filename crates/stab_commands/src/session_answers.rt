@@ -14,12 +14,23 @@ use stab_session::{Edit, Session};
 use std::alloc::Global;
 
 /// A session that answers requests.
-#[derive(Drop)]
 pub(crate) struct SessionAnswers<C: Coins> {
     alloc: Global,
     framed: bool,
     session: Session<C>,
     mark: MarkedBits,
+}
+
+// Written out, so that a proof sees the drop of a value as one call, and not one for each of its parts.
+impl<C: Coins> Drop for SessionAnswers<C> {
+    fn drop(self) {
+        let SessionAnswers {
+            alloc: _,
+            framed: _,
+            session: _,
+            mark: _,
+        } = self;
+    }
 }
 
 impl<C: Coins> SessionAnswers<C> {

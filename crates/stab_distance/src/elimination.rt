@@ -6,10 +6,16 @@ use std::alloc::{AllocError, Global};
 /// least number it is, or no row.
 ///
 /// No proof rests on it: what it finds is checked.
-#[derive(Drop)]
 pub struct Echelon {
     pivots: Vec<Vec<u64>>,
     end: usize,
+}
+
+// Written out, so that a proof sees the drop of a value as one call, and not one for each of its parts.
+impl Drop for Echelon {
+    fn drop(self) {
+        let Echelon { pivots: _, end: _ } = self;
+    }
 }
 
 /// The reduced echelon form of rows whose numbers are below `end`, in which each detector that leads a row is

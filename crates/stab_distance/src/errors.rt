@@ -10,7 +10,6 @@ use std::alloc::{AllocError, Global};
 use std::marker::Model;
 
 /// The errors of a table, ready for a search.
-#[derive(Drop)]
 pub struct Errors {
     detectors: usize,
     rows: Vec<Row>,
@@ -19,6 +18,21 @@ pub struct Errors {
     index: Vec<Vec<usize>>,
     classes: Vec<usize>,
     reach: Vec<usize>,
+}
+
+// Written out, so that a proof sees the drop of a value as one call, and not one for each of its parts.
+impl Drop for Errors {
+    fn drop(self) {
+        let Errors {
+            detectors: _,
+            rows: _,
+            numbers: _,
+            keys: _,
+            index: _,
+            classes: _,
+            reach: _,
+        } = self;
+    }
 }
 
 impl Model for Errors {

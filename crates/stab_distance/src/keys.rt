@@ -7,12 +7,23 @@ use std::alloc::{AllocError, Global};
 use std::marker::Model;
 
 /// The keys of rows, and the rows by their keys.
-#[derive(Drop)]
 pub struct Keys {
     keys: Vec<u64>,
     mask: u64,
     signs: Vec<bool>,
     index: Vec<Vec<usize>>,
+}
+
+// Written out, so that a proof sees the drop of a value as one call, and not one for each of its parts.
+impl Drop for Keys {
+    fn drop(self) {
+        let Keys {
+            keys: _,
+            mask: _,
+            signs: _,
+            index: _,
+        } = self;
+    }
 }
 
 impl Model for Keys {

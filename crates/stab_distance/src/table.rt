@@ -8,11 +8,21 @@ use std::marker::Model;
 /// A table of errors: a row for each, with the numbers of the detectors and observables that it flips.
 ///
 /// Numbers below the number of detectors are detectors, and the others are observables.
-#[derive(Drop)]
 pub struct Table {
     alloc: Global,
     detectors: usize,
     rows: Vec<Row>,
+}
+
+// Written out, so that a proof sees the drop of a value as one call, and not one for each of its parts.
+impl Drop for Table {
+    fn drop(self) {
+        let Table {
+            alloc: _,
+            detectors: _,
+            rows: _,
+        } = self;
+    }
 }
 
 impl Model for Table {

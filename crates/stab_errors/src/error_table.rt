@@ -31,11 +31,21 @@ use std::alloc::Global;
 use std::marker::Model;
 
 /// The errors of a circuit, and which of its deterministic detectors and observables each of them flips.
-#[derive(Drop)]
 pub struct ErrorTable {
     deterministic: Vec<bool>,
     errors: Vec<Error>,
     table: Table,
+}
+
+// Written out, so that a proof sees the drop of a value as one call, and not one for each of its parts.
+impl Drop for ErrorTable {
+    fn drop(self) {
+        let ErrorTable {
+            deterministic: _,
+            errors: _,
+            table: _,
+        } = self;
+    }
 }
 
 impl Model for ErrorTable {

@@ -12,7 +12,6 @@ use std::marker::Model;
 /// since it began.
 ///
 /// Contracts see these, the number of the next coin, and how many outcomes before it were free.
-#[derive(Drop)]
 pub struct Propagation {
     letters: Vec<Letter>,
     // How many letters are not I.
@@ -26,6 +25,23 @@ pub struct Propagation {
     still: usize,
     coin: usize,
     number: usize,
+}
+
+// Written out, so that a proof sees the drop of a value as one call, and not one for each of its parts.
+impl Drop for Propagation {
+    fn drop(self) {
+        let Propagation {
+            letters: _,
+            weight: _,
+            records: _,
+            outcomes: _,
+            detectors: _,
+            additions: _,
+            still: _,
+            coin: _,
+            number: _,
+        } = self;
+    }
 }
 
 impl Model for Propagation {

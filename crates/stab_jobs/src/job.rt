@@ -94,7 +94,7 @@ pub enum Command {
 }
 
 /// What the words of a command line ask for: a command, and what every command has.
-#[derive(Debug, Drop, PartialEq, Eq)]
+#[derive(Debug, PartialEq, Eq)]
 pub struct Job {
     /// The command with its own options.
     pub command: Command,
@@ -106,6 +106,19 @@ pub struct Job {
     pub in_path: Option<String>,
     /// The file that is written in place of standard output.
     pub out_path: Option<String>,
+}
+
+// Written out, so that a proof sees the drop of a value as one call, and not one for each of its parts.
+impl Drop for Job {
+    fn drop(self) {
+        let Job {
+            command: _,
+            source: _,
+            coins_path: _,
+            in_path: _,
+            out_path: _,
+        } = self;
+    }
 }
 
 impl Job {

@@ -5,11 +5,21 @@ use stab_run::Lengths;
 use stab_tableau::CompactTableau;
 
 /// A copy of the state before a step, and how long the lists were there.
-#[derive(Drop)]
 pub struct Checkpoint {
     pub step: usize,
     pub lengths: Lengths,
     pub tableau: CompactTableau,
+}
+
+// Written out, so that a proof sees the drop of a value as one call, and not one for each of its parts.
+impl Drop for Checkpoint {
+    fn drop(self) {
+        let Checkpoint {
+            step: _,
+            lengths: _,
+            tableau: _,
+        } = self;
+    }
 }
 
 /// Where a replay met a copy of the old run: from there on the old run moves to the place after the new one.
@@ -40,19 +50,21 @@ fn lengths_moved(lengths: Lengths, old: Lengths, new: Lengths) -> Lengths
     }
 }
 
-/// A copy moved with the one at a meeting.
-fn moved_with(meeting: Meeting, copy: Checkpoint) -> Checkpoint
-    ensures value { result ≡ moved_copy meeting copy }
-{
-    let Checkpoint {
-        step,
-        lengths,
-        tableau,
-    } = copy;
-    Checkpoint {
-        step: shifted(meeting.old_step, meeting.new_step, step),
-        lengths: lengths_moved(lengths, meeting.old_lengths, meeting.new_lengths),
-        tableau,
+impl Checkpoint {
+    /// The copy moved with the one at a meeting.
+    fn moved(self, meeting: Meeting) -> Checkpoint
+        ensures value { result ≡ moved_copy meeting self }
+    {
+        let Checkpoint {
+            step,
+            lengths,
+            tableau,
+        } = self;
+        Checkpoint {
+            step: shifted(meeting.old_step, meeting.new_step, step),
+            lengths: lengths_moved(lengths, meeting.old_lengths, meeting.new_lengths),
+            tableau,
+        }
     }
 }
 
@@ -110,7 +122,7 @@ pub fn take_moved(
 {
     while copies.len() > place {
         if let Some(copy) = copies.pop() {
-            taken.push_reserved(moved_with(meeting, copy));
+            taken.push_reserved(copy.moved(meeting));
         }
     }
 }

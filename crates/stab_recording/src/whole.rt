@@ -69,13 +69,7 @@ pub fn shot_of(alloc: Global, outputs: Outputs, observables: usize) -> Result<Sh
     ensures detectors { IfOk result (λ s. s.detectors.items ≡ outputs.detectors.items) }
     ensures observables { IfOk result (λ s. s.observables.items ≡ with_additions outputs.additions.items (replicate observables false)) }
 {
-    let Outputs {
-        records,
-        free,
-        outcomes: _,
-        detectors,
-        additions,
-    } = outputs;
+    let (records, free, detectors, additions) = outputs.into_parts();
     let observables = summed(alloc, observables, additions.as_slice())?;
     Ok(Shot {
         records,

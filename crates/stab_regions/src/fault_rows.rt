@@ -5,11 +5,20 @@ use std::alloc::{AllocError, Global};
 use std::marker::Model;
 
 /// Rows of numbers, one after another in one allocation. Contracts see the list of the rows.
-#[derive(Drop)]
 pub(crate) struct FaultRows {
     numbers: Vec<u32>,
     // Where each row ends.
     ends: Vec<usize>,
+}
+
+// Written out, so that a proof sees the drop of a value as one call, and not one for each of its parts.
+impl Drop for FaultRows {
+    fn drop(self) {
+        let FaultRows {
+            numbers: _,
+            ends: _,
+        } = self;
+    }
 }
 
 impl Model for FaultRows {

@@ -21,11 +21,20 @@ use std::marker::Model;
 /// Contracts see a bit for each detector and then each observable, and for each fault, in the order
 /// of `specs/Faults.antt`, the numbers of the deterministic ones that it flips, ascending: detectors are
 /// numbered from 0, and observables after them.
-#[derive(Drop)]
 pub struct FaultTable {
     deterministic: Vec<bool>,
     // The last fault's row first.
     rows: FaultRows,
+}
+
+// Written out, so that a proof sees the drop of a value as one call, and not one for each of its parts.
+impl Drop for FaultTable {
+    fn drop(self) {
+        let FaultTable {
+            deterministic: _,
+            rows: _,
+        } = self;
+    }
 }
 
 impl Model for FaultTable {

@@ -17,7 +17,6 @@ use std::collections::VecDeque;
 
 /// The regions of a circuit's detectors and observables at a place between two of its steps: of its
 /// parities, of which the first are its detectors and the others its observables.
-#[derive(Drop)]
 pub(crate) struct Regions {
     /// For each qubit the parities that X flips there, and those that Z does.
     by_x: Vec<Parities>,
@@ -29,6 +28,20 @@ pub(crate) struct Regions {
     before: usize,
     /// Which parities depend on a coin of the steps after the place.
     random: Vec<bool>,
+}
+
+// Written out, so that a proof sees the drop of a value as one call, and not one for each of its parts.
+impl Drop for Regions {
+    fn drop(self) {
+        let Regions {
+            by_x: _,
+            by_z: _,
+            records: _,
+            detectors: _,
+            before: _,
+            random: _,
+        } = self;
+    }
 }
 
 /// This many rows of no parities.
@@ -275,8 +288,15 @@ impl Regions {
     pub(crate) fn deterministic(self) -> Vec<bool>
         ensures value { TellDeterministic self result.items }
     {
-        let mut random = self.random;
-        mark_all(random.as_mut_slice(), self.by_z.as_slice());
+        let Regions {
+            by_x: _,
+            by_z,
+            records: _,
+            detectors: _,
+            before: _,
+            mut random,
+        } = self;
+        mark_all(random.as_mut_slice(), by_z.as_slice());
         invert(random.as_mut_slice());
         random
     }

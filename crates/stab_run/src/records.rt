@@ -22,13 +22,25 @@ pub struct Addition {
 
 /// What steps have given so far: records, a flag and an outcome for each coin number, detectors,
 /// and what was added to observables. The number of the next coin is the number of flags.
-#[derive(Drop)]
 pub struct Outputs {
     pub records: Vec<bool>,
     pub free: Vec<bool>,
     pub outcomes: Vec<bool>,
     pub detectors: Vec<bool>,
     pub additions: Vec<Addition>,
+}
+
+// Written out, so that a proof sees the drop of a value as one call, and not one for each of its parts.
+impl Drop for Outputs {
+    fn drop(self) {
+        let Outputs {
+            records: _,
+            free: _,
+            outcomes: _,
+            detectors: _,
+            additions: _,
+        } = self;
+    }
 }
 
 impl Outputs {
@@ -61,6 +73,23 @@ impl Outputs {
             detectors: Vec::new(alloc),
             additions: Vec::new(alloc),
         })
+    }
+
+    /// Its records, flags, detectors and additions.
+    pub fn into_parts(self) -> (Vec<bool>, Vec<bool>, Vec<bool>, Vec<Addition>)
+        ensures records { result.0 ≡ self.records }
+        ensures free { result.1 ≡ self.free }
+        ensures detectors { result.2 ≡ self.detectors }
+        ensures additions { result.3 ≡ self.additions }
+    {
+        let Outputs {
+            records,
+            free,
+            outcomes: _,
+            detectors,
+            additions,
+        } = self;
+        (records, free, detectors, additions)
     }
 
     /// How long the lists are.

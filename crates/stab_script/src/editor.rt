@@ -42,7 +42,6 @@ fn either(first: bool, second: bool) -> bool
 }
 
 /// Takes a script as it comes. Each call writes the replies to what it was given before it returns.
-#[derive(Drop)]
 pub struct Editor<A: Answer> {
     /// What is known of the script so far.
     pub reader: ScriptReader,
@@ -50,6 +49,17 @@ pub struct Editor<A: Answer> {
     pub answers: A,
     /// Whether a line was refused so far.
     pub refused: bool,
+}
+
+// Written out, so that a proof sees the drop of a value as one call, and not one for each of its parts.
+impl<A: Answer> Drop for Editor<A> {
+    fn drop(self) {
+        let Editor {
+            reader: _,
+            answers: _,
+            refused: _,
+        } = self;
+    }
 }
 
 impl<A: Answer> Editor<A> {

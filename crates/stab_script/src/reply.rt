@@ -49,11 +49,21 @@ pub(crate) struct StepCounts {
 /// Contracts see it as the output that it is.
 ///
 /// A fault of the calls that make one or append to it is `OutOfMemory` alone.
-#[derive(Drop)]
 pub struct Reply {
     bytes: Vec<u8>,
     flushes: u64,
     failures: u64,
+}
+
+// Written out, so that a proof sees the drop of a value as one call, and not one for each of its parts.
+impl Drop for Reply {
+    fn drop(self) {
+        let Reply {
+            bytes: _,
+            flushes: _,
+            failures: _,
+        } = self;
+    }
 }
 
 impl Model for Reply {

@@ -137,13 +137,7 @@ pub fn shot_of(
     ensures detectors { IfOk result (λ s. s.detectors.items ≡ outputs.detectors.items) }
     ensures observables { IfOk result (λ s. s.observables.items ≡ with_additions outputs.additions.items (replicate (observables_of (circuit_items circuit.now)) false)) }
 {
-    let Outputs {
-        records,
-        free: _,
-        outcomes: _,
-        detectors,
-        additions,
-    } = outputs;
+    let (records, _, detectors, additions) = outputs.into_parts();
     let observables = observables(alloc, circuit.observables(), additions.as_slice())?;
     Ok(Shot {
         records,

@@ -21,10 +21,19 @@ use std::alloc::Global;
 
 /// The run of a circuit with all coins 0, and a string for each of its random outcomes that exchanges it for the other: by
 /// these, shots with other coins are propagated without a tableau.
-#[derive(Drop)]
 pub struct Reference {
     shot: Shot,
     strings: Pivots,
+}
+
+// Written out, so that a proof sees the drop of a value as one call, and not one for each of its parts.
+impl Drop for Reference {
+    fn drop(self) {
+        let Reference {
+            shot: _,
+            strings: _,
+        } = self;
+    }
 }
 
 /// How many strings of n letters are recorded at once at most: those of 4 MiB, each counted as two bits a letter and 128 bytes.

@@ -10,7 +10,6 @@ use std::alloc::{AllocError, Global};
 use std::mem;
 
 /// What this many shots give, one in each lane: each list has a word for each bit that a shot gives.
-#[derive(Drop)]
 pub struct Shots<W> {
     /// The records.
     pub records: Vec<W>,
@@ -20,6 +19,18 @@ pub struct Shots<W> {
     pub detectors: Vec<W>,
     /// The observables, in the order of their numbers.
     pub observables: Vec<W>,
+}
+
+// Written out, so that a proof sees the drop of a value as one call, and not one for each of its parts.
+impl<W: Drop> Drop for Shots<W> {
+    fn drop(self) {
+        let Shots {
+            records: _,
+            free: _,
+            detectors: _,
+            observables: _,
+        } = self;
+    }
 }
 
 impl<W: Word> Shots<W> {

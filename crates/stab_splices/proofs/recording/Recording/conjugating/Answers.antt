@@ -1,4 +1,4 @@
-use Rattle.stab_splices.proofs.Names.{◌+◌, refl, sym, ◌∙◌, ap, subst, arith, length, drop, All, All-drop, unroll, circuit_items, PropagationState, StepFits, check-fits, AreInOrder, IsRestFrame}
+use Rattle.stab_splices.proofs.Names.{◌+◌, refl, sym, ◌∙◌, ap, subst, arith, length, drop, All, All-drop, unroll, circuit_items, StepFits, check-fits, AreInOrder, IsRestFrame}
 use Rattle.stab_splices.proofs.ConjugatingLemmas.{behind-order, advanced-few}
 use Rattle.stab_splices.proofs.recording.Recording.conjugating.Goals as goal
 
@@ -34,8 +34,7 @@ returns-clause-conjugating c =
       passed = refl;
       number = refl;
       meeting = c.meeting_behind.ensures.value;
-      advanced = subst (IsRestFrame n c.args.self.now.strings.strings c.args.self.now.outputs.free.items c.args.self.now.window (drop c.args.span.new_end ys) c.args.span.old_end (drop c.args.inside cs)
-          c.propagate_rest.new.conjugated.items c.args.passed.propagation) (sym c.propagation-2.view_is) advanced;
+      advanced = advanced;
       room = record {
         nothing = c.in_ok-with_capacity.ensures.items;
         room = omega (arith, c.in_ok-with_capacity.ensures.capacity, c.len.ensures, c.args.self.now.checkpoints.ok.0);
@@ -45,6 +44,6 @@ returns-clause-conjugating c =
               advanced-few n c.args.self.now.strings.strings c.args.self.now.outputs.free.items c.args.self.now.window (drop c.args.span.new_end ys) c.args.span.old_end c.args.inside cs
                   c.propagate_rest.new.conjugated.items c.args.passed.propagation c.propagate_rest.new.propagation advanced c.requires.inside,
             );
-        letters = ap (λ (w : PropagationState). length w.letters) c.propagation-2.view_is ∙ c.propagate_rest.ensures.length ∙ c.requires.letters;
+        letters = c.propagate_rest.ensures.length ∙ c.requires.letters;
       };
     }

@@ -1,4 +1,4 @@
-use Rattle.stab_splices.proofs.Names.{◌≡◌, ◌∙◌, ◌++◌, refl, ap, subst, length, take, drop, take-append-drop, flipped-empty, [], Some, slice_get, take_at, slice_get_read, ones, RunOutput, joined, lengths_of, front_of, rest_of, output_of, rest-joined, flipped_output, PropagationState, IsSpliced, IsOldRest}
+use Rattle.stab_splices.proofs.Names.{◌≡◌, ◌∙◌, ◌++◌, refl, ap, subst, length, take, drop, take-append-drop, flipped-empty, [], Some, slice_get, take_at, slice_get_read, ones, RunOutput, joined, lengths_of, front_of, rest_of, output_of, rest-joined, flipped_output, IsSpliced, IsOldRest}
 use Rattle.stab_splices.proofs.FollowLemmas.{at-some}
 use Rattle.stab_splices.proofs.recording.Recording.old_rest.Goals as goal
 
@@ -30,7 +30,7 @@ returns-clause-rest c =
       from = refl;
       meeting = λ i. record { old_step = d.step; new_step = c.args.step; old_lengths = d.lengths; new_lengths = long i };
       states = refl;
-      letters = ap (λ (w : PropagationState). w.letters) c.propagation.view_is;
+      letters = refl;
       flags =
           ap (λ (o : RunOutput). o.free) c.flip_outputs.ensures.value
           ∙ ap (λ bits. take c.lengths-lengths.result.free appended.free ++ bits) (flipped-empty (drop c.lengths-lengths.result.free appended.free))
