@@ -17,10 +17,10 @@ from program import TOP
 THEOREMS = {
     "sample and detect": ["stab_commands.Outputs.EndsRun", "stab_commands.Outputs.sample_of", "stab_commands.Outputs.detect_of"],
     "stabilisers": ["stab_commands.Stabilisers.EndsStabilisers"],
-    "deterministic": ["stab_analysis.Deterministic.EndsDeterministic"],
+    "deterministic": ["stab_texts.Deterministic.EndsDeterministic"],
     "faults, coins and deterministic --explain": [
-        "stab_analysis.FaultTables.EndsFaults", "stab_analysis.CoinTables.EndsCoins", "stab_analysis.Reasons.EndsExplain"],
-    "distance": ["stab_analysis.Distances.EndsDistance"],
+        "stab_texts.FaultTables.EndsFaults", "stab_texts.CoinTables.EndsCoins", "stab_texts.Reasons.EndsExplain"],
+    "distance": ["stab_texts.Distances.EndsDistance"],
     "edit": ["stab_commands.ScriptEndings.EndsPlainEdit"],
     "edit --framed": ["stab_commands.ScriptEndings.EndsEdit"],
     "a job and its status": ["stab_cli.Jobs.EndsJob"],

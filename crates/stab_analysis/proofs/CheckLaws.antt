@@ -1,17 +1,7 @@
 -- Laws of checks: numbers of unrolled steps, lines of numbers, and explanations that are cut off.
 use Rattle.stab_analysis.proofs.Names.{◌≡◌, refl, sym, ap, subst, ℕ, ◌+◌, ◌<◌, ◌≤◌, min, Bool, true, false, nat_lt, List, [], ◌∷◌, ◌++◌, length, drop, get_or, if◌then◌else◌, Some, None, Result, Ok, Err, inl, inr, arith, add-one, flat_map, nat_tests, drop-cons, InputView, OutputView, TookSome, Refusal, LookbackTooFar, TooManySteps, Fault, whole, Items, GaveText, RefusesText, IsFaultOf, ReadsCircuit, Step, one, two, controlled, collapse, product, detector, observable, unroll, makes, records_of, looks_too_far, check_of, most_steps, steps_cap, is_detector, detectors_of, detectors_in, AppendsSome, SendsSome}
-use Rattle.stab_analysis.proofs.WritingLaws.{took_some_none}
-
--- a circuit that nothing refuses has at most as many steps as it may
-pub few_steps : (items : Items) → check_of items ≡ None → length (unroll items) ≤ most_steps
-unfolding check_of
-few_steps items e = counted (looks_too_far 0 (unroll items)) (nat_lt most_steps (length (unroll items))) refl e
-  where
-    counted : (far many : Bool) → nat_lt most_steps (length (unroll items)) ≡ many → (if far then Some LookbackTooFar else if many then Some TooManySteps else None) ≡ None
-        → length (unroll items) ≤ most_steps
-    counted true many t e = cc
-    counted false true t e = cc
-    counted false false t e = grind (arith, t, nat_tests)
+use Rattle.stab_items.proofs.SummaryLemmas.{few_steps}
+use Rattle.stab_texts.proofs.WritingLaws.{took_some_none}
 
 -- a step makes at most one record
 one_record : (s : Step) → makes s ≤ 1
@@ -67,10 +57,6 @@ records_counted items e = uncut (records_of (unroll items)) (omega (arith, recor
 -- the detectors of a circuit are counted whole
 pub detectors_counted : (items : Items) → check_of items ≡ None → min (detectors_of (unroll items)) steps_cap ≡ detectors_of (unroll items)
 detectors_counted items e = uncut (detectors_of (unroll items)) (omega (arith, detectors_few (unroll items), few_steps items e))
-
--- the text at a place, and those after it
-pub flat-drop : {X : Type 0} (f : X → List ℕ) (xs : List X) (i : ℕ) (d : X) → i < length xs → flat_map f (drop i xs) ≡ f (get_or xs i d) ++ flat_map f (drop (i + 1) xs)
-flat-drop f xs i d h = rw (add-one) (ap (λ l. flat_map f l) (drop-cons xs i d h))
 
 -- a text that was given whole was refused, by its own fault or for lack of memory
 pub text_refused : (i i' : InputView) (text : List ℕ) (f : Fault) → GaveText i i' text → ReadsCircuit text (Err f) → RefusesText IsFaultOf i i' f

@@ -1,5 +1,6 @@
 -- Laws of the rows of coins: the steps that take coins, and the rows of lanes and of a whole table.
-use Rattle.stab_analysis.proofs.Names.{◌≡◌, refl, sym, ap, ap₂, ◌∙◌, subst, ℕ, zero, suc, ◌+◌, ◌*◌, ◌/◌, ◌%◌, ◌<◌, ◌≤◌, Bool, List, [], ◌∷◌, ◌++◌, append_assoc, append-nil, length, map, get_or, arith, flat_map, get_or-map, length-append, length-map, map-append, Items, qubits_of, unroll, detectors_of, observables_of, length-flipped, bits_in, run_of, kinds_detectors, lane_bits, ShotBits, flips_of, coin_flipped, zero_coins, step_of_coin, AreCoinRuns, free_coins, CoinRow, row_by, table_of, CoinRuns, flags-of-run, free-step-within, FaultLayout, coin_text, coins_text, whole_bits, whole_kinds, checked_bits, texts_from, HaveFlips, flips_at, text_at}
+use Rattle.stab_analysis.proofs.Names.{◌≡◌, refl, sym, ap, ap₂, ◌∙◌, subst, ℕ, zero, suc, ◌+◌, ◌*◌, ◌/◌, ◌%◌, ◌<◌, ◌≤◌, Bool, List, [], ◌∷◌, ◌++◌, append_assoc, append-nil, length, map, get_or, arith, flat_map, get_or-map, length-append, length-map, map-append, Items, qubits_of, unroll, detectors_of, observables_of, length-flipped, bits_in, run_of, kinds_detectors, lane_bits, ShotBits, flips_of, coin_flipped, zero_coins, step_of_coin, AreCoinRuns, free_coins, CoinRow, row_by, table_of, CoinRuns, FaultLayout, coin_text, coins_text, whole_bits, whole_kinds, checked_bits, texts_from, HaveFlips, flips_at, text_at}
+use Rattle.stab_analysis.proofs.PlaceLemmas.{flags-of-run, free-step-within}
 use Rattle.stab_analysis.proofs.CountLaws.{numbers_of_runs}
 
 -- where coins decide

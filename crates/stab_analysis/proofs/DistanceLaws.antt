@@ -15,6 +15,6 @@ refused_handed {T} are deterministic_only items e (Err y) old is refused =
     subst (λ (x : FaultsRefused). GoesOn {T = T} are deterministic_only items x.random old old (Err x.fault)) (sym is) (refused_ends T are deterministic_only items e.random e.fault old refused)
 
 -- an answer is sent as bytes like those that report a distance
-pub answer_sent : {T : Type 0} (options : DistanceOptions) (items : Items) (d : Distance) (old new : OutputView) (r : Result T Fault) → IsDistanceOf options items d
+pub answer_sent : {T : Type 0} (options : DistanceOptions) (items : Items) (d : Distance) (old new : OutputView) (r : Result T Fault) → IsDistanceOf options items d.errors d.answer
     → SendsAtOnce (answer_text options items d.errors d.answer) old new r → SendsFound (IsDistanceText options items) old new r
-answer_sent options items d old new r is sent = found_at_once (IsDistanceText options items) old new (answer_text options items d.errors d.answer) r (d, is, refl) sent
+answer_sent options items d old new r is sent = found_at_once (IsDistanceText options items) old new (answer_text options items d.errors d.answer) r (d.errors, d.answer, is, refl) sent

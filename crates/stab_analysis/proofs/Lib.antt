@@ -1,15 +1,8 @@
 mod Names
-pub mod WritingLaws
 pub mod SendingLaws
 pub mod MemoryLaws
-pub mod FaultLineLaws
-pub mod FaultBitLaws
-pub mod FaultSiteLaws
 pub mod FoundLaws
-pub mod FaultTextLaws
-pub mod ErrorLineLaws
 pub mod DistanceLaws
-pub mod RandomLaws
 pub mod CheckLaws
 pub mod CountLaws
 pub mod LineLaws
@@ -17,3 +10,7 @@ pub mod CoinRowLaws
 pub mod PlacedWordLaws
 pub mod ReasonLaws
 pub mod DeciderLaws
+pub mod BitLemmas
+pub mod FramedLemmas
+pub mod RowLemmas
+pub mod PlaceLemmas

@@ -1,5 +1,6 @@
 -- Laws of placed words: the words of 64 lanes that are not 0, and bits by the places of those that are 1.
-use Rattle.stab_analysis.proofs.Names.{◌≡◌, refl, sym, ap, ap₂, ◌∙◌, subst, ℕ, suc, ◌+◌, ◌<◌, ◌≤◌, Bool, true, false, List, [], ◌∷◌, ◌++◌, append_assoc, append-nil, length, take, replicate, get_or, All, if◌then◌else◌, arith, set-append_seam, get_or-map, length-append, length-map, take_all, take_more, All-nil, All-cons, one_places_from, one_places, places-next, word_bit, lane_bits, word_bit-zero, PlacedWord, set_all, places_in}
+use Rattle.stab_analysis.proofs.Names.{◌≡◌, refl, sym, ap, ap₂, ◌∙◌, subst, ℕ, suc, ◌+◌, ◌<◌, ◌≤◌, Bool, true, false, List, [], ◌∷◌, ◌++◌, append_assoc, append-nil, length, take, replicate, get_or, All, if◌then◌else◌, arith, set-append_seam, get_or-map, length-append, length-map, take_all, take_more, All-nil, All-cons, one_places_from, one_places, word_bit, lane_bits, word_bit-zero, PlacedWord, set_all, places_in}
+use Rattle.stab_analysis.proofs.PlaceLemmas.{places-next}
 
 -- a word more
 pub places-push : (l : ℕ) (ws : List PlacedWord) (w : PlacedWord) → places_in l (ws ++ w ∷ []) ≡ places_in l ws ++ (if word_bit w.word l then w.place ∷ [] else [])

@@ -1,7 +1,7 @@
 -- Laws of sending: bytes that calls write one after another, and that are flushed after them.
 use Rattle.stab_analysis.proofs.Names.{◌≡◌, refl, sym, ap, ap₂, subst, ◌∙◌, ℕ, ◌+◌, ◌-◌, ◌<◌, ◌≤◌, zero, suc, List, [], ◌++◌, append_assoc, Result, Ok, Err, ◌⊎◌, inl, inr, arith, add-one, IsErrAnd, OutputView, Took, CutOff, WritesAllOrFault, took_more, took_and_failed, failed_within, OutOfMemory, Fault, whole, FlushesOrFault, Sends, SendsUnflushed, texts_from}
 use Rattle.std.proofs.lemmas.List.{append-nil}
-use Rattle.stab_analysis.proofs.WritingLaws.{took_some_none}
+use Rattle.stab_texts.proofs.WritingLaws.{took_some_none}
 
 -- sums in another order
 add-zero : (n : ℕ) → n + 0 ≡ n

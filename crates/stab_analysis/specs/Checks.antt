@@ -9,7 +9,7 @@ use Rattle.stab_circuit.specs.Items.{Items, entries}
 use Rattle.stab_circuit.specs.Steps.{unroll, records_of, qubits_of, observables_of, detectors_of}
 use Rattle.stab_run.specs.Points.{all_coins_of}
 use Rattle.stab_run.specs.Runs.{State, run_of}
-use Rattle.stab_analysis.specs.Endings.{Ends, Sends}
+use Rattle.stab_texts.specs.Endings.{Ends, Sends}
 use Rattle.stab_analysis.specs.declared.check.Numbers.{Numbers}
 
 -- the numbers of a circuit of these items: of its items those of the outermost list, a block being one, and of all else that of its unrolled steps

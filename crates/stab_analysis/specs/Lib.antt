@@ -1,14 +1,4 @@
 pub mod Sources
-pub mod Endings
-pub mod Texts
-pub mod FaultLines
-pub mod Rows
 pub mod Checks
-pub mod Deterministic
-pub mod Deciders
-pub mod Places
-pub mod FaultTables
-pub mod Distances
-pub mod CoinTables
-pub mod Reasons
+pub mod CoinRuns
 pub mod inner

@@ -1,4 +1,4 @@
-pub mod FaultSites
 pub mod Faults
 pub mod CoinRows
 pub mod Deciders
+pub mod Groups

@@ -8,13 +8,13 @@ ghost use Rattle.stab_circuit.specs.Cursors.{step_shown};
 ghost use Rattle.stab_circuit.specs.Steps.{check_of, unroll, detectors_of, detectors_in};
 ghost use Rattle.stab_circuit.specs.Views.{circuit_items};
 ghost use Rattle.stab_run.specs.Points.{all_coins_of, coins_of};
-ghost use Rattle.stab_analysis.specs.Endings.{Sends};
+ghost use Rattle.stab_texts.specs.Endings.{Sends};
 ghost use Rattle.stab_analysis.specs.Checks.{EndsCheck, Explains, SendsSome, check_text, number_line, numbers_of, numbers_text};
 
-use crate::writing::{finish, write_texts};
 use stab_circuit::{Circuit, Cursor, Step, circuit_of_text, read_text};
 use stab_diagnostics::write_explanation;
 use stab_io::{Fault, Input, Output, Refusal};
+use stab_texts::{finish, write_texts};
 use std::alloc::Global;
 
 /// The numbers of a circuit.

@@ -7,25 +7,22 @@ ghost use Rattle.stab_io.specs.Refusals.{whole};
 ghost use Rattle.stab_circuit.specs.Steps.{check_of, qubits_of, unroll};
 ghost use Rattle.stab_circuit.specs.Views.{circuit_items};
 ghost use Rattle.stab_results.specs.Formats.{detectors_of, entry, one_places};
-ghost use Rattle.stab_shots.specs.Lanes.{lane_bits};
-ghost use Rattle.stab_shots.specs.Words.{word_bit};
-ghost use Rattle.stab_coins.specs.Places.{step_of_coin};
-ghost use Rattle.stab_coins.specs.Runs.{AreCoinRuns};
-ghost use Rattle.stab_analysis.specs.CoinTables.{coin_line, coin_text, whole_kinds};
-ghost use Rattle.stab_analysis.specs.Places.{path_of_coin};
-ghost use Rattle.stab_analysis.specs.Endings.{SendsUnflushed};
-ghost use Rattle.stab_analysis.specs.Texts.{row_head, texts_from};
+ghost use Rattle.stab_lanes.specs.Lanes.{lane_bits};
+ghost use Rattle.stab_lanes.specs.Words.{word_bit};
+ghost use Rattle.stab_texts.specs.Places.{step_of_coin, path_of_coin};
+ghost use Rattle.stab_analysis.specs.CoinRuns.{AreCoinRuns};
+ghost use Rattle.stab_texts.specs.CoinTables.{coin_line, coin_text, whole_kinds};
+ghost use Rattle.stab_texts.specs.Endings.{SendsUnflushed};
+ghost use Rattle.stab_texts.specs.Texts.{row_head, texts_from};
 ghost use Rattle.stab_analysis.specs.inner.CoinRows.{HaveFlips, coin_at, places_in, text_at};
 
-use crate::fault_bits::write_row;
-use crate::random::Decider;
-use crate::writing::write_head;
+use crate::coin_runs::CoinRuns;
 use stab_circuit::{Circuit, Path};
-use stab_coins::CoinRuns;
 use stab_io::{Fault, Output, Refusal, write_all};
 use stab_jobs::FaultLayout;
 use stab_results::{Kinds, write_entries};
 use stab_shots::Word;
+use stab_texts::{Decider, write_head, write_row};
 use std::alloc::{AllocError, Global};
 
 /// The kinds of all bits of a circuit's runs: its records, then its detectors, then its observables.

@@ -2,20 +2,20 @@
 ghost use Rattle.std.specs.Prelude.{◌≡◌, ◌+◌, ◌<◌, ◌≤◌, None, length};
 ghost use Rattle.stab_circuit.specs.Steps.{check_of, qubits_of};
 ghost use Rattle.stab_circuit.specs.Views.{circuit_items};
-ghost use Rattle.stab_coins.specs.Runs.{AreCoinRuns};
-ghost use Rattle.stab_coins.specs.Tables.{IsCoinTable, table_of};
-ghost use Rattle.stab_analysis.specs.CoinTables.{EndsCoins, coins_text};
-ghost use Rattle.stab_analysis.specs.Endings.{Sends, SendsUnflushed};
-ghost use Rattle.stab_analysis.specs.Texts.{texts_from};
+ghost use Rattle.stab_analysis.specs.CoinRuns.{AreCoinRuns};
+ghost use Rattle.stab_texts.specs.Coins.{IsCoinTable, table_of};
+ghost use Rattle.stab_texts.specs.CoinTables.{EndsCoins, coins_text};
+ghost use Rattle.stab_texts.specs.Endings.{Sends, SendsUnflushed};
+ghost use Rattle.stab_texts.specs.Texts.{texts_from};
 ghost use Rattle.stab_analysis.specs.inner.CoinRows.{text_at};
 
 use crate::coin_rows::write_parts;
-use crate::writing::finish;
+use crate::coin_runs::CoinRuns;
 use stab_circuit::{Circuit, read_circuit};
-use stab_coins::CoinRuns;
 use stab_io::{Fault, Input, Output};
 use stab_jobs::FaultLayout;
 use stab_shots::{Shots, UnitWord, Wide};
+use stab_texts::finish;
 use std::alloc::Global;
 
 /// Writes what is written of this many coins, at most as many as there are lanes, from a place on. What they flip replaces

@@ -5,14 +5,14 @@ ghost use Rattle.stab_io.specs.declared.refusal.Refusal.TheVariants.{OutOfMemory
 ghost use Rattle.stab_circuit.specs.Steps.{check_of, qubits_of};
 ghost use Rattle.stab_circuit.specs.Views.{circuit_items};
 ghost use Rattle.stab_regions.specs.Faults.{bits_in, numbers_where};
-ghost use Rattle.stab_shots.specs.Words.{word_bit};
-ghost use Rattle.stab_coins.specs.Runs.{AreCoinRuns};
+ghost use Rattle.stab_lanes.specs.Words.{word_bit};
+ghost use Rattle.stab_analysis.specs.CoinRuns.{AreCoinRuns};
 ghost use Rattle.stab_distance.specs.inner.Indexes.{listed};
 ghost use Rattle.stab_analysis.specs.inner.CoinRows.{decides};
 ghost use Rattle.stab_analysis.specs.inner.Deciders.{ones_at, ones_of};
 
+use crate::coin_runs::CoinRuns;
 use stab_circuit::Circuit;
-use stab_coins::CoinRuns;
 use stab_io::Fault;
 use stab_shots::{Shots, UnitWord, Wide, Word};
 use std::alloc::{AllocError, Global};

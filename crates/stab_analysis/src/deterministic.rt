@@ -3,14 +3,14 @@ ghost use Rattle.std.specs.Prelude.{◌≡◌, ◌≤◌, ◌+◌, None, length}
 ghost use Rattle.stab_circuit.specs.Steps.{check_of, qubits_of, unroll, observables_of};
 ghost use Rattle.stab_circuit.specs.Views.{circuit_items};
 ghost use Rattle.stab_regions.specs.Faults.{bits_in};
-ghost use Rattle.stab_analysis.specs.Endings.{SendsFound};
-ghost use Rattle.stab_analysis.specs.Deterministic.{EndsDeterministic, IsDeterministicText, kinds_of};
+ghost use Rattle.stab_texts.specs.Endings.{SendsFound};
+ghost use Rattle.stab_texts.specs.Deterministic.{EndsDeterministic, IsDeterministicText, kinds_of};
 
-use crate::writing::finish;
 use stab_circuit::{Circuit, read_circuit};
 use stab_io::{Fault, Input, Output};
 use stab_regions::deterministic;
 use stab_results::{Format, Kinds, write_shot};
+use stab_texts::finish;
 use std::alloc::Global;
 
 /// Of a circuit's bits, of which there are this many, the first are detectors and the rest observables.

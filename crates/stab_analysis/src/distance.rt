@@ -7,20 +7,18 @@ ghost use Rattle.stab_circuit.specs.Steps.{check_of};
 ghost use Rattle.stab_circuit.specs.Views.{circuit_items};
 ghost use Rattle.stab_errors.specs.ErrorTables.{IsErrorTable, StepsInside};
 ghost use Rattle.stab_errors.specs.Unseen.{IsDistance};
-ghost use Rattle.stab_analysis.specs.FaultTables.{GoesOn, fault_of, random_of};
-ghost use Rattle.stab_analysis.specs.Distances.{EndsDistance, IsDistanceOf, IsDistanceText, IsRefusedFor, answer_text, distance_line, if_graphlike, none_line, of_errors};
+ghost use Rattle.stab_texts.specs.FaultTables.{GoesOn, fault_of, random_of};
+ghost use Rattle.stab_texts.specs.Distances.{EndsDistance, IsDistanceOf, IsDistanceText, IsRefusedFor, answer_text, distance_line, if_graphlike, none_line, of_errors};
 ghost use Rattle.stab_analysis.specs.inner.Faults.{SendsAtOnce};
 
 use crate::deterministic::kinds_of;
-use crate::error_lines::write_errors;
 use crate::faults::refused_for;
-use crate::random::FaultsRefused;
-use crate::writing::{finish, write_texts};
 use itoa::Buffer;
 use stab_circuit::{Circuit, read_circuit};
 use stab_errors::{Answer, ErrorTable, Progress, distance, errors, graphlike_distance};
 use stab_io::{Fault, Input, Output, Refusal};
 use stab_jobs::DistanceOptions;
+use stab_texts::{FaultsRefused, finish, write_errors, write_texts};
 use std::alloc::Global;
 
 /// The errors of a circuit, and what a search found among them.
@@ -67,7 +65,7 @@ pub fn find_distance<P: Progress>(
     progress: &mut P,
 ) -> Result<Distance, FaultsRefused>
     requires checked { check_of (circuit_items circuit.now) ≡ None }
-    ensures found { IfOk result (IsDistanceOf options (circuit_items circuit.now)) }
+    ensures found { IfOk result (λ d. IsDistanceOf options (circuit_items circuit.now) d.errors d.answer) }
     ensures steps { IfOk result (λ d. StepsInside (circuit_items circuit.now) d.errors.errors) }
     ensures refused { IfErr result (λ r. IsRefusedFor options.deterministic_only (circuit_items circuit.now) r.random r.fault) }
 {
@@ -151,7 +149,7 @@ pub fn write_distance<O: Output>(
     found: &Distance,
 ) -> Result<(), Refusal>
     requires checked { check_of (circuit_items circuit.now) ≡ None }
-    requires found { IsDistanceOf options (circuit_items circuit.now) found.now }
+    requires found { IsDistanceOf options (circuit_items circuit.now) found.now.errors found.now.answer }
     requires steps { StepsInside (circuit_items circuit.now) found.now.errors.errors }
     ensures writes { WritesAll (O.seen out.old) (O.seen out.new) (answer_text options (circuit_items circuit.now) found.now.errors found.now.answer) result }
 {
@@ -174,7 +172,7 @@ fn send_answer<O: Output>(
     found: &Distance,
 ) -> Result<(), Fault>
     requires checked { check_of (circuit_items circuit.now) ≡ None }
-    requires found { IsDistanceOf options (circuit_items circuit.now) found.now }
+    requires found { IsDistanceOf options (circuit_items circuit.now) found.now.errors found.now.answer }
     requires steps { StepsInside (circuit_items circuit.now) found.now.errors.errors }
     ensures sends { SendsAtOnce (answer_text options (circuit_items circuit.now) found.now.errors found.now.answer) (O.seen out.old) (O.seen out.new) result }
 {

@@ -6,26 +6,23 @@ ghost use Rattle.stab_circuit.specs.Steps.{check_of, qubits_of, unroll, is_detec
 ghost use Rattle.stab_circuit.specs.Cursors.{step_shown};
 ghost use Rattle.stab_circuit.specs.Views.{circuit_items};
 ghost use Rattle.stab_regions.specs.Faults.{AreDeterministic, IsFaultTable, IsDeterministic, bits_in};
-ghost use Rattle.stab_analysis.specs.Deterministic.{kinds_of};
-ghost use Rattle.stab_analysis.specs.declared.random.Bit.TheVariants.{Detector, Observable};
+ghost use Rattle.stab_texts.specs.Deterministic.{kinds_of};
+ghost use Rattle.stab_texts.specs.declared.random.Bit.TheVariants.{Detector, Observable};
 ghost use Rattle.stab_jobs.specs.declared.job.FaultLayout.TheVariants.{Lines, Shots};
-ghost use Rattle.stab_analysis.specs.FaultTables.{EndsFaults, GoesOn, IsFirstDecider, IsFirstRandom, IsTableText, fault_of, table_text, random_of};
-ghost use Rattle.stab_analysis.specs.Places.{adds_to, bit_of, path_of_bit, steps_before_bit};
+ghost use Rattle.stab_texts.specs.FaultTables.{EndsFaults, GoesOn, IsFirstDecider, IsFirstRandom, IsTableText, fault_of, table_text, random_of};
+ghost use Rattle.stab_texts.specs.Places.{adds_to, bit_of, path_of_bit, steps_before_bit};
 ghost use Rattle.stab_analysis.specs.inner.Faults.{PassesStep, SendsAtOnce};
 
 use crate::coin_rows::placed_coin;
+use crate::coin_runs::CoinRuns;
 use crate::deciders::deciders;
 use crate::deterministic::kinds_of;
-use crate::fault_bits::write_shots;
-use crate::fault_lines::write_lines;
-use crate::random::{Bit, Decider, FaultsRefused, Random};
-use crate::writing::finish;
 use stab_circuit::{Circuit, Cursor, Path, Step, read_circuit};
-use stab_coins::CoinRuns;
 use stab_io::{Fault, Input, Output, Refusal};
 use stab_jobs::FaultLayout;
 use stab_regions::{FaultTable, faults};
 use stab_results::{Format, Kinds};
+use stab_texts::{Bit, Decider, FaultsRefused, Random, finish, write_lines, write_shots};
 use std::alloc::Global;
 
 /// The number of the first bit that is 0.

@@ -1,8 +1,9 @@
 //! Laws of what is written of a circuit. Each function does nothing: its contract is the law, and the check
 //! proves it.
 ghost use Rattle.stab_analysis.specs.Checks.{NumbersAreOfRuns};
-ghost use Rattle.stab_analysis.specs.Reasons.{DeterministicHasNoDecider};
-ghost use Rattle.stab_analysis.specs.Rows.{SameGroupSameLines};
+ghost use Rattle.stab_texts.specs.Coins.{CoinsHaveRows};
+ghost use Rattle.stab_texts.specs.Reasons.{DeterministicHasNoDecider};
+ghost use Rattle.stab_texts.specs.Rows.{SameGroupSameLines};
 
 /// Two stabiliser groups are one if and only if the lines of their reduced rows are the same: so texts that `stabilisers`
 /// wrote can be compared in place of states.
@@ -20,4 +21,9 @@ pub fn numbers_are_of_runs()
 /// out by `run_explain` if and only if `run_deterministic` writes a 1 for it.
 pub fn deterministic_has_no_decider()
     ensures law { DeterministicHasNoDecider }
+{}
+
+/// If nothing refuses a circuit, it has a table of coins: what a coin flips does not depend on the other coins.
+pub fn coins_have_rows()
+    ensures law { CoinsHaveRows }
 {}

@@ -1,18 +1,14 @@
-//! What a command writes of a circuit in one go, and how it ends and says its fault.
+//! What a command finds out about a circuit and writes in one go.
 //!
 //! In the order in which data flows; each module uses only those before it:
 //!
-//! - `random`: why nothing was written of faults or errors, with the bit that is not the same for all coins and a coin that decides it.
-//! - `writing`: texts one after another, the front of a row's line, and the flush that ends a run.
-//! - `fault_line`: the lines that say a fault.
+//! - `coin_places`: the coins that decide, and the steps at which they do.
+//! - `coin_runs`: the runs that have one coin 1, as lanes.
 //! - `check`: the command that writes the numbers of a circuit, or what is wrong with it.
 //! - `deterministic`: the command that says which detectors and observables are the same for all random bits.
-//! - `fault_sites`: the places for faults at a step.
-//! - `fault_lines`, `fault_bits`: a table of faults as lines, and as shots.
 //! - `coin_rows`: the rows of a table of coins.
 //! - `deciders`: the coins that decide each detector and observable.
 //! - `faults`: the command that writes which detectors and observables each fault flips.
-//! - `error_lines`: errors as lines.
 //! - `distance`: the command that finds the least number of errors that flip an observable and no detector.
 //! - `coins`: the command that writes which bits of a run each coin decides.
 //! - `reasons`: the command that names the coins which decide those that are not the same for all coins.
@@ -36,30 +32,26 @@
 #![tactic(auto)]
 
 mod check;
+mod coin_places;
 mod coin_rows;
+mod coin_runs;
 mod coins;
 mod deciders;
 mod deterministic;
 mod distance;
-mod error_lines;
-mod fault_bits;
-mod fault_line;
-mod fault_lines;
-mod fault_sites;
 mod faults;
 pub mod laws;
-mod random;
 mod reasons;
-mod writing;
 
 pub use check::run_check;
+pub use coin_runs::CoinRuns;
 pub use coins::{run_coins, write_coins};
 pub use deterministic::run_deterministic;
 pub use distance::{Distance, find_distance, run_distance, write_distance};
-pub use fault_line::{write_fault, write_refused};
 pub use faults::run_faults;
-pub use random::{Bit, Decider, FaultsRefused, Random};
 pub use reasons::{has_bit, run_explain, write_why};
 pub use stab_errors::{Progress, Unwatched};
 pub use stab_jobs::{DistanceOptions, ErrorLetters, FaultLayout, Source};
-pub use writing::{finish, write_texts};
+pub use stab_texts::{
+    Bit, Decider, FaultsRefused, Random, finish, write_fault, write_refused, write_texts,
+};

@@ -6,23 +6,21 @@ ghost use Rattle.stab_circuit.specs.Paths.{path_text};
 ghost use Rattle.stab_circuit.specs.Steps.{check_of, qubits_of};
 ghost use Rattle.stab_circuit.specs.Views.{circuit_items};
 ghost use Rattle.stab_regions.specs.Faults.{bits_in, numbers_where};
-ghost use Rattle.stab_coins.specs.Runs.{AreCoinRuns};
-ghost use Rattle.stab_coins.specs.Tables.{IsCoinTable, table_of};
-ghost use Rattle.stab_analysis.specs.Endings.{Sends, SendsUnflushed};
-ghost use Rattle.stab_analysis.specs.Reasons.{EndsExplain, bit_name, coordinates_at, decider_text, has_bit, number_of_bit, reason_text, reasons_text};
+ghost use Rattle.stab_analysis.specs.CoinRuns.{AreCoinRuns};
+ghost use Rattle.stab_texts.specs.Coins.{IsCoinTable, table_of};
+ghost use Rattle.stab_texts.specs.Endings.{Sends, SendsUnflushed};
+ghost use Rattle.stab_texts.specs.Reasons.{EndsExplain, bit_name, coordinates_at, decider_text, has_bit, number_of_bit, reason_text, reasons_text};
 ghost use Rattle.stab_analysis.specs.inner.CoinRows.{coin_at, decides};
 ghost use Rattle.stab_distance.specs.inner.Indexes.{listed};
 
 use crate::coin_rows::placed_coin;
+use crate::coin_runs::CoinRuns;
 use crate::deciders::deciders;
-use crate::fault_line::write_decider;
 use crate::faults::{bit_of, path_of_bit};
-use crate::random::Bit;
-use crate::writing::{finish, write_texts};
 use itoa::Buffer;
 use stab_circuit::{Circuit, Path, read_circuit, write_item_coordinates, write_path};
-use stab_coins::CoinRuns;
 use stab_io::{Fault, Input, Output, Refusal, write_all};
+use stab_texts::{Bit, finish, write_decider, write_texts};
 use std::alloc::Global;
 
 /// Writes the coins at places among those that decide, each with the path of the item that takes it.

@@ -4,19 +4,19 @@ use Rattle.std.specs.Prelude.{◌≡◌, ℕ, Bool, true, false, List, Option, N
 pub use Rattle.stab_jobs.specs.Commands.{reads_script}
 use Rattle.stab_io.specs.Devices.{InputView, OutputView}
 use Rattle.stab_io.specs.declared.refusal.Fault.{Fault}
-use Rattle.stab_analysis.specs.FaultLines.{TookOrFailed, told_text}
+use Rattle.stab_texts.specs.FaultLines.{TookOrFailed, told_text}
 use Rattle.stab_commands.specs.Outputs.{EndsRun, sample_of, detect_of}
 use Rattle.stab_commands.specs.Stabilisers.{EndsStabilisers}
 use Rattle.stab_analysis.specs.Checks.{EndsCheck}
-use Rattle.stab_analysis.specs.Deterministic.{EndsDeterministic}
-use Rattle.stab_analysis.specs.FaultTables.{EndsFaults}
-use Rattle.stab_analysis.specs.CoinTables.{EndsCoins}
-use Rattle.stab_analysis.specs.Reasons.{EndsExplain}
-use Rattle.stab_analysis.specs.Distances.{EndsDistance}
+use Rattle.stab_texts.specs.Deterministic.{EndsDeterministic}
+use Rattle.stab_texts.specs.FaultTables.{EndsFaults}
+use Rattle.stab_texts.specs.CoinTables.{EndsCoins}
+use Rattle.stab_texts.specs.Reasons.{EndsExplain}
+use Rattle.stab_texts.specs.Distances.{EndsDistance}
 use Rattle.stab_commands.specs.ScriptEndings.{EndsEdit}
 use Rattle.stab_commands.specs.ScriptTurns.{EditsInTurn}
 use Rattle.stab_script.specs.Watchers.{Asked}
-use Rattle.stab_analysis.specs.declared.random.Random.{Random}
+use Rattle.stab_texts.specs.declared.random.Random.{Random}
 use Rattle.stab_jobs.specs.declared.job.Source.{Source}
 use Rattle.stab_jobs.specs.declared.job.Command.{Command}
 use Rattle.stab_jobs.specs.declared.job.Command.TheVariants.{Sample, Detect, Stabilisers, Check, Deterministic, Explain, Coins, Faults, Distance, Edit}

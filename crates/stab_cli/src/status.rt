@@ -1,7 +1,7 @@
 //! Running a job, with the status of the program.
 ghost use Rattle.std.specs.Prelude.{◌≡◌, ◌≤◌, IfSome, None, false};
 ghost use Rattle.stab_gates.specs.Limits.{most_qubits};
-ghost use Rattle.stab_analysis.specs.FaultTables.{fault_of, random_of};
+ghost use Rattle.stab_texts.specs.FaultTables.{fault_of, random_of};
 ghost use Rattle.stab_cli.specs.Jobs.{CommandInTurn, EndsCommand, EndsJob, reads_script, refusing_none};
 
 use stab_analysis::{

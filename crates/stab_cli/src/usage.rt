@@ -2,8 +2,8 @@
 ghost use Rattle.std.specs.Prelude.{◌≡◌, MatchResult};
 ghost use Rattle.stab_io.specs.Refusals.{whole};
 ghost use Rattle.stab_io.specs.declared.refusal.Refusal.TheVariants.{WriteFault};
-ghost use Rattle.stab_analysis.specs.Endings.{FailsToSend, TookAndFlushed};
-ghost use Rattle.stab_analysis.specs.FaultLines.{TellsFault};
+ghost use Rattle.stab_texts.specs.Endings.{FailsToSend, TookAndFlushed};
+ghost use Rattle.stab_texts.specs.FaultLines.{TellsFault};
 ghost use Rattle.stab_cli.specs.Usages.{TellsUsage};
 
 use stab_analysis::write_fault;

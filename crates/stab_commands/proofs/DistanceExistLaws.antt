@@ -71,7 +71,7 @@ module _ (rows : CoinsHaveRows) (none : DeterministicHasNoDecider) (distances : 
       by_bits d errors table distance (inl (k, first)) = inr (random_found rows none items d.errors.deterministic k fits table.are_deterministic first)
       by_bits d errors table distance (inr all) = inl (
         answer_text (options_asked everywhere most) items d.errors d.answer,
-        (d, record { errors = errors; table = table; answer = distance; all_deterministic = λ asked. all_deterministic (qubits_of items) items d.errors.deterministic table.are_deterministic all }, refl),
+        (d.errors, d.answer, record { errors = errors; table = table; distance = distance; all_deterministic = λ asked. all_deterministic (qubits_of items) items d.errors.deterministic table.are_deterministic all }, refl),
       )
 
   -- so a script has an answer

@@ -4,8 +4,8 @@ use Rattle.std.proofs.Common.{IfOk}
 use Rattle.stab_commands.proofs.SessionAnswerLaws.{same_refusal}
 
 -- what is written of an answer says a distance
-pub distance_shown : (options : DistanceOptions) (items : Items) (d : Distance) (written : List ℕ) → IsDistanceOf options items d → written ≡ answer_text options items d.errors d.answer → IsDistanceText options items written
-distance_shown options items d written is e = (d, is, e)
+pub distance_shown : (options : DistanceOptions) (items : Items) (d : Distance) (written : List ℕ) → IsDistanceOf options items d.errors d.answer → written ≡ answer_text options items d.errors d.answer → IsDistanceText options items written
+distance_shown options items d written is e = (d.errors, d.answer, is, e)
 
 -- a refusal is for a bit that is not deterministic, or for lack of memory
 pub refusal_shown : (deterministic_only : Bool) (items : Items) (u : Option Random) (f : Fault) → IsRefusedFor deterministic_only items u f

@@ -14,22 +14,22 @@ pub use Rattle.std.specs.Result.{IsErrAnd}
 pub use Rattle.stab_analysis.proofs.CheckLaws.{steps_counted}
 pub use Rattle.stab_analysis.proofs.MemoryLaws.{memory_alone}
 pub use Rattle.stab_analysis.proofs.SendingLaws.{sent_batch, batches_break_off, sent_shot, shots_break_off, cut_off_as, sends_none, cut_off_here, sends_cut_off, sends_finished, parts_join}
-pub use Rattle.stab_analysis.proofs.RandomLaws.{first_random_is, deterministic_before, all_deterministic}
-pub use Rattle.stab_analysis.proofs.WritingLaws.{written}
-pub use Rattle.stab_analysis.specs.Deciders.{deciders}
-pub use Rattle.stab_analysis.specs.Deterministic.{IsDeterministicText}
-pub use Rattle.stab_analysis.specs.Distances.{IsDistanceText, answer_text, IsDistanceOf, IsRefusedFor}
-pub use Rattle.stab_analysis.specs.Endings.{GaveCircuit, Sends}
-pub use Rattle.stab_analysis.specs.FaultLines.{refused_text}
-pub use Rattle.stab_analysis.specs.FaultTables.{IsFirstDecider, IsFirstRandom}
-pub use Rattle.stab_analysis.specs.Places.{bit_of, path_of_bit, path_of_coin}
-pub use Rattle.stab_analysis.specs.Reasons.{DeterministicHasNoDecider}
-pub use Rattle.stab_analysis.specs.Rows.{lines_of, line_of}
+pub use Rattle.stab_texts.proofs.RandomLaws.{first_random_is, deterministic_before, all_deterministic}
+pub use Rattle.stab_texts.proofs.WritingLaws.{written}
+pub use Rattle.stab_texts.specs.Deciders.{deciders}
+pub use Rattle.stab_texts.specs.Deterministic.{IsDeterministicText}
+pub use Rattle.stab_texts.specs.Distances.{IsDistanceText, answer_text, IsDistanceOf, IsRefusedFor}
+pub use Rattle.stab_texts.specs.Endings.{GaveCircuit, Sends}
+pub use Rattle.stab_texts.specs.FaultLines.{refused_text}
+pub use Rattle.stab_texts.specs.FaultTables.{IsFirstDecider, IsFirstRandom}
+pub use Rattle.stab_texts.specs.Places.{bit_of, path_of_bit, path_of_coin}
+pub use Rattle.stab_texts.specs.Reasons.{DeterministicHasNoDecider}
+pub use Rattle.stab_texts.specs.Rows.{lines_of, line_of}
 pub use Rattle.stab_analysis.specs.Sources.{coins_of_shot, run_of_shot}
 pub use Rattle.stab_analysis.specs.declared.distance.Distance.{Distance}
-pub use Rattle.stab_analysis.specs.declared.random.Bit.{Bit}
-pub use Rattle.stab_analysis.specs.declared.random.Decider.{Decider}
-pub use Rattle.stab_analysis.specs.declared.random.Random.{Random}
+pub use Rattle.stab_texts.specs.declared.random.Bit.{Bit}
+pub use Rattle.stab_texts.specs.declared.random.Decider.{Decider}
+pub use Rattle.stab_texts.specs.declared.random.Random.{Random}
 pub use Rattle.stab_circuit.proofs.EditLemmas.{listed-entries, entries-listed}
 pub use Rattle.stab_circuit.specs.Circuits.{item_fault, StandsForOne}
 pub use Rattle.stab_circuit.specs.Edits.{edited, list_verdict, verdict}
@@ -45,9 +45,7 @@ pub use Rattle.stab_circuit.specs.Steps.{looks_too_far, most_steps, named_qubits
 unfoldable pub use Rattle.stab_circuit.specs.Steps.{check_of}
 pub use Rattle.stab_circuit.specs.Views.{circuit_items}
 pub use Rattle.stab_circuit.specs.declared.edit.Edit.{Edit}
-pub use Rattle.stab_coins.specs.Coins.{ShotBits}
-pub use Rattle.stab_coins.specs.CoinLaws.{CoinsHaveRows}
-pub use Rattle.stab_coins.specs.Tables.{IsCoinTable, table_of}
+pub use Rattle.stab_texts.specs.Coins.{ShotBits, CoinsHaveRows, IsCoinTable, table_of}
 pub use Rattle.stab_errors.specs.ErrorTables.{IsErrorTable}
 pub use Rattle.stab_errors.specs.Errors.{errors_of}
 pub use Rattle.stab_errors.specs.Laws.{CircuitsHaveDistances}
@@ -105,15 +103,15 @@ pub use Rattle.stab_script.specs.declared.request.Show.{Show}
 pub use Rattle.stab_script.specs.declared.request.Show.TheVariants.{Measurements, Free, Detectors, Observables, Stabilisers, Circuit}
 pub use Rattle.stab_session.specs.SessionEdits.{IsEditedBy, IsAsBefore, IsSplit}
 pub use Rattle.stab_session.specs.Sessions.{SessionState, IsSignIn}
-pub use Rattle.stab_shots.proofs.ColumnLemmas.{column-lane}
+pub use Rattle.stab_lanes.proofs.ColumnLemmas.{column-lane}
 pub use Rattle.stab_shots.proofs.RecordedLemmas.{if-copied}
-pub use Rattle.stab_shots.proofs.RowLemmas.{length-row}
-pub use Rattle.stab_shots.specs.Blocks.{row_bytes}
-pub use Rattle.stab_shots.specs.Bytes.{lane_bytes, byte_at}
-pub use Rattle.stab_shots.specs.Lanes.{lane_bits}
+pub use Rattle.stab_lanes.proofs.RowLemmas.{length-row}
+pub use Rattle.stab_lanes.specs.Blocks.{row_bytes}
+pub use Rattle.stab_lanes.specs.Bytes.{lane_bytes, byte_at}
+pub use Rattle.stab_lanes.specs.Lanes.{lane_bits}
 pub use Rattle.stab_shots.specs.References.{IsReference}
 pub use Rattle.stab_shots.specs.Shots.{AreRuns}
-pub use Rattle.stab_shots.specs.Words.{word_bit}
+pub use Rattle.stab_lanes.specs.Words.{word_bit}
 pub use Rattle.stab_tableau.proofs.TestLemmas.{same_test}
 pub use Rattle.stab_tableau.specs.Reduced.{TracesHaveReducedRows, TracesHaveOneList}
 pub use Rattle.stab_tableau.specs.Traces.{member}

@@ -8,7 +8,7 @@ use Rattle.stab_io.specs.Refusals.{whole, IsCallFault}
 use Rattle.stab_circuit.specs.Items.{Items}
 use Rattle.stab_circuit.specs.Inputs.{most_read}
 use Rattle.stab_circuit.specs.Steps.{qubits_of, check_within}
-use Rattle.stab_analysis.specs.Endings.{Ends, TookAndFlushed, TookAndFlushFailed}
+use Rattle.stab_texts.specs.Endings.{Ends, TookAndFlushed, TookAndFlushFailed}
 use Rattle.stab_analysis.specs.Sources.{coins_of_shot}
 use Rattle.stab_jobs.specs.declared.job.Source.{Source}
 use Rattle.stab_script.specs.Scripts.{Setting, Request, Held, Answer, IsPlainAnswer, IsAnswer, AreAnswers, opened, requests_in, requests_of, most_script}

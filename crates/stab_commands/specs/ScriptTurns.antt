@@ -3,7 +3,7 @@
 use Rattle.std.specs.Prelude.{◌≡◌, ℕ, ◌+◌, Bool, IsTrue, List, [], ◌∷◌, ◌++◌, length, ◌⊎◌, Option, Some, None}
 use Rattle.stab_io.specs.Devices.{InputView, OutputView}
 use Rattle.stab_circuit.specs.Items.{Items}
-use Rattle.stab_analysis.specs.Endings.{GaveCircuit}
+use Rattle.stab_texts.specs.Endings.{GaveCircuit}
 use Rattle.stab_jobs.specs.declared.job.Source.{Source}
 use Rattle.stab_script.specs.Scripts.{Setting, Answer, IsAnswerToAll, opened, requests_in}
 use Rattle.stab_commands.specs.ScriptEndings.{setting_of}

@@ -4,8 +4,8 @@ use Rattle.std.specs.Prelude.{◌≡◌, Result}
 use Rattle.stab_io.specs.Devices.{InputView, OutputView}
 use Rattle.stab_io.specs.declared.refusal.Fault.{Fault}
 use Rattle.stab_circuit.specs.Steps.{qubits_of}
-use Rattle.stab_analysis.specs.Endings.{Ends, SendsFound}
-use Rattle.stab_analysis.specs.Rows.{IsStabilisersText}
+use Rattle.stab_texts.specs.Endings.{Ends, SendsFound}
+use Rattle.stab_texts.specs.Rows.{IsStabilisersText}
 use Rattle.stab_analysis.specs.Sources.{run_of_shot}
 use Rattle.stab_jobs.specs.declared.job.Source.{Source}
 

@@ -5,7 +5,7 @@ ghost use Rattle.stab_io.specs.declared.refusal.Refusal.TheVariants.{OutOfMemory
 ghost use Rattle.stab_circuit.specs.Steps.{check_of};
 ghost use Rattle.stab_circuit.specs.Views.{circuit_items};
 ghost use Rattle.stab_results.specs.declared.format.Format.TheVariants.{F01};
-ghost use Rattle.stab_analysis.specs.Deterministic.{IsDeterministicText};
+ghost use Rattle.stab_texts.specs.Deterministic.{IsDeterministicText};
 ghost use Rattle.stab_script.specs.CoinReplies.{coins_shown, why_shown};
 ghost use Rattle.stab_script.specs.FramedAnswers.{GivesText};
 ghost use Rattle.stab_script.specs.Scripts.{options_asked};

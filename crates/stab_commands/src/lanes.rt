@@ -2,8 +2,8 @@
 ghost use Rattle.std.specs.Prelude.{◌≡◌, ℕ, ◌+◌, ◌<◌, ◌≤◌, length};
 ghost use Rattle.stab_results.specs.Formats.{detectors_of};
 ghost use Rattle.stab_run.specs.Runs.{State};
-ghost use Rattle.stab_shots.specs.Words.{word_bit};
-ghost use Rattle.stab_shots.specs.Lanes.{lane_bits};
+ghost use Rattle.stab_lanes.specs.Words.{word_bit};
+ghost use Rattle.stab_lanes.specs.Lanes.{lane_bits};
 ghost use Rattle.stab_commands.specs.declared.bits.Shown.{Shown};
 ghost use Rattle.stab_commands.specs.Outputs.{of_shots};
 ghost use Rattle.stab_commands.specs.Sendings.{IsShown, SendsUnflushed, shown_bytes};

@@ -2,7 +2,7 @@
 ghost use Rattle.std.specs.Prelude.{◌≡◌, IfOk, IfErr};
 ghost use Rattle.stab_io.specs.Refusals.{whole};
 ghost use Rattle.stab_io.specs.declared.refusal.Refusal.TheVariants.{OutOfMemory};
-ghost use Rattle.stab_coins.specs.Coins.{bits_of};
+ghost use Rattle.stab_texts.specs.Coins.{bits_of};
 ghost use Rattle.stab_script.specs.Changes.{mark_shown};
 ghost use Rattle.stab_script.specs.Scripts.{first_mark as first_mark_of};
 ghost use Rattle.stab_commands.specs.inner.SessionAnswers.{session_run};

@@ -2,9 +2,9 @@
 ghost use Rattle.std.specs.Prelude.{◌≡◌, ℕ, ◌+◌, ◌*◌, ◌<◌, ◌≤◌, List, length, take};
 ghost use Rattle.stab_io.specs.Devices.{WritesAllOrFault};
 ghost use Rattle.stab_results.specs.Formats.{f01_bytes, b8_bytes};
-ghost use Rattle.stab_shots.specs.Words.{word_bit};
-ghost use Rattle.stab_shots.specs.Lanes.{lane_bits};
-ghost use Rattle.stab_shots.specs.Blocks.{row_bytes};
+ghost use Rattle.stab_lanes.specs.Words.{word_bit};
+ghost use Rattle.stab_lanes.specs.Lanes.{lane_bits};
+ghost use Rattle.stab_lanes.specs.Blocks.{row_bytes};
 ghost use Rattle.stab_commands.specs.Outputs.{of_shots};
 ghost use Rattle.stab_commands.specs.Sendings.{SendsUnflushed};
 ghost use Rattle.stab_commands.specs.inner.Packings.{packed_bytes};

@@ -3,7 +3,7 @@ ghost use Rattle.std.specs.Prelude.{◌≡◌, ◌≤◌, None};
 ghost use Rattle.stab_circuit.specs.Steps.{check_of};
 ghost use Rattle.stab_circuit.specs.Views.{circuit_items};
 ghost use Rattle.stab_jobs.specs.Limits.{most_shots};
-ghost use Rattle.stab_analysis.specs.Endings.{Sends};
+ghost use Rattle.stab_texts.specs.Endings.{Sends};
 ghost use Rattle.stab_commands.specs.Outputs.{EndsRun, sample_of, detect_of};
 ghost use Rattle.stab_commands.specs.Sendings.{shots_of};
 

@@ -2,12 +2,11 @@
 //! proves it.
 ghost use Rattle.stab_commands.specs.ScriptLaws.{CircuitsCanBeEdited, FirstRepliesComeFirst, ScriptsHaveAnAnswer, ScriptsHaveOneAnswer};
 
-use stab_analysis::laws::deterministic_has_no_decider;
+use stab_analysis::laws::{coins_have_rows, deterministic_has_no_decider};
 use stab_circuit::laws::{
     edited_items_are_of_lines, item_texts_are_lines, item_texts_have_one_meaning,
     lines_keep_qubits_apart, split_items_are_of_lines, splits_leave_the_steps, texts_are_lines,
 };
-use stab_coins::laws::coins_have_rows;
 use stab_errors::laws::circuits_have_distances;
 use stab_regions::fault_laws::deterministic_parities;
 use stab_run::laws::runs_are_sound;

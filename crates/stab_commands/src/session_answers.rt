@@ -42,8 +42,8 @@ impl<C: Coins> SessionAnswers<C> {
     ghost use Rattle.stab_circuit.specs.Places.{item_at};
     ghost use Rattle.stab_circuit.specs.Prints.{printed};
     ghost use Rattle.stab_circuit.specs.Splits.{split as split_list};
-    ghost use Rattle.stab_analysis.specs.FaultLines.{refused_text};
-    ghost use Rattle.stab_coins.specs.Coins.{bits_of};
+    ghost use Rattle.stab_texts.specs.FaultLines.{refused_text};
+    ghost use Rattle.stab_texts.specs.Coins.{bits_of};
     ghost use Rattle.stab_script.specs.Changes.{changed_text, changed_records_text, mark_shown};
     ghost use Rattle.stab_script.specs.FramedReplies.{text_found, session_numbers, reply_text};
     ghost use Rattle.stab_script.specs.CoinReplies.{coins_shown, why_shown};

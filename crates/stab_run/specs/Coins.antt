@@ -9,6 +9,10 @@ use Rattle.rand_chacha.specs.ChaCha.{word_at, key_of}
 abbrev pub one_more : ℕ → ℕ
 one_more count = min (count + 1) (2 ^ 64 - 1)
 
+-- coins that are all 0
+abbrev pub zero_coins : ℕ → Bool
+zero_coins t = false
+
 -- bit t of a list, and 0 past its end
 abbrev pub list_coin : List Bool → ℕ → Bool
 list_coin bits t = slice_index_or bits t false

@@ -8,9 +8,9 @@ pub use Rattle.std.specs.List.{list_all}
 pub use Rattle.std.specs.Option.{option_copied}
 pub use Rattle.std.specs.Prelude.{IfOk, IfErr, bytes_eq}
 pub use Rattle.std.specs.Result.{IsErrAnd}
-pub use Rattle.stab_analysis.proofs.CheckLaws.{few_steps}
-pub use Rattle.stab_analysis.specs.Rows.{lines_of}
-pub use Rattle.stab_analysis.specs.Texts.{texts_joined}
+pub use Rattle.stab_items.proofs.SummaryLemmas.{few_steps}
+pub use Rattle.stab_texts.specs.Rows.{lines_of}
+pub use Rattle.stab_texts.specs.Texts.{texts_joined}
 pub use Rattle.stab_circuit.proofs.EditLemmas.{entries-listed}
 pub use Rattle.stab_circuit.specs.Edits.{steps_before}
 pub use Rattle.stab_circuit.specs.Items.{Items, OneItem, listed, entries}

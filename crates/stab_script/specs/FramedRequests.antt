@@ -3,8 +3,8 @@
 use Rattle.std.specs.Prelude.{ℕ, ◌==◌, List, [], ◌∷◌, length, codes, bytes_eq, Option, Some, None, if◌then◌else◌}
 use Rattle.stab_lines.specs.Words.{value}
 use Rattle.stab_circuit.specs.Paths.{Path}
-use Rattle.stab_analysis.specs.declared.random.Bit.{Bit}
-use Rattle.stab_analysis.specs.declared.random.Bit.TheVariants.{Detector, Observable}
+use Rattle.stab_texts.specs.declared.random.Bit.{Bit}
+use Rattle.stab_texts.specs.declared.random.Bit.TheVariants.{Detector, Observable}
 use Rattle.stab_script.specs.ScriptWords.{first_word, behind_word, is_place_number, place_of}
 
 -- that changes are counted from now on; that a round, counted from 0, is split off the block at a place; or that this is shown: the numbers of

@@ -15,15 +15,15 @@ use Rattle.stab_circuit.specs.Edits.{edited, list_verdict}
 use Rattle.stab_circuit.specs.Circuits.{most_bytes, item_fault, StandsForOne}
 use Rattle.stab_circuit.specs.Prints.{printed}
 use Rattle.stab_run.specs.Runs.{State, run_of}
-use Rattle.stab_coins.specs.Coins.{ShotBits, bits_of}
+use Rattle.stab_texts.specs.Coins.{ShotBits, bits_of}
 use Rattle.stab_results.specs.Formats.{f01_bytes}
-use Rattle.stab_analysis.specs.FaultLines.{refused_text}
+use Rattle.stab_texts.specs.FaultLines.{refused_text}
 use Rattle.stab_results.specs.declared.format.Format.TheVariants.{F01}
-use Rattle.stab_analysis.specs.Rows.{IsStabilisersText}
-use Rattle.stab_analysis.specs.Deterministic.{IsDeterministicText}
-use Rattle.stab_analysis.specs.declared.random.Random.{Random}
-use Rattle.stab_analysis.specs.FaultTables.{IsFirstRandom}
-use Rattle.stab_analysis.specs.Distances.{IsDistanceText}
+use Rattle.stab_texts.specs.Rows.{IsStabilisersText}
+use Rattle.stab_texts.specs.Deterministic.{IsDeterministicText}
+use Rattle.stab_texts.specs.declared.random.Random.{Random}
+use Rattle.stab_texts.specs.FaultTables.{IsFirstRandom}
+use Rattle.stab_texts.specs.Distances.{IsDistanceText}
 use Rattle.stab_jobs.specs.declared.job.DistanceOptions.{DistanceOptions}
 use Rattle.stab_jobs.specs.declared.job.ErrorLetters.TheVariants.{All}
 use Rattle.stab_circuit.specs.Places.{item_at}

@@ -9,8 +9,8 @@ ghost use Rattle.stab_script.specs.Editors.{AnswersRequests, Finishes, sitting};
 use crate::reader::ScriptReader;
 use crate::reply::Reply;
 use crate::request::Request;
-use stab_analysis::finish;
 use stab_io::{Fault, Output, write_all};
+use stab_texts::finish;
 use std::alloc::Global;
 
 /// The answer to a request: its reply, and whether a line was refused.

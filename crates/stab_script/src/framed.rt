@@ -7,9 +7,9 @@ ghost use Rattle.stab_script.specs.ScriptWords.{first_word as first_of, behind_w
 ghost use Rattle.stab_script.specs.Requests.{framed_asked, framed_if_any};
 
 use crate::place::{first_word, place_number, read_place};
-use stab_analysis::Bit;
 use stab_circuit::Path;
 use stab_io::Fault;
+use stab_texts::Bit;
 use std::alloc::Global;
 
 /// What only a framed script asks for.

@@ -1,7 +1,7 @@
 -- Advanced lanes: lanes that are again as they were at a checkpoint go over the rounds that are left as they went over those since.
 use Rattle.stab_shots.proofs.Names.{◌≡◌, ℕ, ◌+◌, ◌-◌, ◌*◌, ◌<◌, ◌≤◌, refl, sym, ◌∙◌, ap, subst, Bool, false, List, ◌++◌, length, take, get_or, arith, None, if◌then◌else◌, take_at, Letter, Step, rounds, Repeat, round_of, IsRepeat, Lengths, joined-assoc, looked_up, ones, RunOutput, joined, all_coins_of, rest_of, copies, behind_rounds, more-rounds, coins-append, rounds-rounds, rounds-within, RunPivots, frame_over, flips_over, pivot_at, frame-append, flips-append, Difference, frame_of_difference, next_coin, Follows, no_difference, IsKeptAfter, [], drop, drop_at, drop_all, lengths_of, without_outcomes}
 use Rattle.std.proofs.Common.{slice_get}
-use Rattle.stab_shots.proofs.FollowLemmas.{follows-append}
+use Rattle.stab_lanes.proofs.FollowLemmas.{follows-append}
 use Rattle.stab_shots.proofs.FoldLemmas.{HasNone, follows-again}
 
 -- a deterministic outcome has no string

@@ -1,6 +1,6 @@
 -- Folding: frames that steps can't tell apart flip the same, and so do lanes that are again as they were, if nothing is drawn.
 use Rattle.stab_shots.proofs.Names.{◌≡◌, ℕ, zero, suc, ◌+◌, ◌*◌, ◌<◌, ◌≤◌, refl, sym, ◌∙◌, ap, subst, true, false, ◌&&◌, List, [], ◌∷◌, ◌++◌, append-nil, append_assoc, length, nat_lt, arith, None, list_any, length-append, length-replicate, Signed, single, strings_anticommute, image, image_pair, Step, rounds, one, two, controlled, collapse, product, detector, observable, makes, lookbacks, looks_too_far, looked_up, when, flip_of, string_of, RunOutput, nothing, joined, coins_of, all_coins_of, copies, joined-nothing, joined-assoc, looked_up-more, parity-same, or-left, or-right, plus, Frame, times_where, RunPivots, flipped_by, letters_by, flips_outcome, letters_measured, letters_after, flips_given, frame_after, frame_over, flips_over, Difference, frame_of_difference, next_coin, Follows, without_outcomes}
-use Rattle.stab_shots.proofs.FollowLemmas.{follows-none, follows-append}
+use Rattle.stab_lanes.proofs.FollowLemmas.{follows-none, follows-append}
 use Rattle.stab_shots.proofs.LaneRunLemmas.{still-over}
 
 -- two frames have the same letters, and flip the same as far back as rec[-m]

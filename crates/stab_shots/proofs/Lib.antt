@@ -1,20 +1,5 @@
 mod Names
-pub mod WordLemmas
-pub mod WideLemmas
-pub mod MovedBitLemmas
-pub mod ExchangeLemmas
-pub mod DigitLemmas
-pub mod ColumnLemmas
-pub mod TransposeLemmas
-pub mod RowLemmas
-pub mod FrameLemmas
-pub mod LaneLemmas
-pub mod PlaceLemmas
-pub mod SeedLemmas
-pub mod UnitLemmas
 pub mod BatchLemmas
-pub mod FollowLemmas
-pub mod PivotLemmas
 pub mod RecordedLemmas
 pub mod RecordingLemmas
 pub mod LaneRunLemmas

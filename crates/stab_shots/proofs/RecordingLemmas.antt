@@ -2,7 +2,7 @@
 use Rattle.stab_shots.proofs.Names.{◌≡◌, ℕ, zero, suc, ◌+◌, ◌≤◌, min, refl, sym, ◌∙◌, ap, subst, Bool, true, false, List, [], ◌++◌, append-nil, length, take, drop, replicate, arith, Option, None, slice_get, if◌then◌else◌, take-append_seam, drop-append_seam, slice_get_past, Letter, Signed, Items, Step, unroll, observables_of, Shot, ones, State, start, run, run_of, Point, RunOutput, joined, origin, point_after, outputs, all_coins_of, with_additions, state_at, ProgramState, IsAt, Leads, IsRun, after-append, outputs-append, ones-append, run-state, records-are-records, coins-steps, coins-are, PivotsState, pivot_at, IsNumbered, AreTrue, KeepsTrue, AreRight, true-none, true-rest, ones-few, zero_coins, IsShot}
 use Rattle.std.proofs.Common.{length-append}
 use Rattle.std.specs.Prelude.{slice_index_or}
-use Rattle.stab_shots.proofs.PivotLemmas.{right-from}
+use Rattle.stab_lanes.proofs.PivotLemmas.{right-from}
 
 -- if no string is kept there is no pivot
 

@@ -1,23 +1,21 @@
 -- Checkpoints of lanes: what is kept of lanes after a round, and lanes that are again as they were then.
 -- Source: this project's own.
-use Rattle.std.specs.Prelude.{◌≡◌, ℕ, zero, suc, ◌<◌, ◌≤◌, Bool, List, [], ◌++◌, length, take, replicate, Option, IfSome}
+use Rattle.std.specs.Prelude.{◌≡◌, ℕ, zero, suc, ◌<◌, ◌≤◌, Bool, List, [], ◌++◌, length, take, Option, IfSome}
 use Rattle.stab_gates.specs.declared.letter.Letter.{Letter}
-use Rattle.stab_gates.specs.declared.letter.Letter.TheVariants.{I}
 use Rattle.stab_circuit.specs.Steps.{Step}
 use Rattle.stab_circuit.specs.declared.circuit.repeats.Repeat.{Repeat}
 use Rattle.stab_circuit.specs.Repeats.{IsRepeat}
 use Rattle.stab_run.specs.declared.records.Lengths.{Lengths}
 use Rattle.stab_run.specs.Records.{looked_up}
-use Rattle.stab_run.specs.Points.{nothing}
 use Rattle.stab_run.specs.Cuts.{lengths_of}
 use Rattle.stab_recording.specs.inner.Advanced.{behind_rounds}
 use Rattle.stab_frames.specs.RunPivots.{RunPivots}
-use Rattle.stab_shots.specs.declared.lanes.Lanes.{Lanes}
+use Rattle.stab_lanes.specs.declared.lanes.Lanes.{Lanes}
 use Rattle.stab_shots.specs.declared.checkpoints.LaneCheckpoint.{LaneCheckpoint}
-use Rattle.stab_shots.specs.declared.measure.RecordedPivots.{RecordedPivots}
-use Rattle.stab_shots.specs.Lanes.{lane_bits, lane_letters}
-use Rattle.stab_shots.specs.RecordedPivots.{IsCounted, lane_pivots}
-use Rattle.stab_shots.specs.Differences.{Difference, lane_difference, Follows}
+use Rattle.stab_lanes.specs.declared.measure.RecordedPivots.{RecordedPivots}
+use Rattle.stab_lanes.specs.Lanes.{lane_bits, lane_letters}
+use Rattle.stab_lanes.specs.RecordedPivots.{lane_pivots}
+use Rattle.stab_lanes.specs.Differences.{Difference, Follows, no_difference, ArePropagated}
 
 -- a list this often, one after the other
 abbrev pub times : {X : Type 0} → ℕ → List X → List X
@@ -32,17 +30,6 @@ lengths_in lanes = record {
   detectors = length lanes.detectors.items;
   additions = length lanes.sums.items;
 }
-
--- the difference before the first step
-abbrev pub no_difference : ℕ → Difference
-no_difference n = record { letters = replicate n I; flips = nothing }
-
--- lanes went over these steps, from the first on, and this many pivots were those of the outcomes in them
-pub record ArePropagated {W : Type 0} (at : W → ℕ → Bool) (count : ℕ) (recorded_pivots : RecordedPivots) (coins : ℕ → ℕ → Bool) (xs : List Step) (number : ℕ) (lanes : Lanes W) : Type 0 where
-  pub counted : IsCounted recorded_pivots number (length lanes.free.items)
-  pub frames : length lanes.frames.letters.items ≡ recorded_pivots.strings.now.qubits
-  pub follow : (l : ℕ) → l < count
-      → Follows recorded_pivots.strings.now.qubits (lane_pivots recorded_pivots (coins l)) xs (no_difference recorded_pivots.strings.now.qubits) (lane_difference at l lanes)
 
 -- these are the letters of a lane that went over these steps, and how much it has given
 pub record IsKeptAfter (n : ℕ) (pivots : RunPivots) (xs : List Step) (letters : List Letter) (lengths : Lengths) : Type 0 where

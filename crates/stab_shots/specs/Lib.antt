@@ -1,12 +1,4 @@
-pub mod Words
-pub mod Lanes
 pub mod Shots
-pub mod Seeds
-pub mod Units
-pub mod Bytes
-pub mod Blocks
-pub mod RecordedPivots
 pub mod PartRecordings
 pub mod References
-pub mod Differences
 pub mod LaneCheckpoints

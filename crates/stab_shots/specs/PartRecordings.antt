@@ -9,7 +9,7 @@ use Rattle.stab_frames.specs.Limits.{most_strings}
 use Rattle.stab_frames.specs.Pivots.{pivot_at}
 use Rattle.stab_frames.specs.PivotsOfSteps.{AreRight}
 use Rattle.stab_shots.specs.declared.part_recording.PartRecording.{PartRecording}
-use Rattle.stab_shots.specs.RecordedPivots.{zero_coins}
+use Rattle.stab_run.specs.Coins.{zero_coins}
 
 -- its strings have n letters, and as many are recorded as there may be
 pub record IsSized (n : ℕ) (r : PartRecording) : Type 0 where

@@ -3,11 +3,10 @@ ghost use Rattle.std.specs.Prelude.{◌≡◌, ℕ, ◌++◌, drop, OnOk};
 ghost use Rattle.stab_run.specs.Points.{joined};
 ghost use Rattle.stab_run.specs.RoundLaws.{copies};
 ghost use Rattle.stab_run.specs.Cuts.{rest_of};
-ghost use Rattle.stab_shots.specs.Lanes.{lane_output};
+ghost use Rattle.stab_lanes.specs.Lanes.{lane_output};
 ghost use Rattle.stab_shots.specs.LaneCheckpoints.{times};
 
-use crate::lanes::Lanes;
-use crate::word::Word;
+use stab_lanes::{Lanes, Word};
 use stab_run::Lengths;
 use std::alloc::AllocError;
 

@@ -6,20 +6,17 @@ ghost use Rattle.stab_gates.specs.Limits.{most_qubits};
 ghost use Rattle.stab_circuit.specs.Items.{Items};
 ghost use Rattle.stab_circuit.specs.Steps.{check_within};
 ghost use Rattle.stab_circuit.specs.Views.{circuit_items};
-ghost use Rattle.stab_shots.specs.Lanes.{lane_bits};
+ghost use Rattle.stab_lanes.specs.Lanes.{lane_bits};
 ghost use Rattle.stab_shots.specs.References.{IsReference};
-ghost use Rattle.stab_shots.specs.Seeds.{shot_coins};
+ghost use Rattle.stab_lanes.specs.Seeds.{shot_coins};
 ghost use Rattle.stab_shots.specs.Shots.{AreRuns, IsShot, AreShots};
 
-use crate::coins::SeedLanes;
-use crate::lanes::write_lane;
 use crate::reference::Reference;
 use crate::run::run_checked_batch;
 use crate::shots::Shots;
-use crate::wide::Wide;
-use crate::word::Word;
 use stab_circuit::Circuit;
 use stab_io::{Fault, Refusal};
+use stab_lanes::{SeedLanes, Wide, Word, write_lane};
 use stab_recording::Shot;
 use std::alloc::{AllocError, Global};
 

@@ -1,12 +1,10 @@
 //! What is kept of lanes after a round, and whether lanes are as they were then.
 ghost use Rattle.std.specs.Prelude.{◌≡◌, ℕ, ◌+◌, ◌<◌, ◌≤◌, false, IsTrue, length, take, slice_index_or, IfOk};
 ghost use Rattle.stab_run.specs.Records.{looked_up as looked_up_of};
-ghost use Rattle.stab_shots.specs.Lanes.{lane_bits, lane_letters};
+ghost use Rattle.stab_lanes.specs.Lanes.{lane_bits, lane_letters};
 ghost use Rattle.stab_shots.specs.LaneCheckpoints.{lengths_in, IsAgain};
 
-use crate::lanes::{Lanes, looked_up};
-use crate::letters::Letters;
-use crate::word::Word;
+use stab_lanes::{Lanes, Letters, Word, looked_up};
 use stab_run::Lengths;
 use std::alloc::{AllocError, Global};
 

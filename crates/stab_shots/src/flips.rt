@@ -2,12 +2,11 @@
 ghost use Rattle.std.specs.Prelude.{◌≡◌, ℕ, ◌<◌, false, length, slice_index_or, slice_set, IfOk};
 ghost use Rattle.stab_gates.specs.Letters.{◌⊕◌};
 ghost use Rattle.stab_frames.specs.Flips.{flipped};
-ghost use Rattle.stab_shots.specs.Lanes.{lane_bits, lane_output};
-ghost use Rattle.stab_shots.specs.Differences.{IsAsLong, AreFlipped};
+ghost use Rattle.stab_lanes.specs.Lanes.{lane_bits, lane_output};
+ghost use Rattle.stab_shots.specs.Shots.{IsAsLong, AreFlipped};
 
-use crate::lanes::{Lanes, observables};
 use crate::shots::Shots;
-use crate::word::Word;
+use stab_lanes::{Lanes, Word, observables};
 use stab_recording::Shot;
 use std::alloc::{AllocError, Global};
 

@@ -7,10 +7,10 @@ ghost use Rattle.stab_circuit.specs.Views.{circuit_items};
 ghost use Rattle.stab_run.specs.Records.{ones};
 ghost use Rattle.stab_run.specs.Points.{with_additions};
 
-use crate::measure::RecordedPivots;
 use stab_circuit::{Circuit, Cursor};
 use stab_frames::{PivotRecorder, Pivots, run_recording_pivots};
 use stab_io::Refusal;
+use stab_lanes::RecordedPivots;
 use stab_pauli::Pauli;
 use stab_recording::Shot;
 use stab_run::{ListCoins, Outputs, observables};

@@ -8,13 +8,14 @@ ghost use Rattle.stab_run.specs.Records.{ones};
 ghost use Rattle.stab_run.specs.Runs.{run_of};
 ghost use Rattle.stab_frames.specs.Limits.{most_strings};
 ghost use Rattle.stab_frames.specs.Pivots.{own_strings};
-ghost use Rattle.stab_shots.specs.RecordedPivots.{zero_coins, most_pivots as most_of};
+ghost use Rattle.stab_lanes.specs.RecordedPivots.{most_pivots as most_of};
+ghost use Rattle.stab_run.specs.Coins.{zero_coins};
 ghost use Rattle.stab_shots.specs.References.{IsReference};
 
-use crate::measure::RecordedPivots;
 use stab_circuit::Circuit;
 use stab_frames::Pivots;
 use stab_io::{Fault, Refusal};
+use stab_lanes::RecordedPivots;
 use stab_recording::{RunWithPivots, Shot, run_with_pivots};
 use stab_run::ListCoins;
 use std::alloc::Global;

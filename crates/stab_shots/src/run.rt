@@ -8,23 +8,20 @@ ghost use Rattle.stab_circuit.specs.Views.{circuit_items};
 ghost use Rattle.stab_run.specs.Points.{all_coins_of};
 ghost use Rattle.stab_run.specs.ProgramStates.{StepFits};
 ghost use Rattle.stab_shots.specs.Shots.{AreRuns};
-ghost use Rattle.stab_shots.specs.RecordedPivots.{HasAll, IsCounted, lane_pivots};
+ghost use Rattle.stab_lanes.specs.RecordedPivots.{HasAll, IsCounted, lane_pivots};
 ghost use Rattle.stab_shots.specs.References.{IsReference};
 ghost use Rattle.stab_shots.specs.PartRecordings.{IsSized, IsPartRecording};
-ghost use Rattle.stab_shots.specs.Differences.{lane_difference, Follows, IsLane};
+ghost use Rattle.stab_lanes.specs.Differences.{lane_difference, Follows, IsLane};
 ghost use Rattle.stab_frames.specs.Limits.{most_strings};
 
-use crate::coins::Draw;
 use crate::flips::shots_of;
-use crate::lanes::Lanes;
-use crate::part::propagate_part;
 use crate::part_recording::{PartRecording, shot_of};
 use crate::reference::{Reference, most_pivots};
 use crate::rounds::propagate_all;
 use crate::shots::Shots;
-use crate::word::Word;
 use stab_circuit::Circuit;
 use stab_io::{Fault, Refusal};
+use stab_lanes::{Draw, Lanes, Word, propagate_part};
 use std::alloc::Global;
 
 /// Runs a circuit once in each lane by a reference of it, and puts what the shots give in place of what the lists had.

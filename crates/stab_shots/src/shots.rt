@@ -1,11 +1,9 @@
 ghost use Rattle.std.specs.Prelude.{◌≡◌, ℕ, ◌<◌, [], length, replicate, IfOk};
 ghost use Rattle.stab_gates.specs.declared.letter.Letter.TheVariants;
 ghost use Rattle.stab_run.specs.Points.{nothing};
-ghost use Rattle.stab_shots.specs.Lanes.{lane_letters, lane_output};
+ghost use Rattle.stab_lanes.specs.Lanes.{lane_letters, lane_output};
 
-use crate::frames::Frames;
-use crate::lanes::Lanes;
-use crate::word::Word;
+use stab_lanes::{Frames, Lanes, Word};
 use std::alloc::{AllocError, Global};
 use std::mem;
 

@@ -23,9 +23,10 @@ ghost use Rattle.stab_circuit.specs.Limits.{most_stride};
 ghost use Rattle.stab_run.specs.Records.{ones};
 ghost use Rattle.stab_run.specs.Runs.{run_of};
 ghost use Rattle.stab_io.specs.Refusals.{Refuses};
-ghost use Rattle.stab_shots.specs.Seeds.{shot_coins};
+ghost use Rattle.stab_lanes.specs.Seeds.{shot_coins};
 ghost use Rattle.stab_shots.specs.Shots.{AreShots};
-ghost use Rattle.stab_shots.specs.References.{zero_coins, most_pivots, IsReference};
+ghost use Rattle.stab_shots.specs.References.{most_pivots, IsReference};
+ghost use Rattle.stab_run.specs.Coins.{zero_coins};
 ghost use Rattle.stab_session.specs.Sessions.{IsSignIn};
 ghost use Rattle.stab_session.specs.Bounds.{steps_from_change, steps_near_change, most_refused_asks, most_checkpoints, AgreeBehind, IsCountOf};
 

@@ -3,14 +3,15 @@
 use Rattle.std.specs.Prelude.{◌≡◌, ℕ, ◌+◌, ◌<◌, Bool, false, List, [], ◌∷◌, slice_index_or, if◌then◌else◌}
 use Rattle.stab_circuit.specs.Items.{Items}
 use Rattle.stab_circuit.specs.Steps.{qubits_of}
-use Rattle.stab_shots.specs.Lanes.{lane_bits}
-use Rattle.stab_shots.specs.Words.{word_bit}
-use Rattle.stab_coins.specs.Coins.{flips_of, zero_coins}
-use Rattle.stab_coins.specs.Runs.{free_coins}
+use Rattle.stab_lanes.specs.Lanes.{lane_bits}
+use Rattle.stab_lanes.specs.Words.{word_bit}
+use Rattle.stab_texts.specs.Coins.{flips_of}
+use Rattle.stab_run.specs.Coins.{zero_coins}
+use Rattle.stab_analysis.specs.CoinRuns.{free_coins}
 use Rattle.stab_jobs.specs.declared.job.FaultLayout.{FaultLayout}
 use Rattle.stab_analysis.specs.declared.coin_rows.PlacedWord.{PlacedWord}
-use Rattle.stab_analysis.specs.CoinTables.{coin_text, whole_bits}
-use Rattle.stab_analysis.specs.Deciders.{checked_bits}
+use Rattle.stab_texts.specs.CoinTables.{coin_text, whole_bits}
+use Rattle.stab_texts.specs.Deciders.{checked_bits}
 
 -- the coin at a place
 abbrev pub coin_at : Items → ℕ → ℕ

@@ -2,7 +2,7 @@
 -- Source: this project's own.
 use Rattle.std.specs.Prelude.{ℕ, ◌-◌, Bool, false, List, slice_index_or}
 use Rattle.stab_regions.specs.Faults.{numbers_where}
-use Rattle.stab_shots.specs.Lanes.{lane_bits}
+use Rattle.stab_lanes.specs.Lanes.{lane_bits}
 
 -- the numbers from the first on that are the lanes, counted from there, in which a word is 1
 abbrev pub ones_of : {W : Type 0} → (W → ℕ → Bool) → W → (first end : ℕ) → List ℕ

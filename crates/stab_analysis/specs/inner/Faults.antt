@@ -6,9 +6,9 @@ use Rattle.stab_io.specs.declared.refusal.Refusal.TheVariants.{WriteFault, OutOf
 use Rattle.stab_io.specs.declared.refusal.Fault.{Fault}
 use Rattle.stab_io.specs.Refusals.{whole}
 use Rattle.stab_circuit.specs.Steps.{Step}
-use Rattle.stab_analysis.specs.declared.random.Bit.{Bit}
-use Rattle.stab_analysis.specs.Endings.{TookAndFlushed, FailsToSend}
-use Rattle.stab_analysis.specs.Places.{steps_before_bit}
+use Rattle.stab_texts.specs.declared.random.Bit.{Bit}
+use Rattle.stab_texts.specs.Endings.{TookAndFlushed, FailsToSend}
+use Rattle.stab_texts.specs.Places.{steps_before_bit}
 
 -- a step makes a bit, or is passed on the way to the first that makes what is then called so
 abbrev pub PassesStep : Bit → Step → Option Bit → Type 0

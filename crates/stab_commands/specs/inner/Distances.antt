@@ -5,9 +5,9 @@ use Rattle.stab_io.specs.declared.refusal.Refusal.{Refusal}
 use Rattle.stab_io.specs.declared.refusal.Refusal.TheVariants.{OutOfMemory, NotDeterministic}
 use Rattle.stab_circuit.specs.Items.{Items}
 use Rattle.stab_jobs.specs.declared.job.DistanceOptions.{DistanceOptions}
-use Rattle.stab_analysis.specs.declared.random.Random.{Random}
-use Rattle.stab_analysis.specs.FaultTables.{IsFirstRandom}
-use Rattle.stab_analysis.specs.Distances.{IsDistanceText}
+use Rattle.stab_texts.specs.declared.random.Random.{Random}
+use Rattle.stab_texts.specs.FaultTables.{IsFirstRandom}
+use Rattle.stab_texts.specs.Distances.{IsDistanceText}
 use Rattle.stab_script.specs.Replies.{ReplyBytes}
 
 -- the call gave a reply of a distance, or was refused for a bit that is not deterministic, or for lack of memory

@@ -1,5 +1,5 @@
 use Rattle.stab_analysis.proofs.Names.{drop, flat_map, wrote_part, wrote_and_failed, failed_on, number_line}
-use Rattle.stab_analysis.proofs.CheckLaws.{flat-drop}
+use Rattle.stab_texts.proofs.FaultLineLaws.{flat-drop}
 use Rattle.stab_analysis.proofs.check.write_lines.Goals as goal
 
 pub loop-name-preserved : goal.loop-name-preserved

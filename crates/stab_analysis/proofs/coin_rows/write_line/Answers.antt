@@ -1,5 +1,5 @@
 use Rattle.stab_analysis.proofs.Names.{◌++◌, codes, flat_map, failed_on, failed_within, entry, row_head}
-use Rattle.stab_analysis.proofs.WritingLaws.{failed_second, writes_third}
+use Rattle.stab_texts.proofs.WritingLaws.{failed_second, writes_third}
 use Rattle.stab_analysis.proofs.coin_rows.write_line.Goals as goal
 
 pub returns-in_err-write_head : goal.returns-in_err-write_head

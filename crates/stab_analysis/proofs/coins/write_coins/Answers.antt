@@ -1,4 +1,5 @@
-use Rattle.stab_analysis.proofs.Names.{◌≡◌, refl, subst, IsErrAnd, qubits_of, unroll, circuit_items, AreCoinRuns, coins-have-rows, check-fits, SendsUnflushed}
+use Rattle.stab_analysis.proofs.Names.{◌≡◌, refl, subst, IsErrAnd, qubits_of, unroll, circuit_items, AreCoinRuns, check-fits, SendsUnflushed}
+use Rattle.stab_analysis.proofs.RowLemmas.{coins-have-rows}
 use Rattle.stab_analysis.proofs.CoinRowLaws.{table_texts}
 use Rattle.stab_analysis.proofs.MemoryLaws.{checked_on_own_qubits, memory_alone}
 use Rattle.stab_analysis.proofs.SendingLaws.{sends_none}

@@ -8,6 +8,6 @@ returns-in-Ok-clause-found g c =
     let table = subst (λ n. IsErrorTable n items c.in_ok-errors.errors) c.qubits-n.ensures.value c.in_ok-errors.ensures.table in record {
       errors = subst (λ n. AreSearched options.graphlike n items (errors_of options.everywhere options.letters items) c.in_ok-errors.errors.errors) c.qubits-n.ensures.value c.in_ok-errors.ensures.errors;
       table = table;
-      answer = c.in-Ok.ensures.distance (qubits_of items) items table;
+      distance = c.in-Ok.ensures.distance (qubits_of items) items table;
       all_deterministic = subst (λ o. IfNone o (options.deterministic_only ≡ false → (i : ℕ) → i < bits_in items → IsDeterministic (qubits_of items) items i)) c.in-Ok-None.field-0-is c.in-Ok-None.ensures.none;
     }

@@ -1,5 +1,5 @@
 use Rattle.stab_analysis.proofs.Names.{◌≡◌, ◌<◌, All, length, sym, subst, arith, flat_map, TookAndFailed, failed_on, failed_within, qubits_of, circuit_items, IsDistance, answer_text, distance_line, numbered_line}
-use Rattle.stab_analysis.proofs.ErrorLineLaws.{rows_counted}
+use Rattle.stab_texts.proofs.ErrorLineLaws.{rows_counted}
 use Rattle.stab_analysis.proofs.distance.write_distance.Goals as goal
 
 pub returns-in_err-write_count-in-Least : goal.returns-in_err-write_count-in-Least
@@ -28,5 +28,5 @@ write_errors-requires-clause-in_range g c =
     let options = c.args.options in
     let items = circuit_items c.args.circuit.now in
     let errors = c.args.found.now.errors.errors in
-    let found = subst (λ a. IsDistance options.graphlike (qubits_of items) items errors options.most a) c.in-Least.is c.requires.found.answer in
+    let found = subst (λ a. IsDistance options.graphlike (qubits_of items) items errors options.most a) c.in-Least.is c.requires.found.distance in
     subst (λ ks. All (λ k. k < length errors) ks) (sym c.as_slice.ensures.value) found.0

@@ -1,5 +1,5 @@
 use Rattle.stab_analysis.proofs.Names.{◌∙◌, ap, sym, subst, WritesAll, none_line}
-use Rattle.stab_analysis.proofs.ErrorLineLaws.{joined-none}
+use Rattle.stab_texts.proofs.ErrorLineLaws.{joined-none}
 use Rattle.stab_analysis.proofs.distance.write_none.Goals as goal
 
 pub returns-in-Some : goal.returns-in-Some

@@ -1,5 +1,5 @@
 use Rattle.stab_analysis.proofs.Names.{qubits_of, circuit_items}
-use Rattle.stab_analysis.proofs.RandomLaws.{first_random_is, deterministic_before, all_deterministic}
+use Rattle.stab_texts.proofs.RandomLaws.{first_random_is, deterministic_before, all_deterministic}
 use Rattle.stab_analysis.proofs.faults.first_random.Goals as goal
 
 pub returns-in_ok-random-in-Some-clause-some : goal.returns-in_ok-random-in-Some-clause-some

@@ -1,6 +1,6 @@
 use Rattle.stab_analysis.proofs.Names.{◌≡◌, ◌∙◌, ap, length, suc, arith, circuit_items, steps_before_bit}
-use Rattle.stab_analysis.proofs.CheckLaws.{few_steps}
-use Rattle.stab_analysis.proofs.RandomLaws.{none_before}
+use Rattle.stab_items.proofs.SummaryLemmas.{few_steps}
+use Rattle.stab_texts.proofs.RandomLaws.{none_before}
 use Rattle.stab_analysis.proofs.faults.first_step.Goals as goal
 
 pub steps-init : goal.steps-init

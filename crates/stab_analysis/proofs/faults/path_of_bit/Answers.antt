@@ -1,5 +1,5 @@
 use Rattle.stab_analysis.proofs.Names.{◌∙◌, sym, ap, circuit_items, path_at}
-use Rattle.stab_analysis.proofs.FaultTextLaws.{path_here}
+use Rattle.stab_texts.proofs.FaultTextLaws.{path_here}
 use Rattle.stab_analysis.proofs.faults.path_of_bit.Goals as goal
 
 pub returns-clause-value : goal.returns-clause-value

@@ -1,5 +1,5 @@
 use Rattle.stab_analysis.proofs.Names.{◌∙◌, ap, qubits_of, circuit_items, bit_of}
-use Rattle.stab_analysis.proofs.RandomLaws.{random_within}
+use Rattle.stab_texts.proofs.RandomLaws.{random_within}
 use Rattle.stab_analysis.proofs.faults.random_at.Goals as goal
 
 pub path_of_bit-requires-clause-in_range : goal.path_of_bit-requires-clause-in_range

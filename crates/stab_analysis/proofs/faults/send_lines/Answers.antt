@@ -1,5 +1,5 @@
 use Rattle.stab_analysis.proofs.Names.{qubits_of, circuit_items}
-use Rattle.stab_analysis.proofs.FaultBitLaws.{table_rows}
+use Rattle.stab_texts.proofs.FaultBitLaws.{table_rows}
 use Rattle.stab_analysis.proofs.faults.send_lines.Goals as goal
 
 pub write_lines-requires-clause-rows : goal.write_lines-requires-clause-rows

@@ -1,6 +1,6 @@
 use Rattle.stab_analysis.proofs.Names.{◌≡◌, ◌∙◌, sym, ap, [], ◌∷◌, ◌++◌, append_assoc, codes, decimal, subst, TookAndFailed, WritesAll, failed_on, failed_within, path_text, bit_name, texts_joined}
-use Rattle.stab_analysis.proofs.FaultTextLaws.{joined_three}
-use Rattle.stab_analysis.proofs.WritingLaws.{writes_behind}
+use Rattle.stab_texts.proofs.FaultTextLaws.{joined_three}
+use Rattle.stab_texts.proofs.WritingLaws.{writes_behind}
 use Rattle.stab_analysis.proofs.reasons.write_bit.Goals as goal
 
 pub returns-in_err-write_texts : goal.returns-in_err-write_texts

@@ -1,5 +1,5 @@
 use Rattle.stab_analysis.proofs.Names.{◌≡◌, ◌∙◌, ◌++◌, ◌+◌, ℕ, List, sym, ap, drop, get_or, codes, decimal, flat_map, failed_on, wrote_part, wrote_and_failed, path_text, circuit_items, decider_text, coin_at}
-use Rattle.stab_analysis.proofs.CheckLaws.{flat-drop}
+use Rattle.stab_texts.proofs.FaultLineLaws.{flat-drop}
 use Rattle.stab_analysis.proofs.reasons.write_deciders.Goals as goal
 
 pub loop-place-preserved : goal.loop-place-preserved

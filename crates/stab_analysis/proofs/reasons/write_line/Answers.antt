@@ -1,6 +1,6 @@
 use Rattle.stab_analysis.proofs.Names.{◌++◌, codes, flat_map, failed_on, failed_within, circuit_items, decider_text, coin_at}
 use Rattle.stab_analysis.proofs.ReasonLaws.{line_front}
-use Rattle.stab_analysis.proofs.WritingLaws.{failed_second, writes_third}
+use Rattle.stab_texts.proofs.WritingLaws.{failed_second, writes_third}
 use Rattle.stab_analysis.proofs.reasons.write_line.Goals as goal
 
 pub returns-in_err-write_front : goal.returns-in_err-write_front

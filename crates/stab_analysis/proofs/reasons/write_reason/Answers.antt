@@ -1,9 +1,9 @@
 use Rattle.stab_analysis.proofs.Names.{◌<◌, ◌∙◌, All, ap, sym, subst, length, arith, Took, took_none, qubits_of, circuit_items, SendsUnflushed, bit_of, decides}
 use Rattle.stab_analysis.proofs.CheckLaws.{detectors_counted}
-use Rattle.stab_analysis.proofs.FaultBitLaws.{below}
+use Rattle.stab_texts.proofs.FaultBitLaws.{below}
 use Rattle.stab_analysis.proofs.ReasonLaws.{is_random, no_places, reason_found, reason_none, some_places}
 use Rattle.stab_analysis.proofs.SendingLaws.{sends_written}
-use Rattle.stab_analysis.proofs.RandomLaws.{random_within}
+use Rattle.stab_texts.proofs.RandomLaws.{random_within}
 use Rattle.stab_analysis.proofs.reasons.write_reason.Goals as goal
 
 pub returns-then-is_empty : goal.returns-then-is_empty

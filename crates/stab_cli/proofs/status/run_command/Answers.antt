@@ -1,6 +1,6 @@
 use Rattle.std.proofs.Common.{subst, sym}
-use Rattle.stab_analysis.specs.Distances.{EndsDistance}
-use Rattle.stab_analysis.specs.FaultTables.{EndsFaults, fault_of}
+use Rattle.stab_texts.specs.Distances.{EndsDistance}
+use Rattle.stab_texts.specs.FaultTables.{EndsFaults, fault_of}
 use Rattle.stab_cli.proofs.status.run_command.Goals as goal
 
 pub returns-in-Faults-clause-ends : goal.returns-in-Faults-clause-ends

@@ -1,5 +1,5 @@
 use Rattle.stab_shots.proofs.Names.{arith, ◌∙◌, ◌+◌, ◌*◌, ◌<◌, ap, subst, circuit_items, shot_coins, wide_bit, IsReference, AreRuns}
-use Rattle.stab_shots.specs.declared.wide.Wide.{Wide}
+use Rattle.stab_lanes.specs.declared.wide.Wide.{Wide}
 use Rattle.stab_shots.proofs.BatchLemmas.{lane-coins}
 use Rattle.stab_shots.proofs.RecordedLemmas.{if-copied}
 use Rattle.stab_shots.proofs.batches.run_batches.Goals as goal

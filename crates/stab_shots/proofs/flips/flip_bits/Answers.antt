@@ -1,5 +1,5 @@
 use Rattle.stab_shots.proofs.Names.{rules, arith, ◌≡◌, ◌<◌, ◌≤◌, sym, ◌∙◌, length, length-map, flipped, lane_bits}
-use Rattle.stab_shots.proofs.LaneLemmas.{flips-next, flips-all}
+use Rattle.stab_lanes.proofs.LaneLemmas.{flips-next, flips-all}
 use Rattle.stab_shots.proofs.flips.flip_bits.Goals as goal
 
 pub loop-place-preserved : goal.loop-place-preserved

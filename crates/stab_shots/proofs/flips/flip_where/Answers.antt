@@ -1,5 +1,5 @@
 use Rattle.stab_shots.proofs.Names.{◌≡◌, true, false, sym, ◌∙◌, ap, set, get_or, ◌⊕◌, lane_bits}
-use Rattle.stab_shots.proofs.LaneLemmas.{flips-at}
+use Rattle.stab_lanes.proofs.LaneLemmas.{flips-at}
 use Rattle.stab_shots.proofs.flips.flip_where.Goals as goal
 
 pub returns-then-bit-clause-value : goal.returns-then-bit-clause-value

@@ -1,5 +1,5 @@
 use Rattle.stab_shots.proofs.Names.{◌≡◌, refl, sym, ◌∙◌, ap, subst, All, [], length, take, replicate, None, All-nil, I, unroll, check_within, circuit_items, ones, StepFits, PivotsState, pivot_at, pivots_of, zero_coins, lane_pivots, no_difference, IsShot, lane_difference, Follows}
-use Rattle.stab_shots.proofs.FollowLemmas.{follows-none}
+use Rattle.stab_lanes.proofs.FollowLemmas.{follows-none}
 use Rattle.stab_shots.proofs.LaneRunLemmas.{lane-first, lane-further, as-long, lane-runs}
 use Rattle.stab_shots.proofs.run.run_by_reference.Goals as goal
 

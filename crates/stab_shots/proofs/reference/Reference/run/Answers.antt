@@ -1,5 +1,5 @@
 use Rattle.stab_shots.proofs.Names.{◌≡◌, refl, sym, ◌∙◌, ap, subst, [], append-nil, min, unroll, circuit_items, Listed, list_coin, ones, origin, outputs, IsRunWithPivots, zero_coins}
-use Rattle.stab_shots.proofs.PivotLemmas.{right-from}
+use Rattle.stab_lanes.proofs.PivotLemmas.{right-from}
 use Rattle.stab_shots.proofs.RecordingLemmas.{flags-run}
 use Rattle.stab_shots.proofs.reference.Reference.run.Goals as goal
 

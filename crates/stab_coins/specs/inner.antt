@@ -1,2 +1,0 @@
--- Definitions that only private contracts cite.
-pub mod Groups

@@ -1,0 +1,101 @@
+//! One step of a run, on the lanes that are propagated over what is recorded of it. Lanes keep flips in place of bits.
+ghost use Rattle.std.specs.Prelude.{◌≡◌, ℕ, ◌+◌, ◌<◌, ◌∷◌, [], ◌++◌, ◌&&◌, if◌then◌else◌, length, OnOk};
+ghost use Rattle.stab_pauli.specs.Paulis.{single};
+ghost use Rattle.stab_frames.specs.Frames.{times_where};
+ghost use Rattle.stab_circuit.specs.Cursors.{step_shown, IsApart};
+ghost use Rattle.stab_run.specs.Runs.{flip_of};
+ghost use Rattle.stab_run.specs.Points.{coins_of};
+ghost use Rattle.stab_run.specs.ProgramStates.{StepFits};
+ghost use Rattle.stab_lanes.specs.Lanes.{lane_letters};
+ghost use Rattle.stab_lanes.specs.RecordedPivots.{HasAll, IsCounted, lane_pivots};
+ghost use Rattle.stab_lanes.specs.Differences.{lane_difference, Follows};
+
+use crate::coins::Draw;
+use crate::frames::Frames;
+use crate::lanes::{Lanes, Sum, looked_up, parity};
+use crate::measure::{RecordedPivots, measure_letter, measure_product};
+use crate::word::Word;
+use stab_circuit::Step;
+use stab_pauli::Letter;
+use stab_run::flip;
+use std::alloc::AllocError;
+
+/// Multiplies the strings of the lanes whose bit is 1 by a letter that flips the outcome, if the measurement resets.
+fn reset_if<W: Word>(frames: &mut Frames<W>, letter: Letter, qubit: usize, resets: bool, flips: W)
+    requires in_range { qubit < length frames.old.letters.items }
+    ensures size { length frames.new.letters.items ≡ length frames.old.letters.items }
+    ensures letters { (l : ℕ) → l < W.lanes → lane_letters W.at l frames.new.letters.items ≡ times_where (resets && W.at flips l) (single (length frames.old.letters.items) qubit (flip_of letter)).letters (lane_letters W.at l frames.old.letters.items) }
+{
+    if resets {
+        frames.multiply_letter(flip(letter), qubit, flips);
+    }
+}
+
+/// Appends bits, if there are any.
+fn push_when<W: Word>(words: &mut Vec<W>, test: bool, word: W) -> Result<(), AllocError>
+    ensures value { OnOk result (words.new.items ≡ words.old.items ++ (if test then word ∷ [] else [])) }
+{
+    if test {
+        words.push(word)?;
+    }
+    Ok(())
+}
+
+/// Propagates all lanes over one step. The number is that of the next pivot.
+pub fn propagate_step<W: Word, D: Draw<W>>(
+    recorded_pivots: RecordedPivots,
+    number: &mut usize,
+    draw: &mut D,
+    lanes: &mut Lanes<W>,
+    step: Step,
+) -> Result<(), AllocError>
+    requires all { HasAll recorded_pivots }
+    requires counted { IsCounted recorded_pivots number.old (length lanes.old.free.items) }
+    requires frames { length lanes.old.frames.letters.items ≡ recorded_pivots.strings.now.qubits }
+    requires fits { StepFits recorded_pivots.strings.now.qubits (step_shown step) }
+    requires apart { IsApart (step_shown step) }
+    ensures counted { OnOk result (IsCounted recorded_pivots.entry number.new (length lanes.new.free.items)) }
+    ensures coin { OnOk result (length lanes.new.free.items ≡ length lanes.old.free.items + coins_of (step_shown step.entry)) }
+    ensures frames { length lanes.new.frames.letters.items ≡ length lanes.old.frames.letters.items }
+    ensures same_coins { D.sequences draw.new ≡ D.sequences draw.old }
+    ensures follows { OnOk result ((l : ℕ) → l < W.lanes → Follows recorded_pivots.entry.strings.now.qubits (lane_pivots recorded_pivots.entry (D.sequences draw.old l)) (step_shown step.entry ∷ []) (lane_difference W.at l lanes.old) (lane_difference W.at l lanes.new)) }
+{
+    match step {
+        Step::One(gate, qubit) => lanes.frames.apply(gate, qubit),
+        Step::Two(gate, first, second) => lanes.frames.apply_pair(gate, first, second),
+        Step::Controlled(letter, k, qubit) => {
+            let controls = looked_up(lanes.records.as_slice(), k);
+            lanes.frames.multiply_letter(letter, qubit, controls);
+        }
+        Step::Collapse {
+            letter,
+            qubit,
+            recorded,
+            inverted: _,
+            reset,
+        } => {
+            let flips = measure_letter(recorded_pivots, number, draw, lanes, letter, qubit)?;
+            reset_if(&mut lanes.frames, letter, qubit, reset, flips);
+            push_when(&mut lanes.records, recorded, flips)?;
+        }
+        Step::Product {
+            factors,
+            inverted: _,
+        } => {
+            let flips = measure_product(recorded_pivots, number, draw, lanes, factors)?;
+            lanes.records.push(flips)?;
+        }
+        Step::Detector(lookbacks) => {
+            let flips = parity(lanes.records.as_slice(), lookbacks);
+            lanes.detectors.push(flips)?;
+        }
+        Step::Observable(observable, lookbacks) => {
+            let flips = parity(lanes.records.as_slice(), lookbacks);
+            lanes.sums.push(Sum {
+                observable,
+                parity: flips,
+            })?;
+        }
+    }
+    Ok(())
+}

@@ -1,0 +1,8 @@
+mod Names
+pub mod WritingLaws
+pub mod FaultLineLaws
+pub mod FaultTextLaws
+pub mod FaultSiteLaws
+pub mod FaultBitLaws
+pub mod ErrorLineLaws
+pub mod RandomLaws

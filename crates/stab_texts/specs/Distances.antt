@@ -1,0 +1,101 @@
+-- Distances: what `distance` writes of the errors of a circuit, and how a call of it ends.
+-- Source: this project's own.
+use Rattle.std.specs.Prelude.{◌≡◌, ℕ, ◌<◌, Bool, true, false, List, [], ◌++◌, length, codes, decimal, Option, Some, None, Result}
+use Rattle.std.specs.List.{flat_map}
+use Rattle.stab_io.specs.Devices.{InputView, OutputView}
+use Rattle.stab_io.specs.declared.refusal.Refusal.TheVariants.{OutOfMemory, NotDeterministic}
+use Rattle.stab_io.specs.declared.refusal.Fault.{Fault}
+use Rattle.stab_io.specs.Refusals.{whole}
+use Rattle.stab_gates.specs.LetterTexts.{letter_text}
+use Rattle.stab_circuit.specs.Items.{Items}
+use Rattle.stab_circuit.specs.Steps.{qubits_of}
+use Rattle.stab_circuit.specs.Paths.{Path, path_text}
+use Rattle.stab_results.specs.declared.format.Kinds.{Kinds}
+use Rattle.stab_results.specs.Formats.{entry}
+use Rattle.stab_regions.specs.Faults.{FaultPlace, bits_in, IsDeterministic}
+use Rattle.stab_distance.specs.declared.answer.Answer.{Answer}
+use Rattle.stab_distance.specs.declared.answer.Answer.TheVariants.{Least, NoneWithin, NoneAtAll}
+use Rattle.stab_distance.specs.Tables.{row}
+use Rattle.stab_jobs.specs.declared.job.DistanceOptions.{DistanceOptions}
+use Rattle.stab_errors.specs.Errors.{Error, letter, letters, wrong_record, first_fault, errors_of}
+use Rattle.stab_errors.specs.Parts.{AreSearched}
+use Rattle.stab_errors.specs.ErrorTables.{ErrorTableState, IsErrorTable}
+use Rattle.stab_errors.specs.Unseen.{IsDistance, error_at}
+use Rattle.stab_texts.specs.declared.random.Random.{Random}
+use Rattle.stab_texts.specs.Deterministic.{kinds_of}
+use Rattle.stab_texts.specs.FaultTables.{IsFirstRandom, EndsOrNames}
+use Rattle.stab_texts.specs.Places.{path_at}
+
+-- a letter on a qubit, as X3
+abbrev pub letter_name : FaultPlace → List ℕ
+letter_name f = letter_text f.letter ++ decimal f.qubit
+
+-- an error: X3, or X3*Z4 for a product of two letters, or M17 for a wrong record
+abbrev pub error_name : Error → List ℕ
+error_name (letter f) = letter_name f
+error_name (letters f g) = letter_name f ++ (codes "*" ++ letter_name g)
+error_name (wrong_record number f back) = codes "M" ++ decimal number
+
+-- the number of steps in front, and the path of the item
+abbrev pub where_text : (before : ℕ) → Path → List ℕ
+where_text before path = (decimal before ++ codes " ") ++ (path_text path ++ codes " ")
+
+-- what an error is, and what it flips
+abbrev pub what_text : Kinds → Error → (flipped : List ℕ) → List ℕ
+what_text kinds e flipped = error_name e ++ (flat_map (entry kinds) flipped ++ codes "\n")
+
+-- the line of an error, as `1207 3/0/2 X17*Z4 D24 L0`
+abbrev pub error_line : Kinds → Path → Error → (flipped : List ℕ) → List ℕ
+error_line kinds path e flipped = where_text (first_fault e).before path ++ what_text kinds e flipped
+
+-- the line of the error of a number
+abbrev pub numbered_line : Items → ErrorTableState → ℕ → List ℕ
+numbered_line items t k = error_line (kinds_of items) (path_at items (first_fault (error_at t.errors k)).step) (error_at t.errors k) (row t.table.rows k)
+
+-- of which errors a distance is
+abbrev pub of_errors : (graphlike : Bool) → List ℕ
+of_errors false = codes " of all errors"
+of_errors true = codes " of graph-like errors"
+
+-- the line of this number of errors
+abbrev pub distance_line : (count : ℕ) → (graphlike : Bool) → List ℕ
+distance_line count graphlike = codes "distance " ++ (decimal count ++ (of_errors graphlike ++ codes "\n"))
+
+-- the number of errors up to which no set was found, and of which errors
+abbrev pub up_to : (most : Option ℕ) → List ℕ
+up_to None = []
+up_to (Some most) = codes " up to " ++ decimal most
+
+abbrev pub if_graphlike : (graphlike : Bool) → List ℕ
+if_graphlike false = []
+if_graphlike true = of_errors true
+
+abbrev pub none_line : (most : Option ℕ) → (graphlike : Bool) → List ℕ
+none_line most graphlike = codes "none" ++ (up_to most ++ (if_graphlike graphlike ++ codes "\n"))
+
+-- what is written of an answer: the number of errors and a line for each, or that there is no such set
+abbrev pub answer_text : DistanceOptions → Items → ErrorTableState → Answer → List ℕ
+answer_text options items t (Least numbers) = distance_line (length numbers.items) options.graphlike ++ flat_map (numbered_line items t) numbers.items
+answer_text options items t NoneWithin = none_line options.most options.graphlike
+answer_text options items t NoneAtAll = none_line None options.graphlike
+
+-- the errors of a circuit that are asked for, on its own qubits, split if graph-like ones are, with their table and an answer about them;
+-- and each bit is deterministic, unless those that are not are left out
+pub record IsDistanceOf (options : DistanceOptions) (items : Items) (t : ErrorTableState) (answer : Answer) : Type 0 where
+  pub errors : AreSearched options.graphlike (qubits_of items) items (errors_of options.everywhere options.letters items) t.errors
+  pub table : IsErrorTable (qubits_of items) items t
+  pub distance : IsDistance options.graphlike (qubits_of items) items t.errors options.most answer
+  pub all_deterministic : options.deterministic_only ≡ false → (i : ℕ) → i < bits_in items → IsDeterministic (qubits_of items) items i
+
+-- the bytes are those of an answer
+abbrev pub IsDistanceText : DistanceOptions → Items → List ℕ → Type 0
+IsDistanceText options items bytes = (t : ErrorTableState) × (answer : Answer) × IsDistanceOf options items t answer × (bytes ≡ answer_text options items t answer)
+
+-- why there is no answer: a bit that is not deterministic, or memory that was refused
+abbrev pub IsRefusedFor : (deterministic_only : Bool) → Items → Option Random → Fault → Type 0
+IsRefusedFor deterministic_only items (Some u) fault = (deterministic_only ≡ false) × IsFirstRandom items u × (fault ≡ whole NotDeterministic)
+IsRefusedFor deterministic_only items None fault = fault ≡ whole OutOfMemory
+
+-- How a call of `distance` ends, over an input and an output, with a bit that it names or none.
+abbrev pub EndsDistance : {T : Type 0} → DistanceOptions → InputView → InputView → OutputView → OutputView → Result T Fault → Option Random → Type 0
+EndsDistance options i i' o o' r random = EndsOrNames (IsDistanceText options) options.deterministic_only i i' o o' r random

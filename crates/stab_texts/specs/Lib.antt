@@ -1,0 +1,13 @@
+pub mod Coins
+pub mod Endings
+pub mod Texts
+pub mod FaultLines
+pub mod Rows
+pub mod Deterministic
+pub mod Deciders
+pub mod Places
+pub mod FaultTables
+pub mod Distances
+pub mod CoinTables
+pub mod Reasons
+pub mod inner
