@@ -12,20 +12,27 @@
 //! - `distance`: the command that finds the least number of errors that flip an observable and no detector.
 //! - `coins`: the command that writes which bits of a run each coin decides.
 //! - `reasons`: the command that names the coins which decide those that are not the same for all coins.
-//! - `laws`: lines of reduced rows tell their group, and what `check` counts is what a run gives.
+//! - `laws`: reduced rows tell their group; `check` counts what runs give; circuits have tables of coins, in which no coin
+//!   decides a bit that is the same for all random bits.
 //!
-//! Source: this project's own.
+//! What is written is defined in `specs/` of `stab_texts`, where each file is that is named here without a folder.
+//!
+//! Source: this project's own; for coins, Pauli frames that are propagated over one run (`stab_shots`).
 //!
 //! Proved: a call ends by cases. The text was refused, by its own fault or unread, and the output is
 //! untouched; or it was given whole, and the output took what is written of its circuit, and one flush;
 //! or it failed once; or memory was refused before the first byte. So `run_deterministic`, `run_faults`
 //! and `run_distance` end, over the bits that are the same for all random bits; over what each fault flips, by
-//! runs with it and without it, for all random bits (`specs/FaultTables.antt`); and over a least set of errors
+//! runs with it and without it, for all random bits (`FaultTables.antt`); and over a least set of errors
 //! that no detector sees and an observable does, by runs with them and without them
-//! (`specs/Distances.antt`). If a bit is not the same for all coins, `run_faults` and `run_distance` name the
-//! first such, and the first coin that decides it, before they write anything. `run_coins` and `run_explain` write the table of the coins that decide,
-//! by row and by column, as its lines come: memory may be refused after some first bytes
-//! (`specs/CoinTables.antt`, `specs/Reasons.antt`); and a bit is the same for all random bits if and only if no coin is
+//! (`Distances.antt`). If a bit is not the same for all coins, `run_faults` and `run_distance` name the
+//! first such, and the first coin that decides it, before they write anything.
+//!
+//! The table of a circuit has a row for each coin that decides an outcome, and its bits are those in which runs
+//! with that coin flipped differ from runs without, for all random bits; other coins change nothing, and each run is the run
+//! with all coins 0, inverted by the rows of its coins (`Coins.antt`). The lanes of `CoinRuns` give these rows. `run_coins`
+//! and `run_explain` write the table by row and by column, as its lines come: memory may be refused after some first bytes
+//! (`CoinTables.antt`, `Reasons.antt`); and a bit is the same for all random bits if and only if no coin is
 //! named for it (`laws::deterministic_has_no_decider`). `run_check` writes the numbers of the circuit, by cases of its
 //! own (`specs/Checks.antt`): if a text was refused, the fault is that of the text, and some bytes were sent, of
 //! which nothing more is claimed.
@@ -52,6 +59,3 @@ pub use faults::run_faults;
 pub use reasons::{has_bit, run_explain, write_why};
 pub use stab_errors::{Progress, Unwatched};
 pub use stab_jobs::{DistanceOptions, ErrorLetters, FaultLayout, Source};
-pub use stab_texts::{
-    Bit, Decider, FaultsRefused, Random, finish, write_fault, write_refused, write_texts,
-};

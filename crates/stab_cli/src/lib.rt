@@ -18,8 +18,8 @@ mod status;
 mod usage;
 
 pub use stab_analysis::{
-    Bit, Decider, FaultsRefused, Progress, Random, Unwatched, run_check, run_coins,
-    run_deterministic, run_distance, run_explain, run_faults, write_fault, write_refused,
+    Progress, Unwatched, run_check, run_coins, run_deterministic, run_distance, run_explain,
+    run_faults,
 };
 pub use stab_args::{CoinsFault, NO_COINS, Usage, parse_words, read_coins};
 pub use stab_commands::{
@@ -30,5 +30,6 @@ pub use stab_jobs::{
     Command, DistanceOptions, ErrorLetters, FaultLayout, Job, QubitCount, Shots, Source, Stride,
 };
 pub use stab_script::{KeepsLog, LoggedInput, LoggedRead, NoWatcher, Watcher};
+pub use stab_texts::{Bit, Decider, FaultsRefused, Random, write_fault, write_refused};
 pub use status::{run_job, run_job_watched};
 pub use usage::write_usage;

@@ -5,13 +5,14 @@ ghost use Rattle.stab_texts.specs.FaultTables.{fault_of, random_of};
 ghost use Rattle.stab_cli.specs.Jobs.{CommandInTurn, EndsCommand, EndsJob, reads_script, refusing_none};
 
 use stab_analysis::{
-    FaultsRefused, Progress, Unwatched, run_check, run_coins, run_deterministic, run_distance,
-    run_explain, run_faults, write_refused,
+    Progress, Unwatched, run_check, run_coins, run_deterministic, run_distance, run_explain,
+    run_faults,
 };
 use stab_commands::{run_detect_shots, run_edit_watched, run_sample_shots, run_stabilisers};
 use stab_io::{Fault, Input, Output};
 use stab_jobs::{Command, Job, QubitCount};
 use stab_script::{NoWatcher, Watcher};
+use stab_texts::{FaultsRefused, write_refused};
 use std::alloc::Global;
 
 /// How many qubits, if a number is asked for.

@@ -6,9 +6,9 @@ ghost use Rattle.stab_texts.specs.Endings.{FailsToSend, TookAndFlushed};
 ghost use Rattle.stab_texts.specs.FaultLines.{TellsFault};
 ghost use Rattle.stab_cli.specs.Usages.{TellsUsage};
 
-use stab_analysis::write_fault;
 use stab_args::Usage;
 use stab_io::{DeviceFault, Fault, Output, Refusal, write_all};
+use stab_texts::write_fault;
 
 /// Reports why there is no job, and answers the status of the program: help goes to `out` with 0, the
 /// text of bad arguments to `err` with 2, and refused memory is reported on `err` as its fault with 1.

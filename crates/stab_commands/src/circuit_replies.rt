@@ -12,13 +12,14 @@ ghost use Rattle.stab_script.specs.Scripts.{options_asked};
 ghost use Rattle.stab_commands.specs.inner.Distances.{ShowsDistance};
 
 use stab_analysis::{
-    Bit, FaultLayout, Unwatched, find_distance, has_bit, write_coins, write_distance, write_why,
+    FaultLayout, Unwatched, find_distance, has_bit, write_coins, write_distance, write_why,
 };
 use stab_circuit::Circuit;
 use stab_io::{Fault, Refusal};
 use stab_jobs::{DistanceOptions, ErrorLetters};
 use stab_regions::deterministic;
 use stab_script::Reply;
+use stab_texts::Bit;
 use std::alloc::Global;
 
 /// The line of a bit for each detector and then each observable, as the command `deterministic`

@@ -56,9 +56,10 @@ pub use run::{run_detect, run_detect_shots, run_sample, run_sample_shots};
 pub use session_edit::edit_circuit;
 pub use shots::send_shots;
 pub use stab_analysis::{
-    Bit, Decider, FaultsRefused, Progress, Random, Unwatched, run_check, run_coins,
-    run_deterministic, run_distance, run_explain, run_faults, write_fault, write_refused,
+    Progress, Unwatched, run_check, run_coins, run_deterministic, run_distance, run_explain,
+    run_faults,
 };
 pub use stab_jobs::{DistanceOptions, ErrorLetters, FaultLayout, Shots, Source};
 pub use stab_script::{KeepsLog, LoggedInput, LoggedRead, NoWatcher, Watcher};
+pub use stab_texts::{Bit, Decider, FaultsRefused, Random, write_fault, write_refused};
 pub use stabilisers::run_stabilisers;

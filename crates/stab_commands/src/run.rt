@@ -9,11 +9,11 @@ ghost use Rattle.stab_commands.specs.Sendings.{shots_of};
 
 use crate::bits::Shown;
 use crate::shots::send_shots;
-use stab_analysis::finish;
 use stab_circuit::{Circuit, read_circuit};
 use stab_io::{Fault, Input, Output};
 use stab_jobs::{Shots, Source};
 use stab_results::Format;
+use stab_texts::finish;
 use std::alloc::Global;
 
 /// Writes what is shown of a circuit's shots, and flushes.

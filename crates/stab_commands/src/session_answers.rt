@@ -1,7 +1,6 @@
 //! Answers from a session: edits of it, and what is shown of it.
 use crate::circuit_replies::{show_coins, show_deterministic, show_distance, show_why};
 use crate::marks::{first_mark, mark_at};
-use stab_analysis::Bit;
 use stab_circuit::{Item, Path, read_item};
 use stab_io::{Fault, Refusal};
 use stab_results::Kinds;
@@ -11,6 +10,7 @@ use stab_script::{
     memory, push_changes, read_string, show_place,
 };
 use stab_session::{Edit, Session};
+use stab_texts::Bit;
 use std::alloc::Global;
 
 /// A session that answers requests.

@@ -14,13 +14,13 @@ ghost use Rattle.stab_analysis.specs.Sources.{run_of_shot};
 ghost use Rattle.stab_commands.specs.Stabilisers.{EndsStabilisers};
 ghost use Rattle.stab_commands.specs.inner.Rows.{SendsLines};
 
-use stab_analysis::finish;
 use stab_circuit::{Circuit, read_circuit};
 use stab_io::{Fault, Input, Output, Refusal, write_all};
 use stab_jobs::Source;
 use stab_pauli::Pauli;
 use stab_run::{Coins, ListCoins, SeedCoins};
 use stab_session::Session;
+use stab_texts::finish;
 use std::alloc::Global;
 
 // The greatest stride: this session is never edited, so it needs no states on its way.
