@@ -18,19 +18,10 @@ pub(crate) const STANDARD_INPUT: &str = "/dev/stdin";
 ///
 /// It is cut at the first byte that is written to it, or at a flush, which comes after a run without a
 /// fault. What is no regular file, such as a pipe or a terminal, is never cut.
+#[derive(Drop)]
 pub(crate) struct Replaced {
     file: File,
     is_to_be_cut: bool,
-}
-
-// Written out, so that a proof sees the drop of a value as one call, and not one for each of its parts.
-impl Drop for Replaced {
-    fn drop(self) {
-        let Replaced {
-            file: _,
-            is_to_be_cut: _,
-        } = self;
-    }
 }
 
 impl Replaced {
@@ -69,23 +60,13 @@ impl Write for Replaced {
 }
 
 /// What a job reads.
+#[derive(Drop)]
 pub(crate) enum Reader {
     /// A file, and the error of its last read that failed.
     File(File, Option<io::Error>),
     Standard(Stdin),
     /// No bytes: at its end from the beginning.
     Nothing,
-}
-
-// Written out, so that a proof sees the drop of a value as one call, and not one for each of its parts.
-impl Drop for Reader {
-    fn drop(self) {
-        match self {
-            Reader::File(_file, _left) => {}
-            Reader::Standard(_input) => {}
-            Reader::Nothing => {}
-        }
-    }
 }
 
 impl Reader {
@@ -133,19 +114,10 @@ fn read_noted(file: &mut File, noted: &mut Option<io::Error>, buf: &mut [u8]) ->
 }
 
 /// Where the output of a job goes.
+#[derive(Drop)]
 pub(crate) enum Sink {
     File(Replaced),
     Standard(Stdout),
-}
-
-// Written out, so that a proof sees the drop of a value as one call, and not one for each of its parts.
-impl Drop for Sink {
-    fn drop(self) {
-        match self {
-            Sink::File(_file) => {}
-            Sink::Standard(_output) => {}
-        }
-    }
 }
 
 impl Write for Sink {
@@ -165,19 +137,10 @@ impl Write for Sink {
 }
 
 /// How the output of a job goes there: each write at once, or gathered into large ones.
+#[derive(Drop)]
 pub(crate) enum Writer {
     AtOnce(Sink),
     Gathered(BufWriter<Sink>),
-}
-
-// Written out, so that a proof sees the drop of a value as one call, and not one for each of its parts.
-impl Drop for Writer {
-    fn drop(self) {
-        match self {
-            Writer::AtOnce(_writer) => {}
-            Writer::Gathered(_writer) => {}
-        }
-    }
 }
 
 impl Write for Writer {
@@ -197,19 +160,10 @@ impl Write for Writer {
 }
 
 /// A writer that notes whether it was given a byte.
+#[derive(Drop)]
 pub(crate) struct NotedWriter<W> {
     writer: W,
     is_empty: bool,
-}
-
-// Written out, so that a proof sees the drop of a value as one call, and not one for each of its parts.
-impl<W: Drop> Drop for NotedWriter<W> {
-    fn drop(self) {
-        let NotedWriter {
-            writer: _,
-            is_empty: _,
-        } = self;
-    }
 }
 
 impl<W> NotedWriter<W> {
@@ -251,23 +205,12 @@ const PLAIN: [Refusal; 5] = [
 const MOST_KEPT: usize = 96;
 
 /// A writer that keeps the first line that is written to it.
+#[derive(Drop)]
 pub(crate) struct FirstLine<W> {
     writer: W,
     line: [u8; MOST_KEPT],
     length: usize,
     is_ended: bool,
-}
-
-// Written out, so that a proof sees the drop of a value as one call, and not one for each of its parts.
-impl<W: Drop> Drop for FirstLine<W> {
-    fn drop(self) {
-        let FirstLine {
-            writer: _,
-            line: _,
-            length: _,
-            is_ended: _,
-        } = self;
-    }
 }
 
 impl<W> FirstLine<W> {

@@ -4,21 +4,11 @@ use std::io::Write;
 
 /// Hears a search: notes whether it is over no errors, and writes each number of errors that it excludes, if
 /// that is asked for.
+#[derive(Drop)]
 pub(crate) struct SearchProgress<W> {
     writer: W,
     is_shown: bool,
     is_over_nothing: bool,
-}
-
-// Written out, so that a proof sees the drop of a value as one call, and not one for each of its parts.
-impl<W: Drop> Drop for SearchProgress<W> {
-    fn drop(self) {
-        let SearchProgress {
-            writer: _,
-            is_shown: _,
-            is_over_nothing: _,
-        } = self;
-    }
 }
 
 impl<W> SearchProgress<W> {
