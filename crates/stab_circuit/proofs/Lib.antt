@@ -1,6 +1,5 @@
 mod Names
 mod InputLemmas
-mod StepPartLemmas
 mod WalkLemmas
 mod SkipLemmas
 mod PastItemLemmas
@@ -12,7 +11,6 @@ mod OneItemLemmas
 mod TextLemmas
 mod BlankLemmas
 mod RoundLemmas
-pub mod ApartLemmas
 mod ItemTextLemmas
 mod CircuitFaultLemmas
 pub mod EditLemmas

@@ -63,7 +63,7 @@ pub use Rattle.stab_lines.specs.declared.product.Factor.{Factor}
 pub use Rattle.stab_lines.specs.declared.range.MeasureTarget.{MeasureTarget}
 pub use denote.Enum.Bare.{same_true, sameb}
 pub use Rattle.stab_circuit.specs.Cursors.{IsApart, lookbacks_of, step_shown}
-pub use Rattle.stab_circuit.specs.Detectors.{detects, lookbacks_at}
+pub use Rattle.stab_items.specs.Detectors.{detects, lookbacks_at}
 pub use Rattle.stab_circuit.specs.Edits.{with_item, rebuilt, edited_inside, changed, edited_in, edited, taken_in, taken, list_verdict, verdict, inner, edit_refusal, list_refusal, edit_path, taken_at, put_item, steps_in, steps_before, first_changed, behind_taken, behind_put, outermost, old_end, new_end, IsInsert}
 pub use Rattle.stab_circuit.specs.Inputs.{GaveTooMuch, GaveFront, ReadsText}
 pub use Rattle.stab_circuit.specs.Laws.{LeavesTheRest, StandsForOneOnly, AreLinesOf, AreOfLines, PutsLines, AreAlike}
@@ -77,7 +77,7 @@ pub use Rattle.stab_circuit.specs.StepPaths.{outside, within, path_rounds, paths
 pub use Rattle.stab_circuit.specs.Views.{circuit_items}
 pub use Rattle.stab_circuit.specs.declared.circuit.repeats.Repeat.{Repeat}
 pub use Rattle.stab_circuit.specs.declared.circuit.stretches.Stretch.{Stretch}
-pub use Rattle.stab_circuit.specs.declared.detectors.Detectors.{Detectors}
+pub use Rattle.stab_items.specs.declared.detectors.Detectors.{Detectors}
 pub use Rattle.stab_circuit.specs.declared.edit.Edit.{Edit}
 pub use Rattle.stab_circuit.specs.declared.edit.Edit.TheVariants.{Insert, Replace, Delete}
 pub use Rattle.stab_circuit.specs.declared.judge.EditResult.{EditResult}
@@ -92,3 +92,5 @@ pub use Rattle.stab_circuit.specs.inner.Repeats.{first_with_steps, finer_by, fin
 pub use Rattle.stab_circuit.specs.inner.Splices.{Splice, splice_at, splice_block, splice_of, spliced, IsWithin}
 pub use Rattle.stab_circuit.specs.inner.Stretches.{AreStretches, WereStretches, items_in}
 pub use Rattle.stab_circuit.specs.inner.Walks.{kind_steps, walk_left, levels_left, ahead, weight, weight_at, walk_weight, SameKind, Takes, level_left, IsNested, level_weight, levels_weight, IsWalk}
+pub use Rattle.stab_items.proofs.StepPartLemmas.{none_given, some_given}
+pub use Rattle.stab_items.proofs.LineApartLemmas.{each_left, each_right, joined_apart}

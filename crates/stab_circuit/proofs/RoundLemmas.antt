@@ -1,16 +1,8 @@
 -- A printed text stands for its items, and for no others.
-use Rattle.stab_circuit.proofs.Names.{◌≡◌, ◌≤◌, refl, ap, sym, ◌∙◌, subst, ℕ, ◌*◌, suc, List, [], ◌∷◌, ◌++◌, Bool, true, false, nat_lt, length, map, replicate, All, Option, None, Some, Ok, append_assoc, arith, codes, if◌then◌else◌, slice_split, onto_first, map-append, All-nil, All-cons, All-head, All-tail, slice_split-cons_yes, slice_split-cons_no, nat_tests, TooLong, Fault, whole, Line, Blank, Close, Open, is_byte, content_of, meaning_of, IsLine, line_printed, Says, Items, done, next, block, Meaning, Joins, line_meanings, meanings, fault_from, text_fault, most_bytes, StandsFor, PrintedLine, printed_lines, text_of, printed, AreLinesOf, passed, Each, Free, each-append, free-append, free_spaces, free_any, any_free, split_free, printed_again, blank_is_empty}
+use Rattle.stab_circuit.proofs.Names.{◌≡◌, ◌≤◌, refl, ap, sym, ◌∙◌, subst, ℕ, ◌*◌, suc, List, [], ◌∷◌, ◌++◌, Bool, true, false, nat_lt, length, map, replicate, All, Option, None, Some, Ok, append_assoc, arith, codes, if◌then◌else◌, slice_split, onto_first, map-append, All-nil, All-cons, All-head, All-tail, slice_split-cons_yes, slice_split-cons_no, nat_tests, TooLong, Fault, whole, Line, Blank, Close, Open, is_byte, content_of, meaning_of, IsLine, line_printed, Says, Items, done, next, block, Meaning, Joins, line_meanings, meanings, fault_from, text_fault, most_bytes, StandsFor, PrintedLine, printed_lines, text_of, printed, AreLinesOf, passed, Each, Free, each-append, free-append, free_spaces, free_any, any_free, split_free, printed_again, blank_is_empty, each_left, each_right}
 use Rattle.stab_lines.specs.declared.meanings.Line.TheVariants as line
 use Rattle.stab_circuit.proofs.BlankLemmas.{lines_of, lines_join, joins_end, unblank_joined, unblank_each, same_faultless}
 use Rattle.stab_circuit.proofs.ReadingLemmas.{one_list, some_list}
-
-pub each_left : {A : Type 0} (P : A → Type 0) (xs ys : List A) → Each P (xs ++ ys) → Each P xs
-each_left P [] ys e = tt
-each_left P (x ∷ xs) ys e = (e.0, each_left P xs ys e.1)
-
-pub each_right : {A : Type 0} (P : A → Type 0) (xs ys : List A) → Each P (xs ++ ys) → Each P ys
-each_right P [] ys e = e
-each_right P (x ∷ xs) ys e = each_right P xs ys e.1
 
 -- the lines of a text hold no line feed
 onto_free : (p : ℕ → Bool) (x : ℕ) (parts : List (List ℕ)) → p x ≡ false → Each (Free p) parts → Each (Free p) (onto_first x parts)

@@ -1,5 +1,5 @@
 -- One step of a walk over nested blocks.
-use Rattle.stab_circuit.proofs.Names.{◌≡◌, ◌≤◌, ◌<◌, refl, ap, sym, ◌∙◌, ℕ, ◌+◌, ◌*◌, ◌-◌, zero, suc, min, List, [], ◌∷◌, ◌++◌, length, drop, get_or, arith, drop-cons, append-nil, append_assoc, Bor, subst, Some, None, vec_capacity, length-append, drop_all, Level, Walk, Items, OneItem, operation, repeat, done, before, listed, depth, Step, rounds, unroll, kind_steps, level_left, levels_left, IsNested, weight, weight_at, level_weight, levels_weight, ahead, walk_left, walk_weight, IsWalk, SameKind, Takes, before-join, depth_at, unroll-join}
+use Rattle.stab_circuit.proofs.Names.{◌≡◌, ◌≤◌, ◌<◌, refl, ap, sym, ◌∙◌, ℕ, ◌+◌, ◌*◌, ◌-◌, zero, suc, min, List, [], ◌∷◌, ◌++◌, length, drop, get_or, arith, drop-cons, append-nil, append_assoc, Bor, subst, Some, None, vec_capacity, length-append, drop_all, Level, Walk, Items, OneItem, operation, repeat, done, before, listed, depth, Step, rounds, unroll, kind_steps, level_left, levels_left, IsNested, weight, weight_at, level_weight, levels_weight, ahead, walk_left, walk_weight, IsWalk, SameKind, Takes, before-join, depth_at, unroll-join, some_given}
 use Rattle.std.specs.List.{slice_get}
 
 -- an item before others
@@ -209,19 +209,7 @@ goes_in a b c x count tag body e s t is some u left heavy = (
   omega (arith, t.1, heavy, ap (λ y. weight (before y done)) is, more_times count (1 + weight (listed body.now)) some),
 )
 
--- the steps of an instruction from a place on
-
-pub none_given : (l : List Step) (n : ℕ) → None ≡ slice_get l n → drop n l ≡ []
-none_given [] zero e = refl
-none_given [] (suc n) e = refl
-none_given (s ∷ l) zero e = absurd (cc)
-none_given (s ∷ l) (suc n) e = none_given l n e
-
-pub some_given : (l : List Step) (n : ℕ) (s : Step) → Some s ≡ slice_get l n → drop n l ≡ s ∷ drop (n + 1) l
-some_given [] n s e = absurd (cc)
-some_given (r ∷ l) zero s e = let same : r ≡ s = cc in ap (λ x. x ∷ l) same
-some_given (r ∷ l) (suc n) s e = let next' : suc n + 1 ≡ suc (n + 1) = omega arith in some_given l n s e ∙ ap (λ k. s ∷ drop k (r ∷ l)) (sym next')
-
+-- the step of an instruction under way
 pub gives : (w : Walk) (s : Step) → Some s ≡ slice_get (kind_steps w.kind) w.within
     → walk_left w ≡ s ∷ walk_left (record { kind = w.kind; within = w.within + 1; top = w.top; around = w.around })
 gives w s e = ap (λ l. l ++ ahead w) (some_given (kind_steps w.kind) w.within s e)

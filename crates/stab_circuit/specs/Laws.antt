@@ -4,11 +4,11 @@ use Rattle.std.specs.Prelude.{◌≡◌, ◌≤◌, ◌⊎◌, ℕ, List, [], Al
 use Rattle.std.specs.List.{slice_split}
 use Rattle.stab_io.specs.declared.refusal.Fault.{Fault}
 use Rattle.stab_lines.specs.Lines.{is_byte}
-use Rattle.stab_lines.specs.Laws.{IsLine}
 use Rattle.stab_lines.specs.declared.operation.Kind.{Kind}
 use Rattle.stab_circuit.specs.declared.edit.Edit.{Edit}
 use Rattle.stab_items.specs.Items.{Items, OneItem, done, before, listed, depth}
-use Rattle.stab_items.specs.Circuits.{most_bytes, line_meanings, fault_from, Joins, text_fault, item_fault, StandsFor, StandsForOne}
+use Rattle.stab_items.specs.Circuits.{most_bytes, text_fault, item_fault, StandsFor, StandsForOne}
+pub use Rattle.stab_items.specs.Circuits.{AreLinesOf}
 use Rattle.stab_items.specs.Prints.{printed}
 use Rattle.stab_items.specs.Steps.{unroll, past_named}
 use Rattle.stab_circuit.specs.Cursors.{IsApart}
@@ -26,12 +26,6 @@ StandsForOnly text items = StandsFor text items × ((other : Items) → StandsFo
 -- a text without a faulty line stands for one list of items
 abbrev pub TextsHaveOneMeaning : Type 0
 TextsHaveOneMeaning = (text : List ℕ) → text_fault text ≡ None → (items : Items) × StandsForOnly text items
-
--- lines, however many, of which none is faulty and which stand for the items
-pub record AreLinesOf (lines : List (List ℕ)) (items : Items) : Type 0 where
-  pub each : All IsLine lines
-  pub faultless : fault_from 1 [] (line_meanings lines) ≡ None
-  pub joined : Joins (line_meanings lines) items
 
 -- the lines of a text that stands for items are such lines
 abbrev pub TextsAreLines : Type 0

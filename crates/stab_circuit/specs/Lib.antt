@@ -7,7 +7,6 @@ pub mod Limits
 pub mod Views
 pub mod Inputs
 pub mod Readings
-pub mod Detectors
 pub mod Cursors
 pub mod Paths
 pub mod Places

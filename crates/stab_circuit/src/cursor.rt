@@ -1,9 +1,7 @@
 use crate::circuit::Circuit;
-use crate::step::Step;
-use crate::steps::Steps;
 use crate::walk::Walk;
 use stab_io::Refusal;
-use stab_items::Item;
+use stab_items::{Item, Step, Steps};
 use std::alloc::Global;
 use std::marker::Model;
 

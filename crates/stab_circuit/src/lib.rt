@@ -10,8 +10,6 @@
 //! - `circuit`: circuits, reading one, printing one, editing one, splitting a round off a block, the item at
 //!   a path, the item that a step belongs to, the steps after each occurrence of an item in blocks, and the
 //!   blocks of which the steps come again.
-//! - `step`, `instruction`, `steps`: the steps of an instruction, one at a time and together.
-//! - `detectors`: detectors one after the other.
 //! - `same`: instructions and items that stand for the same steps.
 //! - `walk`, `cursor`: the unrolled steps of a circuit, from any place on.
 //! - `laws`: what holds between all texts and all items.
@@ -43,28 +41,23 @@
 mod circuit;
 mod commit;
 mod cursor;
-mod detectors;
 mod edit;
 mod input;
-mod instruction;
 mod judge;
 pub mod laws;
 mod path;
 mod same;
-mod step;
-mod steps;
 mod walk;
 
 pub use circuit::{
     Circuit, Repeat, StepItem, circuit_of_text, read_circuit, read_item, write_circuit,
 };
 pub use cursor::Cursor;
-pub use detectors::Detectors;
 pub use edit::{Edit, Refused, Span};
 pub use input::read_text;
-pub use instruction::{controlled_gate, measured_step};
 pub use path::{Path, write_path};
-pub use stab_items::{Item, write_item_coordinates, write_one_item};
+pub use stab_items::{
+    Detectors, Item, Step, Steps, controlled_gate, measured_step, write_item_coordinates,
+    write_one_item,
+};
 pub use stab_lines::{Axis, ControlledPair, Factor, MeasureTarget, Measurement, Qubit};
-pub use step::Step;
-pub use steps::Steps;

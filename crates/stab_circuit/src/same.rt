@@ -6,9 +6,8 @@ ghost use Rattle.stab_lines.specs.Axes.{letter_of};
 ghost use Rattle.stab_items.specs.Items.{listed, before, done};
 ghost use Rattle.stab_items.specs.Steps.{one, two, collapse, observable, detector, measured as measured_of, measured_product, controlled_step, steps_of, unroll};
 
-use crate::instruction::step_count;
 use stab_gates::Gate;
-use stab_items::{Item, Part};
+use stab_items::{Item, Part, step_count};
 use stab_lines::{Axis, ControlledPair, Kind, MeasureTarget, Measurement, Pair, Product, Qubit};
 
 /// Whether an instruction is this gate on these qubits.

@@ -1,15 +1,11 @@
 ghost use Rattle.std.specs.Prelude.{◌≡◌, ◌<◌, ◌+◌, ◌^◌, slice_get, IfSome};
-ghost use Rattle.stab_circuit.specs.Cursors.{step_shown, IsApart};
-ghost use Rattle.stab_circuit.specs.inner.Walks.{shown_step, kind_steps};
+ghost use Rattle.stab_circuit.specs.Cursors.{step_shown, shown_step, IsApart};
+ghost use Rattle.stab_circuit.specs.inner.Walks.{kind_steps};
 
 mod same;
 mod skip;
 
-use crate::detectors::Detectors;
-use crate::instruction::step_at;
-use crate::step::Step;
-use crate::steps::{Steps, part, steps_from};
-use stab_items::{Item, Part};
+use stab_items::{Detectors, Item, Part, Step, Steps, part, step_at, steps_from};
 use stab_lines::Kind;
 use std::alloc::{AllocError, Global};
 

@@ -34,7 +34,7 @@ pub use Rattle.stab_pauli.proofs.SignedLemmas.{signed_path, product-comm, produc
 pub use Rattle.stab_pauli.proofs.StringLemmas.{strings_anticommute-comm, strings_anticommute-blank_right, string_product-blank_right, string_product-comm, length-string_product, strings_anticommute-blank, strings_anticommute-product, strings_anticommute-product_right, get_or-string_product, string_product-assoc, string_product-self}
 pub use Rattle.stab_pauli.specs.Masks.{chooses}
 pub use Rattle.stab_pauli.specs.Paulis.{Signed, with_sign, strings_anticommute, single, string_product, minus, anticommute}
-pub use Rattle.stab_rounds.proofs.LookLemmas.{within-more, one-more, near-gates, near-targets}
+pub use Rattle.stab_items.proofs.LookLemmas.{within-more, one-more, near-gates, near-targets}
 pub use Rattle.stab_run.proofs.CoinLemmas.{coins-append, coins-one, coins-are, coins-few}
 pub use Rattle.stab_run.proofs.FutureBackLemmas.{same-future-back}
 pub use Rattle.stab_run.proofs.LookbackLemmas.{or-left, or-right, looked_up-near, looked_up-zeros, looked_up-far, looked_up-more}
@@ -82,7 +82,7 @@ pub use Rattle.stab_frames.specs.Frames.{Frame, PointsDifferBy, identity_frame, 
 pub use Rattle.stab_frames.specs.Images.{has_both, exchanges, letter_where, controlled_letter}
 pub use Rattle.stab_frames.specs.Fronts.{edit_frame, IsFlippedRun, AreFronts}
 pub use Rattle.stab_frames.specs.Limits.{bytes_of, most_strings}
-pub use Rattle.stab_frames.specs.Lookbacks.{LooksWithin}
+pub use Rattle.stab_items.specs.Steps.{LooksWithin}
 pub use Rattle.stab_frames.specs.OtherCoins.{coins_from, pivots_between, HasGoneOver, PropagatesToOthers}
 pub use Rattle.stab_frames.specs.PivotLaws.{FramesHaveCoins, RightPivotsAreEnough, FlippedCoinsNeedNoPivots, PivotsAreEnoughBefore, MeasurementsHavePivots, FlagsTellPivots, RunsHavePivots}
 pub use Rattle.stab_frames.specs.Pivots.{IsTrueAt, AreTrue, pivot_at, PivotsState, IsNumbered, kept_with, front_kept, KeepsTrue, cut_to}

@@ -6,7 +6,6 @@ pub mod FrameSteps
 pub mod PivotsOfSteps
 pub mod Limits
 pub mod Pivots
-pub mod Lookbacks
 pub mod Propagations
 pub mod Stops
 pub mod OtherCoins

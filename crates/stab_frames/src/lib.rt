@@ -27,7 +27,7 @@
 //! - `other_coins`: steps, from a run to one that has other coins there.
 //!
 //! In `specs/`, `Frames`, `RunPivots` and `FrameSteps` say what a frame is and what a step makes of it, `Images` what a gate does to letters, `Flips`
-//! and `PivotsOfSteps` what it flips and which pivots it needs; `Pivots`, `Lookbacks`, `Propagations`, `OtherCoins` and
+//! and `PivotsOfSteps` what it flips and which pivots it needs; `Pivots`, `Propagations`, `OtherCoins` and
 //! `Stops` say what the calls keep and where they end; the laws are in files named after these modules.
 //!
 //! Sources: C. Gidney, Stim: a fast stabilizer circuit simulator (2021), for Pauli frames; S. Aaronson and

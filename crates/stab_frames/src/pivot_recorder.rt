@@ -4,13 +4,13 @@ ghost use Rattle.stab_run.specs.Records.{ones};
 ghost use Rattle.stab_run.specs.Points.{all_coins_of};
 ghost use Rattle.stab_run.specs.ProgramStates.{StepFits, IsRun, program_state, output_of};
 ghost use Rattle.stab_frames.specs.Pivots.{KeepsTrue};
-ghost use Rattle.stab_frames.specs.Lookbacks.{LooksWithin};
+ghost use Rattle.stab_items.specs.Steps.{LooksWithin};
 
 use crate::pivots::Pivots;
 use stab_circuit::{Cursor, MeasureTarget, Measurement, Step, Steps, measured_step};
 use stab_io::Refusal;
+use stab_items::{furthest, furthest_detector, furthest_of};
 use stab_pauli::Pauli;
-use stab_rounds::{furthest, furthest_detector, furthest_of};
 use stab_run::{Coins, Outputs, apply_step, apply_step_with_pivot, apply_steps};
 use stab_tableau::Tableau;
 use std::alloc::Global;

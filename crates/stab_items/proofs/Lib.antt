@@ -11,4 +11,7 @@ mod PrintLemmas
 pub mod StepLemmas
 pub mod StepApartLemmas
 pub mod SummaryLemmas
+pub mod StepPartLemmas
+pub mod LookLemmas
+pub mod LineApartLemmas
 mod NothingLemmas

@@ -1,7 +1,7 @@
 -- Circuits: which items the lines of a text stand for, and its one fault if there are none.
 -- Source: Stim's circuit file format, its lines and blocks. The limits, the numbers of refusals and the text of one item are this
 -- project's own.
-use Rattle.std.specs.Prelude.{◌≡◌, ℕ, ◌+◌, ◌-◌, Bool, false, nat_lt, ◌==◌, List, [], ◌∷◌, ◌++◌, length, map, if◌then◌else◌, Option, Some, None, Result, Ok, Err}
+use Rattle.std.specs.Prelude.{◌≡◌, ℕ, ◌+◌, ◌-◌, Bool, false, nat_lt, ◌==◌, List, [], ◌∷◌, ◌++◌, All, length, map, if◌then◌else◌, Option, Some, None, Result, Ok, Err}
 use Rattle.std.specs.List.{slice_split, list_all}
 use Rattle.stab_io.specs.declared.refusal.Refusal.{Refusal}
 use Rattle.stab_io.specs.declared.refusal.Refusal.TheVariants.{BadBlock, TooDeep, BadLine, TooLong}
@@ -12,6 +12,7 @@ use Rattle.stab_lines.specs.declared.meanings.Line.{Line}
 use Rattle.stab_lines.specs.declared.meanings.Line.TheVariants.{Blank, Close, Open}
 use Rattle.stab_lines.specs.declared.meanings.Line.TheVariants as line
 use Rattle.stab_lines.specs.Lines.{is_byte, content_of}
+use Rattle.stab_lines.specs.Laws.{IsLine}
 use Rattle.stab_items.specs.Items.{Items, OneItem, done, next, block, before}
 use Rattle.stab_lines.specs.Meanings.{is_close, meaning_of}
 
@@ -69,6 +70,12 @@ text_fault text = limited text (fault_from 1 [] (meanings text))
 -- the text has no faulty line, and stands for the items
 abbrev pub StandsFor : List ℕ → Items → Type 0
 StandsFor text items = (text_fault text ≡ None) × Joins (meanings text) items
+
+-- lines, however many, of which none is faulty and which stand for the items
+pub record AreLinesOf (lines : List (List ℕ)) (items : Items) : Type 0 where
+  pub each : All IsLine lines
+  pub faultless : fault_from 1 [] (line_meanings lines) ≡ None
+  pub joined : Joins (line_meanings lines) items
 
 -- what a content means after a whole item: only blanks and stray closes are distinguished
 abbrev pub meaning_after : List ℕ → Meaning

@@ -159,6 +159,10 @@ lookbacks (controlled l k q) = k ∷ []
 lookbacks (product factors inverted) = []
 lookbacks (collapse l q recorded inverted resets) = []
 
+-- a step looks no further back than the newest m records
+abbrev pub LooksWithin : ℕ → Step → Type 0
+LooksWithin m x = list_any (nat_lt m) (lookbacks x) ≡ false
+
 -- whether some step looks further back than there are records, of which m are there before
 abbrev pub looks_too_far : ℕ → List Step → Bool
 looks_too_far m [] = false

@@ -2,7 +2,7 @@
 //! printed.
 //!
 //! `stab_lines` says what one line means; here lines are put together into items. Circuits of
-//! them, with edits and unrolled steps, are `stab_circuit`'s.
+//! them, with edits and cursors over their steps, are `stab_circuit`'s.
 //!
 //! - `instruction`: instructions, which keep their numbers.
 //! - `item`: instructions and blocks, which keep the numbers of one round.
@@ -15,6 +15,9 @@
 //! - `summary`: the numbers that are kept.
 //! - `copy`: copies of items.
 //! - `print`: the one text of items.
+//! - `step`, `instruction_steps`, `steps`: the steps of an instruction, one at a time and together.
+//! - `detectors`: detectors one after the other.
+//! - `window`: how far back steps look.
 //!
 //! `specs/` says which items a text stands for, what its fault is, what the unrolled steps of items
 //! are, and what is printed of them; `specs/inner` has what only private contracts use, and
@@ -31,19 +34,29 @@
 #![tactic(auto)]
 
 mod copy;
+mod detectors;
 mod front;
 mod hashes;
 mod instruction;
+mod instruction_steps;
 mod item;
 mod known_lines;
 mod print;
 mod reader;
+mod step;
+mod steps;
 mod stretches;
 mod summary;
 mod whole_text;
+mod window;
 
 pub use copy::copied_item;
+pub use detectors::Detectors;
+pub use instruction_steps::{controlled_gate, measured_step, step_at, step_count};
 pub use item::{Item, Part, items_summary};
 pub use print::{write_all_items, write_item_coordinates, write_one_item};
+pub use step::Step;
+pub use steps::{Steps, part, steps_from};
 pub use summary::{STEPS_CAP, Summary};
 pub use whole_text::read_lines;
+pub use window::{furthest, furthest_detector, furthest_of, furthest_of_steps};

@@ -40,7 +40,7 @@ pub use Rattle.stab_frames.specs.Flips.{flipped_output, flipped, flipped_additio
 pub use Rattle.stab_frames.specs.FrameSteps.{frame_over, flips_over, frame_after, flipped_by, letters_by, letters_after, flips_given}
 pub use Rattle.stab_frames.specs.Frames.{Frame, PointsDifferBy, times_where}
 pub use Rattle.stab_frames.specs.Limits.{most_strings}
-pub use Rattle.stab_frames.specs.Lookbacks.{LooksWithin}
+pub use Rattle.stab_items.specs.Steps.{LooksWithin}
 pub use Rattle.stab_frames.specs.OtherCoins.{coins_from, pivots_between, PropagatesToOthers}
 pub use Rattle.stab_frames.specs.Pivots.{AreTrue, PivotsState, pivot_at, kept_with, IsNumbered, IsTrueAt, KeepsTrue, front_kept, cut_to}
 pub use Rattle.stab_frames.specs.PivotsOfSteps.{AreEnough, IsEnoughAt}

@@ -4,7 +4,7 @@ use Rattle.std.specs.Prelude.{◌≡◌, ℕ, ◌≤◌, min, Bool, List, All, l
 use Rattle.stab_circuit.specs.Steps.{Step}
 use Rattle.stab_run.specs.Points.{origin}
 use Rattle.stab_frames.specs.Pivots.{PivotsState, IsNumbered, AreTrue, pivot_at, kept_with}
-use Rattle.stab_frames.specs.Lookbacks.{LooksWithin}
+use Rattle.stab_items.specs.Steps.{LooksWithin}
 
 -- strings that were kept of the run of these steps, which has these flags, exchange its free outcomes; and the steps look back to
 -- no more records than the lookback window

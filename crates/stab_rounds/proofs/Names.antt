@@ -13,7 +13,7 @@ pub use Rattle.stab_circuit.specs.Repeats.{IsRepeat, AreRepeats}
 pub use Rattle.stab_circuit.specs.Steps.{Step, rounds, one, measured, makes, lookbacks, looks_too_far, unroll, controlled_step, detector, product}
 pub use Rattle.stab_circuit.specs.Views.{circuit_items}
 pub use Rattle.stab_circuit.specs.declared.circuit.repeats.Repeat.{Repeat}
-pub use Rattle.stab_circuit.specs.declared.steps.Steps.{Steps}
+pub use Rattle.stab_items.specs.declared.steps.Steps.{Steps}
 pub use Rattle.stab_gates.specs.declared.gate.Gate.{Gate}
 pub use Rattle.stab_items.proofs.SummaryLemmas.{few_steps}
 pub use Rattle.stab_lines.specs.contracts.axis.Axis.{the_type}
@@ -21,4 +21,5 @@ pub use Rattle.stab_lines.specs.declared.axis.Axis.{Axis}
 pub use Rattle.stab_lines.specs.declared.operation.Measurement.{Measurement}
 pub use Rattle.stab_lines.specs.declared.range.MeasureTarget.{MeasureTarget}
 pub use denote.Enum.Bare.{same_true}
-pub use Rattle.stab_rounds.specs.Lookbacks.{LooksWithin}
+pub use Rattle.stab_items.specs.Steps.{LooksWithin}
+pub use Rattle.stab_items.proofs.LookLemmas.{within-more, looks-within}

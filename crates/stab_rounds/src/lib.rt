@@ -2,7 +2,7 @@
 //!
 //! - `same`: whether steps that are given together are the same as others.
 //! - `alike`: how many steps after two places are the same.
-//! - `window`: how far back steps look.
+//! - `window`: how far back the steps after a place look.
 //! - `search`: where rounds that are written out are.
 //!
 //! `stab_circuit` lists the blocks. Rounds that are written out are looked for only in circuits without
@@ -12,7 +12,7 @@
 //! Source: this project's own.
 //!
 //! Proved: what is found are rounds of the same steps, one after the other (`specs/Repeats.antt` of
-//! `stab_circuit`); no step looks further back than is reported (`specs/Lookbacks.antt`).
+//! `stab_circuit`); no step looks further back than is reported.
 #![tactic(auto)]
 
 mod alike;
@@ -21,4 +21,3 @@ mod search;
 mod window;
 
 pub use search::find_rounds;
-pub use window::{furthest, furthest_detector, furthest_of};

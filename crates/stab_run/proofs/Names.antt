@@ -7,11 +7,12 @@ pub use Rattle.std.proofs.lemmas.List.Elements.{All-nil, All-cons, All-append, A
 pub use Rattle.std.specs.List.{list_any}
 pub use Rattle.std.specs.Prelude.{Option, Some, None, if◌then◌else◌, slice_index_or}
 pub use Rattle.rand_chacha.specs.ChaCha.{key_of}
-pub use Rattle.stab_circuit.proofs.ApartLemmas.{joined_apart}
-pub use Rattle.stab_circuit.specs.Cursors.{IsApart, step_shown, steps_shown, lookbacks_of}
-pub use Rattle.stab_circuit.specs.Items.{Items, done, next, block}
-pub use Rattle.stab_circuit.specs.Steps.{Step, one, two, controlled, collapse, product, detector, observable, measured, measured_product, controlled_gate, controlled_step, steps_of, rounds, unroll, past, target_qubits, controlled_qubits, factor_qubits, product_qubits, named_qubits, qubits_of, most_steps, steps_cap, check_within, makes, records_of, lookbacks, looks_too_far, observables_of}
-unfoldable pub use Rattle.stab_circuit.specs.Steps.{check_of}
+pub use Rattle.stab_items.proofs.LineApartLemmas.{joined_apart}
+pub use Rattle.stab_items.specs.Steps.{IsApart}
+pub use Rattle.stab_items.specs.StepValues.{step_shown, steps_shown, lookbacks_of}
+pub use Rattle.stab_items.specs.Items.{Items, done, next, block}
+pub use Rattle.stab_items.specs.Steps.{Step, one, two, controlled, collapse, product, detector, observable, measured, measured_product, controlled_gate, controlled_step, steps_of, rounds, unroll, past, target_qubits, controlled_qubits, factor_qubits, product_qubits, named_qubits, qubits_of, most_steps, steps_cap, check_within, makes, records_of, lookbacks, looks_too_far, observables_of}
+unfoldable pub use Rattle.stab_items.specs.Steps.{check_of}
 pub use Rattle.stab_gates.proofs.ParityLemmas.{parity-false}
 pub use Rattle.stab_gates.specs.Letters.{◌⊕◌}
 pub use Rattle.stab_gates.specs.declared.gate.Gate.{Gate}

@@ -7,10 +7,10 @@ use Rattle.std.specs.Prelude.{◌≡◌, ℕ, ◌+◌, Bool, true, false, List, 
 use Rattle.stab_pauli.specs.Paulis.{Signed}
 use Rattle.stab_tableau.specs.Traces.{Event, member, outcome, is_free, Fits, IsSound}
 use Rattle.stab_tableau.specs.Groups.{SameGroup}
-use Rattle.stab_circuit.specs.Items.{Items}
-use Rattle.stab_circuit.specs.Steps.{Step, unroll, records_of, looks_too_far, check_within}
-use Rattle.stab_circuit.specs.Cursors.{IsApart}
-use Rattle.stab_circuit.specs.Laws.{AreLinesOf}
+use Rattle.stab_items.specs.Items.{Items}
+use Rattle.stab_items.specs.Steps.{Step, unroll, records_of, looks_too_far, check_within}
+use Rattle.stab_items.specs.Steps.{IsApart}
+use Rattle.stab_items.specs.Circuits.{AreLinesOf}
 use Rattle.stab_run.specs.Records.{ones}
 use Rattle.stab_run.specs.Runs.{State, run, run_of}
 use Rattle.stab_run.specs.Points.{Point, all_coins_of, point_after, outputs, point_of, state_at}

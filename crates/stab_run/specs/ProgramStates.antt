@@ -7,7 +7,7 @@ use Rattle.stab_tableau.specs.Gates.{back}
 use Rattle.stab_tableau.specs.Traces.{member}
 use Rattle.stab_tableau.specs.Groups.{SameGroup}
 use Rattle.stab_tableau.specs.Tableaus.{TableauState, stabilises}
-use Rattle.stab_circuit.specs.Steps.{Step, one, two, controlled, collapse, product, detector, observable}
+use Rattle.stab_items.specs.Steps.{Step, one, two, controlled, collapse, product, detector, observable}
 use Rattle.stab_run.specs.declared.records.Outputs.{Outputs}
 use Rattle.stab_run.specs.Runs.{gate_of}
 use Rattle.stab_run.specs.Points.{Point, RunOutput, joined, point_after, outputs}

@@ -3,7 +3,7 @@
 use Rattle.std.specs.Prelude.{◌≡◌, ℕ, zero, suc, Bool, false, List}
 use Rattle.stab_tableau.specs.Traces.{member}
 use Rattle.stab_tableau.specs.Groups.{SameGroup}
-use Rattle.stab_circuit.specs.Steps.{Step, rounds, looks_too_far}
+use Rattle.stab_items.specs.Steps.{Step, rounds, looks_too_far}
 use Rattle.stab_run.specs.Records.{ones}
 use Rattle.stab_run.specs.Points.{Point, RunOutput, nothing, joined, point_after, outputs}
 use Rattle.stab_run.specs.Ends.{AgreeBack, with_coin}

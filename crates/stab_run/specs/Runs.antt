@@ -12,8 +12,8 @@ use Rattle.stab_gates.specs.declared.gate.Gate.TheVariants as on
 use Rattle.stab_tableau.specs.Traces.{Event, applied, applied_pair, projected, outcome, is_free}
 use Rattle.stab_lines.specs.declared.product.Factor.{Factor}
 use Rattle.stab_lines.specs.Axes.{letter_of}
-use Rattle.stab_circuit.specs.Items.{Items}
-use Rattle.stab_circuit.specs.Steps.{Step, one, two, controlled, collapse, product, detector, observable, unroll, observables_of}
+use Rattle.stab_items.specs.Items.{Items}
+use Rattle.stab_items.specs.Steps.{Step, one, two, controlled, collapse, product, detector, observable, unroll, observables_of}
 use Rattle.stab_run.specs.Records.{looked_up, parity}
 
 -- a run so far: what happened to the qubits, newest first; the number of the next coin; the records; for each coin number

@@ -11,7 +11,7 @@
 //!
 //! `specs/` says which bit each coin is, what the steps of a circuit make of its qubits and records, and
 //! how a program that carries them out follows them; `Laws` and `RoundLaws` state what a run depends on and when rounds
-//! come again, and `Ends` when no step distinguishes two points of runs. `stab_circuit` says which steps a circuit
+//! come again, and `Ends` when no step distinguishes two points of runs. `stab_items` says which steps a circuit
 //! has; runs of some or all of them are `stab_recording`'s.
 //!
 //! Sources: Stim's circuit file format, for what the steps of a circuit do to records, detectors and observables;

@@ -4,7 +4,7 @@ ghost use Rattle.std.specs.Prelude.{◌≡◌, ◌+◌, ◌<◌, ◌≤◌, ◌^
 ghost use Rattle.stab_gates.specs.Letters.{◌⊕◌};
 ghost use Rattle.stab_pauli.specs.Paulis.{Signed};
 ghost use Rattle.stab_tableau.specs.Tableaus.{stabilises};
-ghost use Rattle.stab_circuit.specs.Cursors.{step_shown};
+ghost use Rattle.stab_items.specs.StepValues.{step_shown};
 ghost use Rattle.stab_run.specs.Records.{ones};
 ghost use Rattle.stab_run.specs.Runs.{when, gate_of, flip_of};
 ghost use Rattle.stab_run.specs.Points.{coins_of};
@@ -13,7 +13,7 @@ ghost use Rattle.stab_run.specs.ProgramStates.{StepFits, IsRun, program_state, o
 use crate::coins::Coins;
 use crate::measure::{measure, measure_string, write_product};
 use crate::records::{Addition, Outputs, looked_up, parity};
-use stab_circuit::Step;
+use stab_items::Step;
 use stab_pauli::{Letter, Pauli};
 use stab_tableau::{Collapse, Gate, Tableau};
 use std::alloc::AllocError;

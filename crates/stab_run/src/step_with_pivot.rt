@@ -2,7 +2,7 @@
 
 ghost use Rattle.std.specs.Prelude.{◌≡◌, ◌+◌, ◌<◌, ◌≤◌, ◌^◌, ◌∷◌, [], length, IfOk, OnOk};
 ghost use Rattle.stab_tableau.specs.Tableaus.{stabilises};
-ghost use Rattle.stab_circuit.specs.Cursors.{step_shown};
+ghost use Rattle.stab_items.specs.StepValues.{step_shown};
 ghost use Rattle.stab_run.specs.Records.{ones};
 ghost use Rattle.stab_run.specs.Runs.{measured_by};
 ghost use Rattle.stab_run.specs.StepPivots.{HasPivot};
@@ -13,7 +13,7 @@ use crate::coins::Coins;
 use crate::measure::{measure_string_with_pivot, measure_with_pivot, write_product};
 use crate::records::Outputs;
 use crate::step::{apply_step, gather, reset_if};
-use stab_circuit::Step;
+use stab_items::Step;
 use stab_pauli::Pauli;
 use stab_tableau::Tableau;
 use std::alloc::AllocError;

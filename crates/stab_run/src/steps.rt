@@ -2,8 +2,8 @@
 
 ghost use Rattle.std.specs.Prelude.{◌≡◌, ℕ, ◌+◌, ◌<◌, ◌≤◌, ◌^◌, Bool, ◌∷◌, [], All, length, map, OnOk};
 ghost use Rattle.stab_tableau.specs.Tableaus.{TableauState};
-ghost use Rattle.stab_circuit.specs.Steps.{one, controlled_step, measured, detector};
-ghost use Rattle.stab_circuit.specs.Cursors.{lookbacks_of, steps_shown};
+ghost use Rattle.stab_items.specs.Steps.{one, controlled_step, measured, detector};
+ghost use Rattle.stab_items.specs.StepValues.{lookbacks_of, steps_shown};
 ghost use Rattle.stab_run.specs.Records.{ones};
 ghost use Rattle.stab_run.specs.Points.{RunOutput, all_coins_of};
 ghost use Rattle.stab_run.specs.ProgramStates.{StepFits, IsRun, program_state, output_of};
@@ -11,10 +11,8 @@ ghost use Rattle.stab_run.specs.ProgramStates.{StepFits, IsRun, program_state, o
 use crate::coins::Coins;
 use crate::records::{Outputs, looked_up, parity};
 use crate::step::{apply_step, apply_where};
-use stab_circuit::{
-    Axis, ControlledPair, Detectors, MeasureTarget, Measurement, Qubit, Steps, controlled_gate,
-    measured_step,
-};
+use stab_items::{Detectors, Steps, controlled_gate, measured_step};
+use stab_lines::{Axis, ControlledPair, MeasureTarget, Measurement, Qubit};
 use stab_pauli::Pauli;
 use stab_tableau::{Gate, Tableau};
 use std::alloc::AllocError;

@@ -32,7 +32,7 @@ pub use Rattle.stab_frames.specs.FrameSteps.{frame_over, flips_over}
 pub use Rattle.stab_frames.specs.Frames.{Frame, PointsDifferBy, frame_of, identity_frame}
 pub use Rattle.stab_frames.specs.Fronts.{AreFronts}
 pub use Rattle.stab_frames.specs.Limits.{most_strings}
-pub use Rattle.stab_frames.specs.Lookbacks.{LooksWithin}
+pub use Rattle.stab_items.specs.Steps.{LooksWithin}
 pub use Rattle.stab_frames.specs.Pivots.{AreTrue, PivotsState, pivot_at, front_kept, cut_to}
 pub use Rattle.stab_frames.specs.PivotsOfSteps.{AreEnough, AreRight}
 pub use Rattle.stab_frames.specs.Propagations.{PropagationState, frame_at, IsGone, PropagatesOver, IsPlaced}

@@ -3,17 +3,10 @@
 use Rattle.std.specs.Prelude.{◌≡◌, ◌<◌, ◌≤◌, ◌^◌, ℕ, ◌+◌, ◌*◌, Bool, true, false, List, [], ◌∷◌, ◌++◌, length, drop, Option, Some, None, slice_index_or, vec_capacity}
 use Rattle.std.specs.Borrow.{Bor}
 use Rattle.stab_lines.specs.declared.operation.Kind.{Kind}
-use Rattle.stab_circuit.specs.declared.step.Step.{Step as StepValue}
 use Rattle.stab_circuit.specs.declared.walk.Level.{Level}
 use Rattle.stab_circuit.specs.declared.walk.Walk.{Walk}
 use Rattle.stab_items.specs.Items.{Items, OneItem, done, next, block, before, listed, depth, depth_of}
 use Rattle.stab_items.specs.Steps.{Step, steps_of, rounds, unroll}
-use Rattle.stab_circuit.specs.Cursors.{step_shown}
-
--- the step that a value stands for, if there is one
-abbrev pub shown_step : Option StepValue → Option Step
-shown_step None = None
-shown_step (Some s) = Some (step_shown s)
 
 -- the steps of an instruction, if there is one
 abbrev pub kind_steps : Option (Bor Kind) → List Step

@@ -5,9 +5,8 @@ ghost use Rattle.stab_items.specs.inner.Parts.{part_of, IsPart};
 ghost use Rattle.stab_circuit.specs.inner.StepItems.{IsFoundItem};
 
 use super::Circuit;
-use crate::instruction::step_count;
 use crate::path::Path;
-use stab_items::{Item, Part};
+use stab_items::{Item, Part, step_count};
 
 /// The item that a step is of, and how many steps from there on are this item's in the same round
 /// of the blocks around it.

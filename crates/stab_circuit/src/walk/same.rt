@@ -1,8 +1,7 @@
 //! Going past items of two walks that have the same steps.
 use super::{Level, Walk};
-use crate::instruction::step_count;
 use crate::same::count_same_items;
-use stab_items::Item;
+use stab_items::{Item, step_count};
 
 impl<'a> Level<'a> {
     ghost use Rattle.std.specs.Prelude.{◌≡◌, ◌<◌, ◌+◌, ◌^◌, length, drop};

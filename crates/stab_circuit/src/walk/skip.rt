@@ -2,8 +2,7 @@
 ghost use Rattle.std.specs.Prelude.{◌≡◌, ◌≤◌, ◌+◌, ◌*◌};
 
 use super::Walk;
-use crate::instruction::step_count;
-use stab_items::{Item, Part};
+use stab_items::{Item, Part, step_count};
 use stab_lines::Kind;
 
 impl<'a> Walk<'a> {

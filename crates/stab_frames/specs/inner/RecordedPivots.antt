@@ -8,7 +8,7 @@ use Rattle.stab_tableau.specs.Pivots.{IsPivot}
 use Rattle.stab_circuit.specs.Steps.{Step}
 use Rattle.stab_run.specs.Runs.{measured_by}
 use Rattle.stab_run.specs.ProgramStates.{ProgramState, IsRun}
-use Rattle.stab_frames.specs.Lookbacks.{LooksWithin}
+use Rattle.stab_items.specs.Steps.{LooksWithin}
 use Rattle.stab_frames.specs.Pivots.{PivotsState, kept_with, KeepsTrue}
 
 -- another string was put after those that are kept: a pivot of what is measured

@@ -1,4 +1,4 @@
-use Rattle.stab_circuit.proofs.ApartLemmas.{joined_apart}
+use Rattle.stab_circuit.proofs.Names.{joined_apart}
 use Rattle.stab_circuit.proofs.laws.lines_keep_qubits_apart.Goals as goal
 
 pub returns : goal.returns

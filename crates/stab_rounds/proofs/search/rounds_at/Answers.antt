@@ -1,5 +1,4 @@
-use Rattle.stab_rounds.proofs.Names.{refl, subst, All, take, drop, arith, few_steps, unroll, circuit_items, LooksWithin}
-use Rattle.stab_rounds.proofs.LookLemmas.{looks-within}
+use Rattle.stab_rounds.proofs.Names.{refl, subst, All, take, drop, arith, few_steps, unroll, circuit_items, LooksWithin, looks-within}
 use Rattle.stab_rounds.proofs.search.rounds_at.Goals as goal
 
 pub overflow_mul-rounds : goal.overflow_mul-rounds

@@ -1,5 +1,4 @@
-use Rattle.stab_rounds.proofs.Names.{◌≡◌, ◌+◌, ◌++◌, ◌∙◌, sym, ap, subst, All, take, drop, arith, All-append, steps_shown, LooksWithin}
-use Rattle.stab_rounds.proofs.LookLemmas.{within-more}
+use Rattle.stab_rounds.proofs.Names.{◌≡◌, ◌+◌, ◌++◌, ◌∙◌, sym, ap, subst, All, take, drop, arith, All-append, steps_shown, LooksWithin, within-more}
 use Rattle.stab_rounds.proofs.AlikeLemmas.{goes-behind, goes-before, nothing-left}
 use Rattle.stab_rounds.proofs.window.window_of.Goals as goal
 

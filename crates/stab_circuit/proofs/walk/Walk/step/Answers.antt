@@ -1,5 +1,5 @@
-use Rattle.stab_circuit.proofs.Names.{refl, kind_steps, step_shown}
-use Rattle.stab_circuit.proofs.WalkLemmas.{none_given, gives}
+use Rattle.stab_circuit.proofs.Names.{refl, kind_steps, step_shown, none_given}
+use Rattle.stab_circuit.proofs.WalkLemmas.{gives}
 use Rattle.stab_circuit.proofs.walk.Walk.step.Goals as goal
 
 pub returns-in_err-step-clause-none : goal.returns-in_err-step-clause-none

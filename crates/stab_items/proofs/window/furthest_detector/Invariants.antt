@@ -1,5 +1,5 @@
-use Rattle.stab_rounds.proofs.Names.{◌≤◌, All, map, take, detector, lookbacks_of, LooksWithin}
-use Rattle.stab_rounds.proofs.window.furthest_detector.Given as goal
+use Rattle.stab_items.proofs.Names.{◌≤◌, All, map, take, detector, lookbacks_of, LooksWithin}
+use Rattle.stab_items.proofs.window.furthest_detector.Given as goal
 
 abbrev pub invariant-loop-place : goal.invariant-loop-place
 invariant-loop-place l = record {

@@ -1,5 +1,5 @@
-use Rattle.stab_rounds.proofs.Names.{◌≡◌, ◌≤◌, false, nat_lt, take, list_any}
-use Rattle.stab_rounds.proofs.window.greatest.Given as goal
+use Rattle.stab_items.proofs.Names.{◌≡◌, ◌≤◌, false, nat_lt, take, list_any}
+use Rattle.stab_items.proofs.window.greatest.Given as goal
 
 abbrev pub invariant-loop-number : goal.invariant-loop-number
 invariant-loop-number l = record {

@@ -1,7 +1,6 @@
-use Rattle.stab_circuit.proofs.Names.{ap, one, controlled_step, measured, steps_of, step_shown}
-use Rattle.stab_circuit.proofs.WalkLemmas.{none_given, some_given}
-use Rattle.stab_circuit.proofs.StepPartLemmas.{part-steps}
-use Rattle.stab_circuit.proofs.steps.steps_from.Goals as goal
+use Rattle.stab_items.proofs.Names.{ap, one, controlled_step, measured, steps_of, step_shown}
+use Rattle.stab_items.proofs.StepPartLemmas.{part-steps, none_given, some_given}
+use Rattle.stab_items.proofs.steps.steps_from.Goals as goal
 
 pub returns-in_ok-part-in-Gate-clause-some : goal.returns-in_ok-part-in-Gate-clause-some
 returns-in_ok-part-in-Gate-clause-some c =

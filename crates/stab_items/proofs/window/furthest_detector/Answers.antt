@@ -1,6 +1,6 @@
-use Rattle.stab_rounds.proofs.Names.{◌<◌, [], ◌∙◌, subst, All, map, length, arith, take_all, get_or_default, detector, lookbacks_of, LooksWithin}
-use Rattle.stab_rounds.proofs.LookLemmas.{within-target}
-use Rattle.stab_rounds.proofs.window.furthest_detector.Goals as goal
+use Rattle.stab_items.proofs.Names.{◌<◌, [], ◌∙◌, subst, All, map, length, arith, take_all, get_or_default, detector, lookbacks_of, LooksWithin}
+use Rattle.stab_items.proofs.LookLemmas.{within-target}
+use Rattle.stab_items.proofs.window.furthest_detector.Goals as goal
 
 pub loop-place-preserved : goal.loop-place-preserved
 loop-place-preserved c =

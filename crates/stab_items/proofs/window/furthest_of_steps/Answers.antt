@@ -1,6 +1,6 @@
-use Rattle.stab_rounds.proofs.Names.{sym, ap, subst, All, steps_shown, LooksWithin}
-use Rattle.stab_rounds.proofs.LookLemmas.{near-gates, near-targets}
-use Rattle.stab_rounds.proofs.window.furthest_of_steps.Goals as goal
+use Rattle.stab_items.proofs.Names.{sym, ap, subst, All, steps_shown, LooksWithin}
+use Rattle.stab_items.proofs.LookLemmas.{near-gates, near-targets}
+use Rattle.stab_items.proofs.window.furthest_of_steps.Goals as goal
 
 pub returns-in-Gates-clause-within : goal.returns-in-Gates-clause-within
 returns-in-Gates-clause-within c =

@@ -1,5 +1,5 @@
-use Rattle.stab_rounds.proofs.Names.{◌≤◌, All, map, take, Axis, controlled_step, LooksWithin}
-use Rattle.stab_rounds.proofs.window.furthest.Given as goal
+use Rattle.stab_items.proofs.Names.{◌≤◌, All, map, take, Axis, controlled_step, LooksWithin}
+use Rattle.stab_items.proofs.window.furthest.Given as goal
 
 abbrev pub invariant-loop-pair : goal.invariant-loop-pair
 invariant-loop-pair l = record {

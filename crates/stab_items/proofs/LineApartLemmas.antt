@@ -1,8 +1,16 @@
 -- Items that lines stand for: the two qubits of each pair differ, and so do those of each product.
-use Rattle.stab_circuit.proofs.Names.{◌≡◌, refl, sym, ℕ, zero, suc, List, [], ◌∷◌, map, All, Ok, Err, All-nil, All-cons, All-append, All-head, All-tail, Axis, ControlledPair, Kind, Close, content_of, meaning_of, IsLine, Each, IsQubit, IsMeasured, IsPair, IsControlled, IsProduct, IsGoodKind, IsGoodLine, line_good, Items, Meaning, Joins, nothing, blank_line, operation_line, block_lines, line_meanings, Step, controlled_step, steps_of, rounds, unroll, IsApart}
+use Rattle.stab_items.proofs.Names.{◌≡◌, refl, sym, ℕ, zero, suc, List, [], ◌∷◌, ◌++◌, map, All, Ok, Err, All-nil, All-cons, All-append, All-head, All-tail, Axis, ControlledPair, Kind, Close, content_of, meaning_of, IsLine, Each, IsQubit, IsMeasured, IsPair, IsControlled, IsProduct, IsGoodKind, IsGoodLine, line_good, Items, Meaning, Joins, nothing, blank_line, operation_line, block_lines, line_meanings, Step, controlled_step, steps_of, rounds, unroll, IsApart}
 use Rattle.stab_lines.specs.declared.control.ControlledPair.TheVariants as pair
 use Rattle.stab_lines.specs.declared.operation.Kind.TheVariants as kind
-use Rattle.stab_circuit.proofs.RoundLemmas.{each_left, each_right}
+
+-- each of two lists, put together
+pub each_left : {A : Type 0} (P : A → Type 0) (xs ys : List A) → Each P (xs ++ ys) → Each P xs
+each_left P [] ys e = tt
+each_left P (x ∷ xs) ys e = (e.0, each_left P xs ys e.1)
+
+pub each_right : {A : Type 0} (P : A → Type 0) (xs ys : List A) → Each P (xs ++ ys) → Each P ys
+each_right P [] ys e = e
+each_right P (x ∷ xs) ys e = each_right P xs ys e.1
 
 -- one step for each element of a list
 apart_each : {A : Type 0} (P : A → Type 0) (f : A → Step) → ((x : A) → P x → IsApart (f x)) → (xs : List A) → Each P xs → All IsApart (map f xs)

@@ -1,9 +1,9 @@
 //! Detectors one after the other, as items do.
 ghost use Rattle.std.specs.Prelude.{◌≡◌, ◌≤◌, true, length, take};
 ghost use Rattle.std.specs.List.{list_all};
-ghost use Rattle.stab_circuit.specs.Detectors.{detects};
+ghost use Rattle.stab_items.specs.Detectors.{detects};
 
-use stab_items::Item;
+use crate::item::Item;
 
 /// Detectors, one after the other. Contracts see the numbers k of the `rec[-k]` of each.
 #[derive(Clone, Copy)]
@@ -27,10 +27,10 @@ fn count_at_front(items: &[Item]) -> usize
 
 impl<'a> Detectors<'a> {
     ghost use Rattle.std.specs.Prelude.{◌≡◌, ◌<◌, ◌≤◌, [], length, take, slice_index_or};
-    ghost use Rattle.stab_circuit.specs.Cursors.{lookbacks_of};
+    ghost use Rattle.stab_items.specs.StepValues.{lookbacks_of};
 
     /// The detectors that are before all other items.
-    pub(crate) fn at_front(items: &'a [Item]) -> Detectors<'a>
+    pub fn at_front(items: &'a [Item]) -> Detectors<'a>
         ensures front { result.items.now ≡ take (length (lookbacks_of result)) items.now }
     {
         let (front, _) = items.split_at(count_at_front(items));

@@ -1,7 +1,6 @@
-use Rattle.stab_rounds.proofs.Names.{subst, All, map, arith, take_all, controlled_step, lookbacks, LooksWithin}
-use Rattle.stab_rounds.proofs.LookLemmas.{near-more}
-use Rattle.stab_rounds.proofs.LookLemmas.{within-target}
-use Rattle.stab_rounds.proofs.window.furthest.Goals as goal
+use Rattle.stab_items.proofs.Names.{subst, All, map, arith, take_all, controlled_step, lookbacks, LooksWithin}
+use Rattle.stab_items.proofs.LookLemmas.{near-more, within-target}
+use Rattle.stab_items.proofs.window.furthest.Goals as goal
 
 pub loop-pair-preserved : goal.loop-pair-preserved
 loop-pair-preserved c = record {

@@ -1,9 +1,9 @@
 ghost use Rattle.std.specs.Prelude.{◌≡◌, ◌≤◌, ◌<◌, ◌+◌, ◌++◌, ◌^◌, [], length, take, drop, IfSome, IfNone};
 ghost use Rattle.stab_items.specs.Steps.{steps_of};
-ghost use Rattle.stab_circuit.specs.Cursors.{steps_shown, IsApartAlone};
+ghost use Rattle.stab_items.specs.StepValues.{steps_shown, IsApartAlone};
 
 use crate::detectors::Detectors;
-use crate::instruction::step_at;
+use crate::instruction_steps::step_at;
 use crate::step::Step;
 use stab_gates::Gate;
 use stab_lines::{Axis, ControlledPair, Kind, MeasureTarget, Measurement, Qubit};
@@ -25,7 +25,7 @@ pub enum Steps<'a> {
 
 impl<'a> Steps<'a> {
     ghost use Rattle.std.specs.Prelude.{◌≡◌, length};
-    ghost use Rattle.stab_circuit.specs.Cursors.{steps_shown};
+    ghost use Rattle.stab_items.specs.StepValues.{steps_shown};
 
     /// How many there are.
     pub fn len(self) -> usize

@@ -1,5 +1,5 @@
 -- How far back steps look: the greatest of numbers, and steps one after another.
-use Rattle.stab_rounds.proofs.Names.{◌≡◌, ℕ, ◌+◌, ◌<◌, ◌≤◌, suc, zero, refl, sym, ◌∙◌, ap, subst, false, nat_lt, List, [], ◌∷◌, ◌++◌, All, length, map, take, get_or, arith, list_any, map_more, All-nil, All-cons, All-head, All-tail, All-append, or_parts, or_from, Gate, Measurement, MeasureTarget, Step, one, measured, makes, lookbacks, looks_too_far, LooksWithin}
+use Rattle.stab_items.proofs.Names.{◌≡◌, ℕ, ◌+◌, ◌<◌, ◌≤◌, suc, zero, refl, sym, ◌∙◌, ap, subst, false, nat_lt, List, [], ◌∷◌, ◌++◌, All, length, map, take, get_or, arith, list_any, map_more, All-nil, All-cons, All-head, All-tail, All-append, or_parts, or_from, Gate, Measurement, MeasureTarget, Step, one, measured, makes, lookbacks, looks_too_far, LooksWithin}
 
 pub near-more : (m k : ℕ) → m ≤ k → (ks : List ℕ) → list_any (nat_lt m) ks ≡ false → list_any (nat_lt k) ks ≡ false
 near-more m k le [] e = refl

@@ -1,6 +1,6 @@
-use Rattle.stab_rounds.proofs.Names.{◌≡◌, suc, ◌+◌, false, nat_lt, take, subst, arith, list_any}
-use Rattle.stab_rounds.proofs.LookLemmas.{near-next}
-use Rattle.stab_rounds.proofs.window.greatest.Goals as goal
+use Rattle.stab_items.proofs.Names.{◌≡◌, suc, ◌+◌, false, nat_lt, take, subst, arith, list_any}
+use Rattle.stab_items.proofs.LookLemmas.{near-next}
+use Rattle.stab_items.proofs.window.greatest.Goals as goal
 
 pub loop-number-preserved : goal.loop-number-preserved
 loop-number-preserved c =

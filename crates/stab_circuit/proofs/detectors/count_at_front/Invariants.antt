@@ -1,5 +1,0 @@
-use Rattle.stab_circuit.proofs.Names.{◌≡◌, true, take, list_all, detects}
-use Rattle.stab_circuit.proofs.detectors.count_at_front.Given as goal
-
-abbrev pub invariant-loop-place : goal.invariant-loop-place
-invariant-loop-place l = list_all detects (take l.place l.items) ≡ true
