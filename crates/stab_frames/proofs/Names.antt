@@ -11,8 +11,8 @@ pub use Rattle.std.proofs.lemmas.Option.{IfSome_then, slice_get-get_or, slice_ge
 pub use Rattle.std.proofs.lemmas.Result.{IfOk-weaker}
 pub use Rattle.std.specs.List.{list_any}
 pub use Rattle.std.specs.Prelude.{Option, IfSome, ◌==◌, if◌then◌else◌, Some, None, slice_get, is_some, max}
-pub use Rattle.stab_circuit.specs.Cursors.{step_shown, lookbacks_of, steps_shown}
-pub use Rattle.stab_circuit.specs.Steps.{Step, one, two, controlled, collapse, product, detector, observable, makes, records_of, lookbacks, looks_too_far, controlled_step, measured, controlled_gate}
+pub use Rattle.stab_items.specs.StepValues.{step_shown, lookbacks_of, steps_shown}
+pub use Rattle.stab_items.specs.Steps.{Step, one, two, controlled, collapse, product, detector, observable, makes, records_of, lookbacks, looks_too_far, controlled_step, measured, controlled_gate}
 pub use Rattle.stab_gates.proofs.LetterLemmas.{letters_anticommute-I, letters_anticommute-comm, letter_product-I, each_letter}
 pub use Rattle.stab_gates.proofs.ParityLemmas.{parity-false, parity-comm, parity-assoc, parity-mid, parity-twice, parity-self}
 pub use Rattle.stab_gates.specs.Letters.{◌⊕◌, letters_anticommute, letter_product}
@@ -92,9 +92,6 @@ pub use Rattle.stab_frames.specs.RunLaws.{FrontsFlip, FrontsGoOn, FrontsTakePaul
 pub use Rattle.stab_frames.specs.RunPivots.{RunPivots, changed, same_coins, no_strings, pivots_of, IsPivotOf, IsEnough}
 pub use Rattle.stab_frames.specs.Starts.{letters_on}
 pub use Rattle.stab_frames.specs.StepLaws.{FramesEnd, StepsKeepFrames, RunsKeepFrames, AreStrings, FramesAdd}
-pub use Rattle.stab_frames.specs.Stops.{IsStop}
-pub use Rattle.stab_frames.specs.declared.propagate.Stop.{Stop}
-pub use Rattle.stab_frames.specs.declared.propagate.Stop.TheVariants.{Behind, Gone, NoString}
 pub use Rattle.stab_frames.specs.inner.Draws.{AsksFree, IsDrawn, AreDrawn, outcome_of, differing, never}
 pub use Rattle.stab_frames.specs.inner.Products.{AreMultiplied}
 pub use Rattle.stab_frames.specs.inner.Propagates.{factors_anticommute, IsMissing, StepsWith, IsTold, AreTold, IsPropagated, GoesOver, GoesFreely, Goes, IsPropagatedWith, IsToldBy, flip_by, letters_for, one_flipped, none_flipped}

@@ -1,7 +1,6 @@
 -- Other coins: a frame on its way to a run with other coins, from each run that had the outcomes there.
 use Rattle.stab_frames.proofs.Names.{◌≡◌, ℕ, ◌+◌, ◌-◌, ◌<◌, ◌≤◌, refl, sym, ◌∙◌, ap, subst, Bool, true, false, List, [], ◌∷◌, ◌++◌, append_assoc, length, take, drop, get_or, arith, take-append-drop, take-append_seam, Letter, ◌⊕◌, parity-comm, Signed, single, Event, is_free, Step, one, two, controlled, collapse, product, detector, observable, ones, string_of, outcome_at, Point, coins_of, all_coins_of, given, next_point, outputs, free-outcome, pivot_at, PropagationState, frame_at, PropagatesToOthers, outcome_of, differing, IsDrawn, AreDrawn, IsStop, Stop, Behind, Gone, NoString, AreTold, IsMissing, GoesOver}
 use Rattle.stab_frames.proofs.PropagatedLemmas.{first-flag, told-enough}
-pub use Rattle.stab_frames.proofs.FreeLemmas.{ones-split}
 
 -- an outcome gives the coin of a free one
 
@@ -78,15 +77,3 @@ propagation-others n strings free outcomes others xs old new goes = λ coins a g
           (subst (λ c. AreTold n strings free (λ t. others t ⊕ coins t) xs c (frame_at base old)) (sym gone.coin) (goes.told (λ t. others t ⊕ coins t) drawn base))
           gone.are_true rest there,
     )
-
--- a propagation that may not end before, and whose strings are kept, passes all steps
-pub propagation-whole : (n m steps most coin : ℕ) (strings : List (List Letter)) (free : List Bool) (xs : List Step) (new : PropagationState) (stop : Stop)
-    → IsStop n m steps (length (take most xs)) new stop → (stop ≡ Gone → false ≡ true) → (stop ≡ NoString → IsMissing strings free coin)
-    → ones (take coin free) ≤ length strings → take steps xs ≡ take most xs
-propagation-whole n m steps most coin strings free xs new Behind is gone missing kept =
-    ap (λ k. take k xs) is ∙ ap (take (length (take most xs))) (sym (take-append-drop most xs)) ∙ take-append_seam (take most xs) (drop most xs)
-propagation-whole n m steps most coin strings free xs new Gone is gone missing kept = absurd (false-true (gone refl))
-  where
-    false-true : false ≡ true → ⊥
-    false-true e = cc
-propagation-whole n m steps most coin strings free xs new NoString is gone missing kept = absurd (omega (arith, missing refl, kept))

@@ -6,7 +6,7 @@ use Rattle.stab_gates.specs.declared.letter.Letter.{Letter}
 use Rattle.stab_tableau.specs.Traces.{member}
 use Rattle.stab_tableau.specs.Groups.{IsStabiliserGroup}
 use Rattle.stab_tableau.specs.Conjugations.{IsConjugated}
-use Rattle.stab_circuit.specs.Steps.{Step, looks_too_far}
+use Rattle.stab_items.specs.Steps.{Step, looks_too_far}
 use Rattle.stab_run.specs.Points.{Point, point_after, outputs}
 use Rattle.stab_run.specs.ProgramStates.{StepFits}
 use Rattle.stab_run.specs.Ends.{AgreeBack, with_coin}

@@ -3,7 +3,7 @@
 use Rattle.std.specs.Prelude.{◌≡◌, ℕ, Bool, false, List, ◌++◌, length, map, replicate, Option}
 use Rattle.stab_gates.specs.declared.letter.Letter.{Letter}
 use Rattle.stab_pauli.specs.Paulis.{string_product}
-use Rattle.stab_circuit.specs.Steps.{Step, one}
+use Rattle.stab_items.specs.Steps.{Step, one}
 use Rattle.stab_run.specs.Runs.{start, gate_of, run}
 use Rattle.stab_run.specs.Points.{RunOutput, origin, joined, point_after, outputs, with_additions}
 use Rattle.stab_frames.specs.Flips.{flipped, flipped_output, unflipped, Matches}

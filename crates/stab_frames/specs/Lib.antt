@@ -7,7 +7,6 @@ pub mod PivotsOfSteps
 pub mod Limits
 pub mod Pivots
 pub mod Propagations
-pub mod Stops
 pub mod OtherCoins
 pub mod Starts
 pub mod Ends

@@ -4,7 +4,7 @@
 use Rattle.std.specs.Prelude.{◌≡◌, ℕ, ◌+◌, Bool, List, Option, take, drop}
 use Rattle.stab_gates.specs.declared.letter.Letter.{Letter}
 use Rattle.stab_gates.specs.Letters.{◌⊕◌}
-use Rattle.stab_circuit.specs.Steps.{Step}
+use Rattle.stab_items.specs.Steps.{Step}
 use Rattle.stab_run.specs.Points.{Point, outputs, all_coins_of}
 use Rattle.stab_frames.specs.RunPivots.{RunPivots, pivots_of}
 use Rattle.stab_frames.specs.PivotsOfSteps.{AreEnough}

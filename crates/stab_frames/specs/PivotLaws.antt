@@ -5,7 +5,7 @@ use Rattle.stab_gates.specs.declared.letter.Letter.{Letter}
 use Rattle.stab_pauli.specs.Paulis.{Signed}
 use Rattle.stab_tableau.specs.Traces.{Event, member, Fits, IsSound}
 use Rattle.stab_tableau.specs.Groups.{IsStabiliserGroup}
-use Rattle.stab_circuit.specs.Steps.{Step}
+use Rattle.stab_items.specs.Steps.{Step}
 use Rattle.stab_run.specs.Points.{Point, origin, all_coins_of, outputs}
 use Rattle.stab_run.specs.ProgramStates.{StepFits}
 use Rattle.stab_frames.specs.Frames.{Frame}

@@ -4,7 +4,7 @@ use Rattle.std.specs.Prelude.{◌≡◌, ℕ, ◌+◌, ◌-◌, Bool, false, Lis
 use Rattle.stab_gates.specs.declared.letter.Letter.{Letter}
 use Rattle.stab_tableau.specs.Traces.{member}
 use Rattle.stab_tableau.specs.Pivots.{IsPivot}
-use Rattle.stab_circuit.specs.Steps.{Step}
+use Rattle.stab_items.specs.Steps.{Step}
 use Rattle.stab_run.specs.Records.{ones}
 use Rattle.stab_run.specs.Runs.{measured_by}
 use Rattle.stab_run.specs.Points.{Point, origin, next_point, point_after}

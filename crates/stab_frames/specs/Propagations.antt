@@ -3,7 +3,7 @@
 use Rattle.std.specs.Prelude.{◌≡◌, ℕ, ◌+◌, ◌≤◌, Bool, false, List, ◌++◌, replicate, take, Option}
 use Rattle.stab_gates.specs.declared.letter.Letter.{Letter}
 use Rattle.stab_gates.specs.declared.letter.Letter.TheVariants.{I}
-use Rattle.stab_circuit.specs.Steps.{Step}
+use Rattle.stab_items.specs.Steps.{Step}
 use Rattle.stab_run.specs.Records.{looked_up, ones}
 use Rattle.stab_run.specs.Points.{RunOutput, joined, all_coins_of}
 use Rattle.stab_frames.specs.Frames.{Frame}

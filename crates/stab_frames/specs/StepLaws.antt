@@ -6,7 +6,7 @@ use Rattle.stab_gates.specs.Letters.{◌⊕◌}
 use Rattle.stab_tableau.specs.Traces.{member}
 use Rattle.stab_tableau.specs.Groups.{IsStabiliserGroup}
 use Rattle.stab_tableau.specs.Conjugations.{IsConjugated}
-use Rattle.stab_circuit.specs.Steps.{Step}
+use Rattle.stab_items.specs.Steps.{Step}
 use Rattle.stab_run.specs.Points.{Point, origin, given, next_point, point_after, outputs}
 use Rattle.stab_run.specs.ProgramStates.{StepFits}
 use Rattle.stab_run.specs.Ends.{AgreeBack}

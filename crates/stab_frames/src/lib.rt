@@ -16,19 +16,19 @@
 //! And the calls that keep frames, in the order in which data flows:
 //!
 //! - `pivots`: pivots of a run's random outcomes, within a bound of memory.
-//! - `pivot_recorder`: a run that keeps them on its way, and how far back its steps look.
+//! - `pivot_recorder`: what a run records of the steps that it carries out: pivots, and how far back they look.
 //! - `letters`: the table of what gates make of letters, and what they make of those of a frame.
 //! - `bits`: lists of bits, counted, and put after others as a frame flips them.
 //! - `framed_states`: kept states, conjugated by the letters of a frame.
 //! - `propagation`: a frame on its way, with what it has flipped.
 //! - `draw`: which coins differ on its way.
 //! - `propagate_step`, `propagate_instruction`: one step on its way, and those of one instruction.
-//! - `propagate`: steps, until all are past, the frame is gone, or a string is missing.
-//! - `other_coins`: steps, from a run to one that has other coins there.
+//!
+//! A frame on its way over the steps that a cursor has left is `stab_recording`'s.
 //!
 //! In `specs/`, `Frames`, `RunPivots` and `FrameSteps` say what a frame is and what a step makes of it, `Images` what a gate does to letters, `Flips`
-//! and `PivotsOfSteps` what it flips and which pivots it needs; `Pivots`, `Propagations`, `OtherCoins` and
-//! `Stops` say what the calls keep and where they end; the laws are in files named after these modules.
+//! and `PivotsOfSteps` what it flips and which pivots it needs; `Pivots`, `Propagations` and `OtherCoins`
+//! say what the calls keep; the laws are in files named after these modules.
 //!
 //! Sources: C. Gidney, Stim: a fast stabilizer circuit simulator (2021), for Pauli frames; S. Aaronson and
 //! D. Gottesman, Improved simulation of stabilizer circuits (2004), for measurements. It differs in that
@@ -36,20 +36,18 @@
 //! Stim's frames are right up to outcomes that are drawn again.
 //!
 //! Proved: the laws, over the group rules that runs themselves are stated by (`stab_run`, `specs/Runs.antt`).
-//! A run that records pivots is the run, and its strings are true of it; a frame propagated over steps has the
-//! letters and flips that the laws say, and its pivots are enough for them. `specs/inner/` has what only
-//! private contracts cite.
+//! Steps that are carried out with pivots recorded are those of the run, and the strings are true of it; a frame
+//! propagated over the steps of an instruction has the letters and flips that the laws say. `specs/inner/` has what only
+//! private contracts cite, and those of calls that `stab_recording` alone makes.
 #![tactic(auto)]
 
 mod bits;
 mod draw;
 mod framed_states;
 mod letters;
-mod other_coins;
 pub mod pivot_laws;
 mod pivot_recorder;
 mod pivots;
-mod propagate;
 mod propagate_instruction;
 mod propagate_step;
 mod propagation;
@@ -57,10 +55,11 @@ pub mod run_laws;
 pub mod step_laws;
 
 pub use bits::{append_flipped, append_flipped_additions, between, bit_at, count_ones};
+pub use draw::{Draw, SameCoins};
 pub use framed_states::apply_frame_to;
 pub use letters::{Images, controlled_letter};
-pub use other_coins::propagate_with_coins;
-pub use pivot_recorder::{PivotRecorder, run_recording_pivots};
+pub use pivot_recorder::PivotRecorder;
 pub use pivots::Pivots;
-pub use propagate::{Propagated, Stop, propagate_steps};
+pub use propagate_instruction::propagate_instruction;
+pub use propagate_step::Known;
 pub use propagation::Propagation;

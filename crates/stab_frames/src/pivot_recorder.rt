@@ -1,15 +1,9 @@
-ghost use Rattle.std.specs.Prelude.{◌≡◌, ◌+◌, ◌<◌, ◌≤◌, ◌^◌, All, length, take, drop, OnOk, IfErr};
-ghost use Rattle.stab_io.specs.declared.refusal.Refusal.TheVariants.{OutOfMemory};
-ghost use Rattle.stab_run.specs.Records.{ones};
-ghost use Rattle.stab_run.specs.Points.{all_coins_of};
-ghost use Rattle.stab_run.specs.ProgramStates.{StepFits, IsRun, program_state, output_of};
-ghost use Rattle.stab_frames.specs.Pivots.{KeepsTrue};
-ghost use Rattle.stab_items.specs.Steps.{LooksWithin};
+//! What a run records on its way, for frames to be propagated over its steps.
 
 use crate::pivots::Pivots;
-use stab_circuit::{Cursor, MeasureTarget, Measurement, Step, Steps, measured_step};
 use stab_io::Refusal;
-use stab_items::{furthest, furthest_detector, furthest_of};
+use stab_items::{Step, Steps, furthest, furthest_detector, furthest_of, measured_step};
+use stab_lines::{MeasureTarget, Measurement};
 use stab_pauli::Pauli;
 use stab_run::{Coins, Outputs, apply_step, apply_step_with_pivot, apply_steps};
 use stab_tableau::Tableau;
@@ -26,66 +20,18 @@ pub struct PivotRecorder {
     pub string: Pauli,
 }
 
-/// Carries out the steps that a cursor has left, up to this many, and counts them. It records the
-/// strings of free outcomes and how far the steps look back. The string is for products to be written into.
-///
-/// Refusal `OutOfMemory` alone.
-pub fn run_recording_pivots<C: Coins>(
-    alloc: Global,
-    tableau: &mut Tableau,
-    string: &mut Pauli,
-    coins: &mut C,
-    outputs: &mut Outputs,
-    cursor: &mut Cursor,
-    most: usize,
-    applied: &mut u64,
-    pivots: &mut PivotRecorder,
-) -> Result<(), Refusal>
-    requires same_length { length string.old.letters ≡ tableau.old.qubits }
-    requires fits { All (StepFits tableau.old.qubits) cursor.old.left }
-    requires few { applied.old + length cursor.old.left < 2 ^ 63 }
-    requires pivots_length { length pivots.old.string.letters ≡ tableau.old.qubits }
-    requires strings_length { pivots.old.strings.qubits ≡ tableau.old.qubits }
-    ensures counted { OnOk result (applied.new ≡ applied.old + length (take most cursor.old.left)) }
-    ensures all { cursor.new.all ≡ cursor.old.all }
-    ensures left { OnOk result (cursor.new.left ≡ drop most cursor.old.left) }
-    ensures qubits { tableau.new.qubits ≡ tableau.old.qubits }
-    ensures string { length string.new.letters ≡ length string.old.letters }
-    ensures same_coins { C.sequence coins.new ≡ C.sequence coins.old }
-    ensures asks { C.asks coins.new ≤ C.asks coins.old + all_coins_of (take most cursor.old.left) }
-    ensures asks_free { OnOk result (C.asks coins.new + ones outputs.old.free.items ≤ C.asks coins.old + ones outputs.new.free.items) }
-    ensures run { OnOk result (IsRun tableau.old.qubits (C.sequence coins.old) (take most cursor.old.left) (program_state tableau.old (output_of outputs.old)) (program_state tableau.new (output_of outputs.new))) }
-    ensures pivots_length { length pivots.new.string.letters ≡ tableau.old.qubits }
-    ensures strings_length { pivots.new.strings.qubits ≡ tableau.old.qubits }
-    ensures most { pivots.new.strings.most ≡ pivots.old.strings.most }
-    ensures raised { pivots.old.window ≤ pivots.new.window }
-    ensures window { OnOk result (All (LooksWithin pivots.new.window) (take most cursor.old.left)) }
-    ensures has_pivots { OnOk result (KeepsTrue tableau.old.qubits (C.sequence coins.old) (take most cursor.old.left) pivots.old.strings pivots.new.strings (program_state tableau.old (output_of outputs.old)) (program_state tableau.new (output_of outputs.new))) }
-    ensures err { IfErr result (λ r. r ≡ OutOfMemory) }
-{
-    let mut left = most;
-    while left > 0 {
-        let Some(steps) = cursor.next_steps(left) else {
-            return Ok(());
-        };
-        left -= steps.len();
-        pivots.run_steps(alloc, tableau, string, coins, outputs, steps, applied)?;
-    }
-    Ok(())
-}
-
 impl PivotRecorder {
     ghost use Rattle.std.specs.Prelude.{◌≡◌, ◌+◌, ◌<◌, ◌≤◌, ◌^◌, ◌∷◌, [], if◌then◌else◌, All, length, map, OnOk, IfErr};
     ghost use Rattle.stab_io.specs.declared.refusal.Refusal.TheVariants.{OutOfMemory};
-    ghost use Rattle.stab_circuit.specs.Steps.{measured};
-    ghost use Rattle.stab_circuit.specs.Cursors.{step_shown, steps_shown};
+    ghost use Rattle.stab_items.specs.Steps.{measured};
+    ghost use Rattle.stab_items.specs.StepValues.{step_shown, steps_shown};
     ghost use Rattle.stab_run.specs.Records.{ones};
     ghost use Rattle.stab_run.specs.Points.{coins_of, all_coins_of};
     ghost use Rattle.stab_run.specs.ProgramStates.{StepFits, program_state, output_of};
     ghost use Rattle.stab_frames.specs.inner.RecordedPivots.{PivotsSteps};
 
     /// Carries out steps, and records them. The other string is for products to be written into.
-    fn run_steps<C: Coins>(
+    pub fn run_steps<C: Coins>(
         &mut self,
         alloc: Global,
         tableau: &mut Tableau,

@@ -2,8 +2,8 @@
 
 ghost use Rattle.std.specs.Prelude.{◌≡◌, ◌+◌, ◌^◌, ◌<◌, ◌≤◌, ◌∷◌, [], All, length, map, take, OnOk, IfOk};
 ghost use Rattle.std.specs.List.{list_any};
-ghost use Rattle.stab_circuit.specs.Steps.{one, controlled_step, measured, detector};
-ghost use Rattle.stab_circuit.specs.Cursors.{lookbacks_of, steps_shown, IsApartAlone};
+ghost use Rattle.stab_items.specs.Steps.{one, controlled_step, measured, detector};
+ghost use Rattle.stab_items.specs.StepValues.{lookbacks_of, steps_shown, IsApartAlone};
 ghost use Rattle.stab_run.specs.Points.{all_coins_of};
 ghost use Rattle.stab_run.specs.ProgramStates.{StepFits};
 ghost use Rattle.stab_frames.specs.Propagations.{IsPlaced};
@@ -17,9 +17,8 @@ use crate::propagate_step::{
     propagate_pair, propagate_step,
 };
 use crate::propagation::Propagation;
-use stab_circuit::{
-    Axis, ControlledPair, Detectors, MeasureTarget, Measurement, Qubit, Steps, controlled_gate,
-};
+use stab_items::{Detectors, Steps, controlled_gate};
+use stab_lines::{Axis, ControlledPair, MeasureTarget, Measurement, Qubit};
 use stab_pauli::Letter;
 use stab_run::Coins;
 use stab_tableau::Gate;

@@ -222,7 +222,7 @@ impl Propagation {
     }
 
     /// Whether the letters are I and none of the newest records is flipped, as many as this.
-    pub(crate) fn is_gone(&self, window: usize) -> bool
+    pub fn is_gone(&self, window: usize) -> bool
         ensures gone { result ≡ true → (base : ℕ) → IsGone (length self.now.letters) window (frame_at base self.now) }
     {
         self.weight == 0 && window <= self.still

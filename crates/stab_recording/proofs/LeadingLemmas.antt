@@ -1,6 +1,6 @@
 -- Frames over the rest: a frame propagated over some of the steps, then some more, and the next copy.
 use Rattle.stab_recording.proofs.Names.{◌≡◌, ◌≢◌, ℕ, suc, ◌+◌, ◌-◌, ◌^◌, ◌<◌, ◌≤◌, refl, sym, ◌∙◌, ap, subst, Bool, true, false, List, [], ◌∷◌, ◌++◌, append-nil, length, replicate, take, drop, slice_get, get_or, All, Option, Some, ◌⊎◌, inl, inr, arith, take-add, take-suc, drop-cons, drop-append_seam, take-append-drop, length-take, length-drop, length-append, drop-drop, slice_get_read, All-nil, All-cons, All-get_or, Letter, I, Signed, TableauState, stabilises, IsConjugated, Step, looked_up, ones, Point, RunOutput, all_coins_of, given, next_point, point_after, outputs, outputs-append, coins-steps, coins-are, flags-given, same_coins, frame_over, AreEnough, pivot_at, AreTrue, Stop, Gone, NoString, IsStop, PropagationState, frame_at, IsPlaced, IsGone, PropagatesOver, enough-append, true-rest, over-append, Checkpoint, AreEnoughBy, AreInOrder, IsFramedBehind, AreFramedCheckpoints, Stabilise, FramesSome, Ending, IsLastApart, IsRestFrame}
-use Rattle.stab_frames.specs.declared.propagate.Stop.TheVariants.{Behind}
+use Rattle.stab_recording.specs.declared.propagate.Stop.TheVariants.{Behind}
 use Rattle.stab_recording.proofs.LetterStateLemmas.{conjugated-apart}
 use Rattle.stab_recording.proofs.QuietLemmas.{quiet-gone, flips-more}
 

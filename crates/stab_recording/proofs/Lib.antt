@@ -32,3 +32,4 @@ mod FoldedOverLemmas
 mod FoldedReplayLemmas
 mod RunLemmas
 pub mod RecordedReplayLemmas
+mod StopLemmas

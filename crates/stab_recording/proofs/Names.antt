@@ -15,7 +15,7 @@ pub use Rattle.std.specs.Cmp.{booleans_Decides}
 pub use Rattle.std.specs.List.{list_any}
 pub use Rattle.std.specs.Option.{option_map}
 pub use Rattle.std.specs.Prelude.{IfSome, if◌then◌else◌, nat_le, Result, IfOk}
-pub use Rattle.stab_circuit.specs.Cursors.{CursorState}
+pub use Rattle.stab_circuit.specs.Cursors.{CursorState, steps_shown}
 pub use Rattle.stab_circuit.specs.Items.{Items}
 pub use Rattle.stab_circuit.specs.Repeats.{round_of, IsRepeat, AreRepeats}
 pub use Rattle.stab_circuit.specs.Steps.{Step, rounds, looks_too_far, one, two, controlled, collapse, product, detector, observable, most_steps, unroll, check_within, makes, lookbacks, records_of, observables_of}
@@ -26,7 +26,7 @@ pub use Rattle.stab_frames.proofs.FlipLemmas.{flipped-empty, length-flipped, fli
 pub use Rattle.stab_frames.proofs.FramedCopyLemmas.{conjugated-next, conjugated-none, conjugated-all}
 pub use Rattle.stab_frames.proofs.FramedLemmas.{conjugated-pauli}
 pub use Rattle.stab_frames.proofs.FrontLemmas.{group-origin}
-pub use Rattle.stab_frames.proofs.OtherCoinLemmas.{ones-split}
+pub use Rattle.stab_frames.proofs.OtherCoinLemmas.{propagation-others}
 pub use Rattle.stab_frames.proofs.OverLemmas.{enough-append}
 pub use Rattle.stab_frames.proofs.PivotAtLemmas.{get-append, get-behind, pivot-equal, pivot-past}
 pub use Rattle.stab_frames.proofs.PropagatedLemmas.{over-append}
@@ -46,9 +46,9 @@ pub use Rattle.stab_frames.specs.Pivots.{AreTrue, PivotsState, pivot_at, kept_wi
 pub use Rattle.stab_frames.specs.PivotsOfSteps.{AreEnough, IsEnoughAt}
 pub use Rattle.stab_frames.specs.Propagations.{PropagationState, frame_at, PropagatesWith, IsGone, PropagatesOver, IsPlaced}
 pub use Rattle.stab_frames.specs.RunPivots.{RunPivots, same_coins}
-pub use Rattle.stab_frames.specs.Stops.{IsStop}
-pub use Rattle.stab_frames.specs.declared.propagate.Stop.{Stop}
-pub use Rattle.stab_frames.specs.declared.propagate.Stop.TheVariants.{Gone, NoString}
+pub use Rattle.stab_recording.specs.Stops.{IsStop}
+pub use Rattle.stab_recording.specs.declared.propagate.Stop.{Stop}
+pub use Rattle.stab_recording.specs.declared.propagate.Stop.TheVariants.{Gone, NoString}
 pub use Rattle.stab_gates.proofs.ParityLemmas.{parity-false}
 pub use Rattle.stab_gates.specs.Letters.{◌⊕◌}
 pub use Rattle.stab_gates.specs.declared.letter.Letter.{Letter}
@@ -65,7 +65,7 @@ pub use Rattle.stab_run.proofs.LookbackLemmas.{looked_up-near, looked_up-far, lo
 pub use Rattle.stab_run.proofs.PointLemmas.{outcomes-counted, flags-are-coins, records-are-records, rest-joined, front-output, HasAtMost, outputs-short, cut, rest-output, flags-given, records-gathered}
 pub use Rattle.stab_run.proofs.RecordLemmas.{ones-append}
 pub use Rattle.stab_run.proofs.RoundLemmas.{rounds-append, rounds-rounds, rounds-within, length-rounds}
-pub use Rattle.stab_run.proofs.RunLemmas.{after-append, outputs-append}
+pub use Rattle.stab_run.proofs.RunLemmas.{after-append, outputs-append, fits-steps}
 pub use Rattle.stab_run.proofs.SoundLemmas.{sound-run}
 pub use Rattle.stab_run.proofs.StateLemmas.{run-state, run_of-same}
 pub use Rattle.stab_run.specs.Cuts.{lengths_of, rest_of, front_of}
@@ -114,3 +114,11 @@ pub use Rattle.stab_recording.specs.inner.FoldedReplays.{IsRoundsBehind, IsAlike
 pub use Rattle.stab_recording.specs.inner.RestFrameStates.{last_state, with_state, with_cursor, IsBeside, IsApartFrom}
 pub use Rattle.stab_recording.specs.inner.Shots.{IsShotOf}
 pub use Rattle.stab_recording.specs.inner.Runs.{plan_of_run, IsOwnRun}
+pub use Rattle.stab_frames.specs.inner.Draws.{AsksFree, outcome_of, differing}
+pub use Rattle.stab_frames.specs.inner.Propagates.{GoesOver, IsMissing}
+pub use Rattle.stab_frames.proofs.FreeLemmas.{ones-split, asks-later, asks-further, missing-later}
+pub use Rattle.stab_frames.proofs.GoesOverLemmas.{goes-same}
+pub use Rattle.stab_frames.proofs.StepsPropagatedLemmas.{left-over, left-none, drop-over, fits-over, coins-within, coins-less, goes-over, propagation-same, propagation-enough}
+pub use Rattle.stab_frames.specs.inner.RecordedPivots.{PivotsSteps}
+pub use Rattle.stab_run.proofs.StepsLeftLemmas.{take-steps, drop-steps, take-none, drop-none, take-empty, drop-empty}
+pub use Rattle.stab_frames.proofs.PivotsStepsLemmas.{pivots-all, pivots-steps}

@@ -10,4 +10,5 @@ pub mod PivotLists
 pub mod RestFrames
 pub mod FramedReplays
 pub mod Replays
+pub mod Stops
 pub mod inner

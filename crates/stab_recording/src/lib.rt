@@ -3,6 +3,9 @@
 //! In the order in which data flows; each module uses only those before it, except that `rest_frame`, `moved`, `laying`, `rhythm`,
 //! `earlier`, `folding_again` and `runs` add calls to the replay of `replay`:
 //!
+//! - `recorded_steps`: steps that a run carries out, with pivots of its random outcomes.
+//! - `propagate`: steps on the way of a frame, until all are past, the frame is gone, or a string is missing.
+//! - `other_coins`: steps on its way from a run to one that has other coins there.
 //! - `checkpoint`: checkpoints, which are copies of the state before a step; when they are kept, and how they move.
 //! - `meeting`: whether another run agrees with a checkpoint, or a run with one of its own again.
 //! - `folding`: what a run gave, given again.
@@ -24,7 +27,8 @@
 //! simulation of stabilizer circuits (2004), section III, for its qubits; C. Gidney, Stim: a fast stabilizer circuit
 //! simulator (2021), for Pauli frames. When checkpoints are kept, and how loops fold, is this project's own.
 //!
-//! Proved: a run gives the records, flags, detectors and observables that the group rules of `stab_run`
+//! Proved: a frame propagated over the steps of a cursor has the letters and flips that the laws of `stab_frames` say, and its pivots
+//! are enough for them. A run gives the records, flags, detectors and observables that the group rules of `stab_run`
 //! (`specs/Runs.antt`) give for the circuit's unrolled steps, and depends on no coin but those that decide; its trace is
 //! sound. Each shot of a sampler is such a run, whatever became of the shots before it. A replay gives what comes after a checkpoint of
 //! its circuit's run, and ends after the last step or at a checkpoint of the older run (`specs/Replays.antt`). `meets`
@@ -42,6 +46,9 @@ mod frames_between;
 mod laying;
 mod meeting;
 mod moved;
+mod other_coins;
+mod propagate;
+mod recorded_steps;
 mod replay;
 mod rest_frame;
 mod rest_of_run;
@@ -58,6 +65,9 @@ pub use folding::{give_again, part_between};
 pub use framed_copies::{append_framed, lengths_propagated, pivot_again};
 pub use frames_between::frame_between;
 pub use meeting::{are_fixed, comes_again, has_one, may_have_coin, meets};
+pub use other_coins::propagate_with_coins;
+pub use propagate::{Propagated, Stop, propagate_steps};
+pub use recorded_steps::run_recording_pivots;
 pub use replay::{End, Plan, Replay};
 pub use rest_frame::RestFrame;
 pub use rest_of_run::propagate_rest;

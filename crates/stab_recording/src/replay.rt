@@ -13,9 +13,10 @@ ghost use Rattle.stab_recording.specs.FramedReplays.{IsOldRun};
 
 use crate::checkpoint::{Checkpoint, shifted};
 use crate::meeting::meets;
+use crate::recorded_steps::run_recording_pivots;
 use crate::rest_frame::RestFrame;
 use stab_circuit::{Circuit, Cursor, Repeat};
-use stab_frames::{PivotRecorder, Pivots, run_recording_pivots};
+use stab_frames::{PivotRecorder, Pivots};
 use stab_io::Refusal;
 use stab_pauli::Pauli;
 use stab_run::{Coins, Outputs};

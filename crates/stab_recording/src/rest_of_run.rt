@@ -8,9 +8,10 @@ ghost use Rattle.stab_recording.specs.RestFrames.{AreInOrder, Stabilise, FramesS
 
 use crate::checkpoint::Checkpoint;
 use crate::meeting::has_one;
+use crate::propagate::{Stop, propagate_steps};
 use crate::states::framed_checkpoint;
 use stab_circuit::Cursor;
-use stab_frames::{Pivots, Propagation, Stop, propagate_steps};
+use stab_frames::{Pivots, Propagation};
 use stab_io::Refusal;
 use stab_pauli::{Letter, Pauli};
 use stab_tableau::{CompactTableau, Tableau};

@@ -17,7 +17,7 @@ pub use Rattle.stab_circuit.specs.Steps.{Step, rounds, one, two, controlled, col
 pub use Rattle.stab_circuit.specs.Views.{circuit_items}
 pub use Rattle.stab_circuit.specs.declared.circuit.repeats.Repeat.{Repeat}
 pub use Rattle.stab_frames.proofs.FrontLemmas.{fronts-outputs, fronts-matches, fronts-framed, records-flipped, flags-flipped, detectors-flipped, observables-flipped}
-pub use Rattle.stab_frames.proofs.OtherCoinLemmas.{ones-split}
+pub use Rattle.stab_frames.proofs.FreeLemmas.{ones-split}
 pub use Rattle.stab_frames.proofs.OverLemmas.{frame-append, flips-append}
 pub use Rattle.stab_frames.proofs.PivotLemmas.{right-enough}
 pub use Rattle.stab_frames.proofs.PropagationLemmas.{ones-few}

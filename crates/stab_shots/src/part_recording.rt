@@ -8,11 +8,11 @@ ghost use Rattle.stab_run.specs.Records.{ones};
 ghost use Rattle.stab_run.specs.Points.{with_additions};
 
 use stab_circuit::{Circuit, Cursor};
-use stab_frames::{PivotRecorder, Pivots, run_recording_pivots};
+use stab_frames::{PivotRecorder, Pivots};
 use stab_io::Refusal;
 use stab_lanes::RecordedPivots;
 use stab_pauli::Pauli;
-use stab_recording::Shot;
+use stab_recording::{Shot, run_recording_pivots};
 use stab_run::{ListCoins, Outputs, observables};
 use stab_tableau::Tableau;
 use std::alloc::{AllocError, Global};

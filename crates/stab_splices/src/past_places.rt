@@ -11,10 +11,10 @@ ghost use Rattle.stab_recording.specs.RestFrames.{AreEnoughBy};
 ghost use Rattle.stab_splices.specs.PassedPlaces.{IsFrameBetween, IsBeforePiece, IsBeforePlaces};
 
 use stab_circuit::Cursor;
-use stab_frames::{Pivots, Propagation, Stop, propagate_steps};
+use stab_frames::{Pivots, Propagation};
 use stab_io::Refusal;
 use stab_pauli::Pauli;
-use stab_recording::{Checkpoint, count_before, framed_checkpoint};
+use stab_recording::{Checkpoint, Stop, count_before, framed_checkpoint, propagate_steps};
 use std::alloc::{AllocError, Global};
 
 /// Pauli gates that are where others stood, at one place or at several: the same at each.

@@ -7,7 +7,7 @@ use Rattle.stab_pauli.specs.Paulis.{strings_anticommute}
 use Rattle.stab_tableau.specs.Gates.{letter_at}
 use Rattle.stab_lines.specs.declared.product.Factor.{Factor}
 use Rattle.stab_lines.specs.Axes.{letter_of}
-use Rattle.stab_circuit.specs.Steps.{Step}
+use Rattle.stab_items.specs.Steps.{Step}
 use Rattle.stab_run.specs.Records.{ones}
 use Rattle.stab_run.specs.Runs.{when, measured_by}
 use Rattle.stab_run.specs.Points.{RunOutput, nothing, joined, coins_of, all_coins_of}

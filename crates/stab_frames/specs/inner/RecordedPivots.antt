@@ -5,7 +5,7 @@ use Rattle.stab_gates.specs.declared.letter.Letter.{Letter}
 use Rattle.stab_pauli.specs.Paulis.{Signed}
 use Rattle.stab_tableau.specs.Rules.{is_free_by}
 use Rattle.stab_tableau.specs.Pivots.{IsPivot}
-use Rattle.stab_circuit.specs.Steps.{Step}
+use Rattle.stab_items.specs.Steps.{Step}
 use Rattle.stab_run.specs.Runs.{measured_by}
 use Rattle.stab_run.specs.ProgramStates.{ProgramState, IsRun}
 use Rattle.stab_items.specs.Steps.{LooksWithin}

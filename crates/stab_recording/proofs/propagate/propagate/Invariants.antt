@@ -1,5 +1,5 @@
-use Rattle.stab_frames.proofs.Names.{◌≡◌, ◌-◌, ◌≤◌, length, take, drop, AsksFree, GoesOver}
-use Rattle.stab_frames.proofs.propagate.propagate.Given as goal
+use Rattle.stab_recording.proofs.Names.{◌≡◌, ◌-◌, ◌≤◌, length, take, drop, AsksFree, GoesOver}
+use Rattle.stab_recording.proofs.propagate.propagate.Given as goal
 
 abbrev pub invariant-loop-steps : goal.invariant-loop-steps
 invariant-loop-steps g l = record {

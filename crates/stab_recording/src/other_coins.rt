@@ -9,13 +9,9 @@ ghost use Rattle.stab_frames.specs.Propagations.{IsPlaced};
 ghost use Rattle.stab_frames.specs.OtherCoins.{coins_from, PropagatesToOthers};
 ghost use Rattle.stab_frames.specs.inner.Draws.{outcome_of, differing};
 
-use crate::bits::bit_at;
-use crate::draw::Draw;
-use crate::pivots::Pivots;
 use crate::propagate::propagate;
-use crate::propagate_step::Known;
-use crate::propagation::Propagation;
 use stab_circuit::Cursor;
+use stab_frames::{Draw, Known, Pivots, Propagation, bit_at};
 use stab_run::Coins;
 use std::alloc::AllocError;
 

@@ -8,17 +8,13 @@ ghost use Rattle.stab_frames.specs.RunPivots.{same_coins};
 ghost use Rattle.stab_frames.specs.PivotsOfSteps.{AreEnough};
 ghost use Rattle.stab_frames.specs.Pivots.{pivot_at, AreTrue};
 ghost use Rattle.stab_frames.specs.Propagations.{PropagationState, frame_at, IsPlaced, PropagatesOver};
-ghost use Rattle.stab_frames.specs.Stops.{IsStop};
-ghost use Rattle.stab_frames.specs.declared.propagate.Stop.TheVariants.{Gone, NoString};
+ghost use Rattle.stab_recording.specs.Stops.{IsStop};
+ghost use Rattle.stab_recording.specs.declared.propagate.Stop.TheVariants.{Gone, NoString};
 ghost use Rattle.stab_frames.specs.inner.Draws.{AsksFree};
 ghost use Rattle.stab_frames.specs.inner.Propagates.{GoesOver, IsMissing};
 
-use crate::draw::{Draw, SameCoins};
-use crate::pivots::Pivots;
-use crate::propagate_instruction::propagate_instruction;
-use crate::propagate_step::Known;
-use crate::propagation::Propagation;
 use stab_circuit::Cursor;
+use stab_frames::{Draw, Known, Pivots, Propagation, SameCoins, propagate_instruction};
 use stab_run::{Coins, ListCoins};
 use std::alloc::AllocError;
 

@@ -1,6 +1,5 @@
-use Rattle.stab_frames.proofs.Names.{length, take, IfOk-weaker}
-use Rattle.stab_frames.proofs.StepsPropagatedLemmas.{propagation-same, propagation-enough}
-use Rattle.stab_frames.proofs.propagate.propagate_steps.Goals as goal
+use Rattle.stab_recording.proofs.Names.{length, take, IfOk-weaker, propagation-same, propagation-enough}
+use Rattle.stab_recording.proofs.propagate.propagate_steps.Goals as goal
 
 pub returns-clause-propagated : goal.returns-clause-propagated
 returns-clause-propagated c =

@@ -1,5 +1,5 @@
-use Rattle.stab_frames.proofs.Names.{◌≡◌, ℕ, ◌+◌, ◌≤◌, All, length, take, drop, ones, all_coins_of, ProgramState, StepFits, program_state, output_of, PivotsState, PivotsSteps}
-use Rattle.stab_frames.proofs.pivot_recorder.run_recording_pivots.Given as goal
+use Rattle.stab_recording.proofs.Names.{◌≡◌, ℕ, ◌+◌, ◌≤◌, All, length, take, drop, ones, all_coins_of, ProgramState, StepFits, program_state, output_of, PivotsState, PivotsSteps}
+use Rattle.stab_recording.proofs.recorded_steps.run_recording_pivots.Given as goal
 
 abbrev pub invariant-loop-left : goal.invariant-loop-left
 invariant-loop-left g l = record {

@@ -1,8 +1,8 @@
 -- Stops: what holds where a propagation ends.
 -- Source: this project's own.
 use Rattle.std.specs.Prelude.{◌≡◌, ℕ}
-use Rattle.stab_frames.specs.declared.propagate.Stop.{Stop}
-use Rattle.stab_frames.specs.declared.propagate.Stop.TheVariants.{Behind, Gone, NoString}
+use Rattle.stab_recording.specs.declared.propagate.Stop.{Stop}
+use Rattle.stab_recording.specs.declared.propagate.Stop.TheVariants.{Behind, Gone, NoString}
 use Rattle.stab_frames.specs.Propagations.{PropagationState, frame_at, IsGone}
 
 -- a propagation over a number of steps passed all of them, or its frame is gone wherever it began; of one that can't go on no more

@@ -1,6 +1,5 @@
-use Rattle.stab_frames.proofs.Names.{◌-◌, arith, refl, ap, sym, ◌∙◌, length, take, length-append, steps_shown, all_coins_of, program_state, output_of, fits-steps, take-steps, drop-steps, take-none, drop-none, take-empty, drop-empty, coins-append}
-use Rattle.stab_frames.proofs.PivotsStepsLemmas.{pivots-all, pivots-steps}
-use Rattle.stab_frames.proofs.pivot_recorder.run_recording_pivots.Goals as goal
+use Rattle.stab_recording.proofs.Names.{◌-◌, arith, refl, ap, sym, ◌∙◌, length, take, length-append, steps_shown, all_coins_of, program_state, output_of, fits-steps, take-steps, drop-steps, take-none, drop-none, take-empty, drop-empty, coins-append, pivots-all, pivots-steps}
+use Rattle.stab_recording.proofs.recorded_steps.run_recording_pivots.Goals as goal
 
 pub run_steps-requires-clause-same_length : goal.run_steps-requires-clause-same_length
 run_steps-requires-clause-same_length g c = c.loop-left.invariant.string ∙ c.requires.same_length ∙ sym c.loop-left.invariant.qubits

@@ -1,8 +1,5 @@
-use Rattle.stab_frames.proofs.Names.{◌≡◌, ◌+◌, ◌≤◌, ◌∙◌, ap, sym, subst, arith, length, take, drop, length-take, take-length, steps_shown, all_coins_of, coins-few, frame_at, IsGone}
-use Rattle.stab_frames.proofs.FreeLemmas.{asks-later, asks-further, missing-later}
-use Rattle.stab_frames.proofs.GoesOverLemmas.{goes-same}
-use Rattle.stab_frames.proofs.StepsPropagatedLemmas.{left-over, left-none, drop-over, fits-over, coins-within, coins-less, goes-over}
-use Rattle.stab_frames.proofs.propagate.propagate.Goals as goal
+use Rattle.stab_recording.proofs.Names.{◌≡◌, ◌+◌, ◌≤◌, ◌∙◌, ap, sym, subst, arith, length, take, drop, length-take, take-length, steps_shown, all_coins_of, coins-few, frame_at, IsGone, asks-later, asks-further, missing-later, goes-same, left-over, left-none, drop-over, fits-over, coins-within, coins-less, goes-over}
+use Rattle.stab_recording.proofs.propagate.propagate.Goals as goal
 
 pub returns-then-is_gone-clause-stop : goal.returns-then-is_gone-clause-stop
 returns-then-is_gone-clause-stop g c = λ base.

@@ -1,8 +1,6 @@
-use Rattle.stab_frames.proofs.Names.{subst, length, take, drop, arith, all_coins_of, coins_from, outcome_of, differing, GoesOver}
-use Rattle.stab_frames.proofs.FreeLemmas.{ones-split}
-use Rattle.stab_frames.proofs.StillPropagationLemmas.{ones-within}
-use Rattle.stab_frames.proofs.OtherCoinLemmas.{propagation-others, propagation-whole}
-use Rattle.stab_frames.proofs.other_coins.propagate_with_coins.Goals as goal
+use Rattle.stab_recording.proofs.Names.{subst, length, take, drop, arith, all_coins_of, coins_from, outcome_of, differing, GoesOver, ones-split, ones-within, propagation-others}
+use Rattle.stab_recording.proofs.StopLemmas.{propagation-whole}
+use Rattle.stab_recording.proofs.other_coins.propagate_with_coins.Goals as goal
 
 pub returns-in_err-propagate-clause-asks : goal.returns-in_err-propagate-clause-asks
 returns-in_err-propagate-clause-asks g c =
