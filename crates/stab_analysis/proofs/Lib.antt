@@ -1,6 +1,4 @@
 mod Names
-pub mod SendingLaws
-pub mod MemoryLaws
 pub mod FoundLaws
 pub mod DistanceLaws
 pub mod CheckLaws

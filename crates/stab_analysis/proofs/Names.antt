@@ -8,7 +8,6 @@ pub use Rattle.std.proofs.lemmas.List.Elements.{All-nil, All-cons, All-take, All
 pub use Rattle.std.proofs.lemmas.Result.{err_from_is_err_and}
 pub use Rattle.std.specs.Global.{Vec}
 pub use Rattle.std.specs.List.{flat_map}
-pub use Rattle.std.specs.Prelude.{IfErr, IfOk}
 pub use Rattle.std.specs.Result.{IsErrAnd}
 pub use Rattle.stab_circuit.proofs.EditLemmas.{entries-listed}
 pub use Rattle.stab_circuit.specs.Cursors.{step_shown, steps_shown, lookbacks_of}
@@ -17,7 +16,7 @@ pub use Rattle.stab_circuit.specs.Items.{Items, entries}
 pub use Rattle.stab_circuit.specs.Paths.{Path, path_text}
 pub use Rattle.stab_circuit.specs.Places.{item_at}
 pub use Rattle.stab_circuit.specs.Readings.{IsFaultOf, ReadsCircuit}
-pub use Rattle.stab_circuit.specs.Steps.{Step, one, two, controlled, collapse, product, detector, observable, unroll, makes, records_of, looks_too_far, most_steps, steps_cap, is_detector, detectors_of, detectors_in, qubits_of, observables_of, check_within, measured, controlled_step}
+pub use Rattle.stab_circuit.specs.Steps.{Step, one, two, controlled, collapse, product, detector, observable, unroll, makes, records_of, looks_too_far, most_steps, steps_cap, is_detector, detectors_of, detectors_in, qubits_of, observables_of, measured, controlled_step}
 unfoldable pub use Rattle.stab_circuit.specs.Steps.{check_of}
 pub use Rattle.stab_circuit.specs.Views.{circuit_items}
 pub use Rattle.stab_circuit.specs.declared.steps.Steps.{Steps}
@@ -65,9 +64,9 @@ pub use Rattle.stab_frames.proofs.FlipLemmas.{length-flipped, flipped-empty}
 pub use Rattle.stab_gates.specs.Letters.{◌⊕◌}
 pub use Rattle.stab_gates.specs.declared.letter.Letter.{Letter}
 pub use Rattle.stab_gates.specs.declared.letter.Letter.TheVariants.{I, X, Y, Z}
-pub use Rattle.stab_io.proofs.DeviceLemmas.{failed_within, took_more, took_and_failed, WroteUpTo, took_none, wrote_part, wrote_and_failed, failed_on}
+pub use Rattle.stab_io.proofs.DeviceLemmas.{failed_within, WroteUpTo, took_none, wrote_part, wrote_and_failed, failed_on}
 pub use Rattle.stab_io.specs.Devices.{InputView, OutputView, TookSome, TookAndFailed, Took, CutOff, WritesAllOrFault, WritesAll}
-pub use Rattle.stab_io.specs.Refusals.{whole, Refuses}
+pub use Rattle.stab_io.specs.Refusals.{whole}
 pub use Rattle.stab_io.specs.declared.refusal.Fault.{Fault}
 pub use Rattle.stab_io.specs.declared.refusal.Refusal.{Refusal}
 pub use Rattle.stab_io.specs.declared.refusal.Refusal.TheVariants.{LookbackTooFar, TooManySteps, WriteFault, OutOfMemory}
@@ -97,7 +96,7 @@ pub use Rattle.stab_texts.specs.CoinTables.{coin_text, coins_text, whole_bits, w
 pub use Rattle.stab_texts.specs.Deciders.{checked_bits, deciders}
 pub use Rattle.stab_texts.specs.Deterministic.{IsDeterministicText}
 pub use Rattle.stab_texts.specs.Distances.{IsDistanceOf, IsDistanceText, IsRefusedFor, answer_text, numbered_line, none_line, distance_line}
-pub use Rattle.stab_texts.specs.Endings.{SendsFound, FlushesOrFault, Sends, SendsUnflushed}
+pub use Rattle.stab_texts.specs.Endings.{SendsFound, FlushesOrFault, SendsUnflushed}
 pub use Rattle.stab_texts.specs.FaultTables.{GoesOn, fault_of, random_of, set_all, IsFirstDecider, IsTableText, table_text}
 pub use Rattle.stab_texts.specs.Reasons.{bit_name, coordinates_at, decider_text, reason_line, reason_text, DeterministicHasNoDecider, has_bit, found_coordinates}
 pub use Rattle.stab_texts.specs.Rows.{line_of, lines_of}

@@ -1,4 +1,3 @@
-pub mod Sources
 pub mod Checks
 pub mod CoinRuns
 pub mod inner

@@ -4,7 +4,7 @@ pub use Rattle.std.proofs.Math.Nat.{div-lt_iff_lt-mul, div-add-mod, mod-lt}
 pub use Rattle.std.proofs.Math.Seq.{drop-append-add, drop-nil, take-length}
 pub use Rattle.std.proofs.lemmas.Bool.{ltb-true, OnTrue_from, lt-ltb}
 pub use Rattle.std.proofs.lemmas.Bool.Decides.{nat_tests, Decides-eqb}
-pub use Rattle.std.proofs.lemmas.List.{set-set, set_split, take_at, drop_at, length-take-le, length-append, take-append-drop, drop-drop, length-map, take-take, drop-set-lt, map-append, drop_min, drop-take, length-take, take_more, drop_more, drop-append-le, take-map, drop-map, drop_all, length-replicate, drop-replicate, length-drop, take-append-le, take_all, take_more_set, length-set, take_more_same, get_or_read}
+pub use Rattle.std.proofs.lemmas.List.{set-set, set_split, take_at, drop_at, length-take-le, length-append, take-append-drop, drop-drop, length-map, take-take, drop-set-lt, map-append, drop_min, drop-take, length-take, take_more, drop_more, drop-append-le, drop-map, drop_all, length-replicate, drop-replicate, length-drop, take-append-le, take_all, take_more_set, length-set, take_more_same, get_or_read}
 pub use Rattle.std.proofs.lemmas.List.Elements.{All-nil, All-cons, All-append, All-head, All-tail}
 pub use Rattle.std.proofs.lemmas.List.Splits.{slice_split-cons_yes, slice_split-cons_no}
 pub use Rattle.std.proofs.lemmas.Option.{slice_get_within, slice_get-get_or}
@@ -17,7 +17,6 @@ pub use Rattle.std.specs.List.{insert, remove, list_all, slice_split, flat_map, 
 pub use Rattle.std.specs.Option.{is_some, unwrap_or}
 pub use Rattle.std.specs.Prelude.{slice_get, vec_capacity}
 pub use Rattle.std.specs.Result.{OnOk, OnErr, IsErrAnd, IfErr}
-pub use Rattle.stab_gates.specs.Letters.{◌⊕◌}
 pub use Rattle.stab_io.proofs.DeviceLemmas.{gave_more, took_none}
 pub use Rattle.stab_io.specs.Devices.{InputView, Gave}
 pub use Rattle.stab_io.specs.Refusals.{whole, IsCallFault}
@@ -33,7 +32,7 @@ pub use Rattle.stab_items.specs.Circuits.{Meaning, Joins, nothing, blank_line, o
 pub use Rattle.stab_items.specs.Items.{Items, done, next, block, OneItem, operation, repeat, listed, entries, before, depth, depth_of, join}
 pub use Rattle.stab_items.specs.Nothings.{IsNothing}
 pub use Rattle.stab_items.specs.Prints.{PrintedLine, printed_lines, text_of, printed}
-pub use Rattle.stab_items.specs.Steps.{Step, controlled_step, steps_of, rounds, unroll, past_named, qubits_of, observables_of, named_qubits, named_observables, looks_too_far, most_steps, check_within, detector, detector_of, Checks, is_inverted, one, measured, collapse, two}
+pub use Rattle.stab_items.specs.Steps.{Step, controlled_step, steps_of, rounds, unroll, past_named, qubits_of, observables_of, named_qubits, named_observables, looks_too_far, most_steps, check_within, detector, detector_of, Checks, one, measured, collapse, two}
 unfoldable pub use Rattle.stab_items.specs.Steps.{check_of}
 pub use Rattle.stab_items.specs.declared.summary.Summary.{Summary}
 pub use Rattle.stab_items.specs.inner.Blocks.{with_body}
@@ -42,7 +41,6 @@ pub use Rattle.stab_items.specs.inner.Summaries.{summary_of, followed_by, IsSumm
 pub use Rattle.stab_lines.proofs.BoolLemmas.{chosen, passed, and_left, and_right, both}
 pub use Rattle.stab_lines.proofs.FreeLemmas.{Each, each-append, Free, free-append, free_spaces, free_any, any_free, split_free}
 pub use Rattle.stab_lines.proofs.LineLaws.{line_good, blank_is_empty, refused_as_line, printed_again, good_said}
-pub use Rattle.stab_lines.proofs.SureLemmas.{IsQubit, IsMeasured, IsPair, IsControlled, IsProduct, IsGoodKind, IsGoodLine}
 pub use Rattle.stab_lines.proofs.WriteLemmas.{writes_failed, writes_then, written_more, written_failed, HasWritten}
 pub use Rattle.stab_lines.specs.Axes.{letter_of}
 pub use Rattle.stab_lines.specs.Laws.{IsLine, line_printed, Says}

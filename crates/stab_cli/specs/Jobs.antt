@@ -13,8 +13,8 @@ use Rattle.stab_texts.specs.FaultTables.{EndsFaults}
 use Rattle.stab_texts.specs.CoinTables.{EndsCoins}
 use Rattle.stab_texts.specs.Reasons.{EndsExplain}
 use Rattle.stab_texts.specs.Distances.{EndsDistance}
-use Rattle.stab_commands.specs.ScriptEndings.{EndsEdit}
-use Rattle.stab_commands.specs.ScriptTurns.{EditsInTurn}
+use Rattle.stab_editor.specs.ScriptEndings.{EndsEdit}
+use Rattle.stab_editor.specs.ScriptTurns.{EditsInTurn}
 use Rattle.stab_script.specs.Watchers.{Asked}
 use Rattle.stab_texts.specs.declared.random.Random.{Random}
 use Rattle.stab_jobs.specs.declared.job.Source.{Source}

@@ -1,7 +1,8 @@
 //! The command line of stabsim: its words, and the jobs that they ask for.
 //!
 //! All names that a user of the program's parts needs, in one place. The words are those of `stab_args`, the jobs those
-//! of `stab_jobs`, and the commands those of `stab_commands`, passed on; each crate says what is proved about them.
+//! of `stab_jobs`, and the commands those of `stab_commands`, `stab_analysis` and `stab_editor`, passed on; each crate says what
+//! is proved about them.
 //! Here is what answers the status of the program:
 //!
 //! - `status`: running a job.
@@ -23,9 +24,9 @@ pub use stab_analysis::{
 };
 pub use stab_args::{CoinsFault, NO_COINS, Usage, parse_words, read_coins};
 pub use stab_commands::{
-    run_detect, run_detect_shots, run_edit, run_edit_watched, run_sample, run_sample_shots,
-    run_stabilisers,
+    run_detect, run_detect_shots, run_sample, run_sample_shots, run_stabilisers,
 };
+pub use stab_editor::{run_edit, run_edit_watched};
 pub use stab_jobs::{
     Command, DistanceOptions, ErrorLetters, FaultLayout, Job, QubitCount, Shots, Source, Stride,
 };

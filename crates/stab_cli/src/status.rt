@@ -8,7 +8,8 @@ use stab_analysis::{
     Progress, Unwatched, run_check, run_coins, run_deterministic, run_distance, run_explain,
     run_faults,
 };
-use stab_commands::{run_detect_shots, run_edit_watched, run_sample_shots, run_stabilisers};
+use stab_commands::{run_detect_shots, run_sample_shots, run_stabilisers};
+use stab_editor::run_edit_watched;
 use stab_io::{Fault, Input, Output};
 use stab_jobs::{Command, Job, QubitCount};
 use stab_script::{NoWatcher, Watcher};

@@ -1,108 +1,41 @@
 -- What the proofs of this crate take from std, from crates below and from its definitions.
-pub use Rattle.std.proofs.Common.{◌≡◌, ◌≤◌, ◌<◌, ◌^◌, ℕ, Bool, true, false, nat_lt, List, [], ◌∷◌, length, refl, sym, ap, ◌∙◌, subst, Option, Some, None, Result, Ok, Err, inl, inr, if◌then◌else◌, arith, ◌++◌, append_assoc, ◌⊎◌, zero, suc, get_or, ◌≢◌, ◌+◌, eqb, set, take, length-append, ◌*◌, ◌/◌, ◌%◌, drop, add-one, ◌==◌, nat_le, codes, ◌-◌, ◌||◌, IsTrue, min, ap₂, not, ◌&&◌, rules, length-take}
-pub use Rattle.std.proofs.Math.Seq.{take-length, drop-cons, take-append-add}
-pub use Rattle.std.proofs.lemmas.Bool.{ltb-true, ltb-false, leb-true}
+pub use Rattle.std.proofs.Common.{◌≡◌, ◌≤◌, ◌<◌, ◌^◌, ℕ, Bool, true, false, List, [], ◌∷◌, length, refl, sym, ap, ◌∙◌, subst, Option, Result, Ok, Err, inl, inr, arith, ◌++◌, zero, suc, get_or, ◌+◌, eqb, set, take, ◌*◌, ◌/◌, ◌%◌, drop, add-one, codes, ◌-◌, ap₂, rules}
+pub use Rattle.std.proofs.Math.Seq.{take-length, drop-cons}
 pub use Rattle.std.proofs.lemmas.Grind.{flat_map-append}
-pub use Rattle.std.proofs.lemmas.List.{append-nil, take_more, take_more_set, set_split, drop_all, map-append, take_all, length-map, ext_get_or, take-append-drop}
+pub use Rattle.std.proofs.lemmas.List.{take_more, take_more_set, set_split, drop_all, map-append, length-map}
 pub use Rattle.std.proofs.lemmas.List.Concat.{flat_map-cons}
 pub use Rattle.std.proofs.lemmas.Nat.{and_mask}
 pub use Rattle.std.proofs.lemmas.Nat.Bits.{bit_at-lt}
 pub use Rattle.std.specs.Int.{bit_at}
-pub use Rattle.std.specs.List.{slice_split, flat_map}
-pub use Rattle.std.specs.Prelude.{All, IfOk, bytes_eq, IfErr, bit_and}
+pub use Rattle.std.specs.List.{flat_map}
+pub use Rattle.std.specs.Prelude.{bit_and}
 pub use Rattle.std.specs.Result.{IsErrAnd}
-pub use Rattle.stab_analysis.proofs.CheckLaws.{steps_counted}
-pub use Rattle.stab_analysis.proofs.MemoryLaws.{memory_alone}
-pub use Rattle.stab_analysis.proofs.SendingLaws.{sent_batch, batches_break_off, sent_shot, shots_break_off, cut_off_as, sends_none, cut_off_here, sends_cut_off, sends_finished, parts_join}
-pub use Rattle.stab_texts.proofs.RandomLaws.{first_random_is, deterministic_before, all_deterministic}
+pub use Rattle.stab_texts.proofs.MemoryLaws.{memory_alone}
+pub use Rattle.stab_texts.proofs.SendingLaws.{sent_batch, batches_break_off, sent_shot, shots_break_off, cut_off_as, sends_none, cut_off_here, sends_cut_off, sends_finished, parts_join}
 pub use Rattle.stab_texts.proofs.WritingLaws.{written}
-pub use Rattle.stab_texts.specs.Deciders.{deciders}
-pub use Rattle.stab_texts.specs.Deterministic.{IsDeterministicText}
-pub use Rattle.stab_texts.specs.Distances.{IsDistanceText, answer_text, IsDistanceOf, IsRefusedFor}
-pub use Rattle.stab_texts.specs.Endings.{GaveCircuit, Sends}
-pub use Rattle.stab_texts.specs.FaultLines.{refused_text}
-pub use Rattle.stab_texts.specs.FaultTables.{IsFirstDecider, IsFirstRandom}
-pub use Rattle.stab_texts.specs.Places.{bit_of, path_of_bit, path_of_coin}
-pub use Rattle.stab_texts.specs.Reasons.{DeterministicHasNoDecider}
+pub use Rattle.stab_texts.specs.Endings.{Sends}
 pub use Rattle.stab_texts.specs.Rows.{lines_of, line_of}
-pub use Rattle.stab_analysis.specs.Sources.{coins_of_shot, run_of_shot}
-pub use Rattle.stab_analysis.specs.declared.distance.Distance.{Distance}
-pub use Rattle.stab_texts.specs.declared.random.Bit.{Bit}
-pub use Rattle.stab_texts.specs.declared.random.Decider.{Decider}
-pub use Rattle.stab_texts.specs.declared.random.Random.{Random}
-pub use Rattle.stab_circuit.proofs.EditLemmas.{listed-entries, entries-listed}
-pub use Rattle.stab_circuit.specs.Circuits.{item_fault, StandsForOne}
-pub use Rattle.stab_circuit.specs.Edits.{edited, list_verdict, verdict}
+pub use Rattle.stab_texts.specs.Sources.{run_of_shot}
 pub use Rattle.stab_circuit.specs.Inputs.{GaveText, RefusesText}
-pub use Rattle.stab_circuit.specs.Items.{Items, OneItem, done, before, listed, entries, depth}
-pub use Rattle.stab_circuit.specs.Laws.{AreOfLines, AreAlike, PutsLines, TextsAreLines, ItemTextsAreLines, ItemTextsHaveOneMeaning, EditedItemsAreOfLines, SplitsLeaveTheSteps, SplitItemsAreOfLines, LinesKeepQubitsApart}
-pub use Rattle.stab_circuit.specs.Paths.{Path}
-pub use Rattle.stab_circuit.specs.Places.{item_at}
-pub use Rattle.stab_circuit.specs.Prints.{printed}
+pub use Rattle.stab_circuit.specs.Items.{Items}
 pub use Rattle.stab_circuit.specs.Readings.{IsCircuit, IsFaultOf}
-pub use Rattle.stab_circuit.specs.Splits.{split as split_list, refused_by, split_refusal}
-pub use Rattle.stab_circuit.specs.Steps.{looks_too_far, most_steps, named_qubits, qubits_of, check_within, unroll, detectors_of, steps_cap}
-unfoldable pub use Rattle.stab_circuit.specs.Steps.{check_of}
+pub use Rattle.stab_circuit.specs.Steps.{qubits_of}
 pub use Rattle.stab_circuit.specs.Views.{circuit_items}
-pub use Rattle.stab_circuit.specs.declared.edit.Edit.{Edit}
-pub use Rattle.stab_texts.specs.Coins.{ShotBits, CoinsHaveRows, IsCoinTable, table_of}
-pub use Rattle.stab_errors.specs.ErrorTables.{IsErrorTable}
-pub use Rattle.stab_errors.specs.Errors.{errors_of}
-pub use Rattle.stab_errors.specs.Laws.{CircuitsHaveDistances}
-pub use Rattle.stab_errors.specs.Unseen.{IsDistance}
-pub use Rattle.stab_gates.specs.Letters.{◌⊕◌}
-pub use Rattle.stab_gates.specs.declared.letter.Letter.{Letter}
-pub use Rattle.stab_io.proofs.DeviceLemmas.{gave_none, gave_more, gave_and_failed, took_more, failed_on, failed_within, took_and_failed, wrote_part, wrote_and_failed, WroteUpTo}
-pub use Rattle.stab_io.specs.Devices.{InputView, OutputView, Gave, GaveAndFailed, GaveAll, IsAtEnd, Reads, Took, CutOff}
-pub use Rattle.stab_io.specs.Refusals.{whole, IsCallFault}
-pub use Rattle.stab_io.specs.declared.device.DeviceFault.{DeviceFault}
+pub use Rattle.stab_io.proofs.DeviceLemmas.{failed_on, failed_within, took_and_failed, wrote_part, wrote_and_failed, WroteUpTo}
+pub use Rattle.stab_io.specs.Devices.{InputView, OutputView, Took, CutOff}
+pub use Rattle.stab_io.specs.Refusals.{whole}
 pub use Rattle.stab_io.specs.declared.refusal.Fault.{Fault}
-pub use Rattle.stab_io.specs.declared.refusal.Refusal.{Refusal}
-pub use Rattle.stab_io.specs.declared.refusal.Refusal.TheVariants.{TooDeep, QubitOutOfRange, LookbackTooFar, TooManySteps, BadCommand, NotDeterministic, OutOfMemory, TooLong, ReadFault}
-pub use Rattle.stab_jobs.specs.declared.job.DistanceOptions.{DistanceOptions}
-pub use Rattle.stab_jobs.specs.declared.job.Source.{Source}
-pub use Rattle.stab_lines.proofs.BoolLemmas.{and_left, and_right}
-pub use Rattle.stab_lines.proofs.WordLemmas.{eighteen_digits}
-pub use Rattle.stab_lines.specs.Lines.{is_byte, content_of, ends_with_byte}
-pub use Rattle.stab_lines.specs.Words.{is_number, value}
-pub use Rattle.stab_pauli.specs.Paulis.{Signed, with_sign, minus}
+pub use Rattle.stab_io.specs.declared.refusal.Refusal.TheVariants.{OutOfMemory}
+pub use Rattle.stab_pauli.specs.Paulis.{Signed}
 pub use Rattle.stab_pauli.specs.Texts.{pauli_text}
 pub use Rattle.stab_recording.specs.declared.whole.Shot.{Shot}
-pub use Rattle.stab_regions.proofs.FaultTableLemmas.{deterministic-found}
-pub use Rattle.stab_regions.specs.FaultLaws.{DeterministicParities}
-pub use Rattle.stab_regions.specs.Faults.{AreDeterministic, IsDeterministic, bits_in}
 pub use Rattle.stab_results.specs.Formats.{f01_bytes, digit, shot_bytes}
 pub use Rattle.stab_results.specs.declared.format.Format.{Format}
 pub use Rattle.stab_results.specs.declared.format.Format.TheVariants.{F01, B8}
 pub use Rattle.stab_results.specs.declared.format.Kinds.{Kinds}
 pub use Rattle.stab_results.specs.declared.format.Kinds.TheVariants.{Detectors as Detected}
-pub use Rattle.stab_run.proofs.FitLemmas.{check-fits, check-whole}
-pub use Rattle.stab_run.specs.Coins.{seed_coin, Seeded, Listed, list_coin}
-pub use Rattle.stab_run.specs.Laws.{IsSoundRun, RunsAreSound}
-pub use Rattle.stab_run.specs.ProgramStates.{StepFits}
+pub use Rattle.stab_run.specs.Coins.{seed_coin, Seeded}
 pub use Rattle.stab_run.specs.Runs.{State, run_of}
-pub use Rattle.stab_script.proofs.PlaceCountLaws.{place_of_session}
-pub use Rattle.stab_script.proofs.ReadingLaws.{read_append, read_none, opened_read}
-pub use Rattle.stab_script.proofs.TellingLaws.{answers_then, told_then, told_some_behind, sitting_with}
-pub use Rattle.stab_script.specs.Editors.{Sitting, Told, ToldSome, FlushFails, Sent, Finishes, sitting}
-pub use Rattle.stab_script.specs.FramedAnswers.{GivesText}
-pub use Rattle.stab_script.specs.FramedReplies.{reply_text, greeting, session_numbers, made_text, text_found}
-pub use Rattle.stab_script.specs.FramedRequests.{FramedRequest, mark, split, numbers, changed, changed_records, sign, item, counts, coin_table, why, alone, round_of, framed_split, framed_show}
-pub use Rattle.stab_script.specs.Replies.{ReplyBytes}
-pub use Rattle.stab_script.specs.Requests.{opened_in}
-pub use Rattle.stab_script.specs.ScriptWords.{Gathered, first_word, behind_word, is_nothing, is_place_number, place_of}
-pub use Rattle.stab_script.specs.Scripts.{Setting, Request, begin, put, delete, show, ask, deterministic, distance, refuse, Held, run_held, Answer, IsPut, Shows, IsDeterministicAnswer, IsDistanceAnswer, IsPlainAnswer, IsAnswer, IsAnswerToAll, options_asked, both, unless, judged, decided, refusing, replying, edit_of, edited_items, framed_shown, held_split, held_behind, shown_or_refused, framed_answer, put_at, delete_at, framed_of, distance_of, show_by, show_of, request_by, Gathering, ScriptReader, Reading, silent, line_ended, put_gathered, gathering_ended, begun, line_alone, gathered_with, line_behind, read_byte, read_last, closed, read_end, empty_reader, requests_of, opened, requests_in, most_script}
-unfoldable pub use Rattle.stab_script.specs.Scripts.{request_of, read_line, read}
-pub use Rattle.stab_script.specs.Signs.{sign_in, sign_line, string_of_word}
-pub use Rattle.stab_script.specs.Watchers.{Asked, given_by, asked, Logs}
-pub use Rattle.stab_script.specs.declared.changes.MarkedBits.{MarkedBits}
-pub use Rattle.stab_script.specs.declared.editor.Answered.{Answered}
-pub use Rattle.stab_script.specs.declared.request.ItemEdit.{ItemEdit}
-pub use Rattle.stab_script.specs.declared.request.ItemEdit.TheVariants.{Insert, Replace}
-pub use Rattle.stab_script.specs.declared.request.Show.{Show}
-pub use Rattle.stab_script.specs.declared.request.Show.TheVariants.{Measurements, Free, Detectors, Observables, Stabilisers, Circuit}
-pub use Rattle.stab_session.specs.SessionEdits.{IsEditedBy, IsAsBefore, IsSplit}
-pub use Rattle.stab_session.specs.Sessions.{SessionState, IsSignIn}
 pub use Rattle.stab_lanes.proofs.ColumnLemmas.{column-lane}
 pub use Rattle.stab_shots.proofs.RecordedLemmas.{if-copied}
 pub use Rattle.stab_lanes.proofs.RowLemmas.{length-row}
@@ -112,15 +45,8 @@ pub use Rattle.stab_lanes.specs.Lanes.{lane_bits}
 pub use Rattle.stab_shots.specs.References.{IsReference}
 pub use Rattle.stab_shots.specs.Shots.{AreRuns}
 pub use Rattle.stab_lanes.specs.Words.{word_bit}
-pub use Rattle.stab_tableau.proofs.TestLemmas.{same_test}
-pub use Rattle.stab_tableau.specs.Reduced.{TracesHaveReducedRows, TracesHaveOneList}
-pub use Rattle.stab_tableau.specs.Traces.{member}
 pub use Rattle.stab_commands.specs.Outputs.{EndsRun, of_shots, detected}
-pub use Rattle.stab_commands.specs.ScriptEndings.{EndsOn, EndsEditBy, EndsPlainEdit, EndsEdit, setting_of, qubits_for, AnswersScript, BreaksOff, AnswersFront, EndsScript}
-pub use Rattle.stab_commands.specs.ScriptLaws.{CanBeEdited, asks_distance, NoneAsksDistance}
-pub use Rattle.stab_commands.specs.ScriptTurns.{all_given, InTurn, LogsInTurn, TakesTurns}
 pub use Rattle.stab_commands.specs.Sendings.{IsShown, SendsUnflushed, shown_bytes, shown_kinds, shown_items, shots_of}
 pub use Rattle.stab_commands.specs.declared.bits.Shown.{Shown}
 pub use Rattle.stab_commands.specs.declared.bits.Shown.TheVariants.{Records, DetectorsAndObservables}
 pub use Rattle.stab_commands.specs.inner.Packings.{packed_bytes}
-pub use Rattle.stab_commands.specs.inner.SessionAnswers.{answered, held_of, session_run}

@@ -1,5 +1,5 @@
 -- Laws of runs: what the parts of a command pass on makes its end.
-use Rattle.stab_commands.proofs.Names.{◌≡◌, refl, subst, sym, Bool, List, ℕ, Option, Result, Ok, Err, inl, inr, IsErrAnd, InputView, OutputView, Fault, GaveText, RefusesText, Items, IsCircuit, IsFaultOf, GaveCircuit, Sends, Source, EndsRun, EndsOn, EndsEdit, setting_of, qubits_for, Setting, coins_of_shot, false, Held, Request, Answer, IsAnswer, IsPlainAnswer, IsAnswerToAll, opened, begin, put, delete, show, ask, deterministic, distance, refuse, EndsEditBy, EndsPlainEdit}
+use Rattle.stab_commands.proofs.Names.{◌≡◌, refl, subst, sym, List, ℕ, Result, Ok, Err, inl, inr, IsErrAnd, InputView, OutputView, Fault, GaveText, RefusesText, Items, IsCircuit, IsFaultOf, Sends, EndsRun}
 
 -- A call whose text was refused.
 pub ends_refused : (output : Items → List ℕ) (i i' : InputView) (o : OutputView) (f : Fault) (r : Result (Unit {0}) Fault) → RefusesText IsFaultOf i i' f → IsErrAnd r (λ y. y ≡ f) → EndsRun output i i' o o r
@@ -11,38 +11,3 @@ pub ends_sent : (output : Items → List ℕ) (i i' : InputView) (o o' : OutputV
     → GaveText i i' text → IsCircuit text items → Sends (output items) o o' r → EndsRun output i i' o o' r
 ends_sent output i i' o o' text items (Ok u) gave circuit sends = (items, (text, gave, circuit), sends)
 ends_sent output i i' o o' text items (Err f) gave circuit sends = inr (items, (text, gave, circuit), sends)
-
--- what requests are answered on items in a setting
-abbrev answered_in : Setting → Items → List Request → Answer → Type 0
-answered_in setting items requests a = IsAnswerToAll setting (opened setting items) requests a
-
--- A call that went on with a script.
-edit_ends : (framed : Bool) (qubits : Option ℕ) (source : Source) (i i' s s' : InputView) (o o' : OutputView) (items : Items) (r : Result Bool Fault)
-    → GaveCircuit i i' items → EndsOn (answered_in (setting_of framed qubits source items) items) (qubits_for qubits items) items s s' o o' r → EndsEdit framed qubits source i i' s s' o o' r
-edit_ends framed qubits source i i' s s' o o' items (Ok refused) gave ends = (items, gave, ends)
-edit_ends framed qubits source i i' s s' o o' items (Err f) gave ends = inr (items, gave, ends)
-
--- The same, by its own number of qubits and coins.
-pub edit_ended : (framed : Bool) (qubits : Option ℕ) (source : Source) (i i' s s' : InputView) (o o' : OutputView) (items : Items) (r : Result Bool Fault) (n : ℕ) (coins : ℕ → Bool)
-    → GaveCircuit i i' items → n ≡ qubits_for qubits items → coins ≡ coins_of_shot source 0
-    → EndsOn (answered_in (record { framed = framed; qubits = n; coins = coins }) items) n items s s' o o' r → EndsEdit framed qubits source i i' s s' o o' r
-edit_ended framed qubits source i i' s s' o o' items r n coins gave is_n is_coins ends =
-    edit_ends framed qubits source i i' s s' o o' items r gave
-    (subst (λ (x : Setting). EndsOn (answered_in x items) x.qubits items s s' o o' r) (λ j. record { framed = framed; qubits = is_n j; coins = is_coins j }) ends)
-
--- A script that is not framed is answered plainly.
-plain_answer : (n : ℕ) (coins : ℕ → Bool) (held : Held) (r : Request) (a : Answer)
-    → IsAnswer (record { framed = false; qubits = n; coins = coins }) held r a ≡ IsPlainAnswer (record { framed = false; qubits = n; coins = coins }) held r a
-plain_answer n coins held begin a = refl
-plain_answer n coins held (put how place text) a = refl
-plain_answer n coins held (delete place) a = refl
-plain_answer n coins held (show what) a = refl
-plain_answer n coins held (ask request) a = refl
-plain_answer n coins held deterministic a = refl
-plain_answer n coins held (distance everywhere most) a = refl
-plain_answer n coins held (refuse e) a = refl
-
--- So a call of `edit` for one ends as is said of it.
-pub plain_ends : (qubits : Option ℕ) (source : Source) (i i' s s' : InputView) (o o' : OutputView) (r : Result Bool Fault) → EndsEdit false qubits source i i' s s' o o' r → EndsPlainEdit qubits source i i' s s' o o' r
-plain_ends qubits source i i' s s' o o' r ends =
-    subst (λ t. t) (λ j. EndsEditBy (λ setting held request a. plain_answer setting.qubits setting.coins held request a j) false qubits source i i' s s' o o' r) ends

@@ -1,11 +1,5 @@
 pub mod Outputs
 pub mod Sendings
-pub use Rattle.stab_script.specs.Scripts
-pub use Rattle.stab_script.specs.Watchers
-pub use Rattle.stab_script.specs.LoggedInputs
-pub mod ScriptLaws
-pub mod ScriptEndings
-pub mod ScriptTurns
 pub use Rattle.stab_jobs.specs.Limits
 pub mod Stabilisers
 pub mod inner

@@ -11,7 +11,7 @@ use Rattle.stab_results.specs.declared.format.Kinds.TheVariants.{Measurements, D
 use Rattle.stab_results.specs.Formats.{shot_bytes}
 use Rattle.stab_texts.specs.Endings.{Ends, Sends}
 use Rattle.stab_jobs.specs.declared.job.Source.{Source}
-use Rattle.stab_analysis.specs.Sources.{run_of_shot}
+use Rattle.stab_texts.specs.Sources.{run_of_shot}
 pub use Rattle.stab_texts.specs.Texts.{texts_from as of_shots}
 
 -- what `sample` writes for the items: the records of each shot

@@ -10,7 +10,7 @@ ghost use Rattle.stab_circuit.specs.Steps.{check_of, qubits_of};
 ghost use Rattle.stab_circuit.specs.Views.{circuit_items};
 ghost use Rattle.stab_run.specs.Runs.{run_of};
 ghost use Rattle.stab_texts.specs.Rows.{line_of, lines_of};
-ghost use Rattle.stab_analysis.specs.Sources.{run_of_shot};
+ghost use Rattle.stab_texts.specs.Sources.{run_of_shot};
 ghost use Rattle.stab_commands.specs.Stabilisers.{EndsStabilisers};
 ghost use Rattle.stab_commands.specs.inner.Rows.{SendsLines};
 

@@ -5,7 +5,7 @@ pub use Rattle.std.proofs.Math.Nat.{div-mul-le_self}
 pub use Rattle.std.proofs.Math.Seq.{take-add, take-length, take-append_seam, take-append-add, drop-append_seam}
 pub use Rattle.std.proofs.lemmas.Bool.{cases_lt, cases_order}
 pub use Rattle.std.proofs.lemmas.Bool.Decides.{leb_tells}
-pub use Rattle.std.proofs.lemmas.List.{length-replicate, length-set, get_or-set_other, length-append, length-map, map-append, take_all, get_or-replicate, set-get_or, map_more, get_or-map, length-take-le, take-append-drop, length-take, take-append-le, get_or_append_left, get_or-set_same, ext_get_or, get_or_default, take-map, take_more, length-drop, get_or-drop, get_or-take, drop-drop, replicate-append-replicate, take-take, drop-map}
+pub use Rattle.std.proofs.lemmas.List.{length-replicate, length-set, get_or-set_other, length-append, length-map, map-append, take_all, get_or-replicate, set-get_or, map_more, get_or-map, length-take-le, take-append-drop, length-take, take-append-le, get_or_append_left, get_or-set_same, ext_get_or, get_or_default, take-map, take_more, length-drop, get_or-drop, get_or-take, drop-drop, take-take, drop-map}
 pub use Rattle.std.proofs.lemmas.List.Elements.{All-take, All-nil, All-cons, All-head, All-tail, All-append, All-drop}
 pub use Rattle.std.proofs.lemmas.Option.{IfSome_then, slice_get-get_or, slice_get_past}
 pub use Rattle.std.proofs.lemmas.Result.{IfOk-weaker}
@@ -35,16 +35,15 @@ pub use Rattle.stab_pauli.proofs.StringLemmas.{strings_anticommute-comm, strings
 pub use Rattle.stab_pauli.specs.Masks.{chooses}
 pub use Rattle.stab_pauli.specs.Paulis.{Signed, with_sign, strings_anticommute, single, string_product, minus, anticommute}
 pub use Rattle.stab_items.proofs.LookLemmas.{within-more, one-more, near-gates, near-targets}
-pub use Rattle.stab_run.proofs.CoinLemmas.{coins-append, coins-one, coins-are, coins-few}
+pub use Rattle.stab_run.proofs.CoinLemmas.{coins-append, coins-one, coins-are}
 pub use Rattle.stab_run.proofs.FutureBackLemmas.{same-future-back}
 pub use Rattle.stab_run.proofs.LookbackLemmas.{or-left, or-right, looked_up-near, looked_up-zeros, looked_up-far, looked_up-more}
 pub use Rattle.stab_run.proofs.PointLemmas.{records-are-records}
 pub use Rattle.stab_run.proofs.ProductLemmas.{length-string_of}
 pub use Rattle.stab_run.proofs.RecordLemmas.{ones-append}
-pub use Rattle.stab_run.proofs.RunLemmas.{joined-nothing, after-append, outputs-append, joined-assoc, IsRun-none, IsRun-append, fits-steps}
+pub use Rattle.stab_run.proofs.RunLemmas.{joined-nothing, after-append, outputs-append, joined-assoc, IsRun-none, IsRun-append}
 pub use Rattle.stab_run.proofs.SoundLemmas.{IsGood, good-next}
 pub use Rattle.stab_run.proofs.StateLemmas.{run-state, both_false, both_true, free-outcome}
-pub use Rattle.stab_run.proofs.StepsLeftLemmas.{take-steps, drop-steps, take-none, drop-none, take-empty, drop-empty}
 pub use Rattle.stab_run.proofs.TargetLemmas.{coins-measured, fits-target}
 pub use Rattle.stab_run.specs.Cuts.{lengths_of}
 pub use Rattle.stab_run.specs.Ends.{AgreeBack, with_coin}
@@ -79,7 +78,7 @@ pub use Rattle.stab_frames.specs.Flips.{flipped_output, Matches, unflipped, flip
 pub use Rattle.stab_frames.specs.FrameSteps.{frame_over, flips_over, frame_after, letters_after, flips_given, flipped_by, letters_by, flips_outcome, letters_measured}
 pub use Rattle.stab_frames.specs.FramedTableaus.{framed_rows, framed_tableau}
 pub use Rattle.stab_frames.specs.Frames.{Frame, PointsDifferBy, identity_frame, plus, times_where, frame_of, frame_product}
-pub use Rattle.stab_frames.specs.Images.{has_both, exchanges, letter_where, controlled_letter}
+pub use Rattle.stab_frames.specs.Images.{letter_where, controlled_letter}
 pub use Rattle.stab_frames.specs.Fronts.{edit_frame, IsFlippedRun, AreFronts}
 pub use Rattle.stab_frames.specs.Limits.{bytes_of, most_strings}
 pub use Rattle.stab_items.specs.Steps.{LooksWithin}

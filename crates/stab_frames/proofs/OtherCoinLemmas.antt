@@ -1,5 +1,5 @@
 -- Other coins: a frame on its way to a run with other coins, from each run that had the outcomes there.
-use Rattle.stab_frames.proofs.Names.{◌≡◌, ℕ, ◌+◌, ◌-◌, ◌<◌, ◌≤◌, refl, sym, ◌∙◌, ap, subst, Bool, true, false, List, [], ◌∷◌, ◌++◌, append_assoc, length, take, drop, get_or, arith, take-append-drop, take-append_seam, Letter, ◌⊕◌, parity-comm, Signed, single, Event, is_free, Step, one, two, controlled, collapse, product, detector, observable, ones, string_of, outcome_at, Point, coins_of, all_coins_of, given, next_point, outputs, free-outcome, pivot_at, PropagationState, frame_at, PropagatesToOthers, outcome_of, differing, IsDrawn, AreDrawn, IsStop, Stop, Behind, Gone, NoString, AreTold, IsMissing, GoesOver}
+use Rattle.stab_frames.proofs.Names.{◌≡◌, ℕ, ◌+◌, ◌-◌, ◌<◌, ◌≤◌, refl, sym, ◌∙◌, ap, subst, Bool, false, List, [], ◌∷◌, ◌++◌, append_assoc, drop, get_or, arith, take-append-drop, Letter, ◌⊕◌, parity-comm, Signed, single, Event, is_free, Step, one, two, controlled, collapse, product, detector, observable, string_of, outcome_at, Point, coins_of, all_coins_of, given, next_point, outputs, free-outcome, pivot_at, PropagationState, frame_at, PropagatesToOthers, outcome_of, differing, IsDrawn, AreDrawn, AreTold, GoesOver}
 use Rattle.stab_frames.proofs.PropagatedLemmas.{first-flag, told-enough}
 
 -- an outcome gives the coin of a free one

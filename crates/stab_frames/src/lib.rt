@@ -22,7 +22,7 @@
 //! - `framed_states`: kept states, conjugated by the letters of a frame.
 //! - `propagation`: a frame on its way, with what it has flipped.
 //! - `draw`: which coins differ on its way.
-//! - `propagate_step`, `propagate_instruction`: one step on its way, and those of one instruction.
+//! - `propagate_step`, `instruction`: one step on its way, and those of one instruction.
 //!
 //! A frame on its way over the steps that a cursor has left is `stab_recording`'s.
 //!
@@ -44,11 +44,11 @@
 mod bits;
 mod draw;
 mod framed_states;
+mod instruction;
 mod letters;
 pub mod pivot_laws;
 mod pivot_recorder;
 mod pivots;
-mod propagate_instruction;
 mod propagate_step;
 mod propagation;
 pub mod run_laws;
@@ -57,9 +57,9 @@ pub mod step_laws;
 pub use bits::{append_flipped, append_flipped_additions, between, bit_at, count_ones};
 pub use draw::{Draw, SameCoins};
 pub use framed_states::apply_frame_to;
+pub use instruction::propagate_instruction;
 pub use letters::{Images, controlled_letter};
 pub use pivot_recorder::PivotRecorder;
 pub use pivots::Pivots;
-pub use propagate_instruction::propagate_instruction;
 pub use propagate_step::Known;
 pub use propagation::Propagation;

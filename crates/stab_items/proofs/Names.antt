@@ -40,7 +40,7 @@ pub use Rattle.stab_lines.specs.declared.operation.Operation.{Operation}
 pub use Rattle.stab_lines.specs.declared.product.Factor.{Factor}
 pub use Rattle.stab_lines.specs.declared.range.MeasureTarget.{MeasureTarget}
 pub use lib.Dec.{eqb}
-pub use Rattle.stab_items.specs.Circuits.{Meaning, at_line, meaning_after, one_item, depth_after, ends_item, line_meanings, Joins, nothing, blank_line, operation_line, block_lines, AreLinesOf}
+pub use Rattle.stab_items.specs.Circuits.{Meaning, at_line, meaning_after, one_item, depth_after, ends_item, line_meanings, Joins, nothing, blank_line, operation_line, block_lines}
 pub use Rattle.stab_items.specs.Items.{OneItem, Items, operation, repeat, done, next, block, before, listed, join, depth, depth_of, depth_of as nested_in}
 pub use Rattle.stab_items.specs.Nothings.{IsNothing}
 pub use Rattle.stab_items.specs.Prints.{PrintedLine, printed_lines, line_text, text_of, printed_in}

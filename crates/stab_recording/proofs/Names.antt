@@ -1,7 +1,7 @@
 -- What the proofs of this crate take from std, from crates below and from its definitions.
 pub use Rattle.std.proofs.Common.{◌≡◌, ℕ, ◌+◌, ◌-◌, ◌≤◌, sym, ◌∙◌, ap, subst, Bool, List, ◌++◌, take, drop, arith, suc, ◌*◌, ◌<◌, refl, [], ◌∷◌, append_assoc, length, get_or, add-one, Option, zero, false, inl, inr, true, reverse, ◌^◌, map, Some, None, slice_get, All, ◌/◌, ◌⊎◌, IsSomeAnd, replicate, min, not, set, append-nil, ◌≢◌, ◌&&◌, ◌||◌, nat_lt, ◌↔◌, Vec, Global, vec_capacity, rules, IsTrue}
 pub use Rattle.std.proofs.Math.Nat.{add-mul, mul-le-mul_right, mul-le-mul_left, div-mul-le_self}
-pub use Rattle.std.proofs.Math.Seq.{take-add, drop-cons, take-suc, take-length, drop-append_seam, take-append-add}
+pub use Rattle.std.proofs.Math.Seq.{take-add, drop-cons, take-suc, take-length, drop-append_seam, take-append-add, take-append_seam}
 pub use Rattle.std.proofs.lemmas.Bool.{cases_lt, le-leb, lt-leb, or_cases, or_from}
 pub use Rattle.std.proofs.lemmas.Bool.Decides.{leb_tells}
 pub use Rattle.std.proofs.lemmas.Grind.{div_ceil_times}
@@ -74,7 +74,7 @@ pub use Rattle.stab_run.specs.Laws.{AgreeAt, IsSoundRun, DependsOnCoinsAt}
 pub use Rattle.stab_run.specs.Points.{origin, joined, all_coins_of, point_after, outputs, Point, RunOutput, with_additions, nothing, given, next_point, coins_of, state_at}
 pub use Rattle.stab_run.specs.ProgramStates.{ProgramState, IsAt, IsRun, program_state, StepFits, output_of}
 pub use Rattle.stab_run.specs.Records.{looked_up, ones}
-pub use Rattle.stab_run.specs.Runs.{run, string_of, when, collapsed, flip_of, State, start}
+pub use Rattle.stab_run.specs.Runs.{run, string_of, when, flip_of, State, start}
 unfoldable pub use Rattle.stab_run.specs.Runs.{run_of}
 pub use Rattle.stab_run.specs.declared.records.Lengths.{Lengths}
 pub use Rattle.stab_tableau.proofs.ReducedLemmas.{same-letters}
@@ -85,7 +85,7 @@ pub use Rattle.stab_tableau.specs.Gates.{back}
 pub use Rattle.stab_tableau.specs.Groups.{SameGroup, IsStabiliserGroup}
 pub use Rattle.stab_tableau.specs.Rules.{is_free_by}
 pub use Rattle.stab_tableau.specs.Tableaus.{TableauState, stabilises}
-pub use Rattle.stab_tableau.specs.Traces.{member, outcome, projected}
+pub use Rattle.stab_tableau.specs.Traces.{member}
 pub use Rattle.stab_recording.specs.Checkpoints.{IsCheckpoint, checkpoint_steps, IsRunFromStart}
 pub use Rattle.stab_recording.specs.FramedReplays.{IsOldRun, HaveSameFuture}
 pub use Rattle.stab_recording.specs.FramesFrom.{flips_since, AreCompared, IsFrameFrom, flips_behind}

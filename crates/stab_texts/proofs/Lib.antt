@@ -1,5 +1,7 @@
 mod Names
 pub mod WritingLaws
+pub mod SendingLaws
+pub mod MemoryLaws
 pub mod FaultLineLaws
 pub mod FaultTextLaws
 pub mod FaultSiteLaws

@@ -1,4 +1,5 @@
 pub mod Coins
+pub mod Sources
 pub mod Endings
 pub mod Texts
 pub mod FaultLines

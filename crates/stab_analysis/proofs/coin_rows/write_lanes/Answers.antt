@@ -1,6 +1,6 @@
 use Rattle.stab_analysis.proofs.Names.{◌≡◌, ◌∙◌, ◌+◌, ◌*◌, ◌<◌, ap, sym, subst, length, arith, length-map, IsErrAnd, Took, OutOfMemory, whole, circuit_items, one_places, lane_bits, coin_text, texts_from, coin_at, places_in, text_at}
 use Rattle.stab_analysis.proofs.PlacedWordLaws.{ones-below}
-use Rattle.stab_analysis.proofs.SendingLaws.{sends_none, sent_shot, shots_break_off, cut_off_as, cut_off_here}
+use Rattle.stab_texts.proofs.SendingLaws.{sends_none, sent_shot, shots_break_off, cut_off_as, cut_off_here}
 use Rattle.stab_analysis.proofs.coin_rows.write_lanes.Goals as goal
 
 pub write_coin-requires-clause-below : goal.write_coin-requires-clause-below

@@ -1,6 +1,6 @@
 use Rattle.stab_analysis.proofs.Names.{◌≡◌, ◌+◌, ◌≤◌, false, length, replicate, ap, sym, ◌∙◌, arith, subst, Took, circuit_items, texts_from, text_at}
 use Rattle.stab_analysis.proofs.CoinRowLaws.{part_flips}
-use Rattle.stab_analysis.proofs.SendingLaws.{sent_batch, batches_break_off}
+use Rattle.stab_texts.proofs.SendingLaws.{sent_batch, batches_break_off}
 use Rattle.stab_texts.proofs.WritingLaws.{written}
 use Rattle.stab_analysis.proofs.coin_rows.write_parts.Goals as goal
 

@@ -1,6 +1,6 @@
 use Rattle.stab_analysis.proofs.Names.{arith, ◌≡◌, ◌∙◌, ◌+◌, ◌++◌, ap, ap₂, sym, subst, length, IsErrAnd, qubits_of, circuit_items, flips_of, zero_coins, AreBits, free_coins, lane_bits, coin_at}
 use Rattle.stab_analysis.proofs.CoinRowLaws.{lanes_joined, within_words}
-use Rattle.stab_analysis.proofs.SendingLaws.{sends_none}
+use Rattle.stab_texts.proofs.SendingLaws.{sends_none}
 use Rattle.stab_analysis.proofs.coins.send_batch.Goals as goal
 
 pub returns-in_err-flips : goal.returns-in_err-flips

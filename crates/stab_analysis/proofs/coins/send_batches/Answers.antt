@@ -1,6 +1,6 @@
 use Rattle.stab_analysis.proofs.Names.{◌+◌, ◌≤◌, ℕ, List, length, arith, subst, CutOff, Took, circuit_items, texts_from, text_at}
 use Rattle.stab_analysis.proofs.CoinRowLaws.{from_none}
-use Rattle.stab_analysis.proofs.SendingLaws.{sends_none, sent_batch, batches_break_off}
+use Rattle.stab_texts.proofs.SendingLaws.{sends_none, sent_batch, batches_break_off}
 use Rattle.stab_analysis.proofs.coins.send_batches.Goals as goal
 
 pub loop-sent-preserved : goal.loop-sent-preserved

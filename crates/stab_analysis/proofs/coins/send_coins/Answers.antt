@@ -1,4 +1,4 @@
-use Rattle.stab_analysis.proofs.SendingLaws.{sends_cut_off, sends_finished}
+use Rattle.stab_texts.proofs.SendingLaws.{sends_cut_off, sends_finished}
 use Rattle.stab_analysis.proofs.coins.send_coins.Goals as goal
 
 pub returns-in_err-write_coins-clause-sends : goal.returns-in_err-write_coins-clause-sends

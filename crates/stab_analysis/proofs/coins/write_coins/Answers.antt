@@ -1,8 +1,8 @@
 use Rattle.stab_analysis.proofs.Names.{◌≡◌, refl, subst, IsErrAnd, qubits_of, unroll, circuit_items, AreCoinRuns, check-fits, SendsUnflushed}
 use Rattle.stab_analysis.proofs.RowLemmas.{coins-have-rows}
 use Rattle.stab_analysis.proofs.CoinRowLaws.{table_texts}
-use Rattle.stab_analysis.proofs.MemoryLaws.{checked_on_own_qubits, memory_alone}
-use Rattle.stab_analysis.proofs.SendingLaws.{sends_none}
+use Rattle.stab_texts.proofs.MemoryLaws.{checked_on_own_qubits, memory_alone}
+use Rattle.stab_texts.proofs.SendingLaws.{sends_none}
 use Rattle.stab_analysis.proofs.coins.write_coins.Goals as goal
 
 pub returns-in_err-runs : goal.returns-in_err-runs

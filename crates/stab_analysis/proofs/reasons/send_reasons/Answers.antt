@@ -1,7 +1,7 @@
 use Rattle.stab_analysis.proofs.Names.{◌≡◌, refl, subst, IsErrAnd, OutOfMemory, whole, qubits_of, unroll, circuit_items, check-fits}
 use Rattle.stab_analysis.proofs.RowLemmas.{coins-have-rows}
-use Rattle.stab_analysis.proofs.MemoryLaws.{checked_on_own_qubits}
-use Rattle.stab_analysis.proofs.SendingLaws.{cut_off_here, sends_cut_off}
+use Rattle.stab_texts.proofs.MemoryLaws.{checked_on_own_qubits}
+use Rattle.stab_texts.proofs.SendingLaws.{cut_off_here, sends_cut_off}
 use Rattle.stab_analysis.proofs.reasons.send_reasons.Goals as goal
 
 pub returns-in_err-runs-clause-table : goal.returns-in_err-runs-clause-table

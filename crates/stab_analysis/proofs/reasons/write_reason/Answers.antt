@@ -2,7 +2,7 @@ use Rattle.stab_analysis.proofs.Names.{◌<◌, ◌∙◌, All, ap, sym, subst, 
 use Rattle.stab_analysis.proofs.CheckLaws.{detectors_counted}
 use Rattle.stab_texts.proofs.FaultBitLaws.{below}
 use Rattle.stab_analysis.proofs.ReasonLaws.{is_random, no_places, reason_found, reason_none, some_places}
-use Rattle.stab_analysis.proofs.SendingLaws.{sends_written}
+use Rattle.stab_texts.proofs.SendingLaws.{sends_written}
 use Rattle.stab_texts.proofs.RandomLaws.{random_within}
 use Rattle.stab_analysis.proofs.reasons.write_reason.Goals as goal
 

@@ -1,6 +1,6 @@
 use Rattle.stab_analysis.proofs.Names.{◌<◌, ◌∙◌, ℕ, List, sym, subst, length, arith, CutOff, Took, qubits_of, circuit_items, bits_in, table_of, listed-at, reason_text}
 use Rattle.stab_analysis.proofs.CoinRowLaws.{from_none}
-use Rattle.stab_analysis.proofs.SendingLaws.{sent_shot, shots_break_off}
+use Rattle.stab_texts.proofs.SendingLaws.{sent_shot, shots_break_off}
 use Rattle.stab_analysis.proofs.reasons.write_reasons.Goals as goal
 
 pub write_reason-requires-clause-are : goal.write_reason-requires-clause-are

@@ -1,5 +1,5 @@
 use Rattle.stab_analysis.proofs.Names.{◌≡◌, ◌<◌, ◌∙◌, sym, subst, length, arith, IsErrAnd, listed-at}
-use Rattle.stab_analysis.proofs.SendingLaws.{sends_none}
+use Rattle.stab_texts.proofs.SendingLaws.{sends_none}
 use Rattle.stab_analysis.proofs.reasons.write_why.Goals as goal
 
 pub returns-in_err-lists : goal.returns-in_err-lists

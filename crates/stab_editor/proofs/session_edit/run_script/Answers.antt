@@ -1,0 +1,104 @@
+use Rattle.stab_editor.proofs.Names.{◌≡◌, ◌+◌, ◌-◌, ◌++◌, [], ◌∷◌, false, sym, ap, ◌∙◌, subst, arith, inr, length, length-take, take, drop, append-nil, take-append-drop, Gave, ScriptReader, begin, read, empty_reader, opened_in, Sitting, Told, ToldSome, sitting, opened_read, sitting_with}
+use Rattle.std.specs.Prelude.{List, ℕ, Ok, Err}
+use Rattle.stab_editor.proofs.ScriptRunLaws.{before_script, greeting_broke, script_failed, broke_behind, script_too_long, gave_end, script_ended, script_err}
+use Rattle.stab_editor.proofs.ScriptTurnLaws.{in_turn_at_first, in_turn_so_far, last_in_turn, unread_in_turn}
+use Rattle.stab_editor.proofs.session_edit.run_script.Goals as goal
+
+pub returns-in_err-tell_request : goal.returns-in_err-tell_request
+returns-in_err-tell_request g c =
+    let setting = g.A.Answer.setting c.args.answers in
+    let items = (g.A.Answer.held c.args.answers).items in
+    let s = g.S.Input.seen c.args.script.now in
+    let o = g.O.Output.seen c.args.out.now in
+    let o' = g.O.Output.seen c.tell_request.new.out in
+    let f = c.in_err-tell_request.field-0.0 in
+    let at_first : sitting g.A.Answer.setting g.A.Answer.held c.new-editor.result ≡ before_script setting items =
+    c.new-editor.ensures.sitting ∙ ap (λ h. sitting_with setting h false) c.requires.opened in
+    record {
+      ends = script_err f c.from_residual.result c.from_residual.ensures.1
+          (greeting_broke s f (subst (λ (x : Sitting). ToldSome x (begin ∷ []) o o' f) at_first c.in_err-tell_request.ensures.tells));
+      turns = unread_in_turn setting items s o (g.W.Watcher.log c.args.script.now);
+    }
+
+pub reads-init : goal.reads-init
+reads-init g c =
+    let setting = g.A.Answer.setting c.args.answers in
+    let items = (g.A.Answer.held c.args.answers).items in
+    let o = g.O.Output.seen c.args.out.now in
+    let o' = g.O.Output.seen c.tell_request.new.out in
+    let now = sitting g.A.Answer.setting g.A.Answer.held c.tell_request.new.self in
+    let reader : c.tell_request.new.self.reader ≡ empty_reader = c.tell_request.ensures.reader ∙ c.new-editor.ensures.reader in
+    let none : opened_in c.tell_request.new.self.reader.gathering ≡ 0 = ap (λ (d : ScriptReader). opened_in d.gathering) reader in
+    let at_first : sitting g.A.Answer.setting g.A.Answer.held c.new-editor.result ≡ before_script setting items =
+    c.new-editor.ensures.sitting ∙ ap (λ h. sitting_with setting h false) c.requires.opened in
+    record {
+      few = omega arith;
+      opened = omega arith;
+      so_far = in_turn_at_first setting items now c.tell_request.new.self.reader (g.S.Input.seen c.args.script.now) o o' (g.W.Watcher.log c.args.script.now)
+          (subst (λ (x : Sitting). Told x now (begin ∷ []) o o') at_first c.in_ok-tell_request.ensures.tells) reader;
+    }
+
+pub returns-in-Err : goal.returns-in-Err
+returns-in-Err g c = record { ends = inr (script_failed c.whole.result c.reads.invariant.so_far.0 c.reads.invariant.few c.in-Err.ensures.reads c.whole.ensures.value); turns = last_in_turn (g.S.Input.seen c.read.new.script) (Err c.in-Err.field-0) c.read.new.buf c.reads.invariant.so_far c.in-Err.ensures.logs c.in-Err.ensures.reads }
+
+pub returns-then-count-eq0 : goal.returns-then-count-eq0
+returns-then-count-eq0 g c =
+    let s' = g.S.Input.seen c.reads.script in
+    let s'' = g.S.Input.seen c.read.new.script in
+    let none : Gave s' s'' [] = subst (λ (n : ℕ). Gave s' s'' (take n c.read.new.buf)) c.if-count-eq0.true c.in-Ok.ensures.reads.1 in
+    record { ends = script_ended (g.O.Output.seen c.end.new.out) c.end.result c.reads.invariant.so_far.0 c.reads.invariant.few (gave_end none (c.in-Ok.ensures.reads.2 c.if-count-eq0.true (omega (arith, c.read.auto)))) c.end.ensures.finishes; turns = last_in_turn (g.S.Input.seen c.read.new.script) (Ok c.in-Ok.count) c.read.new.buf c.reads.invariant.so_far c.in-Ok.ensures.logs c.in-Ok.ensures.reads }
+
+pub returns-in_err-take-in-Ok : goal.returns-in_err-take-in-Ok
+returns-in_err-take-in-Ok g c =
+    let s' = g.S.Input.seen c.reads.script in
+    let s'' = g.S.Input.seen c.read.new.script in
+    let piece = c.split_at.result.0.now in
+    let part = c.split_at-then-count-taken.result.0.now in
+    let rest = drop (67108864 - c.reads.taken) piece in
+    let given : Gave s' s'' piece = subst (λ (l : List ℕ). Gave s' s'' l) (sym c.split_at.ensures.front) c.in-Ok.ensures.reads.1 in
+    let whole : part ++ rest ≡ piece = ap (λ l. l ++ rest) c.split_at-then-count-taken.ensures.front ∙ take-append-drop (67108864 - c.reads.taken) piece in
+    record {
+      ends = script_err c.in_err-take-in-Ok.field-0.0 c.from_residual-in_err-take-in-Ok.result c.from_residual-in_err-take-in-Ok.ensures.1
+          (broke_behind c.in_err-take-in-Ok.field-0.0 part rest c.reads.invariant.so_far.0 (subst (λ (l : List ℕ). Gave s' s'' l) (sym whole) given) c.in_err-take-in-Ok.ensures.tells);
+      turns = last_in_turn (g.S.Input.seen c.read.new.script) (Ok c.in-Ok.count) c.read.new.buf c.reads.invariant.so_far c.in-Ok.ensures.logs c.in-Ok.ensures.reads;
+    }
+
+pub returns-then-count-taken : goal.returns-then-count-taken
+returns-then-count-taken g c =
+    let s' = g.S.Input.seen c.reads.script in
+    let s'' = g.S.Input.seen c.read.new.script in
+    let piece = c.split_at.result.0.now in
+    let given : Gave s' s'' piece = subst (λ (l : List ℕ). Gave s' s'' l) (sym c.split_at.ensures.front) c.in-Ok.ensures.reads.1 in
+    let size : length piece ≡ c.in-Ok.count = omega (arith, ap length c.split_at.ensures.front, length-take c.in-Ok.count c.read.new.buf, c.in-Ok.ensures.reads.0) in
+    record {
+      ends = inr (script_too_long c.whole-then-count-taken.result piece c.split_at-then-count-taken.result.0.now c.reads.invariant.so_far.0 c.reads.invariant.few
+          (omega (arith, size, c.in-Ok.ensures.reads.0, c.read.auto)) (omega (arith, size, c.if-count-taken.true)) c.split_at-then-count-taken.ensures.front given c.in_ok-take-in-Ok.ensures.tells c.whole-then-count-taken.ensures.value);
+      turns = last_in_turn (g.S.Input.seen c.read.new.script) (Ok c.in-Ok.count) c.read.new.buf c.reads.invariant.so_far c.in-Ok.ensures.logs c.in-Ok.ensures.reads;
+    }
+
+pub returns-in_err-take-in-Ok-2 : goal.returns-in_err-take-in-Ok-2
+returns-in_err-take-in-Ok-2 g c =
+    let s' = g.S.Input.seen c.reads.script in
+    let s'' = g.S.Input.seen c.read.new.script in
+    let piece = c.split_at.result.0.now in
+    let given : Gave s' s'' piece = subst (λ (l : List ℕ). Gave s' s'' l) (sym c.split_at.ensures.front) c.in-Ok.ensures.reads.1 in
+    record {
+      ends = script_err c.in_err-take-in-Ok-2.field-0.0 c.from_residual-in_err-take-in-Ok-2.result c.from_residual-in_err-take-in-Ok-2.ensures.1
+          (broke_behind c.in_err-take-in-Ok-2.field-0.0 piece [] c.reads.invariant.so_far.0 (subst (λ (l : List ℕ). Gave s' s'' l) (sym (append-nil piece)) given) c.in_err-take-in-Ok-2.ensures.tells);
+      turns = last_in_turn (g.S.Input.seen c.read.new.script) (Ok c.in-Ok.count) c.read.new.buf c.reads.invariant.so_far c.in-Ok.ensures.logs c.in-Ok.ensures.reads;
+    }
+
+pub reads-preserved : goal.reads-preserved
+reads-preserved g c =
+    let s' = g.S.Input.seen c.reads.script in
+    let s'' = g.S.Input.seen c.read.new.script in
+    let piece = c.split_at.result.0.now in
+    let given : Gave s' s'' piece = subst (λ (l : List ℕ). Gave s' s'' l) (sym c.split_at.ensures.front) c.in-Ok.ensures.reads.1 in
+    let size : length piece ≡ c.in-Ok.count = omega (arith, ap length c.split_at.ensures.front, length-take c.in-Ok.count c.read.new.buf, c.in-Ok.ensures.reads.0) in
+    let bound = opened_read c.reads.editor.reader piece in
+    let same : opened_in c.take-in-Ok.new.self.reader.gathering ≡ opened_in (read c.reads.editor.reader piece).reader.gathering = ap (λ (d : ScriptReader). opened_in d.gathering) c.in_ok-take-in-Ok-2.ensures.reader in
+    record {
+      few = omega (arith, c.if-count-taken.false, c.reads.invariant.few);
+      opened = omega (arith, size, bound, same, c.reads.invariant.opened);
+      so_far = in_turn_so_far piece (c.reads.taken + c.in-Ok.count) c.in-Ok.count c.read.new.buf c.reads.invariant.so_far c.in-Ok.ensures.logs (sym c.split_at.ensures.front) given (ap (λ n. c.reads.taken + n) (sym size)) c.in_ok-take-in-Ok-2.ensures.reader c.in_ok-take-in-Ok-2.ensures.tells;
+    }

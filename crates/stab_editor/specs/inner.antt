@@ -1,0 +1,3 @@
+-- Definitions that only private contracts cite.
+pub mod Distances
+pub mod SessionAnswers
