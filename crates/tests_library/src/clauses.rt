@@ -13,7 +13,8 @@ ghost use Rattle.stab_tableau.specs.Columns.{destabiliser_of};
 ghost use Rattle.stab_tableau.specs.Groups.{SameGroup};
 ghost use Rattle.stab_tableau.specs.Traces.{member};
 ghost use Rattle.stab_circuit.specs.Paths.{numbers};
-ghost use Rattle.stab_circuit.specs.Edits.{edited, steps_before};
+ghost use Rattle.stab_circuit.specs.Items.{entries};
+ghost use Rattle.stab_circuit.specs.Edits.{edited, steps_before, verdict, put_item};
 ghost use Rattle.stab_circuit.specs.declared.edit.Edit.TheVariants.{Insert as inserting};
 ghost use Rattle.stab_circuit.specs.Repeats.{repeated_blocks};
 ghost use Rattle.stab_circuit.specs.Steps.{unroll, records_of, steps_cap, check_of, check_within};
@@ -22,7 +23,7 @@ ghost use Rattle.stab_circuit.specs.Views.{circuit_items};
 ghost use Rattle.stab_circuit.specs.Limits.{most_stride};
 ghost use Rattle.stab_run.specs.Records.{ones};
 ghost use Rattle.stab_run.specs.Runs.{run_of};
-ghost use Rattle.stab_io.specs.Refusals.{Refuses};
+ghost use Rattle.stab_io.specs.Refusals.{Refuses, IsCallFault};
 ghost use Rattle.stab_lanes.specs.Seeds.{shot_coins};
 ghost use Rattle.stab_shots.specs.Shots.{AreShots};
 ghost use Rattle.stab_shots.specs.References.{most_pivots, IsReference};
@@ -255,6 +256,15 @@ fn sign_after_run<C: Coins>(session: &mut Session<C>, pauli: &Pauli) -> Option<b
     ensures sign { IsSignIn (member (run_of session.old.qubits (C.sequence session.old.coins) session.old.items).trace) pauli.now result }
 {
     session.sign_of(pauli)
+}
+
+/// An edit carries out no more steps than there are from the change on. One that is refused tells its first fault, and gives its item back.
+fn edited_or_given_back<C: Coins>(session: &mut Session<C>, edit: Edit) -> Result<Report, Refused>
+    ensures applied { IfOk result (λ r. r.applied ≤ steps_from_change edit session.old session.new) }
+    ensures refused { IfErr result (λ r. IsCallFault (verdict session.old.qubits edit (entries session.old.items)) r.fault) }
+    ensures item { IfErr result (λ r. r.item ≡ put_item edit) }
+{
+    session.apply(edit)
 }
 
 /// A report bounds and counts the steps that an edit carried out and those that it went past in another way. An edit asks for no more coins
