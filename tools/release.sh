@@ -4,6 +4,7 @@
 #
 #     tools/release.sh [FOLDER]
 #
+# What comes before it is in docs/build/adding.md.
 # It needs dpkg-deb, and a Python with pip, setuptools and wheel; on Debian: apt install python3-pip python3-setuptools python3-wheel
 set -eu
 top=$(CDPATH='' cd -- "$(dirname -- "$0")/.." && pwd)

@@ -1,6 +1,6 @@
 #!/bin/sh
-# Runs all tests: the gate, `rt ci`, and then, on the programs that it built, each further step. It ends
-# with the gate's last line, and with status 0 if the gate and each step passed.
+# Runs all tests, except the wrong bodies that `tools/wrong_bodies.py --try` tries: the gate, `rt ci`, and then, on the programs that it
+# built, each further step. It ends with the gate's last line, and with status 0 if the gate and each step passed.
 set -u
 top=$(CDPATH='' cd -- "$(dirname -- "$0")/.." && pwd) || exit 2
 cd "$top" || exit 2
