@@ -21,8 +21,8 @@ THEOREMS = {
     "faults, coins and deterministic --explain": [
         "stab_texts.FaultTables.EndsFaults", "stab_texts.CoinTables.EndsCoins", "stab_texts.Reasons.EndsExplain"],
     "distance": ["stab_texts.Distances.EndsDistance"],
-    "edit": ["stab_commands.ScriptEndings.EndsPlainEdit"],
-    "edit --framed": ["stab_commands.ScriptEndings.EndsEdit"],
+    "edit": ["stab_editor.ScriptEndings.EndsPlainEdit"],
+    "edit --framed": ["stab_editor.ScriptEndings.EndsEdit"],
     "a job and its status": ["stab_cli.Jobs.EndsJob"],
     "what a session is": ["stab_session.Headline.IsRunOfItems", "stab_session.Sessions.IsSignIn", "stab_tableau.Reduced.AreReduced"],
     "an edit of a session": ["stab_session.SessionEdits.IsEditedBy", "stab_session.SessionEdits.IsAsBefore"],
