@@ -9,16 +9,16 @@ pub use Rattle.std.proofs.lemmas.Result.{err_from_is_err_and}
 pub use Rattle.std.specs.Global.{Vec}
 pub use Rattle.std.specs.List.{flat_map}
 pub use Rattle.std.specs.Result.{IsErrAnd}
-pub use Rattle.stab_circuit.proofs.EditLemmas.{entries-listed}
-pub use Rattle.stab_circuit.specs.Cursors.{step_shown, steps_shown, lookbacks_of}
+pub use Rattle.stab_edits.proofs.EditLemmas.{entries-listed}
+pub use Rattle.stab_edits.specs.Cursors.{step_shown, steps_shown, lookbacks_of}
 pub use Rattle.stab_circuit.specs.Inputs.{GaveText, RefusesText}
 pub use Rattle.stab_circuit.specs.Items.{Items, entries}
-pub use Rattle.stab_circuit.specs.Paths.{Path, path_text}
-pub use Rattle.stab_circuit.specs.Places.{item_at}
+pub use Rattle.stab_edits.specs.Paths.{Path, path_text}
+pub use Rattle.stab_edits.specs.Places.{item_at}
 pub use Rattle.stab_circuit.specs.Readings.{IsFaultOf, ReadsCircuit}
 pub use Rattle.stab_circuit.specs.Steps.{Step, one, two, controlled, collapse, product, detector, observable, unroll, makes, records_of, looks_too_far, most_steps, steps_cap, is_detector, detectors_of, detectors_in, qubits_of, observables_of, measured, controlled_step}
 unfoldable pub use Rattle.stab_circuit.specs.Steps.{check_of}
-pub use Rattle.stab_circuit.specs.Views.{circuit_items}
+pub use Rattle.stab_edits.specs.Views.{circuit_items}
 pub use Rattle.stab_circuit.specs.declared.steps.Steps.{Steps}
 pub use Rattle.stab_circuit.specs.declared.steps.Steps.TheVariants.{Gates, Pairs, Measurements, Detectors, Single}
 pub use Rattle.stab_frames.proofs.AgainLemmas.{pivot-conjugated}

@@ -5,7 +5,7 @@ ghost use Rattle.stab_io.specs.Devices.{WritesAll, WritesAllOrFault};
 ghost use Rattle.stab_io.specs.declared.refusal.Refusal.TheVariants.{OutOfMemory};
 ghost use Rattle.stab_io.specs.Refusals.{whole};
 ghost use Rattle.stab_circuit.specs.Steps.{check_of, qubits_of, unroll};
-ghost use Rattle.stab_circuit.specs.Views.{circuit_items};
+ghost use Rattle.stab_edits.specs.Views.{circuit_items};
 ghost use Rattle.stab_results.specs.Formats.{detectors_of, entry, one_places};
 ghost use Rattle.stab_lanes.specs.Lanes.{lane_bits};
 ghost use Rattle.stab_lanes.specs.Words.{word_bit};

@@ -4,8 +4,8 @@ ghost use Rattle.stab_io.specs.declared.refusal.Refusal.TheVariants.{OutOfMemory
 ghost use Rattle.stab_io.specs.Refusals.{Refuses, whole};
 ghost use Rattle.stab_gates.specs.Limits.{most_qubits};
 ghost use Rattle.stab_circuit.specs.Steps.{check_of, check_within, unroll};
-ghost use Rattle.stab_circuit.specs.Cursors.{IsApart};
-ghost use Rattle.stab_circuit.specs.Views.{circuit_items};
+ghost use Rattle.stab_edits.specs.Cursors.{IsApart};
+ghost use Rattle.stab_edits.specs.Views.{circuit_items};
 ghost use Rattle.stab_run.specs.Points.{all_coins_of};
 ghost use Rattle.stab_results.specs.Formats.{one_places};
 ghost use Rattle.stab_shots.specs.References.{IsReference};

@@ -1,7 +1,7 @@
 //! The command that writes which bits of a circuit's runs each coin decides.
 ghost use Rattle.std.specs.Prelude.{◌≡◌, ◌+◌, ◌<◌, ◌≤◌, None, length};
 ghost use Rattle.stab_circuit.specs.Steps.{check_of, qubits_of};
-ghost use Rattle.stab_circuit.specs.Views.{circuit_items};
+ghost use Rattle.stab_edits.specs.Views.{circuit_items};
 ghost use Rattle.stab_analysis.specs.CoinRuns.{AreCoinRuns};
 ghost use Rattle.stab_texts.specs.Coins.{IsCoinTable, table_of};
 ghost use Rattle.stab_texts.specs.CoinTables.{EndsCoins, coins_text};

@@ -1,7 +1,7 @@
 //! The command that says which detectors and observables are the same for all random bits.
 ghost use Rattle.std.specs.Prelude.{◌≡◌, ◌≤◌, ◌+◌, None, length};
 ghost use Rattle.stab_circuit.specs.Steps.{check_of, qubits_of, unroll, observables_of};
-ghost use Rattle.stab_circuit.specs.Views.{circuit_items};
+ghost use Rattle.stab_edits.specs.Views.{circuit_items};
 ghost use Rattle.stab_regions.specs.Faults.{bits_in};
 ghost use Rattle.stab_texts.specs.Endings.{SendsFound};
 ghost use Rattle.stab_texts.specs.Deterministic.{EndsDeterministic, IsDeterministicText, kinds_of};

@@ -4,7 +4,7 @@ ghost use Rattle.stab_io.specs.Devices.{WritesAll};
 ghost use Rattle.stab_io.specs.declared.refusal.Refusal.TheVariants.{OutOfMemory};
 ghost use Rattle.stab_circuit.specs.Items.{Items};
 ghost use Rattle.stab_circuit.specs.Steps.{check_of};
-ghost use Rattle.stab_circuit.specs.Views.{circuit_items};
+ghost use Rattle.stab_edits.specs.Views.{circuit_items};
 ghost use Rattle.stab_errors.specs.ErrorTables.{IsErrorTable, StepsInside};
 ghost use Rattle.stab_errors.specs.Unseen.{IsDistance};
 ghost use Rattle.stab_texts.specs.FaultTables.{GoesOn, fault_of, random_of};

@@ -3,8 +3,8 @@ ghost use Rattle.std.specs.Prelude.{◌≡◌, ◌<◌, ℕ, false, true, None, 
 ghost use Rattle.stab_io.specs.declared.refusal.Refusal.TheVariants.{OutOfMemory};
 ghost use Rattle.stab_io.specs.Refusals.{whole};
 ghost use Rattle.stab_circuit.specs.Steps.{check_of, qubits_of, unroll, is_detector, detectors_of};
-ghost use Rattle.stab_circuit.specs.Cursors.{step_shown};
-ghost use Rattle.stab_circuit.specs.Views.{circuit_items};
+ghost use Rattle.stab_edits.specs.Cursors.{step_shown};
+ghost use Rattle.stab_edits.specs.Views.{circuit_items};
 ghost use Rattle.stab_regions.specs.Faults.{AreDeterministic, IsFaultTable, IsDeterministic, bits_in};
 ghost use Rattle.stab_texts.specs.Deterministic.{kinds_of};
 ghost use Rattle.stab_texts.specs.declared.random.Bit.TheVariants.{Detector, Observable};

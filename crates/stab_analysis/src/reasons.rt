@@ -2,9 +2,9 @@
 ghost use Rattle.std.specs.Prelude.{◌≡◌, ℕ, ◌<◌, ◌++◌, true, None, codes, decimal, length, All};
 ghost use Rattle.std.specs.List.{flat_map};
 ghost use Rattle.stab_io.specs.Devices.{WritesAll, WritesAllOrFault};
-ghost use Rattle.stab_circuit.specs.Paths.{path_text};
+ghost use Rattle.stab_edits.specs.Paths.{path_text};
 ghost use Rattle.stab_circuit.specs.Steps.{check_of, qubits_of};
-ghost use Rattle.stab_circuit.specs.Views.{circuit_items};
+ghost use Rattle.stab_edits.specs.Views.{circuit_items};
 ghost use Rattle.stab_regions.specs.Faults.{bits_in, numbers_where};
 ghost use Rattle.stab_analysis.specs.CoinRuns.{AreCoinRuns};
 ghost use Rattle.stab_texts.specs.Coins.{IsCoinTable, table_of};

@@ -1,7 +1,5 @@
 -- Deletions by way of an item that stands for nothing: it is put in place of the one to be deleted, and then deleted.
-use Rattle.stab_circuit.proofs.Names.{◌≡◌, refl, ap, sym, ◌∙◌, ℕ, ◌+◌, suc, max, Bool, true, false, List, [], ◌∷◌, ◌++◌, length, take, drop, set, arith, nat_lt, if◌then◌else◌, Option, Some, None, Result, Ok, Err, ◌⊎◌, inl, inr, length-take-le, remove, slice_get, Refusal, PlaceOutOfRange, NotABlock, QubitOutOfRange, LookbackTooFar, TooManySteps, TooDeep, Replace, Delete, Kind, OneItem, operation, repeat, done, before, listed, entries, depth, unroll, rounds, past_named, qubits_of, observables_of, named_qubits, named_observables, looks_too_far, most_steps, check_of, check_within, with_item, rebuilt, edited_inside, changed, edited_in, edited, taken_in, taken, list_verdict, verdict, Path, IsNothing, listed-append, depth-join, past_named-join}
-use Rattle.stab_circuit.proofs.EditLemmas.{listed-entries, steps-append, if_ok, changed_split, got_split, rebuilds}
-use Rattle.stab_circuit.proofs.UndoLemmas.{around, old_parts, new_parts, old_inner, edited_new, edited_old, deleted, replace-retaken}
+use Rattle.stab_circuit.proofs.Names.{◌≡◌, refl, ap, sym, ◌∙◌, ℕ, ◌+◌, suc, max, Bool, true, false, List, [], ◌∷◌, ◌++◌, length, take, drop, set, arith, nat_lt, if◌then◌else◌, Option, Some, None, Result, Ok, Err, ◌⊎◌, inl, inr, length-take-le, remove, slice_get, Refusal, PlaceOutOfRange, NotABlock, QubitOutOfRange, LookbackTooFar, TooManySteps, TooDeep, Replace, Delete, Kind, OneItem, operation, repeat, done, before, listed, entries, depth, unroll, rounds, past_named, qubits_of, observables_of, named_qubits, named_observables, looks_too_far, most_steps, check_of, check_within, with_item, rebuilt, edited_inside, changed, edited_in, edited, taken_in, taken, list_verdict, verdict, Path, IsNothing, listed-append, depth-join, past_named-join, listed-entries, steps-append, if_ok, changed_split, got_split, rebuilds, around, old_parts, new_parts, old_inner, edited_new, edited_old, deleted, replace-retaken}
 
 -- what is known of a list by its parts stays the same if an item is deleted that adds nothing to it
 module _ {A : Type 0} (known : List OneItem → A) (plus : A → A → A) (parts : (xs ys : List OneItem) → known (xs ++ ys) ≡ plus (known xs) (known ys))

@@ -1,9 +1,5 @@
 -- An edit changes each round: what it takes out, and what it puts in, come before the same pieces.
-use Rattle.stab_circuit.proofs.Names.{◌≡◌, ◌<◌, refl, ap, sym, ◌∙◌, subst, ℕ, ◌+◌, ◌-◌, suc, zero, List, [], ◌∷◌, ◌++◌, length, take, drop, arith, append_assoc, append-nil, Some, Ok, length-append, length-take-le, take_at, drop_at, take-take, drop-set-lt, slice_get, Edit, Insert, Replace, Delete, OneItem, repeat, listed, entries, Step, unroll, Path, edit_path, edited_in, edited, inner, taken_at, taken_in, put_item, steps_in, steps_before, first_changed, behind_taken, behind_put, outermost, interleaved, rounds_in, round_pieces, pieces_in, pieces, HaveRounds, item_steps, steps_between, ChangesEachRound, block_pieces}
-use Rattle.stab_circuit.proofs.EditLemmas.{steps-append, steps_split, put_in, changed_split, changed_before, changed_behind, behind_put_is, Rebuilds, rebuilds, next_place}
-use Rattle.stab_circuit.proofs.UndoLemmas.{found, front_size, new_parts, new_inner, old_inner}
-use Rattle.stab_circuit.proofs.PieceLemmas.{Stands, steps-pieces}
-use Rattle.stab_circuit.proofs.GapPartLemmas.{nothing_left, got_taken, pieces-outer, pieces-block}
+use Rattle.stab_circuit.proofs.Names.{◌≡◌, ◌<◌, refl, ap, sym, ◌∙◌, subst, ℕ, ◌+◌, ◌-◌, suc, zero, List, [], ◌∷◌, ◌++◌, length, take, drop, arith, append_assoc, append-nil, Some, Ok, length-append, length-take-le, take_at, drop_at, take-take, drop-set-lt, slice_get, Edit, Insert, Replace, Delete, OneItem, repeat, listed, entries, Step, unroll, Path, edit_path, edited_in, edited, inner, taken_at, taken_in, put_item, steps_in, steps_before, first_changed, behind_taken, behind_put, outermost, interleaved, rounds_in, round_pieces, pieces_in, pieces, HaveRounds, item_steps, steps_between, ChangesEachRound, block_pieces, steps-append, steps_split, put_in, changed_split, changed_before, changed_behind, behind_put_is, Rebuilds, rebuilds, next_place, found, front_size, new_parts, new_inner, old_inner, Stands, steps-pieces, nothing_left, got_taken, pieces-outer, pieces-block}
 
 -- the steps of a list
 abbrev steps : List OneItem → List Step

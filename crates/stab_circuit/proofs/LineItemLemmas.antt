@@ -1,9 +1,8 @@
 -- Items that some lines stand for, and that edits leave such items.
-use Rattle.stab_circuit.proofs.Names.{◌≡◌, ◌≤◌, refl, ap, sym, ◌∙◌, subst, ℕ, ◌+◌, suc, List, [], ◌∷◌, ◌++◌, true, nat_lt, length, take, drop, All, Option, None, Some, Result, Ok, append_assoc, append-nil, arith, slice_get, take-append-drop, set_split, All-nil, All-cons, slice_get_within, nat_tests, Refusal, Close, Open, content_of, meaning_of, IsLine, Each, each-append, Edit, Insert, Replace, Delete, Items, OneItem, operation, repeat, done, next, block, before, listed, entries, depth, Meaning, Joins, line_meanings, fault_from, with_item, edited_inside, edit_path, edited_in, edited, behind_taken, inner, taken_in, taken, AreOfLines, PutsLines, each_left, each_right}
+use Rattle.stab_circuit.proofs.Names.{◌≡◌, ◌≤◌, refl, ap, sym, ◌∙◌, subst, ℕ, ◌+◌, suc, List, [], ◌∷◌, ◌++◌, true, nat_lt, length, take, drop, All, Option, None, Some, Result, Ok, append_assoc, append-nil, arith, slice_get, take-append-drop, set_split, All-nil, All-cons, slice_get_within, nat_tests, Refusal, Close, Open, content_of, meaning_of, IsLine, Each, each-append, Edit, Insert, Replace, Delete, Items, OneItem, operation, repeat, done, next, block, before, listed, entries, depth, Meaning, Joins, line_meanings, fault_from, with_item, edited_inside, edit_path, edited_in, edited, behind_taken, inner, taken_in, taken, AreOfLines, PutsLines, each_left, each_right, listed-entries, put_in, changed_split, rebuilds, got_split}
 use Rattle.stab_circuit.proofs.BlankLemmas.{lines_of, lines_join, fault_operation, same_faultless}
 use Rattle.stab_circuit.proofs.ReadingLemmas.{few_open, fault_inside}
 use Rattle.stab_circuit.proofs.RoundLemmas.{IsOfLine, AreMeant, items_meant}
-use Rattle.stab_circuit.proofs.EditLemmas.{listed-entries, put_in, changed_split, rebuilds, got_split}
 
 -- lines that mean this
 record Means (lines : List (List ℕ)) (ms : List Meaning) : Type 0 where

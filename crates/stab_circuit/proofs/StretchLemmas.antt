@@ -1,196 +1,202 @@
--- Stretches of a list.
-use Rattle.stab_circuit.proofs.Names.{◌≡◌, ◌≤◌, ◌<◌, refl, ap, sym, ◌∙◌, subst, ℕ, ◌+◌, ◌-◌, zero, suc, min, max, List, [], ◌∷◌, ◌++◌, length, take, drop, set, get_or, arith, drop-cons, append_assoc, drop-drop, drop-take, length-append, length-drop, length-take, length-take-le, take-append-drop, take-append-le, take-take, take_all, drop-append-add, drop-nil, Stretch, Summary, OneItem, listed, unroll, summary_of, followed_by, IsSummary, IsSumOf, AreApart, AreStretches, items_in, WereStretches, listed-append, summary-join}
-use Rattle.stab_circuit.proofs.EditLemmas.{steps-append, steps_split}
-use Rattle.stab_circuit.proofs.EditResultLemmas.{apart_append}
+-- Lines that put items after others if no block is open, and the runs and stretches of them.
+use Rattle.stab_circuit.proofs.Names.{◌≡◌, refl, ap, sym, ◌∙◌, subst, ℕ, ◌+◌, ◌-◌, List, [], ◌∷◌, ◌++◌, All, Bool, true, false, nat_lt, length, take, drop, map, Option, Some, None, MatchOption, Ok, Err, if◌then◌else◌, ◌⊎◌, inl, inr, arith, append_assoc, slice_split, map-append, take-append-le, take_all, All-weaker, All-push, TooDeep, Blank, Close, Open, is_byte, content_of, pieces_after, meaning_of, StoredBlock, Stretch, Run, Items, OneItem, done, next, block, join, listed, depth, Meaning, line_meanings, IsCut, Progress, kept_progress, stepped, read_on, meaning_at, IsShallowProgress, outside, Reads, items_of, IsStretch, KeepsStretches, IsRunOf, IsRun, IsEnded, RunsOn, reading_on, join_done, join_assoc, listed-append, depth-join, no_length}
+use Rattle.std.proofs.Common.{length-append}
+use Rattle.stab_lines.specs.declared.meanings.Line.TheVariants as line
+use Rattle.stab_circuit.proofs.FrontLemmas.{split_cut, one_line_first}
+use Rattle.stab_circuit.proofs.LinePieceLemmas.{cut_pieces, ran_more}
 
--- sums of items
-pub sum_is : (xs ys : List OneItem) (s : Summary) → xs ≡ ys → s ≡ summary_of (listed xs) → IsSummary s → AreApart xs → IsSumOf (listed ys) s
-sum_is xs ys s e value small apart = subst (λ l. IsSumOf (listed l) s) e (record { value = value; small = small; apart = apart })
-
-pub sum_joined : (all xs ys : List OneItem) (s t r : Summary) → all ≡ xs ++ ys → IsSumOf (listed xs) s → IsSumOf (listed ys) t → r ≡ followed_by s t → IsSummary r → IsSumOf (listed all) r
-sum_joined all xs ys s t r e a b f small =
-    let near : (summary_of (listed ys)).window ≤ 16777215 = omega (arith, b.small.window, ap (λ q. q.window) b.value) in
-    let joined : followed_by s t ≡ summary_of (listed (xs ++ ys)) =
-    ap (λ q. followed_by q t) a.value ∙ ap (followed_by (summary_of (listed xs))) b.value ∙ sym (summary-join (listed xs) (listed ys) near) ∙ ap summary_of (sym (listed-append xs ys)) in
-    sum_is (xs ++ ys) all r (sym e) (f ∙ joined) small (apart_append xs ys a.apart b.apart)
-
--- the items from a place on, those before another place first
-pub from_joined : (first place : ℕ) (xs : List OneItem) → drop first xs ≡ drop first (take place xs) ++ drop (max first place) xs
-from_joined zero place xs =
-    let same : place ≡ max 0 place = omega arith in
-    sym (take-append-drop place xs) ∙ ap (λ n. take place xs ++ drop n xs) same
-from_joined (suc first) zero xs =
-    let same : suc first ≡ max (suc first) 0 = omega arith in
-    ap (λ n. drop n xs) same
-from_joined (suc first) (suc place) [] = sym (drop-nil (max (suc first) (suc place)))
-from_joined (suc first) (suc place) (x ∷ xs) =
-    let same : suc (max first place) ≡ max (suc first) (suc place) = omega arith in
-    from_joined first place xs ∙ ap (λ n. drop first (take place xs) ++ drop n (x ∷ xs)) same
-
-pub sum_further : (front : List OneItem) (first place n : ℕ) (s t r : Summary) → IsSumOf (listed (drop first (take place front))) s → IsSumOf (listed (drop (max first place) (take (place + n) front))) t → r ≡ followed_by s t → IsSummary r
-    → IsSumOf (listed (drop first (take (place + n) front))) r
-sum_further front first place n s t r a b e small =
-    let own = take (place + n) front in
-    let all = from_joined first place own ∙ ap (λ l. drop first l ++ drop (max first place) own) (take-take place (place + n) front (omega arith)) in
-    sum_joined (drop first own) (drop first (take place front)) (drop (max first place) own) s t r all a b e small
-
--- a stretch that is in a front of the list
-pub sum_in_front : (xs front : List OneItem) (end place n : ℕ) (s : Summary) → front ≡ take end xs → IsSumOf (listed (take n (drop place xs))) s → place + n ≤ length front → IsSumOf (listed (take n (drop place front))) s
-sum_in_front xs front end place n s e sum fits =
-    let long : place + n ≤ end = omega (arith, fits, ap length e, length-take end xs) in
-    let same : take n (drop place xs) ≡ take n (drop place front) =
-    sym (drop-take place n xs) ∙ ap (drop place) (sym (take-take (place + n) end xs long) ∙ ap (take (place + n)) (sym e)) ∙ drop-take place n front in
-    subst (λ l. IsSumOf (listed l) s) same sum
-
-pub sum_whole : (front : List OneItem) (first place n : ℕ) (s : Summary) → first ≤ place → IsSumOf (listed (take n (drop place front))) s → IsSumOf (listed (drop (max first place) (take (place + n) front))) s
-sum_whole front first place n s order sum =
-    let later : place ≡ max first place = omega (arith, order) in
-    let same : take n (drop place front) ≡ drop (max first place) (take (place + n) front) = sym (drop-take place n front) ∙ ap (λ m. drop m (take (place + n) front)) later in
-    subst (λ l. IsSumOf (listed l) s) same sum
-
--- one stretch more
-pub stretch_pushed : (ss : List Stretch) (s : Stretch) (xs : List OneItem) → AreStretches ss xs → s.items ≤ length (drop (items_in ss) xs)
-    → IsSumOf (listed (take s.items (drop (items_in ss) xs))) s.summary → AreStretches (ss ++ s ∷ []) xs
-stretch_pushed [] s xs a fits sum = (fits, sum, tt)
-stretch_pushed (t ∷ ss) s xs a fits sum =
-    let further : drop (t.items + items_in ss) xs ≡ drop (items_in ss) (drop t.items xs) = sym (drop-drop (items_in ss) t.items xs) in (
-      a.0,
-      a.1,
-      stretch_pushed ss s (drop t.items xs) a.2 (omega (arith, fits, ap length further)) (subst (λ l. IsSumOf (listed (take s.items l)) s.summary) further sum),
-    )
-
-pub items_pushed : (ss : List Stretch) (s : Stretch) → items_in (ss ++ s ∷ []) ≡ items_in ss + s.items
-items_pushed [] s = omega arith
-items_pushed (t ∷ ss) s = omega (arith, items_pushed ss s)
-
--- the first of some stretches
-pub stretch_here : (ss : List Stretch) (k : ℕ) (s : Stretch) (xs : List OneItem) → k < length ss → s ≡ get_or ss k s → AreStretches (drop k ss) xs
-    → (s.items ≤ length xs) × IsSumOf (listed (take s.items xs)) s.summary × AreStretches (drop (k + 1) ss) (drop s.items xs)
-stretch_here ss k s xs h e a =
-    let next' : suc k ≡ k + 1 = omega arith in
-    let cut : drop k ss ≡ s ∷ drop (k + 1) ss = drop-cons ss k s h ∙ (λ i. sym e i ∷ drop (next' i) ss) in
-    subst (λ l. AreStretches l xs) cut a
-
--- the steps of the items up to the end of a stretch
-none_taken : (n : ℕ) → ◌≡◌ {A = List OneItem} (take n []) []
-none_taken zero = refl
-none_taken (suc n) = refl
-
-take_further : (n m : ℕ) (xs : List OneItem) → take (n + m) xs ≡ take n xs ++ take m (drop n xs)
-take_further zero m xs = let same : 0 + m ≡ m = omega arith in ap (λ k. take k xs) same
-take_further (suc n) m [] = none_taken (suc n + m) ∙ sym (none_taken m)
-take_further (suc n) m (x ∷ xs) = let same : suc n + m ≡ suc (n + m) = omega arith in ap (λ k. take k (x ∷ xs)) same ∙ ap (λ l. x ∷ l) (take_further n m xs)
-
-pub steps_further : (xs : List OneItem) (place n steps left step : ℕ) → steps ≡ min (length (unroll (listed (take n (drop place xs))))) 1048577 → steps ≤ left → step ≤ 1048576
-    → length (unroll (listed (take place xs))) + left ≡ step → length (unroll (listed (take (place + n) xs))) + (left - steps) ≡ step
-steps_further xs place n steps left step e enough few counted =
-    let here = unroll (listed (take place xs)) in
-    let more = unroll (listed (take n (drop place xs))) in
-    omega (arith, e, enough, few, counted, ap (λ l. length (unroll (listed l))) (take_further place n xs), ap length (steps-append (take place xs) (take n (drop place xs))), length-append here more)
-
--- the steps from a step on
-pub steps_from_place : (xs : List OneItem) (place rest step : ℕ) → length (unroll (listed (take place xs))) + rest ≡ step → drop rest (unroll (listed (drop place xs))) ≡ drop step (unroll (listed xs))
-steps_from_place xs place rest step e =
-    let front = unroll (listed (take place xs)) in
-    let back = unroll (listed (drop place xs)) in
-    sym (ap (drop step) (steps_split place xs) ∙ ap (λ n. drop n (front ++ back)) (sym e) ∙ drop-append-add front back rest)
-
--- how many items are before a stretch, and before the next one
-pub items_next : (ss : List Stretch) (k : ℕ) (s : Stretch) → k < length ss → s ≡ get_or ss k s → items_in (take (k + 1) ss) ≡ items_in (take k ss) + s.items
-items_next [] k s h e = absurd (omega arith)
-items_next (t ∷ ss) zero s h e = omega (arith, ap (λ q. q.items) e)
-items_next (t ∷ ss) (suc k) s h e = ap (λ n. items_in (take n (t ∷ ss))) next ∙ omega (arith, items_next ss k s (omega arith) e)
+-- no line, and lines after others
+pub reads_none : Reads [] done
+reads_none = record {
+  on = λ n now ms. λ i. read_on (none n i) (outside (sym (join_done now) i)) ms;
+  flat = refl;
+}
   where
-    next : suc k + 1 ≡ suc (k + 1)
-    next = omega arith
+    none : (n : ℕ) → n ≡ n + 0
+    none n = omega arith
 
-pub items_before : (ss : List Stretch) (k : ℕ) (xs : List OneItem) → AreStretches ss xs → items_in (take k ss) ≤ length xs
-items_before [] zero xs are = omega arith
-items_before [] (suc k) xs are = omega arith
-items_before (s ∷ ss) zero xs are = omega arith
-items_before (s ∷ ss) (suc k) xs are = omega (arith, are.0, items_before ss k (drop s.items xs) are.2, length-drop s.items xs)
-
--- a stretch of a list that has the same items up to its end, and some more
-same_stretch : (s : Stretch) (some : ℕ) (xs ys : List OneItem) → s.items ≤ length xs → IsSumOf (listed (take s.items xs)) s.summary → take (s.items + some) ys ≡ take (s.items + some) xs
-    → (s.items ≤ length ys) × IsSumOf (listed (take s.items ys)) s.summary × (take some (drop s.items ys) ≡ take some (drop s.items xs))
-same_stretch s some xs ys fits sum same =
-    let n = s.items in
-    let front : take n ys ≡ take n xs = sym (take-take n (n + some) ys (omega arith)) ∙ ap (take n) same ∙ take-take n (n + some) xs (omega arith) in
-    (omega (arith, fits, ap length front, length-take n ys, length-take-le n xs fits), subst (λ l. IsSumOf (listed l) s.summary) (sym front) sum, sym (drop-take n some ys) ∙ ap (drop n) same ∙ drop-take n some xs)
-
-pub same_stretches : (ss : List Stretch) (xs ys : List OneItem) → AreStretches ss xs → take (items_in ss) ys ≡ take (items_in ss) xs → AreStretches ss ys
-same_stretches [] xs ys are same = tt
-same_stretches (s ∷ ss) xs ys are same =
-    let here = same_stretch s (items_in ss) xs ys are.0 are.1 same in
-    (here.0, here.1, same_stretches ss (drop s.items xs) (drop s.items ys) are.2 here.2)
-
--- stretches of a list of which only the items of one changed, with that one renewed
-pub renewed : (ss : List Stretch) (k : ℕ) (new : Stretch) (xs ys : List OneItem) → AreStretches ss xs → k < length ss → take (items_in (take k ss)) ys ≡ take (items_in (take k ss)) xs
-    → new.items ≤ length (drop (items_in (take k ss)) ys) → IsSumOf (listed (take new.items (drop (items_in (take k ss)) ys))) new.summary
-    → drop new.items (drop (items_in (take k ss)) ys) ≡ drop (items_in (take (suc k) ss)) xs → AreStretches (set ss k new) ys
-renewed [] k new xs ys are h same fits sum rest = absurd (omega arith)
-renewed (s ∷ ss) zero new xs ys are h same fits sum rest =
-    let here : s.items + 0 ≡ s.items = omega arith in
-    (fits, sum, subst (AreStretches ss) (sym (rest ∙ ap (λ n. drop n xs) here)) are.2)
-renewed (s ∷ ss) (suc k) new xs ys are h same fits sum rest =
-    let n = s.items in
-    let some = items_in (take k ss) in
-    let here = same_stretch s some xs ys are.0 are.1 same in
-    let further : drop some (drop n ys) ≡ drop (n + some) ys = drop-drop some n ys in (
-      here.0,
-      here.1,
-      renewed ss k new (drop n xs) (drop n ys) are.2 (omega arith) here.2 (omega (arith, fits, ap length further))
-          (subst (λ l. IsSumOf (listed (take new.items l)) new.summary) (sym further) sum) (ap (drop new.items) further ∙ rest ∙ sym (drop-drop (items_in (take (suc k) ss)) n xs)),
-    )
-
--- the items before an edit
-same_before : (ss : List Stretch) (place len some : ℕ) (ys : List OneItem) (were : WereStretches ss place len ys) → some ≤ place → take some ys ≡ take some were.old
-same_before ss place len some ys were before =
-    let xs = were.old in
-    let cut = were.splice in
-    let left : take cut.first xs ++ (cut.put ++ drop cut.behind xs) ≡ ys = cc in
-    let short : length (take cut.first xs) ≡ cut.first = length-take-le cut.first xs (omega (arith, were.within.order, were.within.end)) in
-    ap (take some) (sym left) ∙ take-append-le some (take cut.first xs) (cut.put ++ drop cut.behind xs) (omega (arith, short, were.first, before)) ∙ take-take some cut.first xs (omega (arith, were.first, before))
-
-pub stays_behind : (ss : List Stretch) (k place len first : ℕ) (ys : List OneItem) → WereStretches ss place len ys → length ss ≤ k → first ≡ items_in (take k ss) → first ≤ place → AreStretches ss ys
-stays_behind ss k place len first ys were h at before =
-    let all : items_in (take k ss) ≡ items_in ss = ap items_in (take_all k ss h) in
-    same_stretches ss were.old ys were.are (same_before ss place len (items_in ss) ys were (omega (arith, all, at, before)))
-
--- where a stretch ends
-pub end_within : (ss : List Stretch) (k place len first : ℕ) (s : Stretch) (ys : List OneItem) → WereStretches ss place len ys → k < length ss → s ≡ get_or ss k s → first ≡ items_in (take k ss) → first + s.items ≤ len
-end_within ss k place len first s ys were h e at = omega (arith, items_next ss k s h e, at, were.long, items_before ss (k + 1) were.old were.are)
-
--- the stretches of a list in which one was renewed that an edit lies in
-pub renewed_at : (ss : List Stretch) (k place len first : ℕ) (s new : Stretch) (ys own : List OneItem) → WereStretches ss place len ys → k < length ss → s ≡ get_or ss k s → first ≡ items_in (take k ss) → first ≤ place
-    → place < first + s.items → own ≡ drop first (take (length ys - (len - (first + s.items))) ys) → new.items ≡ length own → IsSumOf (listed own) new.summary → AreStretches (set ss k new) ys
-renewed_at ss k place len first s new ys own were h e at before behind is items sum =
-    let xs = were.old in
-    let cut = were.splice in
-    let front = take cut.first xs ++ cut.put in
-    let back = drop cut.behind xs in
-    let end = first + s.items in
-    let kept = length ys - (len - end) in
-    let some = items_in (take k ss) in
-    let left : take cut.first xs ++ (cut.put ++ back) ≡ ys = cc in
-    let whole : ys ≡ front ++ back = sym left ∙ sym (append_assoc (take cut.first xs) cut.put back) in
-    let next : items_in (take (k + 1) ss) ≡ end = omega (arith, items_next ss k s h e, at) in
-    let fits : end ≤ length xs = omega (arith, were.long, end_within ss k place len first s ys were h e at) in
-    let short : length (take cut.first xs) ≡ cut.first = length-take-le cut.first xs (omega (arith, were.within.order, were.within.end)) in
-    let long : length ys ≡ length front + (length xs - cut.behind) = ap length whole ∙ length-append front back ∙ ap (λ n. length front + n) (length-drop cut.behind xs) in
-    let joined : length front ≡ cut.first + length cut.put = length-append (take cut.first xs) cut.put ∙ ap (λ n. n + length cut.put) short in
-    let past : cut.behind ≤ end = omega (arith, were.one, behind) in
-    let cut_at : kept ≡ length front + (end - cut.behind) = omega (arith, long, were.long, fits, past) in
-    let further : cut.behind + (end - cut.behind) ≡ end = omega (arith, past) in
-    let rest : drop kept ys ≡ drop end xs =
-    ap (drop kept) whole ∙ ap (λ n. drop n (front ++ back)) cut_at ∙ drop-append-add front back (end - cut.behind) ∙ drop-drop (end - cut.behind) cut.behind xs ∙ ap (λ n. drop n xs) further in
-    let same = same_before ss place len some ys were (omega (arith, before, at)) in
-    let enough : some + new.items ≡ kept =
-    omega (arith, items, ap length is, length-drop first (take kept ys), length-take kept ys, cut_at, joined, long, were.first, before, at, were.within.end, past, fits) in
-    let mine : own ≡ take new.items (drop some ys) = is ∙ (λ i. drop (at i) (take (sym enough i) ys)) ∙ drop-take some new.items ys in
-    let step : items_in (take (k + 1) ss) ≡ items_in (take (suc k) ss) = ap (λ n. items_in (take n ss)) one in
-    renewed ss k new xs ys were.are h same (omega (arith, enough, length-drop some ys, cut_at, long, past, fits)) (subst (λ l. IsSumOf (listed l) new.summary) mine sum)
-    (drop-drop new.items some ys ∙ ap (λ n. drop n ys) enough ∙ rest ∙ ap (λ n. drop n xs) (sym next ∙ step))
+pub reads_more : (ls ms : List (List ℕ)) (xs ys : Items) → Reads ls xs → Reads ms ys → Reads (ls ++ ms) (join xs ys)
+reads_more ls ms xs ys a b = record {
+  on = λ n now rs.
+      ap (read_on n (outside now)) (meant rs)
+      ∙ a.on n now (line_meanings ms ++ rs)
+      ∙ b.on (n + length ls) (join now xs) rs
+      ∙ (λ i. read_on (count n i) (outside (join_assoc now xs ys i)) rs);
+  flat = omega (arith, depth-join xs ys, a.flat, b.flat);
+}
   where
-    one : k + 1 ≡ suc k
-    one = omega arith
+    meant : (rs : List Meaning) → line_meanings (ls ++ ms) ++ rs ≡ line_meanings ls ++ (line_meanings ms ++ rs)
+    meant rs =
+        ap (λ l. map meaning_of l ++ rs) (map-append content_of ls ms)
+        ∙ ap (λ l. l ++ rs) (map-append meaning_of (map content_of ls) (map content_of ms))
+        ∙ append_assoc (line_meanings ls) (line_meanings ms) rs
+
+    count : (n : ℕ) → (n + length ls) + length ms ≡ n + length (ls ++ ms)
+    count n = omega (arith, length-append ls ms)
+
+-- what one line does that leaves no block open
+abbrev Puts : List ℕ → Items → Progress → Type 0
+Puts l now t = (ys : Items) × Reads (l ∷ []) ys × (t ≡ outside (join now ys))
+
+not_opened : (b : Bool) (s : Progress) (t : Progress) (l : List ℕ) (now : Items) → (if b then Ok s else Err TooDeep) ≡ Ok t → length s.open_blocks ≡ 1 → length t.open_blocks ≡ 0 → Puts l now t
+not_opened true s t l now e one none = let same : s ≡ t = cc in absurd (omega (arith, one, none, ap (λ p. length p.open_blocks) same))
+not_opened false s t l now e one none = cc
+
+line_puts : (n : ℕ) (l : List ℕ) (now : Items) (t : Progress) → stepped n (meaning_of (content_of l)) (outside now) ≡ Ok t → length t.open_blocks ≡ 0 → Puts l now t
+line_puts n l now t e none = by_meaning (meaning_of (content_of l)) refl e
+  where
+    by_meaning : (m : Meaning) → meaning_of (content_of l) ≡ m → stepped n m (outside now) ≡ Ok t → Puts l now t
+    by_meaning (Err r) q e = cc
+    by_meaning (Ok Close) q e = cc
+    by_meaning (Ok (Open c tag)) q e = not_opened (nat_lt 0 16) (record { open_blocks = record { line = n; count = c; tag = tag; before = now } ∷ []; now = done }) t l now e refl none
+    by_meaning (Ok Blank) q e =
+        let same : outside now ≡ t = cc in (
+          done,
+          record {
+            on = λ k at ms. ap (λ w. read_on k (outside at) (w ∷ ms)) q ∙ ap (λ x. read_on (k + 1) (outside x) ms) (sym (join_done at));
+            flat = refl;
+          },
+          sym same ∙ ap outside (sym (join_done now)),
+        )
+    by_meaning (Ok (line.Operation op)) q e =
+        let same : outside (join now (next op done)) ≡ t = cc in
+        (next op done, record { on = λ k at ms. ap (λ w. read_on k (outside at) (w ∷ ms)) q; flat = refl }, sym same)
+
+-- what is kept if no block is open
+pub kept_outside : (xs : List OneItem) (fs : List StoredBlock) (ys : List OneItem) → length fs ≡ 0 → kept_progress xs fs ys ≡ outside (join (listed xs) (listed ys))
+kept_outside xs [] ys none = ap outside (listed-append xs ys)
+kept_outside xs (f ∷ fs) ys none = absurd (omega (arith, none))
+
+pub kept_now : (xs : List OneItem) (fs : List StoredBlock) (ys : List OneItem) → length fs ≡ 0 → kept_progress xs fs ys ≡ outside (kept_progress xs fs ys).now
+kept_now xs fs ys none = kept_outside xs fs ys none ∙ ap (λ p. outside p.now) (sym (kept_outside xs fs ys none))
+
+pub kept_nothing : (xs : List OneItem) (fs : List StoredBlock) (ys : List OneItem) → length fs ≡ 0 → ys ≡ [] → kept_progress xs fs ys ≡ outside (listed xs)
+kept_nothing xs fs ys none empty = kept_outside xs fs ys none ∙ ap (λ l. outside (join (listed xs) (listed l))) empty ∙ ap outside (join_done (listed xs))
+
+-- a run begins, and goes on
+pub run_begins : (xs : List OneItem) (fs : List StoredBlock) (ys : List OneItem) (n : ℕ) (text : List ℕ) (run : Run) → length fs ≡ 0 → length ys ≡ 0 → run.front.now ≡ text → run.from ≡ n
+    → IsRunOf xs (kept_progress xs fs ys) n text run
+run_begins xs fs ys n text run none empty front from = record {
+  lines = [];
+  items = done;
+  ran = front;
+  count = omega (arith, from);
+  reads = reads_none;
+  read = kept_nothing xs fs ys none (no_length ys empty) ∙ ap outside (sym (join_done (listed xs)));
+}
+
+run_goes_on : (xs : List OneItem) (s t : Progress) (n : ℕ) (text rest first : List ℕ) (run : Run) → IsRunOf xs s n text run → slice_split (is_byte 10) text ≡ first ∷ slice_split (is_byte 10) rest
+    → stepped n (meaning_of (content_of first)) s ≡ Ok t → length t.open_blocks ≡ 0 → IsRunOf xs t (n + 1) rest run
+run_goes_on xs s t n text rest first run r split e none =
+    let put = line_puts n first (join (listed xs) r.items) t (ap (stepped n (meaning_of (content_of first))) (sym r.read) ∙ e) none in
+    record {
+      lines = r.lines ++ first ∷ [];
+      items = join r.items put.0;
+      ran = ran_more run.front.now r.lines text first rest r.ran (split_cut text first (Some rest) split) (one_line_first text first (slice_split (is_byte 10) rest) split);
+      count = omega (arith, r.count, length-append r.lines (first ∷ []));
+      reads = reads_more r.lines (first ∷ []) r.items put.0 r.reads put.1;
+      read = put.2 ∙ ap outside (join_assoc (listed xs) r.items put.0);
+    }
+
+pub no_run : (xs : List OneItem) (s : Progress) (n : ℕ) (after : Option (List ℕ)) (run : Option Run) → run ≡ None → RunsOn xs s n after run
+no_run xs s n None run e = tt
+no_run xs s n (Some rest) run e = subst (IsRun xs s n rest) (sym e) tt
+
+pub runs_on : (xs : List OneItem) (s : Progress) (n : ℕ) (text first : List ℕ) (after : Option (List ℕ)) (old new : Option Run) (single : Bool) (fs : List StoredBlock) (ys : List OneItem)
+    → IsRun xs s n text old → slice_split (is_byte 10) text ≡ first ∷ pieces_after 10 after → stepped n (meaning_at single s (content_of first)) s ≡ Ok (kept_progress xs fs ys)
+    → (new ≡ None) ⊎ ((new ≡ old) × (single ≡ false) × (length fs ≡ 0)) → RunsOn xs (kept_progress xs fs ys) (n + 1) after new
+runs_on xs s n text first after old new single fs ys r split e (inl none) = no_run xs (kept_progress xs fs ys) (n + 1) after new none
+runs_on xs s n text first None old new single fs ys r split e (inr k) = tt
+runs_on xs s n text first (Some rest) old new single fs ys r split e (inr k) =
+    let t = kept_progress xs fs ys in
+    let none : length t.open_blocks ≡ 0 = ap (λ p. length p.open_blocks) (kept_outside xs fs ys k.2) in
+    let taken : stepped n (meaning_of (content_of first)) s ≡ Ok t = ap (λ b. stepped n (meaning_at b s (content_of first)) s) (sym k.1) ∙ e in
+    subst (IsRun xs t (n + 1) rest) (sym k.0) (goes_on t none taken old r)
+  where
+    goes_on : (t : Progress) → length t.open_blocks ≡ 0 → stepped n (meaning_of (content_of first)) s ≡ Ok t → (run : Option Run) → IsRun xs s n text run → IsRun xs t (n + 1) rest run
+    goes_on t none taken None r = tt
+    goes_on t none taken (Some run) r = run_goes_on xs s t n text rest first run r split taken none
+
+-- the items of a run are put after the first
+join_cancel : (a x y : Items) → join a x ≡ join a y → x ≡ y
+join_cancel done x y e = e
+join_cancel (next op rest) x y e = let same : join rest x ≡ join rest y = cc in join_cancel rest x y same
+join_cancel (block c t body rest) x y e = let same : join rest x ≡ join rest y = cc in join_cancel rest x y same
+
+drop_first : (xs ys : List OneItem) → drop (length xs) (xs ++ ys) ≡ ys
+drop_first [] ys = refl
+drop_first (x ∷ xs) ys = drop_first xs ys
+
+run_ends_of : (xs all : List OneItem) (fs : List StoredBlock) (ys : List OneItem) (first n : ℕ) (rest : List ℕ) (run : Run) → length fs ≡ 0 → first ≡ length xs → all ≡ xs ++ ys
+    → IsRunOf xs (kept_progress xs fs ys) n rest run → IsEnded all first n rest run
+run_ends_of xs all fs ys first n rest run none at same r =
+    let items : r.items ≡ listed ys = sym (join_cancel (listed xs) (listed ys) r.items (ap (λ p. p.now) (sym (kept_outside xs fs ys none) ∙ r.read))) in
+    let stored : ys ≡ drop first all = sym ((λ i. drop (at i) (same i)) ∙ drop_first xs ys) in
+    record {
+      within = omega (arith, at, ap length same, length-append xs ys);
+      lines = r.lines;
+      ran = r.ran;
+      count = r.count;
+      reads = subst (Reads r.lines) (items ∙ ap listed stored) r.reads;
+    }
+
+pub run_ends : (xs all : List OneItem) (fs : List StoredBlock) (ys : List OneItem) (first n : ℕ) (rest : List ℕ) (run : Option Run) → length fs ≡ 0 → first ≡ length xs → all ≡ xs ++ ys
+    → IsRun xs (kept_progress xs fs ys) n rest run → MatchOption run (Unit {0}) (IsEnded all first n rest)
+run_ends xs all fs ys first n rest None none at same r = tt
+run_ends xs all fs ys first n rest (Some run) none at same r = run_ends_of xs all fs ys first n rest run none at same r
+
+-- it is a stretch then
+items_behind : (xs : List OneItem) (s : Stretch) (first : ℕ) → s.first ≡ first → s.behind ≡ length xs → items_of s xs ≡ drop first xs
+items_behind xs s first at end = (λ i. drop (at i) (take (end i) xs)) ∙ ap (drop first) (take_all (length xs) xs (omega arith))
+
+-- more items
+pub more_keeps : (xs all ys : List OneItem) → all ≡ xs ++ ys → KeepsStretches xs all
+more_keeps xs all ys same s k =
+    subst (λ l. IsStretch l s) (sym same)
+    (record {
+      order = k.order;
+      within = omega (arith, length-append xs ys, k.within);
+      count = k.count;
+      reads = subst (λ l. Reads (slice_split (is_byte 10) s.bytes.now) (listed (drop s.first l))) (sym (take-append-le s.behind xs ys k.within)) k.reads;
+    })
+
+pub keeps_all : (xs all : List OneItem) (ss ts : List Stretch) → ts ≡ ss → KeepsStretches xs all → All (IsStretch xs) ss → All (IsStretch all) ts
+keeps_all xs all ss ts same keeps each = subst (All (IsStretch all)) (sym same) (All-weaker (IsStretch xs) (IsStretch all) keeps ss each)
+
+pub one_more : (xs : List OneItem) (ss ts : List Stretch) (s : Stretch) → ts ≡ ss ++ s ∷ [] → All (IsStretch xs) ss → IsStretch xs s → All (IsStretch xs) ts
+one_more xs ss ts s same each one = subst (All (IsStretch xs)) (sym same) (All-push (IsStretch xs) ss s each one)
+
+-- copies of the items of a stretch
+pub copy_stretch : (xs all : List OneItem) (s t : Stretch) → IsStretch xs s → all ≡ xs ++ items_of s xs → t.bytes.now ≡ s.bytes.now → t.lines ≡ s.lines → t.first ≡ length xs → t.behind ≡ length all → IsStretch all t
+copy_stretch xs all s t k same bytes lines at end =
+    let there : items_of s xs ≡ items_of t all = sym (items_behind all t (length xs) at end ∙ ap (drop (length xs)) same ∙ drop_first xs (items_of s xs)) in
+    record {
+      order = omega (arith, at, end, ap length same, length-append xs (items_of s xs));
+      within = omega (arith, end);
+      count = ap (λ l. length (slice_split (is_byte 10) l)) bytes ∙ k.count ∙ sym lines;
+      reads = subst (λ l. Reads (slice_split (is_byte 10) t.bytes.now) (listed l)) there (subst (λ l. Reads (slice_split (is_byte 10) l) (listed (items_of s xs))) (sym bytes) k.reads);
+    }
+
+pub copy_put : (xs all d : List OneItem) (fs : List StoredBlock) (ys : List OneItem) → length fs ≡ 0 → ys ≡ [] → all ≡ xs ++ d → kept_progress all fs ys ≡ outside (join (kept_progress xs fs ys).now (listed d))
+copy_put xs all d fs ys none empty same =
+    kept_nothing all fs ys none empty
+    ∙ ap (λ l. outside (listed l)) same
+    ∙ ap outside (listed-append xs d)
+    ∙ ap (λ p. outside (join p.now (listed d))) (sym (kept_nothing xs fs ys none empty))
+
+-- the lines of a stretch are read at once
+pub stretch_read : (xs : List OneItem) (s : Stretch) (n : ℕ) (text : List ℕ) (after : Option (List ℕ)) (now : Items) → IsStretch xs s → IsCut text s.bytes.now after
+    → reading_on false n (outside now) (Some text) ≡ reading_on false (n + s.lines) (outside (join now (listed (items_of s xs)))) after
+stretch_read xs s n text after now k cut =
+    let pieces = slice_split (is_byte 10) s.bytes.now in
+    let more = pieces_after 10 after in
+    ap (λ l. read_on n (outside now) (map meaning_of (map content_of l))) (cut_pieces text s.bytes.now after cut)
+    ∙ ap (λ l. read_on n (outside now) (map meaning_of l)) (map-append content_of pieces more)
+    ∙ ap (read_on n (outside now)) (map-append meaning_of (map content_of pieces) (map content_of more))
+    ∙ k.reads.on n now (map meaning_of (map content_of more))
+    ∙ ap (λ m. read_on (n + m) (outside (join now (listed (items_of s xs)))) (map meaning_of (map content_of more))) k.count
+
+pub stretch_shallow : (xs : List OneItem) (s : Stretch) (p t : Progress) (d : List OneItem) → IsStretch xs s → d ≡ items_of s xs → IsShallowProgress p → t ≡ outside (join p.now (listed d)) → IsShallowProgress t
+stretch_shallow xs s p t d k same h e =
+    let flat : depth (listed d) ≡ 0 = ap (λ l. depth (listed l)) same ∙ k.reads.flat in
+    subst IsShallowProgress (sym e) (record { now = omega (arith, flat, h.now, depth-join p.now (listed d)); before = tt })

@@ -1,5 +1,5 @@
 -- What is read of a text is what it stands for, and what refuses it is its fault.
-use Rattle.stab_circuit.proofs.Names.{◌≡◌, ◌≤◌, ◌<◌, refl, ap, sym, ◌∙◌, subst, ℕ, List, [], ◌∷◌, ◌++◌, Bool, true, false, nat_lt, length, Option, None, Some, Result, Ok, Err, if◌then◌else◌, arith, ◌⊎◌, inl, inr, list_all, IfErr, nat_tests, Refusal, LookbackTooFar, TooManySteps, TooLong, BadLine, OutOfMemory, Fault, whole, Items, OneItem, before, done, listed, Joins, contents, meanings, limited, text_fault, item_fault, StandsFor, StandsForOne, one_item, is_empty, check_of, Checks, unroll, looks_too_far, most_steps, before_reading, read_on, reading, IsCircuit, IsFaultOf, ReadsCircuit, IsPlaced, is_of_circuit, is_of_item, chosen, passed}
+use Rattle.stab_circuit.proofs.Names.{◌≡◌, ◌≤◌, ◌<◌, refl, ap, sym, ◌∙◌, subst, ℕ, List, [], ◌∷◌, ◌++◌, Bool, true, false, nat_lt, length, Option, None, Some, Result, Ok, Err, if◌then◌else◌, arith, ◌⊎◌, inl, inr, list_all, IfErr, nat_tests, Refusal, LookbackTooFar, TooManySteps, TooLong, BadLine, OutOfMemory, Fault, whole, Items, OneItem, before, done, listed, Joins, contents, meanings, limited, text_fault, item_fault, StandsFor, StandsForOne, one_item, is_empty, check_of, unroll, looks_too_far, most_steps, before_reading, read_on, reading, IsCircuit, IsFaultOf, ReadsCircuit, IsPlaced, is_of_circuit, is_of_item, chosen, passed, Refuses, IsCallFault}
 use Rattle.std.proofs.Common.{length-append}
 use Rattle.std.specs.Result.{IfOk}
 use Rattle.stab_circuit.proofs.ReadingLemmas.{joined_read, fault_read}
@@ -117,10 +117,15 @@ pub circuit_refused : (text : List ℕ) (f : Fault) → length text ≤ 16777216
 circuit_refused text f h (inl e) = inl e
 circuit_refused text f h (inr e) = inr (inl (text_refused text f h e))
 
+judged_fault : (text : List ℕ) (held : List OneItem) (f : Fault) (verdict : Option Refusal) → length text ≤ 16777216 → reading false text ≡ Ok (listed held)
+    → check_of (listed held) ≡ verdict → IsCallFault verdict f → ReadsCircuit text (Err f)
+judged_fault text held f None h e judged memory = inl memory
+judged_fault text held f (Some r) h e judged is = inr (inr (listed held, r, text_read text (listed held) h e, judged, is))
+
 pub circuit_judged : (text : List ℕ) (held : List OneItem) (given : Result (List OneItem) Fault) → length text ≤ 16777216 → reading false text ≡ Ok (listed held)
-    → IfOk given (λ c. c ≡ held) → Checks given (check_of (listed held)) → ReadsCircuit text given
+    → IfOk given (λ c. c ≡ held) → Refuses given (check_of (listed held)) → ReadsCircuit text given
 circuit_judged text held (Ok c) h e same k = subst (λ l. IsCircuit text (listed l)) (sym same) (text_read text (listed held) h e, k)
-circuit_judged text held (Err f) h e same k = inr (inr (listed held, f.refusal, text_read text (listed held) h e, k.0, k.1))
+circuit_judged text held (Err f) h e same k = judged_fault text held f (check_of (listed held)) h e refl k
 
 pub circuit_answered : (text : List ℕ) (given : Result (List OneItem) Fault) → ReadsCircuit text given → IfErr given (IsPlaced is_of_circuit)
 circuit_answered text (Ok c) p = tt

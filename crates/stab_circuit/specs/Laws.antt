@@ -1,23 +1,24 @@
 -- Laws: what holds between all texts and all items.
 -- Source: this project's own.
-use Rattle.std.specs.Prelude.{◌≡◌, ◌≤◌, ◌⊎◌, ℕ, List, [], All, length, take, drop, Some, None, Ok}
+use Rattle.std.specs.Prelude.{◌≡◌, ◌≤◌, ◌⊎◌, ℕ, List, [], All, length, Some, None, Ok}
 use Rattle.std.specs.List.{slice_split}
 use Rattle.stab_io.specs.declared.refusal.Fault.{Fault}
 use Rattle.stab_lines.specs.Lines.{is_byte}
-use Rattle.stab_lines.specs.declared.operation.Kind.{Kind}
-use Rattle.stab_circuit.specs.declared.edit.Edit.{Edit}
+use Rattle.stab_edits.specs.declared.edit.Edit.{Edit}
 use Rattle.stab_items.specs.Items.{Items, OneItem, done, before, listed, depth}
 use Rattle.stab_items.specs.Circuits.{most_bytes, text_fault, item_fault, StandsFor, StandsForOne}
 pub use Rattle.stab_items.specs.Circuits.{AreLinesOf}
 use Rattle.stab_items.specs.Prints.{printed}
-use Rattle.stab_items.specs.Steps.{unroll, past_named}
-use Rattle.stab_circuit.specs.Cursors.{IsApart}
+use Rattle.stab_items.specs.Steps.{unroll}
+use Rattle.stab_edits.specs.Cursors.{IsApart}
 use Rattle.stab_circuit.specs.Readings.{IsCircuit, IsFaultOf}
-use Rattle.stab_circuit.specs.StepPaths.{paths_of}
-use Rattle.stab_circuit.specs.Paths.{Path}
-use Rattle.stab_circuit.specs.Edits.{edit_path, edited, taken, put_item, first_changed, old_end, new_end}
-use Rattle.stab_circuit.specs.Rounds.{HaveRounds, ChangesEachRound}
-use Rattle.stab_circuit.specs.Splits.{split}
+use Rattle.stab_edits.specs.StepPaths.{paths_of}
+use Rattle.stab_edits.specs.Paths.{Path}
+pub use Rattle.stab_edits.specs.Edits.{LeavesTheRest}
+pub use Rattle.stab_edits.specs.Splits.{AreAlike}
+use Rattle.stab_edits.specs.Edits.{edit_path, edited, taken, put_item}
+use Rattle.stab_edits.specs.Rounds.{HaveRounds, ChangesEachRound}
+use Rattle.stab_edits.specs.Splits.{split}
 
 -- the text stands for the items, and for no others
 abbrev pub StandsForOnly : List ℕ → Items → Type 0
@@ -71,11 +72,6 @@ TextsHaveOneFault = (text : List ℕ) (fault other : Fault) → IsFaultOf text f
 abbrev pub CircuitsHaveNoFault : Type 0
 CircuitsHaveNoFault = (text : List ℕ) (items : Items) (fault : Fault) → IsCircuit text items → IsFaultOf text fault → ⊥
 
--- an edit leaves the steps before the first changed one, and those after the outermost item around the place
-pub record LeavesTheRest (edit : Edit) (old new : List OneItem) : Type 0 where
-  pub before : take (first_changed edit old) (unroll (listed old)) ≡ take (first_changed edit old) (unroll (listed new))
-  pub behind : drop (old_end edit old) (unroll (listed old)) ≡ drop (new_end edit new) (unroll (listed new))
-
 -- each edit leaves the rest of the steps
 abbrev pub EditsLeaveTheRest : Type 0
 EditsLeaveTheRest = (edit : Edit) (old new : List OneItem) → edited edit old ≡ Ok new → LeavesTheRest edit old new
@@ -83,13 +79,6 @@ EditsLeaveTheRest = (edit : Edit) (old new : List OneItem) → edited edit old �
 -- each edit in blocks that have a round changes each of them so
 abbrev pub EditsChangeEachRound : Type 0
 EditsChangeEachRound = (edit : Edit) (old new : List OneItem) → edited edit old ≡ Ok new → HaveRounds (edit_path edit).blocks old → ChangesEachRound edit old new
-
--- items have the same steps, nest blocks as deep, and name the same greatest numbers, of qubits as of observables: so what refuses the
--- one on any number of qubits refuses the other
-pub record AreAlike (old new : Items) : Type 0 where
-  pub steps : unroll new ≡ unroll old
-  pub depth : depth new ≡ depth old
-  pub named : (f : Kind → List ℕ) → past_named f new ≡ past_named f old
 
 -- a round that is split off leaves items that are like those before
 abbrev pub SplitsLeaveTheSteps : Type 0

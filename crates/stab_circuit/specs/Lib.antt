@@ -4,17 +4,7 @@ pub use Rattle.stab_items.specs.Steps
 pub use Rattle.stab_items.specs.Prints
 pub use Rattle.stab_items.specs.Nothings
 pub mod Limits
-pub mod Views
 pub mod Inputs
 pub mod Readings
-pub mod Cursors
-pub mod Paths
-pub mod Places
-pub mod StepPaths
-pub mod Edits
-pub mod Rounds
-pub mod Repeats
-pub mod Splits
-pub mod Editings
 pub mod Laws
 pub mod inner

@@ -11,7 +11,7 @@ use Rattle.stab_items.specs.Items.{Items, OneItem}
 use Rattle.stab_circuit.specs.Inputs.{GaveText, RefusesText}
 use Rattle.stab_items.specs.Circuits.{text_fault, item_fault, StandsFor, StandsForOne}
 use Rattle.stab_items.specs.Steps.{check_of}
-use Rattle.stab_circuit.specs.Views.{circuit_items}
+use Rattle.stab_edits.specs.Views.{circuit_items}
 
 -- the text stands for the items, and nothing refuses these as a whole circuit
 abbrev pub IsCircuit : List ℕ → Items → Type 0

@@ -1,11 +1,4 @@
-pub use Rattle.stab_items.specs.inner.StoredItems
-pub mod Walks
-pub mod Places
-pub mod Splices
-pub mod Judgements
-pub mod EditResults
-pub mod StepItems
+-- Definitions that only private contracts cite.
+pub mod KnownLines
+pub mod Readers
 pub mod Stretches
-pub mod Gaps
-pub mod Repeats
-pub mod Changes

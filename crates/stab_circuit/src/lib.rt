@@ -1,61 +1,45 @@
-//! Circuits: reading their text, and what they come to once their blocks are written out.
+//! Circuits and their text: reading and printing it, and all names of circuits in one place.
 //!
-//! `stab_lines` says what one line means, and `stab_items` how lines are read as items, and how items are
-//! printed; here items are put together.
+//! `stab_lines` says what one line means; here lines are put together into items. Circuits of items, with their edits and steps,
+//! are `stab_edits`', passed on.
 //!
 //! - `input`: reading an input whole.
-//! - `path`: the places of items.
-//! - `edit`: how a circuit is edited at a path, and which steps that changes.
-//! - `judge`, `commit`: judging an edit by what items keep, and making it.
-//! - `circuit`: circuits, reading one, printing one, editing one, splitting a round off a block, the item at
-//!   a path, the item that a step belongs to, the steps after each occurrence of an item in blocks, and the
-//!   blocks of which the steps come again.
-//! - `same`: instructions and items that stand for the same steps.
-//! - `walk`, `cursor`: the unrolled steps of a circuit, from any place on.
+//! - `front`: the first line of a text: where it ends, and what a look at its bytes says.
+//! - `hashes`: hashes of the first bytes of a line or a stretch, by which it is looked for.
+//! - `known_lines`: lines that were read, so that one that comes again is not read again.
+//! - `stretches`: the same for many lines at once, one after the other.
+//! - `reader`: the items of a text's lines, with the blocks that are open.
+//! - `whole_text`: the items of a text, by its stretches and lines.
+//! - `reading`: circuits and items of texts, and the text of a circuit.
 //! - `laws`: what holds between all texts and all items.
 //!
-//! `specs/` says how a text is read, which item each unrolled step is of, what an edit leaves of items,
-//! if it changes their steps, and where the same steps come again, and passes on what `stab_items`
-//! says of them: which items a text stands for, what its fault is, and what its unrolled steps are;
-//! `specs/inner` has what only private contracts use.
+//! `specs/` says how a text is read, and passes on what `stab_items` says of items: which of them a text stands for, what its
+//! fault is, and what its unrolled steps are; `specs/inner` has what only private contracts use.
 //!
 //! Sources: Stim's circuit file format (.stim) without noise, in Stim's repository
-//! `doc/file_format_stim_circuit.md`. `docs/use/circuit-text.md` says where this differs; paths and edits are this
-//! project's own.
+//! `doc/file_format_stim_circuit.md`. `docs/use/circuit-text.md` says where this differs.
 //!
 //! Proved: every text is that of one circuit or has one fault, and never both; it is read as exactly
 //! the items that it stands for, or refused with exactly its fault, and after the limit of a text
-//! only what one read brings is read; qubits and observables are those of its items, and
-//! steps, records, detectors and what refuses a whole circuit those of its unrolled steps; the path that is given
-//! for a step is that of its item; one item's text without a fault stands for one item; what is printed
+//! only what one read brings is read; one item's text without a fault stands for one item; what is printed
 //! of the items of any lines stands for these items and no others, within the limit of a text, and
-//! edits and splits of items of lines leave such items; an edit leaves exactly the items that
-//! `specs/Edits.antt` gives, and the steps before the first changed one and after the outermost item
-//! around its place, or is refused by what refuses it first and leaves the circuit as it was; in each
-//! round of the blocks around its place it leaves the steps after what it takes out and what it puts
-//! in, and how many these are is reported; where the steps of an outermost block come again, how often, and
-//! how far back they look is reported for each such block; a split of a round leaves exactly the items that
-//! `specs/Splits.antt` gives, and all steps, or is refused as that says.
+//! edits and splits of items of lines leave such items; an edit leaves the steps before the first changed one and after the
+//! outermost item around its place.
 #![tactic(auto)]
 
-mod circuit;
-mod commit;
-mod cursor;
-mod edit;
+mod front;
+mod hashes;
 mod input;
-mod judge;
+mod known_lines;
 pub mod laws;
-mod path;
-mod same;
-mod walk;
+mod reader;
+mod reading;
+mod stretches;
+mod whole_text;
 
-pub use circuit::{
-    Circuit, Repeat, StepItem, circuit_of_text, read_circuit, read_item, write_circuit,
-};
-pub use cursor::Cursor;
-pub use edit::{Edit, Refused, Span};
 pub use input::read_text;
-pub use path::{Path, write_path};
+pub use reading::{circuit_of_text, read_circuit, read_item, write_circuit};
+pub use stab_edits::{Circuit, Cursor, Edit, Path, Refused, Repeat, Span, StepItem, write_path};
 pub use stab_items::{
     Detectors, Item, Step, Steps, controlled_gate, measured_step, write_item_coordinates,
     write_one_item,

@@ -20,7 +20,7 @@ pub use Rattle.stab_circuit.specs.Inputs.{GaveText, RefusesText}
 pub use Rattle.stab_circuit.specs.Items.{Items}
 pub use Rattle.stab_circuit.specs.Readings.{IsCircuit, IsFaultOf}
 pub use Rattle.stab_circuit.specs.Steps.{qubits_of}
-pub use Rattle.stab_circuit.specs.Views.{circuit_items}
+pub use Rattle.stab_edits.specs.Views.{circuit_items}
 pub use Rattle.stab_io.proofs.DeviceLemmas.{failed_on, failed_within, took_and_failed, wrote_part, wrote_and_failed, WroteUpTo}
 pub use Rattle.stab_io.specs.Devices.{InputView, OutputView, Took, CutOff}
 pub use Rattle.stab_io.specs.Refusals.{whole}

@@ -1,7 +1,7 @@
 //! The commands that run a circuit, from its text to the bytes of its shots.
 ghost use Rattle.std.specs.Prelude.{◌≡◌, ◌≤◌, None};
 ghost use Rattle.stab_circuit.specs.Steps.{check_of};
-ghost use Rattle.stab_circuit.specs.Views.{circuit_items};
+ghost use Rattle.stab_edits.specs.Views.{circuit_items};
 ghost use Rattle.stab_jobs.specs.Limits.{most_shots};
 ghost use Rattle.stab_texts.specs.Endings.{Sends};
 ghost use Rattle.stab_commands.specs.Outputs.{EndsRun, sample_of, detect_of};

@@ -1,6 +1,6 @@
 -- Laws of answers: on items that can be edited each request has one, which leaves such items; so have requests one after another.
 use Rattle.stab_editor.proofs.Names.{◌≡◌, ◌≤◌, ◌<◌, ◌^◌, ℕ, Bool, true, false, nat_lt, List, [], ◌∷◌, length, refl, sym, ap, ◌∙◌, subst, Option, Some, None, Result, Ok, Err, inl, inr, if◌then◌else◌, arith, slice_split, ltb-true, ltb-false, Refusal, TooDeep, QubitOutOfRange, LookbackTooFar, TooManySteps, BadCommand, Fault, TracesHaveReducedRows, is_byte, Items, OneItem, done, before, listed, entries, depth, Path, Edit, edited, list_verdict, split_list, looks_too_far, most_steps, named_qubits, qubits_of, check_of, check_within, unroll, item_fault, StandsForOne, IsCircuit, AreOfLines, AreAlike, PutsLines, TextsAreLines, ItemTextsAreLines, ItemTextsHaveOneMeaning, EditedItemsAreOfLines, SplitsLeaveTheSteps, SplitItemsAreOfLines, LinesKeepQubitsApart, listed-entries, State, run_of, IsSoundRun, RunsAreSound, check-fits, check-whole, DeterministicParities, CoinsHaveRows, CircuitsHaveDistances, DeterministicHasNoDecider, f01_bytes, printed, lines_of, Setting, Request, begin, put, delete, show, ask, deterministic, distance, refuse, Held, run_held, Answer, IsPut, Shows, IsDeterministicAnswer, IsDistanceAnswer, IsAnswer, IsAnswerToAll, options_asked, both, unless, judged, decided, refusing, replying, edit_of, edited_items, framed_shown, held_split, held_behind, shown_or_refused, framed_answer, reply_text, greeting, session_numbers, FramedRequest, mark, split, numbers, changed, changed_records, sign, item, counts, coin_table, why, CanBeEdited, ItemEdit, Insert, Replace, Show, Measurements, Free, Detectors, Observables, Stabilisers, Circuit}
-use Rattle.stab_circuit.specs.declared.edit.Edit.TheVariants as circuit_edit
+use Rattle.stab_edits.specs.declared.edit.Edit.TheVariants as circuit_edit
 use Rattle.stab_editor.proofs.DistanceExistLaws.{distance_answered}
 use Rattle.stab_editor.proofs.ScriptNumberLaws.{AsksFew, AllAskFew}
 use Rattle.stab_editor.proofs.DeterministicBitLaws.{checked_on_own, deterministic_text}

@@ -1,6 +1,6 @@
 -- Laws of answers: on items that can be edited a request has at most one, and so have requests one after another.
 use Rattle.stab_editor.proofs.Names.{◌≡◌, ℕ, Bool, true, false, List, [], ◌∷◌, ◌++◌, sym, ap, ◌∙◌, subst, append_assoc, Some, None, inl, inr, Result, Refusal, BadCommand, Fault, Items, OneItem, item_fault, StandsForOne, Path, ItemTextsAreLines, ItemTextsHaveOneMeaning, EditedItemsAreOfLines, SplitsLeaveTheSteps, SplitItemsAreOfLines, TracesHaveOneList, RunsAreSound, Setting, Request, begin, put, delete, show, ask, deterministic, distance, refuse, Held, run_held, Answer, IsPut, Shows, IsDeterministicAnswer, IsAnswer, IsAnswerToAll, both, decided, refusing, replying, edit_of, edited_items, framed_answer, reply_text, greeting, session_numbers, lines_of, CanBeEdited, asks_distance, NoneAsksDistance, ItemEdit, Show, Measurements, Free, Detectors, Observables, Stabilisers, Circuit}
-use Rattle.stab_circuit.specs.declared.edit.Edit.TheVariants as circuit_edit
+use Rattle.stab_edits.specs.declared.edit.Edit.TheVariants as circuit_edit
 use Rattle.stab_editor.proofs.AnswerExistLaws.{edit_keeps, puts_lines, puts_none, framed_keeps}
 use Rattle.stab_editor.proofs.DeterministicBitLaws.{one_deterministic_answer}
 

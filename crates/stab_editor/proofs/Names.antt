@@ -22,20 +22,20 @@ pub use Rattle.stab_analysis.specs.declared.distance.Distance.{Distance}
 pub use Rattle.stab_texts.specs.declared.random.Bit.{Bit}
 pub use Rattle.stab_texts.specs.declared.random.Decider.{Decider}
 pub use Rattle.stab_texts.specs.declared.random.Random.{Random}
-pub use Rattle.stab_circuit.proofs.EditLemmas.{listed-entries, entries-listed}
+pub use Rattle.stab_edits.proofs.EditLemmas.{listed-entries, entries-listed}
 pub use Rattle.stab_circuit.specs.Circuits.{item_fault, StandsForOne}
-pub use Rattle.stab_circuit.specs.Edits.{edited, list_verdict, verdict}
+pub use Rattle.stab_edits.specs.Edits.{edited, list_verdict, verdict}
 pub use Rattle.stab_circuit.specs.Items.{Items, OneItem, done, before, listed, entries, depth}
 pub use Rattle.stab_circuit.specs.Laws.{AreOfLines, AreAlike, PutsLines, TextsAreLines, ItemTextsAreLines, ItemTextsHaveOneMeaning, EditedItemsAreOfLines, SplitsLeaveTheSteps, SplitItemsAreOfLines, LinesKeepQubitsApart}
-pub use Rattle.stab_circuit.specs.Paths.{Path}
-pub use Rattle.stab_circuit.specs.Places.{item_at}
+pub use Rattle.stab_edits.specs.Paths.{Path}
+pub use Rattle.stab_edits.specs.Places.{item_at}
 pub use Rattle.stab_circuit.specs.Prints.{printed}
 pub use Rattle.stab_circuit.specs.Readings.{IsCircuit}
-pub use Rattle.stab_circuit.specs.Splits.{split as split_list, refused_by, split_refusal}
+pub use Rattle.stab_edits.specs.Splits.{split as split_list, refused_by, split_refusal}
 pub use Rattle.stab_circuit.specs.Steps.{looks_too_far, most_steps, named_qubits, qubits_of, check_within, unroll, detectors_of, steps_cap}
 unfoldable pub use Rattle.stab_circuit.specs.Steps.{check_of}
-pub use Rattle.stab_circuit.specs.Views.{circuit_items}
-pub use Rattle.stab_circuit.specs.declared.edit.Edit.{Edit}
+pub use Rattle.stab_edits.specs.Views.{circuit_items}
+pub use Rattle.stab_edits.specs.declared.edit.Edit.{Edit}
 pub use Rattle.stab_texts.specs.Coins.{ShotBits, CoinsHaveRows, IsCoinTable, table_of}
 pub use Rattle.stab_errors.specs.ErrorTables.{IsErrorTable}
 pub use Rattle.stab_errors.specs.Errors.{errors_of}

@@ -1,6 +1,6 @@
 -- Laws of splits that scripts ask for: what the session's call says is what scripts are answered.
 use Rattle.stab_editor.proofs.Names.{◌≡◌, ℕ, List, [], sym, ap, ◌∙◌, Result, Ok, Err, inl, inr, Refusal, Fault, IsCallFault, Items, OneItem, entries, Path, refused_by, split_refusal, listed-entries, SessionState, IsSplit, ShotBits, Held, held_split, text_found, GivesText, held_of, MarkedBits}
-use Rattle.stab_circuit.specs.Splits.{split}
+use Rattle.stab_edits.specs.Splits.{split}
 
 -- items and a mark
 abbrev held_with : Items → ShotBits → Held

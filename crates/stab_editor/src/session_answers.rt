@@ -39,9 +39,9 @@ impl<C: Coins> SessionAnswers<C> {
     ghost use Rattle.stab_io.specs.declared.refusal.Refusal.TheVariants.{OutOfMemory};
     ghost use Rattle.stab_tableau.specs.Traces.{member};
     ghost use Rattle.stab_circuit.specs.Items.{before, done, entries};
-    ghost use Rattle.stab_circuit.specs.Places.{item_at};
+    ghost use Rattle.stab_edits.specs.Places.{item_at};
     ghost use Rattle.stab_circuit.specs.Prints.{printed};
-    ghost use Rattle.stab_circuit.specs.Splits.{split as split_list};
+    ghost use Rattle.stab_edits.specs.Splits.{split as split_list};
     ghost use Rattle.stab_texts.specs.FaultLines.{refused_text};
     ghost use Rattle.stab_texts.specs.Coins.{bits_of};
     ghost use Rattle.stab_script.specs.Changes.{changed_text, changed_records_text, mark_shown};

@@ -3,7 +3,7 @@ ghost use Rattle.std.specs.Prelude.{◌≡◌, ◌≤◌, ◌⊎◌, None, IfOk,
 ghost use Rattle.stab_io.specs.Refusals.{IsCallFault};
 ghost use Rattle.stab_gates.specs.Limits.{most_qubits};
 ghost use Rattle.stab_circuit.specs.Steps.{check_within};
-ghost use Rattle.stab_circuit.specs.Views.{circuit_items};
+ghost use Rattle.stab_edits.specs.Views.{circuit_items};
 ghost use Rattle.stab_circuit.specs.Limits.{most_stride};
 ghost use Rattle.stab_script.specs.Scripts.{opened, IsAnswerToAll};
 ghost use Rattle.stab_editor.specs.ScriptEndings.{EndsScript, EndsOn};

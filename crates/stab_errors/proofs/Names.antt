@@ -10,10 +10,10 @@ pub use Rattle.std.proofs.lemmas.Result.{IfOk-weaker}
 pub use Rattle.std.specs.List.{flat_map}
 pub use Rattle.std.specs.Option.{unwrap_or}
 pub use Rattle.std.specs.Prelude.{All, None, IfSome, Contains, ◌&&◌, slice_index_or, ◌==◌, if◌then◌else◌, bytes_eq, codes}
-pub use Rattle.stab_circuit.specs.Cursors.{step_shown}
+pub use Rattle.stab_edits.specs.Cursors.{step_shown}
 pub use Rattle.stab_circuit.specs.Items.{Items, OneItem, next, block, join}
 pub use Rattle.stab_circuit.specs.Steps.{Step, one, two, controlled, collapse, product, detector, observable, makes, unroll, detectors_of, steps_of, rounds, controlled_step, measured, measured_product, check_of, most_steps, observables_of}
-pub use Rattle.stab_circuit.specs.Views.{circuit_items}
+pub use Rattle.stab_edits.specs.Views.{circuit_items}
 pub use Rattle.stab_distance.proofs.PartLemmas.{graphlike-up_to}
 pub use Rattle.stab_distance.proofs.ShortestLemmas.{none-up_to}
 pub use Rattle.stab_distance.specs.Ascending.{AscendsFrom, IsAscending}

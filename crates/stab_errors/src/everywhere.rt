@@ -1,8 +1,8 @@
 //! The errors at each step of a circuit.
 ghost use Rattle.std.specs.Prelude.{◌≡◌, ◌≤◌, ◌+◌, ◌*◌, ◌^◌, ◌<◌, ◌∷◌, ◌++◌, [], None, true, ℕ, map, length, OnOk, IfOk, IfErr, IfSome, All};
 ghost use Rattle.stab_io.specs.declared.refusal.Refusal.TheVariants.{OutOfMemory};
-ghost use Rattle.stab_circuit.specs.Cursors.{step_shown};
-ghost use Rattle.stab_circuit.specs.Views.{circuit_items};
+ghost use Rattle.stab_edits.specs.Cursors.{step_shown};
+ghost use Rattle.stab_edits.specs.Views.{circuit_items};
 ghost use Rattle.stab_circuit.specs.Steps.{check_of, most_steps, makes, unroll};
 ghost use Rattle.stab_run.specs.Runs.{flip_of};
 ghost use Rattle.stab_regions.specs.Faults.{behind, fault_on, faults_of, faults_on};

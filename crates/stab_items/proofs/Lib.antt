@@ -1,11 +1,5 @@
 mod Names
 pub mod ItemLemmas
-pub mod FrontLemmas
-pub mod ReaderLemmas
-mod ReadingLemmas
-pub mod KnownLineLemmas
-mod PieceLemmas
-pub mod StretchLemmas
 mod CopyLemmas
 mod PrintLemmas
 pub mod StepLemmas

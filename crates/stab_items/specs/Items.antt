@@ -2,12 +2,17 @@
 -- Source: Stim's circuit file format: a circuit is a list of instructions and of blocks, which are lists again.
 use Rattle.std.specs.Prelude.{ℕ, ◌+◌, max, List, [], ◌∷◌}
 use Rattle.stab_lines.specs.declared.operation.Operation.{Operation}
+use Rattle.stab_lines.specs.declared.operation.Kind.{Kind}
 
 -- a list of items
 pub data Items : Type 0 where
   done : Items
   next : Operation → Items → Items
   block : (count : ℕ) → (tag : List ℕ) → (body rest : Items) → Items
+
+-- an instruction without a tag
+abbrev pub without_tag : Kind → Operation
+without_tag kind = record { kind = kind; tag = [] }
 
 -- one item
 pub data OneItem : Type 0 where

@@ -4,7 +4,4 @@ pub mod Kept
 pub mod ItemSizes
 pub mod Parts
 pub mod Blocks
-pub mod Readers
 pub mod Margins
-pub mod KnownLines
-pub mod Stretches

@@ -47,7 +47,7 @@ fn copied_head(alloc: Global, head: &Head) -> Result<Head, AllocError>
 }
 
 /// Puts copies of some items after all of them.
-pub(crate) fn push_copies(
+pub fn push_copies(
     alloc: Global,
     items: &mut Vec<Item>,
     first: usize,

@@ -4,7 +4,7 @@ use std::marker::Model;
 
 /// An instruction and its summary, so that items are added up without a look at targets. Contracts see
 /// the instruction.
-pub(crate) struct Instruction {
+pub struct Instruction {
     kind: Kind,
     tag: Option<Sequence<u8>>,
     sum: Summary,
@@ -39,11 +39,11 @@ impl Instruction {
     ghost use Rattle.std.specs.Prelude.{◌≡◌};
     ghost use Rattle.stab_items.specs.Items.{next, done};
     ghost use Rattle.stab_items.specs.inner.Summaries.{IsSumOf};
-    ghost use Rattle.stab_items.specs.inner.KnownLines.{without_tag};
+    ghost use Rattle.stab_items.specs.Items.{without_tag};
 
     /// The instruction of a line.
     #[tactic(auto, using(crate::proofs::SummaryLemmas::operation_sum))]
-    pub(crate) fn new(operation: Operation) -> Instruction
+    pub fn new(operation: Operation) -> Instruction
         ensures value { result ≡ operation }
     {
         let Operation { kind, tag } = operation;
@@ -57,7 +57,7 @@ impl Instruction {
 
     /// An instruction without a tag.
     #[tactic(auto, using(crate::proofs::SummaryLemmas::operation_sum))]
-    pub(crate) fn plain(kind: Kind) -> Instruction
+    pub fn plain(kind: Kind) -> Instruction
         ensures value { result ≡ without_tag kind }
     {
         let sum = kind_summary(&kind);

@@ -107,7 +107,7 @@ impl Item {
     ghost use Rattle.stab_items.specs.inner.Blocks.{with_rounds, with_body, IsInstruction};
 
     /// The item that is one instruction.
-    pub(crate) fn operation(alloc: Global, instruction: Instruction) -> Result<Item, AllocError>
+    pub fn operation(alloc: Global, instruction: Instruction) -> Result<Item, AllocError>
         ensures ok { IfOk result (λ i. i ≡ single instruction) }
     {
         let instruction = Rc::new(alloc, instruction)?;
@@ -116,7 +116,7 @@ impl Item {
 
     /// The item that is one instruction, which others share. It takes no memory.
     #[inline]
-    pub(crate) fn shared(instruction: Rc<Instruction>) -> Item
+    pub fn shared(instruction: Rc<Instruction>) -> Item
         ensures value { result ≡ single instruction.value }
     {
         Item {
@@ -135,7 +135,7 @@ impl Item {
 
     /// The item that is a block: its count of rounds, its tag, the items of one round and their
     /// summary.
-    pub(crate) fn repeat(
+    pub fn repeat(
         alloc: Global,
         count: Count,
         tag: Sequence<u8>,

@@ -9,8 +9,8 @@ ghost use Rattle.stab_lanes.specs.Lanes.{lane_letters};
 
 use crate::letters::Letters;
 use crate::word::Word;
-use stab_circuit::Factor;
 use stab_frames::controlled_letter;
+use stab_lines::Factor;
 use stab_pauli::{Letter, Pauli};
 use stab_tableau::{Gate, PairGate};
 use std::alloc::{AllocError, Global};

@@ -10,8 +10,8 @@ ghost use Rattle.stab_lanes.specs.Differences.{lane_difference, IsMeasuredBy};
 use crate::coins::Draw;
 use crate::lanes::Lanes;
 use crate::word::Word;
-use stab_circuit::Factor;
 use stab_frames::{Pivots, bit_at};
+use stab_lines::Factor;
 use stab_pauli::Letter;
 use std::alloc::AllocError;
 

@@ -1,8 +1,8 @@
 //! Some steps of a circuit, on lanes that are propagated over what is recorded of a run.
 ghost use Rattle.std.specs.Prelude.{◌≡◌, ℕ, ◌+◌, ◌<◌, ◌≤◌, None, All, length, take, drop, OnOk, IfErr};
 ghost use Rattle.stab_io.specs.declared.refusal.Refusal.TheVariants.{OutOfMemory};
-ghost use Rattle.stab_circuit.specs.Steps.{unroll, check_within};
-ghost use Rattle.stab_circuit.specs.Views.{circuit_items};
+ghost use Rattle.stab_items.specs.Steps.{unroll, check_within};
+ghost use Rattle.stab_edits.specs.Views.{circuit_items};
 ghost use Rattle.stab_run.specs.Points.{all_coins_of};
 ghost use Rattle.stab_run.specs.ProgramStates.{StepFits};
 ghost use Rattle.stab_lanes.specs.RecordedPivots.{HasAll, IsCounted, lane_pivots};
@@ -14,7 +14,7 @@ use crate::lanes::Lanes;
 use crate::measure::RecordedPivots;
 use crate::steps::propagate_instruction;
 use crate::word::Word;
-use stab_circuit::{Circuit, Cursor};
+use stab_edits::{Circuit, Cursor};
 use stab_io::Refusal;
 use std::alloc::{AllocError, Global};
 

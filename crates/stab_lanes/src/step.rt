@@ -2,7 +2,7 @@
 ghost use Rattle.std.specs.Prelude.{◌≡◌, ℕ, ◌+◌, ◌<◌, ◌∷◌, [], ◌++◌, ◌&&◌, if◌then◌else◌, length, OnOk};
 ghost use Rattle.stab_pauli.specs.Paulis.{single};
 ghost use Rattle.stab_frames.specs.Frames.{times_where};
-ghost use Rattle.stab_circuit.specs.Cursors.{step_shown, IsApart};
+ghost use Rattle.stab_edits.specs.Cursors.{step_shown, IsApart};
 ghost use Rattle.stab_run.specs.Runs.{flip_of};
 ghost use Rattle.stab_run.specs.Points.{coins_of};
 ghost use Rattle.stab_run.specs.ProgramStates.{StepFits};
@@ -15,7 +15,7 @@ use crate::frames::Frames;
 use crate::lanes::{Lanes, Sum, looked_up, parity};
 use crate::measure::{RecordedPivots, measure_letter, measure_product};
 use crate::word::Word;
-use stab_circuit::Step;
+use stab_items::Step;
 use stab_pauli::Letter;
 use stab_run::flip;
 use std::alloc::AllocError;

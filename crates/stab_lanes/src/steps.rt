@@ -1,7 +1,7 @@
 //! Steps of one instruction, or of detectors, together on the lanes that are propagated over what is recorded of a run.
 ghost use Rattle.std.specs.Prelude.{◌≡◌, ℕ, ◌+◌, ◌<◌, ◌∷◌, [], All, length, map, OnOk};
-ghost use Rattle.stab_circuit.specs.Steps.{one, controlled_step, measured, detector};
-ghost use Rattle.stab_circuit.specs.Cursors.{lookbacks_of, steps_shown, IsApartAlone};
+ghost use Rattle.stab_items.specs.Steps.{one, controlled_step, measured, detector};
+ghost use Rattle.stab_edits.specs.Cursors.{lookbacks_of, steps_shown, IsApartAlone};
 ghost use Rattle.stab_run.specs.Points.{all_coins_of};
 ghost use Rattle.stab_run.specs.ProgramStates.{StepFits};
 ghost use Rattle.stab_frames.specs.RunPivots.{RunPivots};
@@ -13,10 +13,8 @@ use crate::lanes::{Lanes, looked_up, parity};
 use crate::measure::RecordedPivots;
 use crate::step::propagate_step;
 use crate::word::Word;
-use stab_circuit::{
-    Axis, ControlledPair, Detectors, MeasureTarget, Measurement, Qubit, Steps, controlled_gate,
-    measured_step,
-};
+use stab_items::{Detectors, Steps, controlled_gate, measured_step};
+use stab_lines::{Axis, ControlledPair, MeasureTarget, Measurement, Qubit};
 use stab_tableau::Gate;
 use std::alloc::AllocError;
 

@@ -15,12 +15,12 @@ pub use Rattle.std.specs.Cmp.{booleans_Decides}
 pub use Rattle.std.specs.List.{list_any}
 pub use Rattle.std.specs.Option.{option_map}
 pub use Rattle.std.specs.Prelude.{IfSome, if◌then◌else◌, nat_le, Result, IfOk}
-pub use Rattle.stab_circuit.specs.Cursors.{CursorState, steps_shown}
-pub use Rattle.stab_circuit.specs.Items.{Items}
-pub use Rattle.stab_circuit.specs.Repeats.{round_of, IsRepeat, AreRepeats}
-pub use Rattle.stab_circuit.specs.Steps.{Step, rounds, looks_too_far, one, two, controlled, collapse, product, detector, observable, most_steps, unroll, check_within, makes, lookbacks, records_of, observables_of}
-pub use Rattle.stab_circuit.specs.Views.{circuit_items}
-pub use Rattle.stab_circuit.specs.declared.circuit.repeats.Repeat.{Repeat}
+pub use Rattle.stab_edits.specs.Cursors.{CursorState, steps_shown}
+pub use Rattle.stab_items.specs.Items.{Items}
+pub use Rattle.stab_edits.specs.Repeats.{round_of, IsRepeat, AreRepeats}
+pub use Rattle.stab_items.specs.Steps.{Step, rounds, looks_too_far, one, two, controlled, collapse, product, detector, observable, most_steps, unroll, check_within, makes, lookbacks, records_of, observables_of}
+pub use Rattle.stab_edits.specs.Views.{circuit_items}
+pub use Rattle.stab_edits.specs.declared.circuit.repeats.Repeat.{Repeat}
 pub use Rattle.stab_frames.proofs.AgainLemmas.{come-conjugated, gone-over-seen, true-conjugated-at, true-conjugated}
 pub use Rattle.stab_frames.proofs.FlipLemmas.{flipped-empty, length-flipped, flipped-apart}
 pub use Rattle.stab_frames.proofs.FramedCopyLemmas.{conjugated-next, conjugated-none, conjugated-all}

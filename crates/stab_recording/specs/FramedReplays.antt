@@ -3,7 +3,7 @@
 use Rattle.std.specs.Prelude.{◌≡◌, ◌≢◌, ◌⊎◌, ℕ, ◌≤◌, Bool, List, All, length, take, drop}
 use Rattle.stab_tableau.specs.Traces.{member}
 use Rattle.stab_tableau.specs.Groups.{SameGroup, IsStabiliserGroup}
-use Rattle.stab_circuit.specs.Steps.{Step, most_steps}
+use Rattle.stab_items.specs.Steps.{Step, most_steps}
 use Rattle.stab_recording.specs.declared.checkpoint.Checkpoint.{Checkpoint}
 use Rattle.stab_recording.specs.declared.replay.Plan.{Plan}
 use Rattle.stab_run.specs.Points.{Point, RunOutput, origin, point_after, outputs}

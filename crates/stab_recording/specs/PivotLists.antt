@@ -1,7 +1,7 @@
 -- Pivots kept: what is kept of a run beside its state, so that frames can be propagated over its steps.
 -- Source: this project's own.
 use Rattle.std.specs.Prelude.{◌≡◌, ℕ, ◌≤◌, min, Bool, List, All, length, drop}
-use Rattle.stab_circuit.specs.Steps.{Step}
+use Rattle.stab_items.specs.Steps.{Step}
 use Rattle.stab_run.specs.Points.{origin}
 use Rattle.stab_frames.specs.Pivots.{PivotsState, IsNumbered, AreTrue, pivot_at, kept_with}
 use Rattle.stab_items.specs.Steps.{LooksWithin}

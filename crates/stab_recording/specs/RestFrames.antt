@@ -6,7 +6,7 @@ use Rattle.stab_gates.specs.declared.letter.Letter.TheVariants.{I}
 use Rattle.stab_pauli.specs.Paulis.{Signed, minus, strings_anticommute}
 use Rattle.stab_tableau.specs.Tableaus.{TableauState, stabilises}
 use Rattle.stab_tableau.specs.Conjugations.{IsConjugated}
-use Rattle.stab_circuit.specs.Steps.{Step}
+use Rattle.stab_items.specs.Steps.{Step}
 use Rattle.stab_run.specs.Records.{ones}
 use Rattle.stab_run.specs.Points.{Point, outputs}
 use Rattle.stab_frames.specs.RunPivots.{same_coins}

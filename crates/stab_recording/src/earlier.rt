@@ -9,7 +9,7 @@ use crate::checkpoint::Checkpoint;
 use crate::frames_between::frame_between;
 use crate::meeting::comes_again;
 use crate::replay::Replay;
-use stab_circuit::Repeat;
+use stab_edits::Repeat;
 use stab_frames::Propagation;
 use stab_io::Refusal;
 use stab_pauli::Pauli;

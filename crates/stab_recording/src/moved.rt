@@ -1,5 +1,5 @@
 ghost use Rattle.std.specs.Prelude.{◌≡◌, ◌↔◌, ℕ, ◌-◌, ◌<◌, ◌≤◌, Bool, true, IsTrue, IfSome, IsSomeAnd, length, slice_get};
-ghost use Rattle.stab_circuit.specs.Steps.{most_steps};
+ghost use Rattle.stab_items.specs.Steps.{most_steps};
 ghost use Rattle.stab_run.specs.ProgramStates.{output_of};
 ghost use Rattle.stab_frames.specs.Pivots.{PivotsState};
 ghost use Rattle.stab_recording.specs.Replays.{Misses};
@@ -8,7 +8,7 @@ ghost use Rattle.stab_recording.specs.inner.RestFrameStates.{IsBeside, IsApartFr
 use crate::checkpoint::{Checkpoint, shifted};
 use crate::replay::{Plan, Replay};
 use crate::rhythm::{block_at, end_of};
-use stab_circuit::Repeat;
+use stab_edits::Repeat;
 use stab_frames::between;
 use stab_run::Outputs;
 

@@ -1,7 +1,7 @@
 //! Steps on the way of a frame, until all are past, the frame is gone, or a string is missing.
 
 ghost use Rattle.std.specs.Prelude.{◌≡◌, ◌≢◌, ℕ, ◌+◌, ◌^◌, ◌<◌, ◌≤◌, Bool, true, All, length, take, drop, OnOk, IfOk};
-ghost use Rattle.stab_circuit.specs.Steps.{Step};
+ghost use Rattle.stab_items.specs.Steps.{Step};
 ghost use Rattle.stab_run.specs.Points.{Point, outputs, all_coins_of};
 ghost use Rattle.stab_run.specs.ProgramStates.{StepFits};
 ghost use Rattle.stab_frames.specs.RunPivots.{same_coins};
@@ -13,7 +13,7 @@ ghost use Rattle.stab_recording.specs.declared.propagate.Stop.TheVariants.{Gone,
 ghost use Rattle.stab_frames.specs.inner.Draws.{AsksFree};
 ghost use Rattle.stab_frames.specs.inner.Propagates.{GoesOver, IsMissing};
 
-use stab_circuit::Cursor;
+use stab_edits::Cursor;
 use stab_frames::{Draw, Known, Pivots, Propagation, SameCoins, propagate_instruction};
 use stab_run::{Coins, ListCoins};
 use std::alloc::AllocError;

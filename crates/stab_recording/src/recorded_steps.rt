@@ -8,7 +8,7 @@ ghost use Rattle.stab_run.specs.Points.{all_coins_of};
 ghost use Rattle.stab_run.specs.ProgramStates.{StepFits, IsRun, program_state, output_of};
 ghost use Rattle.stab_frames.specs.Pivots.{KeepsTrue};
 
-use stab_circuit::Cursor;
+use stab_edits::Cursor;
 use stab_frames::PivotRecorder;
 use stab_io::Refusal;
 use stab_pauli::Pauli;

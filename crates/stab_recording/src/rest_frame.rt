@@ -1,7 +1,7 @@
 ghost use Rattle.std.specs.Prelude.{◌≡◌, ℕ, ◌≤◌, Bool, None, All, length, take, slice_get, IsSomeAnd, IfOk, IfErr, IfSome};
 ghost use Rattle.stab_io.specs.declared.refusal.Refusal.TheVariants.{OutOfMemory};
-ghost use Rattle.stab_circuit.specs.Steps.{most_steps, unroll, check_of};
-ghost use Rattle.stab_circuit.specs.Views.{circuit_items};
+ghost use Rattle.stab_items.specs.Steps.{most_steps, unroll, check_of};
+ghost use Rattle.stab_edits.specs.Views.{circuit_items};
 ghost use Rattle.stab_run.specs.ProgramStates.{StepFits, output_of};
 ghost use Rattle.stab_frames.specs.Pivots.{PivotsState};
 ghost use Rattle.stab_recording.specs.FramedReplays.{IsOldRun};
@@ -12,7 +12,7 @@ use crate::frames_between::frame_between;
 use crate::meeting::may_have_coin;
 use crate::replay::{Plan, Replay};
 use crate::rest_of_run::propagate_rest;
-use stab_circuit::{Circuit, Cursor};
+use stab_edits::{Circuit, Cursor};
 use stab_frames::{Pivots, Propagation};
 use stab_io::Refusal;
 use stab_pauli::Pauli;

@@ -10,7 +10,7 @@ use crate::checkpoint::Checkpoint;
 use crate::meeting::has_one;
 use crate::propagate::{Stop, propagate_steps};
 use crate::states::framed_checkpoint;
-use stab_circuit::Cursor;
+use stab_edits::Cursor;
 use stab_frames::{Pivots, Propagation};
 use stab_io::Refusal;
 use stab_pauli::{Letter, Pauli};

@@ -1,9 +1,9 @@
 ghost use Rattle.std.specs.Prelude.{◌≡◌, ℕ, ◌+◌, ◌*◌, ◌<◌, ◌≤◌, List, IfSome};
-ghost use Rattle.stab_circuit.specs.Steps.{Step};
-ghost use Rattle.stab_circuit.specs.Repeats.{AreRepeats, IsRepeat};
+ghost use Rattle.stab_items.specs.Steps.{Step};
+ghost use Rattle.stab_edits.specs.Repeats.{AreRepeats, IsRepeat};
 
 use crate::replay::{Plan, Replay};
-use stab_circuit::Repeat;
+use stab_edits::Repeat;
 
 /// Within this many copies at most whole rounds are gone through.
 const MOST_COPIES: usize = 32;

@@ -1,10 +1,10 @@
 //! Which rounds of a block are looked at, to see whether they come again: not those of few steps, of which some are taken as one.
 
 ghost use Rattle.std.specs.Prelude.{◌≡◌, ◌+◌, ◌*◌, ◌<◌, ◌≤◌, ◌^◌, nat_le, List};
-ghost use Rattle.stab_circuit.specs.Steps.{Step};
-ghost use Rattle.stab_circuit.specs.Repeats.{IsRepeat};
+ghost use Rattle.stab_items.specs.Steps.{Step};
+ghost use Rattle.stab_edits.specs.Repeats.{IsRepeat};
 
-use stab_circuit::Repeat;
+use stab_edits::Repeat;
 
 /// How many rounds of a block are looked at one by one. All others are gone over in one go.
 pub const MOST_SINGLE: usize = 64;

@@ -3,13 +3,13 @@
 ghost use Rattle.std.specs.Prelude.{◌≡◌, ◌≤◌, None, IfOk, IfErr};
 ghost use Rattle.stab_io.specs.declared.refusal.Refusal.TheVariants.{OutOfMemory};
 ghost use Rattle.stab_gates.specs.Limits.{most_qubits};
-ghost use Rattle.stab_circuit.specs.Steps.{check_within};
-ghost use Rattle.stab_circuit.specs.Views.{circuit_items};
+ghost use Rattle.stab_items.specs.Steps.{check_within};
+ghost use Rattle.stab_edits.specs.Views.{circuit_items};
 ghost use Rattle.stab_recording.specs.RunsWithPivots.{IsRunWithPivots};
 
 use crate::replay::Replay;
 use crate::whole::{Shot, shot_of};
-use stab_circuit::Circuit;
+use stab_edits::Circuit;
 use stab_frames::{PivotRecorder, Pivots};
 use stab_io::Refusal;
 use stab_rounds::find_rounds;

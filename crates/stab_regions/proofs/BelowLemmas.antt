@@ -3,7 +3,7 @@ use Rattle.stab_regions.proofs.Names.{ℕ, zero, suc, ◌≤◌, false, true, Li
 use Rattle.stab_gates.specs.declared.gate.PairGate.TheVariants as gate
 use Rattle.stab_lines.specs.declared.control.ControlledPair.TheVariants as pair
 use Rattle.stab_lines.specs.declared.operation.Kind.TheVariants as kind
-use Rattle.stab_circuit.specs.Steps.{measured_product}
+use Rattle.stab_items.specs.Steps.{measured_product}
 
 each : {A : Type 0} (m : ℕ) (f : A → Step) → ((x : A) → NamesBelow m (f x)) → (xs : List A) → All (NamesBelow m) (map f xs)
 each m f below xs = All-map (NamesBelow m) f xs (λ k d lt. below (get_or xs k d))

@@ -13,10 +13,10 @@ pub use Rattle.std.proofs.lemmas.List.Elements.{All-nil, All-cons, All-append, A
 pub use Rattle.std.specs.List.{flat_map, list_any, range_with_len}
 pub use Rattle.std.specs.Prelude.{Option, Some, ◌==◌, if◌then◌else◌, All, nat_lt, slice_index_or, replicate, Result, Ok, Err, OnOk, slice_set, None, slice_index}
 pub use Rattle.std.specs.Vec.{with_items}
-pub use Rattle.stab_circuit.specs.Cursors.{IsApart, step_shown}
-pub use Rattle.stab_circuit.specs.Items.{Items, done, next, block}
-pub use Rattle.stab_circuit.specs.Steps.{Step, one, two, collapse, detector, observable, measured, product as measured_product, controlled_step, steps_of, rounds, unroll, past, named_observables, observables_of, detectors_of, controlled, product, is_detector, factor_qubits, check_of}
-pub use Rattle.stab_circuit.specs.Views.{circuit_items}
+pub use Rattle.stab_edits.specs.Cursors.{IsApart, step_shown}
+pub use Rattle.stab_items.specs.Items.{Items, done, next, block}
+pub use Rattle.stab_items.specs.Steps.{Step, one, two, collapse, detector, observable, measured, product as measured_product, controlled_step, steps_of, rounds, unroll, past, named_observables, observables_of, detectors_of, controlled, product, is_detector, factor_qubits, check_of}
+pub use Rattle.stab_edits.specs.Views.{circuit_items}
 pub use Rattle.stab_distance.proofs.AscendingLemmas.{named-ascending}
 pub use Rattle.stab_distance.proofs.Totals.{odd-append}
 pub use Rattle.stab_distance.specs.Ascending.{AscendsFrom, IsAscending}

@@ -2,7 +2,7 @@
 -- Source: this project's own.
 use Rattle.std.specs.Prelude.{◌≡◌, ℕ, Bool, true, false, not, List, [], ◌∷◌, All}
 use Rattle.stab_gates.specs.Letters.{◌⊕◌}
-use Rattle.stab_circuit.specs.Steps.{Step}
+use Rattle.stab_items.specs.Steps.{Step}
 use Rattle.stab_run.specs.Records.{parity}
 use Rattle.stab_run.specs.Points.{Point, origin, next_point}
 use Rattle.stab_run.specs.ProgramStates.{StepFits}

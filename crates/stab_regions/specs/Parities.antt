@@ -5,7 +5,7 @@ use Rattle.std.specs.Prelude.{ℕ, ◌-◌, nat_lt, Bool, true, ◌&&◌, List, 
 use Rattle.stab_gates.specs.declared.letter.Letter.{Letter}
 use Rattle.stab_pauli.specs.Paulis.{single, anticommute}
 use Rattle.stab_tableau.specs.Traces.{diagonal}
-use Rattle.stab_circuit.specs.Steps.{Step, detectors_of}
+use Rattle.stab_items.specs.Steps.{Step, detectors_of}
 use Rattle.stab_regions.specs.Regions.{Region, region_of, region_through, keep_region, asks_nothing, asks_observable}
 use Rattle.stab_regions.specs.Tables.{steps_before_detector, named_by, region_of_detector}
 

@@ -6,7 +6,7 @@ use Rattle.stab_gates.specs.declared.letter.Letter.TheVariants.{I, X, Y, Z}
 use Rattle.stab_gates.specs.Letters.{◌⊕◌, letters_anticommute}
 use Rattle.stab_pauli.specs.Paulis.{Signed, single}
 use Rattle.stab_tableau.specs.Gates.{letter_at}
-use Rattle.stab_circuit.specs.Steps.{Step}
+use Rattle.stab_items.specs.Steps.{Step}
 pub use Rattle.stab_distance.specs.Tables.{odd, row}
 use Rattle.stab_regions.specs.Regions.{Region, times_where, region_before}
 

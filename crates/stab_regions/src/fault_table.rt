@@ -2,8 +2,8 @@ ghost use Rattle.std.specs.Prelude.{◌≡◌, ◌≤◌, None, IfOk, IfErr};
 ghost use Rattle.stab_io.specs.Refusals.{Refuses};
 ghost use Rattle.stab_io.specs.declared.refusal.Refusal.TheVariants.{OutOfMemory};
 ghost use Rattle.stab_gates.specs.Limits.{most_qubits};
-ghost use Rattle.stab_circuit.specs.Steps.{Step, check_within};
-ghost use Rattle.stab_circuit.specs.Views.{circuit_items};
+ghost use Rattle.stab_items.specs.Steps.{Step, check_within};
+ghost use Rattle.stab_edits.specs.Views.{circuit_items};
 ghost use Rattle.stab_regions.specs.Faults.{AreDeterministic, IsFaultTable, RowsAdd, sites_at};
 ghost use Rattle.stab_regions.specs.inner.Sites.{sites_asked};
 
@@ -11,7 +11,7 @@ use crate::fault_laws::{deterministic_parities, faults_add, faults_flip_parities
 use crate::fault_rows::FaultRows;
 use crate::sites::Asked;
 use crate::sweep::{Sweep, sweep_back};
-use stab_circuit::Circuit;
+use stab_edits::Circuit;
 use stab_io::{Fault, Refusal};
 use std::alloc::Global;
 use std::marker::Model;

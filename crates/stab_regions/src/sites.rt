@@ -1,8 +1,8 @@
 ghost use Rattle.std.specs.Prelude.{◌≡◌, ◌<◌, length, slice_index};
-ghost use Rattle.stab_circuit.specs.Cursors.{step_shown};
+ghost use Rattle.stab_edits.specs.Cursors.{step_shown};
 ghost use Rattle.stab_regions.specs.inner.Sites.{sides_asked, marks, all_sides as all_sides_of, step_qubits};
 
-use stab_circuit::Step;
+use stab_items::Step;
 use stab_tableau::Gate;
 
 /// Where faults are asked for.

@@ -1,5 +1,5 @@
 ghost use Rattle.std.specs.Prelude.{◌≡◌, ℕ, Bool, ◌+◌, ◌<◌, ◌&&◌, length, IfOk, OnOk, if◌then◌else◌};
-ghost use Rattle.stab_circuit.specs.Steps.{controlled, collapse};
+ghost use Rattle.stab_items.specs.Steps.{controlled, collapse};
 ghost use Rattle.stab_run.specs.Runs.{flip_of};
 ghost use Rattle.stab_regions.specs.Rows.{odd, row, bits_at, MovesRegion};
 

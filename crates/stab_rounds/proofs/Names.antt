@@ -6,12 +6,12 @@ pub use Rattle.std.proofs.lemmas.List.{drop-drop, take-take, take_all, length-dr
 pub use Rattle.std.proofs.lemmas.List.Elements.{All-append}
 pub use Rattle.std.specs.Bool.{OnTrue}
 pub use Rattle.std.specs.Cmp.Lexicographic.{pointwise}
-pub use Rattle.stab_circuit.proofs.SameLemmas.{same_mapped}
-pub use Rattle.stab_circuit.specs.Cursors.{steps_shown, lookbacks_of, step_shown}
-pub use Rattle.stab_circuit.specs.Repeats.{IsRepeat, AreRepeats}
-pub use Rattle.stab_circuit.specs.Steps.{Step, rounds, one, measured, unroll, controlled_step, detector, product}
-pub use Rattle.stab_circuit.specs.Views.{circuit_items}
-pub use Rattle.stab_circuit.specs.declared.circuit.repeats.Repeat.{Repeat}
+pub use Rattle.stab_edits.proofs.SameLemmas.{same_mapped}
+pub use Rattle.stab_edits.specs.Cursors.{steps_shown, lookbacks_of, step_shown}
+pub use Rattle.stab_edits.specs.Repeats.{IsRepeat, AreRepeats}
+pub use Rattle.stab_items.specs.Steps.{Step, rounds, one, measured, unroll, controlled_step, detector, product}
+pub use Rattle.stab_edits.specs.Views.{circuit_items}
+pub use Rattle.stab_edits.specs.declared.circuit.repeats.Repeat.{Repeat}
 pub use Rattle.stab_items.specs.declared.steps.Steps.{Steps}
 pub use Rattle.stab_items.proofs.SummaryLemmas.{few_steps}
 pub use Rattle.stab_lines.specs.contracts.axis.Axis.{the_type}

@@ -2,7 +2,7 @@
 ghost use Rattle.std.specs.Prelude.{take, All};
 ghost use Rattle.stab_items.specs.Steps.{LooksWithin};
 
-use stab_circuit::Cursor;
+use stab_edits::Cursor;
 use stab_items::furthest_of_steps;
 
 /// How far back the next steps look that a cursor has left, this many, or all if there are fewer.

@@ -11,13 +11,13 @@ pub use Rattle.std.specs.Result.{IsErrAnd}
 pub use Rattle.stab_items.proofs.SummaryLemmas.{few_steps}
 pub use Rattle.stab_texts.specs.Rows.{lines_of}
 pub use Rattle.stab_texts.specs.Texts.{texts_joined}
-pub use Rattle.stab_circuit.proofs.EditLemmas.{entries-listed}
-pub use Rattle.stab_circuit.specs.Edits.{steps_before}
+pub use Rattle.stab_edits.proofs.EditLemmas.{entries-listed}
+pub use Rattle.stab_edits.specs.Edits.{steps_before}
 pub use Rattle.stab_circuit.specs.Items.{Items, OneItem, listed, entries}
-pub use Rattle.stab_circuit.specs.Paths.{Path, numbers}
-pub use Rattle.stab_circuit.specs.Places.{item_at}
+pub use Rattle.stab_edits.specs.Paths.{Path, numbers}
+pub use Rattle.stab_edits.specs.Places.{item_at}
 pub use Rattle.stab_circuit.specs.Steps.{Step, unroll, check_of, check_within, steps_cap, is_inverted}
-pub use Rattle.stab_circuit.specs.Views.{circuit_items}
+pub use Rattle.stab_edits.specs.Views.{circuit_items}
 pub use Rattle.stab_gates.specs.Letters.{◌⊕◌}
 pub use Rattle.stab_gates.specs.declared.letter.Letter.{Letter}
 pub use Rattle.stab_io.proofs.DeviceLemmas.{took_none, took_more, took_and_failed}

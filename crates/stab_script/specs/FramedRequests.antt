@@ -2,7 +2,7 @@
 -- Source: this project's own.
 use Rattle.std.specs.Prelude.{ℕ, ◌==◌, List, [], ◌∷◌, length, codes, bytes_eq, Option, Some, None, if◌then◌else◌}
 use Rattle.stab_lines.specs.Words.{value}
-use Rattle.stab_circuit.specs.Paths.{Path}
+use Rattle.stab_edits.specs.Paths.{Path}
 use Rattle.stab_texts.specs.declared.random.Bit.{Bit}
 use Rattle.stab_texts.specs.declared.random.Bit.TheVariants.{Detector, Observable}
 use Rattle.stab_script.specs.ScriptWords.{first_word, behind_word, is_place_number, place_of}

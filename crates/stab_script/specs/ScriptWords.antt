@@ -4,7 +4,7 @@ use Rattle.std.specs.Prelude.{ℕ, ◌+◌, ◌-◌, Bool, false, ◌&&◌, ◌=
 use Rattle.std.specs.List.{before_first, position_or_len, slice_split, list_all}
 use Rattle.stab_lines.specs.Lines.{is_byte, is_spacing, trimmed_front}
 use Rattle.stab_lines.specs.Words.{is_number, value}
-use Rattle.stab_circuit.specs.Paths.{Path}
+use Rattle.stab_edits.specs.Paths.{Path}
 
 -- the first word of a text that does not begin with spacing
 abbrev pub first_word : List ℕ → List ℕ

@@ -8,10 +8,10 @@ use Rattle.stab_tableau.specs.Traces.{member}
 use Rattle.stab_lines.specs.Lines.{content_of, ends_with_byte}
 use Rattle.stab_lines.specs.Meanings.{is_close}
 use Rattle.stab_circuit.specs.Items.{Items, OneItem, done, before, listed, entries}
-use Rattle.stab_circuit.specs.Paths.{Path}
-use Rattle.stab_circuit.specs.declared.edit.Edit.{Edit}
-use Rattle.stab_circuit.specs.declared.edit.Edit.TheVariants as circuit_edit
-use Rattle.stab_circuit.specs.Edits.{edited, list_verdict}
+use Rattle.stab_edits.specs.Paths.{Path}
+use Rattle.stab_edits.specs.declared.edit.Edit.{Edit}
+use Rattle.stab_edits.specs.declared.edit.Edit.TheVariants as circuit_edit
+use Rattle.stab_edits.specs.Edits.{edited, list_verdict}
 use Rattle.stab_circuit.specs.Circuits.{most_bytes, item_fault, StandsForOne}
 use Rattle.stab_circuit.specs.Prints.{printed}
 use Rattle.stab_run.specs.Runs.{State, run_of}
@@ -26,8 +26,8 @@ use Rattle.stab_texts.specs.FaultTables.{IsFirstRandom}
 use Rattle.stab_texts.specs.Distances.{IsDistanceText}
 use Rattle.stab_jobs.specs.declared.job.DistanceOptions.{DistanceOptions}
 use Rattle.stab_jobs.specs.declared.job.ErrorLetters.TheVariants.{All}
-use Rattle.stab_circuit.specs.Places.{item_at}
-use Rattle.stab_circuit.specs.Splits.{split}
+use Rattle.stab_edits.specs.Places.{item_at}
+use Rattle.stab_edits.specs.Splits.{split}
 use Rattle.stab_script.specs.ScriptWords.{first_word, behind_word, place_of, Gathered, more, is_nothing}
 use Rattle.stab_script.specs.FramedRequests as framed_asks
 use Rattle.stab_script.specs.FramedRequests.{FramedRequest, alone, mark, numbers, changed, changed_records, sign, round_of, framed_split, framed_show}

@@ -5,7 +5,7 @@ ghost use Rattle.stab_pauli.specs.Texts.{pauli_text};
 ghost use Rattle.stab_io.specs.Refusals.{whole};
 ghost use Rattle.stab_io.specs.declared.refusal.Refusal.TheVariants.{OutOfMemory};
 ghost use Rattle.stab_circuit.specs.Items.{before, done};
-ghost use Rattle.stab_circuit.specs.Views.{circuit_items};
+ghost use Rattle.stab_edits.specs.Views.{circuit_items};
 ghost use Rattle.stab_circuit.specs.Prints.{printed};
 ghost use Rattle.stab_results.specs.Formats.{f01_bytes, dets_bytes, detectors_of};
 ghost use Rattle.stab_texts.specs.FaultLines.{refused_text};

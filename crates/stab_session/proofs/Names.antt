@@ -6,26 +6,26 @@ pub use Rattle.std.proofs.lemmas.Result.{IfOk-weaker, on_ok_weaker}
 pub use Rattle.std.specs.Prelude.{slice_get, IfOk}
 pub use Rattle.stab_circuit.proofs.ClearLemmas.{steps-cleared, observables-cleared, delete-instead, deleted-ok, verdict-instead}
 pub use Rattle.stab_circuit.proofs.EachRoundLemmas.{changes_each_round, same_lead}
-pub use Rattle.stab_circuit.proofs.EditLemmas.{entries-listed, edits_leave, changed_split, rebuilds, steps-append, steps_split}
-pub use Rattle.stab_circuit.proofs.EditingLemmas.{replaced}
-pub use Rattle.stab_circuit.proofs.PlaceLemmas.{found_taken, taken_named}
-pub use Rattle.stab_circuit.proofs.UndoLemmas.{replace-retaken, insert-undone, insert-retaken, replace-undone, new_parts, front_size}
-pub use Rattle.stab_circuit.specs.Cursors.{IsApart}
-pub use Rattle.stab_circuit.specs.Editings.{IsSpanOf}
-pub use Rattle.stab_circuit.specs.Edits.{edit_path, edited, verdict, put_item, first_changed, old_end, new_end, taken_at, taken, steps_before, behind_taken, behind_put, outermost, list_refusal, list_verdict, edited_in, inner, steps_in}
+pub use Rattle.stab_edits.proofs.EditLemmas.{entries-listed, edits_leave, changed_split, rebuilds, steps-append, steps_split}
+pub use Rattle.stab_edits.proofs.EditingLemmas.{replaced}
+pub use Rattle.stab_edits.proofs.PlaceLemmas.{found_taken, taken_named}
+pub use Rattle.stab_edits.proofs.UndoLemmas.{replace-retaken, insert-undone, insert-retaken, replace-undone, new_parts, front_size}
+pub use Rattle.stab_edits.specs.Cursors.{IsApart}
+pub use Rattle.stab_edits.specs.Editings.{IsSpanOf}
+pub use Rattle.stab_edits.specs.Edits.{edit_path, edited, verdict, put_item, first_changed, old_end, new_end, taken_at, taken, steps_before, behind_taken, behind_put, outermost, list_refusal, list_verdict, edited_in, inner, steps_in}
 pub use Rattle.stab_circuit.specs.Items.{OneItem, listed, entries, depth, Items, repeat}
 pub use Rattle.stab_circuit.specs.Laws.{AreAlike, SplitsLeaveTheSteps}
 pub use Rattle.stab_circuit.specs.Nothings.{IsNothing}
-pub use Rattle.stab_circuit.specs.Paths.{Path}
-pub use Rattle.stab_circuit.specs.Places.{item_at}
-pub use Rattle.stab_circuit.specs.Rounds.{interleaved, pieces, HaveRounds, AreGaps, item_steps, steps_between, ChangesEachRound}
-pub use Rattle.stab_circuit.specs.Splits.{split, split_refusal}
+pub use Rattle.stab_edits.specs.Paths.{Path}
+pub use Rattle.stab_edits.specs.Places.{item_at}
+pub use Rattle.stab_edits.specs.Rounds.{interleaved, pieces, HaveRounds, AreGaps, item_steps, steps_between, ChangesEachRound}
+pub use Rattle.stab_edits.specs.Splits.{split, split_refusal}
 pub use Rattle.stab_circuit.specs.Steps.{Step, unroll, observables_of, check_within, past, qubits_of, one, named_qubits, looks_too_far, named_observables, most_steps}
 unfoldable pub use Rattle.stab_circuit.specs.Steps.{check_of}
-pub use Rattle.stab_circuit.specs.Views.{circuit_items}
-pub use Rattle.stab_circuit.specs.declared.edit.Edit.{Edit}
-pub use Rattle.stab_circuit.specs.declared.edit.Edit.TheVariants.{Insert, Replace, Delete}
-pub use Rattle.stab_circuit.specs.declared.edit.Span.{Span}
+pub use Rattle.stab_edits.specs.Views.{circuit_items}
+pub use Rattle.stab_edits.specs.declared.edit.Edit.{Edit}
+pub use Rattle.stab_edits.specs.declared.edit.Edit.TheVariants.{Insert, Replace, Delete}
+pub use Rattle.stab_edits.specs.declared.edit.Span.{Span}
 pub use Rattle.stab_frames.specs.Starts.{letters_on}
 pub use Rattle.stab_gates.specs.Letters.{letter_product}
 pub use Rattle.stab_gates.specs.declared.letter.Letter.{Letter}

@@ -51,7 +51,7 @@ pub struct OpenRefused<C: Coins> {
 }
 
 impl<C: Coins> Model for Session<C> {
-    ghost use Rattle.stab_circuit.specs.Views.{circuit_items};
+    ghost use Rattle.stab_edits.specs.Views.{circuit_items};
     ghost use Rattle.stab_session.specs.Sessions.{SessionState};
     ghost use Rattle.stab_session.specs.inner.SessionRecordings.{IsRecorded, session_of, session_code};
 
@@ -72,7 +72,7 @@ impl<C: Coins> Session<C> {
     ghost use Rattle.stab_tableau.specs.Traces.{member};
     ghost use Rattle.stab_tableau.specs.Reduced.{AreReduced};
     ghost use Rattle.stab_circuit.specs.Steps.{unroll, check_within};
-    ghost use Rattle.stab_circuit.specs.Views.{circuit_items};
+    ghost use Rattle.stab_edits.specs.Views.{circuit_items};
     ghost use Rattle.stab_circuit.specs.Limits.{most_stride};
     ghost use Rattle.stab_run.specs.Records.{ones};
     ghost use Rattle.stab_run.specs.Runs.{run_of};

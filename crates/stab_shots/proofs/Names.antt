@@ -11,11 +11,11 @@ pub use Rattle.std.specs.Borrow.{Bor}
 pub use Rattle.std.specs.List.{list_any}
 pub use Rattle.std.specs.Option.{option_copied}
 pub use Rattle.std.specs.Prelude.{slice_get, None, if◌then◌else◌, Option, Some, IfSome}
-pub use Rattle.stab_circuit.specs.Items.{Items}
-pub use Rattle.stab_circuit.specs.Repeats.{round_of, IsRepeat, AreRepeats}
-pub use Rattle.stab_circuit.specs.Steps.{Step, rounds, one, two, controlled, collapse, product, detector, observable, makes, lookbacks, looks_too_far, unroll, observables_of, check_within}
-pub use Rattle.stab_circuit.specs.Views.{circuit_items}
-pub use Rattle.stab_circuit.specs.declared.circuit.repeats.Repeat.{Repeat}
+pub use Rattle.stab_items.specs.Items.{Items}
+pub use Rattle.stab_edits.specs.Repeats.{round_of, IsRepeat, AreRepeats}
+pub use Rattle.stab_items.specs.Steps.{Step, rounds, one, two, controlled, collapse, product, detector, observable, makes, lookbacks, looks_too_far, unroll, observables_of, check_within}
+pub use Rattle.stab_edits.specs.Views.{circuit_items}
+pub use Rattle.stab_edits.specs.declared.circuit.repeats.Repeat.{Repeat}
 pub use Rattle.stab_frames.proofs.FrontLemmas.{fronts-outputs, fronts-matches, fronts-framed, records-flipped, flags-flipped, detectors-flipped, observables-flipped}
 pub use Rattle.stab_frames.proofs.FreeLemmas.{ones-split}
 pub use Rattle.stab_frames.proofs.OverLemmas.{frame-append, flips-append}

@@ -2,9 +2,9 @@
 -- Source: this project's own.
 use Rattle.std.specs.Prelude.{◌≡◌, ℕ, zero, suc, ◌<◌, ◌≤◌, Bool, List, [], ◌++◌, length, take, Option, IfSome}
 use Rattle.stab_gates.specs.declared.letter.Letter.{Letter}
-use Rattle.stab_circuit.specs.Steps.{Step}
-use Rattle.stab_circuit.specs.declared.circuit.repeats.Repeat.{Repeat}
-use Rattle.stab_circuit.specs.Repeats.{IsRepeat}
+use Rattle.stab_items.specs.Steps.{Step}
+use Rattle.stab_edits.specs.declared.circuit.repeats.Repeat.{Repeat}
+use Rattle.stab_edits.specs.Repeats.{IsRepeat}
 use Rattle.stab_run.specs.declared.records.Lengths.{Lengths}
 use Rattle.stab_run.specs.Records.{looked_up}
 use Rattle.stab_run.specs.Cuts.{lengths_of}

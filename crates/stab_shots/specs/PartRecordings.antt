@@ -1,7 +1,7 @@
 -- Recordings of a part: a run with all coins 0 on its way, and what is recorded of the last steps that it went over.
 -- Source: this project's own.
 use Rattle.std.specs.Prelude.{◌≡◌, ℕ, ◌≤◌, List, length, take, drop, min}
-use Rattle.stab_circuit.specs.Steps.{Step}
+use Rattle.stab_items.specs.Steps.{Step}
 use Rattle.stab_run.specs.Records.{ones}
 use Rattle.stab_run.specs.Points.{RunOutput, origin, point_after, outputs, all_coins_of}
 use Rattle.stab_run.specs.ProgramStates.{IsAt, program_state, output_of}

@@ -1,8 +1,8 @@
 -- References: a run with all coins 0, of which all is recorded.
 -- Source: this project's own.
 use Rattle.std.specs.Prelude.{◌≡◌, ℕ, length, None}
-use Rattle.stab_circuit.specs.Items.{Items}
-use Rattle.stab_circuit.specs.Steps.{unroll, check_within}
+use Rattle.stab_items.specs.Items.{Items}
+use Rattle.stab_items.specs.Steps.{unroll, check_within}
 use Rattle.stab_run.specs.Records.{ones}
 use Rattle.stab_run.specs.Points.{origin}
 use Rattle.stab_frames.specs.PivotsOfSteps.{AreRight}

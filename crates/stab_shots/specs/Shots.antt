@@ -1,7 +1,7 @@
 -- Shots: what a lane of many shots gives, and what each shot of a list has, is a run of its own.
 -- Source: this project's own.
 use Rattle.std.specs.Prelude.{◌≡◌, ℕ, ◌<◌, Bool, false, List, length, replicate, slice_index_or}
-use Rattle.stab_circuit.specs.Items.{Items}
+use Rattle.stab_items.specs.Items.{Items}
 use Rattle.stab_recording.specs.declared.whole.Shot.{Shot}
 use Rattle.stab_run.specs.Points.{RunOutput, with_additions}
 use Rattle.stab_run.specs.Runs.{run_of}

@@ -2,12 +2,12 @@
 ghost use Rattle.std.specs.Prelude.{◌≡◌, ◌≤◌, ◌+◌, ◌++◌, None, [], false, length, replicate, take, drop, IfOk, OnOk, IfErr};
 ghost use Rattle.stab_io.specs.declared.refusal.Refusal.TheVariants.{OutOfMemory};
 ghost use Rattle.stab_gates.specs.Limits.{most_qubits};
-ghost use Rattle.stab_circuit.specs.Steps.{unroll, check_within, observables_of};
-ghost use Rattle.stab_circuit.specs.Views.{circuit_items};
+ghost use Rattle.stab_items.specs.Steps.{unroll, check_within, observables_of};
+ghost use Rattle.stab_edits.specs.Views.{circuit_items};
 ghost use Rattle.stab_run.specs.Records.{ones};
 ghost use Rattle.stab_run.specs.Points.{with_additions};
 
-use stab_circuit::{Circuit, Cursor};
+use stab_edits::{Circuit, Cursor};
 use stab_frames::{PivotRecorder, Pivots};
 use stab_io::Refusal;
 use stab_lanes::RecordedPivots;

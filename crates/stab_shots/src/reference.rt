@@ -2,8 +2,8 @@ ghost use Rattle.std.specs.Prelude.{◌≡◌, ◌≤◌, None, true, min, is_so
 ghost use Rattle.stab_io.specs.declared.refusal.Refusal.TheVariants.{OutOfMemory};
 ghost use Rattle.stab_io.specs.Refusals.{Refuses};
 ghost use Rattle.stab_gates.specs.Limits.{most_qubits};
-ghost use Rattle.stab_circuit.specs.Steps.{check_within};
-ghost use Rattle.stab_circuit.specs.Views.{circuit_items};
+ghost use Rattle.stab_items.specs.Steps.{check_within};
+ghost use Rattle.stab_edits.specs.Views.{circuit_items};
 ghost use Rattle.stab_run.specs.Records.{ones};
 ghost use Rattle.stab_run.specs.Runs.{run_of};
 ghost use Rattle.stab_frames.specs.Limits.{most_strings};
@@ -12,7 +12,7 @@ ghost use Rattle.stab_lanes.specs.RecordedPivots.{most_pivots as most_of};
 ghost use Rattle.stab_run.specs.Coins.{zero_coins};
 ghost use Rattle.stab_shots.specs.References.{IsReference};
 
-use stab_circuit::Circuit;
+use stab_edits::Circuit;
 use stab_frames::Pivots;
 use stab_io::{Fault, Refusal};
 use stab_lanes::RecordedPivots;

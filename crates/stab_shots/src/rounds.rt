@@ -2,9 +2,9 @@
 //! outcome is random from then on to the last round, they flip again what they flipped since.
 ghost use Rattle.std.specs.Prelude.{◌≡◌, ◌+◌, ◌*◌, ◌^◌, ◌<◌, ◌≤◌, [], None, All, length, take, IfOk, OnOk, IfErr, IfSome};
 ghost use Rattle.stab_io.specs.declared.refusal.Refusal.TheVariants.{OutOfMemory};
-ghost use Rattle.stab_circuit.specs.Steps.{unroll, check_within};
-ghost use Rattle.stab_circuit.specs.Views.{circuit_items};
-ghost use Rattle.stab_circuit.specs.Repeats.{IsRepeat, AreRepeats};
+ghost use Rattle.stab_items.specs.Steps.{unroll, check_within};
+ghost use Rattle.stab_edits.specs.Views.{circuit_items};
+ghost use Rattle.stab_edits.specs.Repeats.{IsRepeat, AreRepeats};
 ghost use Rattle.stab_run.specs.ProgramStates.{StepFits};
 ghost use Rattle.stab_recording.specs.inner.Advanced.{behind_rounds};
 ghost use Rattle.stab_lanes.specs.RecordedPivots.{HasAll};
@@ -13,7 +13,7 @@ ghost use Rattle.stab_lanes.specs.Differences.{ArePropagated};
 
 use crate::again::flip_again;
 use crate::checkpoints::{LaneCheckpoint, are_deterministic, comes_again};
-use stab_circuit::{Circuit, Repeat};
+use stab_edits::{Circuit, Repeat};
 use stab_io::Refusal;
 use stab_lanes::{Draw, Lanes, RecordedPivots, Word, propagate_along};
 use stab_recording::{MOST_SINGLE, is_long, taken_together};

@@ -9,12 +9,12 @@ pub use Rattle.std.proofs.lemmas.List.{take-append-drop, drop-drop, length-take-
 pub use Rattle.std.proofs.lemmas.List.Elements.{All-drop, All-head, All-tail, All-weaker, All-get_or, All-take, All-append, All-nil, All-cons, All-map}
 pub use Rattle.std.proofs.lemmas.Option.{get_or_from_slice_get, slice_get-map, slice_get_within, same_Some, IfSome_then, slice_get-get_or, slice_get_read}
 pub use Rattle.std.specs.Prelude.{IfSome, if◌then◌else◌, nat_le, MatchOption, Result, IfOk, Ok, Err, OnErr}
-pub use Rattle.stab_circuit.specs.Cursors.{IsApart, steps_shown, lookbacks_of}
-pub use Rattle.stab_circuit.specs.Repeats.{AreRepeats}
-pub use Rattle.stab_circuit.specs.Rounds.{interleaved}
-pub use Rattle.stab_circuit.specs.Steps.{Step, looks_too_far, one, two, controlled, collapse, product, detector, observable, controlled_step, measured, unroll, check_within, records_of, observables_of}
-pub use Rattle.stab_circuit.specs.Views.{circuit_items}
-pub use Rattle.stab_circuit.specs.declared.edit.Span.{Span}
+pub use Rattle.stab_edits.specs.Cursors.{IsApart, steps_shown, lookbacks_of}
+pub use Rattle.stab_edits.specs.Repeats.{AreRepeats}
+pub use Rattle.stab_edits.specs.Rounds.{interleaved}
+pub use Rattle.stab_items.specs.Steps.{Step, looks_too_far, one, two, controlled, collapse, product, detector, observable, controlled_step, measured, unroll, check_within, records_of, observables_of}
+pub use Rattle.stab_edits.specs.Views.{circuit_items}
+pub use Rattle.stab_edits.specs.declared.edit.Span.{Span}
 pub use Rattle.stab_frames.proofs.AgainLemmas.{looks-front, true-conjugated}
 pub use Rattle.stab_frames.proofs.EditLemmas.{fronts-go-on, fronts-take-paulis, same-lengths, gates-fit}
 pub use Rattle.stab_frames.proofs.FlipLemmas.{flipped-empty, flipped-joined, flipped-nothing, additions-empty, unflipped-output, unflipped-matches, looked_up-flipped}

@@ -1,7 +1,7 @@
 -- Counts: how many steps an edit of a recording takes, by where the replay of it begins and ends.
 -- Source: this project's own.
 use Rattle.std.specs.Prelude.{◌≡◌, ◌⊎◌, ℕ, ◌+◌, ◌-◌, ◌<◌, ◌≤◌, nat_le, if◌then◌else◌, Bool, false, List, [], ◌∷◌, IfSome, IsSomeAnd, slice_get}
-use Rattle.stab_circuit.specs.Steps.{Step, looks_too_far}
+use Rattle.stab_items.specs.Steps.{Step, looks_too_far}
 use Rattle.stab_run.specs.Points.{Point}
 use Rattle.stab_run.specs.Ends.{AgreeBack, with_coin}
 use Rattle.stab_frames.specs.Ends.{MayHaveCoin}

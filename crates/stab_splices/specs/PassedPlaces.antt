@@ -2,8 +2,8 @@
 -- Source: this project's own.
 use Rattle.std.specs.Prelude.{◌≡◌, ℕ, ◌+◌, ◌≤◌, Bool, false, List, All, length, take, drop, replicate, Option}
 use Rattle.stab_gates.specs.declared.letter.Letter.{Letter}
-use Rattle.stab_circuit.specs.Steps.{Step, most_steps}
-use Rattle.stab_circuit.specs.declared.edit.Span.{Span}
+use Rattle.stab_items.specs.Steps.{Step, most_steps}
+use Rattle.stab_edits.specs.declared.edit.Span.{Span}
 use Rattle.stab_run.specs.Points.{RunOutput, origin, joined, point_after, outputs}
 use Rattle.stab_run.specs.ProgramStates.{StepFits}
 use Rattle.stab_frames.specs.Fronts.{AreFronts}

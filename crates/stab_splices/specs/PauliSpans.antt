@@ -3,9 +3,9 @@
 use Rattle.std.specs.Prelude.{◌≡◌, ℕ, ◌-◌, ◌<◌, ◌≤◌, List, All, length, map, take, drop}
 use Rattle.stab_gates.specs.declared.letter.Letter.{Letter}
 use Rattle.stab_pauli.specs.Paulis.{string_product}
-use Rattle.stab_circuit.specs.Steps.{Step, one, most_steps}
-use Rattle.stab_circuit.specs.Rounds.{interleaved}
-use Rattle.stab_circuit.specs.declared.edit.Span.{Span}
+use Rattle.stab_items.specs.Steps.{Step, one, most_steps}
+use Rattle.stab_edits.specs.Rounds.{interleaved}
+use Rattle.stab_edits.specs.declared.edit.Span.{Span}
 use Rattle.stab_run.specs.Runs.{gate_of}
 use Rattle.stab_frames.specs.Starts.{letters_on}
 use Rattle.stab_splices.specs.declared.past_places.PauliChange.{PauliChange}

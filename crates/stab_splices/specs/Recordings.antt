@@ -1,9 +1,9 @@
 -- Recordings: a run that is kept with copies of its state, and another one whose steps differ from its within a span.
 -- Source: this project's own.
 use Rattle.std.specs.Prelude.{◌≡◌, ℕ, ◌+◌, ◌≤◌, Bool, false, List, All, Option, IfSome, length, take, drop, replicate}
-use Rattle.stab_circuit.specs.Steps.{Step, most_steps}
+use Rattle.stab_items.specs.Steps.{Step, most_steps}
 use Rattle.stab_splices.specs.declared.recording.Recording.{Recording}
-use Rattle.stab_circuit.specs.declared.edit.Span.{Span}
+use Rattle.stab_edits.specs.declared.edit.Span.{Span}
 use Rattle.stab_run.specs.Points.{origin, point_after, with_additions}
 use Rattle.stab_run.specs.Laws.{AgreeAt}
 use Rattle.stab_splices.specs.Counts.{AgreeAsFarAsLooked}

@@ -1,10 +1,11 @@
 ghost use Rattle.std.specs.Prelude.{◌≡◌, ℕ, ◌+◌, ◌<◌, ◌^◌, Bool, length, take, drop};
-ghost use Rattle.stab_circuit.specs.Cursors.{step_shown, steps_shown};
+ghost use Rattle.stab_edits.specs.Cursors.{step_shown, steps_shown};
 ghost use Rattle.stab_run.specs.Points.{Point, given, outputs};
 ghost use Rattle.stab_run.specs.Cuts.{lengths_of};
 ghost use Rattle.stab_splices.specs.LongerLists.{longer, AreBelow};
 
-use stab_circuit::{Cursor, Step, Steps};
+use stab_edits::Cursor;
+use stab_items::{Step, Steps};
 use stab_run::Lengths;
 
 /// How long the lists of a run are after the next steps of a cursor, at most this many, by their lengths

@@ -2,15 +2,15 @@ ghost use Rattle.std.specs.Prelude.{◌≡◌, ◌+◌, ◌≤◌, None, All, On
 ghost use Rattle.stab_io.specs.declared.refusal.Refusal.TheVariants.{OutOfMemory};
 ghost use Rattle.stab_io.specs.Refusals.{Refuses};
 ghost use Rattle.stab_gates.specs.Limits.{most_qubits};
-ghost use Rattle.stab_circuit.specs.Steps.{unroll, observables_of, check_within};
-ghost use Rattle.stab_circuit.specs.Views.{circuit_items};
-ghost use Rattle.stab_circuit.specs.Cursors.{IsApart};
+ghost use Rattle.stab_items.specs.Steps.{unroll, observables_of, check_within};
+ghost use Rattle.stab_edits.specs.Views.{circuit_items};
+ghost use Rattle.stab_edits.specs.Cursors.{IsApart};
 ghost use Rattle.stab_run.specs.Records.{ones};
 ghost use Rattle.stab_run.specs.Points.{all_coins_of};
 ghost use Rattle.stab_splices.specs.Recordings.{IsRecording};
 
 use crate::recording::Recording;
-use stab_circuit::{Circuit, Span};
+use stab_edits::{Circuit, Span};
 use stab_io::{Fault, Refusal};
 use stab_rounds::find_rounds;
 use stab_run::Coins;

@@ -1,7 +1,7 @@
 ghost use Rattle.std.specs.Prelude.{◌≡◌, ℕ, ◌+◌, ◌^◌, ◌<◌, ◌≤◌, Bool, [], true, List, All, length, take, drop, IfOk, IfErr, IfSome, OnOk};
 ghost use Rattle.stab_io.specs.declared.refusal.Refusal.TheVariants.{OutOfMemory};
-ghost use Rattle.stab_circuit.specs.Steps.{Step};
-ghost use Rattle.stab_circuit.specs.declared.edit.Span.{Span};
+ghost use Rattle.stab_items.specs.Steps.{Step};
+ghost use Rattle.stab_edits.specs.declared.edit.Span.{Span};
 ghost use Rattle.stab_run.specs.Points.{RunOutput};
 ghost use Rattle.stab_run.specs.ProgramStates.{StepFits};
 ghost use Rattle.stab_frames.specs.Pivots.{pivot_at};
@@ -10,7 +10,7 @@ ghost use Rattle.stab_recording.specs.Checkpoints.{IsCheckpoint};
 ghost use Rattle.stab_recording.specs.RestFrames.{AreEnoughBy};
 ghost use Rattle.stab_splices.specs.PassedPlaces.{IsFrameBetween, IsBeforePiece, IsBeforePlaces};
 
-use stab_circuit::Cursor;
+use stab_edits::Cursor;
 use stab_frames::{Pivots, Propagation};
 use stab_io::Refusal;
 use stab_pauli::Pauli;

@@ -1,10 +1,10 @@
 ghost use Rattle.std.specs.Prelude.{◌≡◌, ℕ, ◌+◌, ◌-◌, ◌*◌, ◌<◌, ◌≤◌, Bool, [], None, List, All, length, take, reverse, slice_get, vec_capacity, IfSome, OnOk, OnErr, IfOk, IfErr};
 ghost use Rattle.stab_io.specs.declared.refusal.Refusal.TheVariants.{OutOfMemory};
 ghost use Rattle.stab_gates.specs.Limits.{most_qubits};
-ghost use Rattle.stab_circuit.specs.Steps.{Step, unroll, observables_of, check_of, check_within};
-ghost use Rattle.stab_circuit.specs.Views.{circuit_items};
-ghost use Rattle.stab_circuit.specs.Repeats.{AreRepeats};
-ghost use Rattle.stab_circuit.specs.Cursors.{IsApart};
+ghost use Rattle.stab_items.specs.Steps.{Step, unroll, observables_of, check_of, check_within};
+ghost use Rattle.stab_edits.specs.Views.{circuit_items};
+ghost use Rattle.stab_edits.specs.Repeats.{AreRepeats};
+ghost use Rattle.stab_edits.specs.Cursors.{IsApart};
 ghost use Rattle.stab_run.specs.Records.{ones};
 ghost use Rattle.stab_run.specs.Points.{all_coins_of};
 ghost use Rattle.stab_splices.specs.Counts.{IsCounted};
@@ -18,7 +18,7 @@ ghost use Rattle.stab_recording.specs.PivotLists.{IsSpliced};
 
 use crate::flips::flip_outputs;
 use crate::rest::OldRest;
-use stab_circuit::{Circuit, Cursor, Repeat, Span};
+use stab_edits::{Circuit, Cursor, Repeat, Span};
 use stab_frames::{PivotRecorder, Pivots, Propagation, count_ones};
 use stab_io::Refusal;
 use stab_pauli::Pauli;

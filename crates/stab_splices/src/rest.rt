@@ -9,7 +9,7 @@ ghost use Rattle.stab_splices.specs.inner.OldRests.{HasRoomFor, IsRestPut, conju
 ghost use Rattle.stab_splices.specs.inner.Prepared.{HasCopy, end_of};
 
 use crate::recording::Recording;
-use stab_circuit::Span;
+use stab_edits::Span;
 use stab_frames::{Pivots, Propagation, count_ones};
 use stab_io::Refusal;
 use stab_recording::{Checkpoint, End, Meeting, apply_frame, lay_all, shifted, take_moved};

@@ -9,12 +9,12 @@ pub use Rattle.std.proofs.lemmas.Option.{slice_get_within, get_or_from_slice_get
 pub use Rattle.std.proofs.lemmas.Result.{err_from_is_err_and}
 pub use Rattle.std.specs.List.{flat_map, slice_get}
 pub use Rattle.std.specs.Result.{IsErrAnd}
-pub use Rattle.stab_circuit.specs.Cursors.{step_shown}
+pub use Rattle.stab_edits.specs.Cursors.{step_shown}
 pub use Rattle.stab_circuit.specs.Items.{Items}
-pub use Rattle.stab_circuit.specs.Paths.{Path, path_text}
-pub use Rattle.stab_circuit.specs.StepPaths.{paths_of, outside}
+pub use Rattle.stab_edits.specs.Paths.{Path, path_text}
+pub use Rattle.stab_edits.specs.StepPaths.{paths_of, outside}
 pub use Rattle.stab_circuit.specs.Steps.{Step, one, two, controlled, collapse, product, detector, observable, unroll, is_detector, detectors_of, observables_of, check_within, qubits_of}
-pub use Rattle.stab_circuit.specs.Views.{circuit_items}
+pub use Rattle.stab_edits.specs.Views.{circuit_items}
 pub use Rattle.stab_distance.specs.Tables.{row, ErrorTable}
 pub use Rattle.stab_errors.specs.ErrorTables.{ErrorTableState, IsErrorTable}
 pub use Rattle.stab_errors.specs.Errors.{Error, first_fault}

@@ -9,7 +9,7 @@ use Rattle.stab_io.specs.Refusals.{whole}
 use Rattle.stab_gates.specs.LetterTexts.{letter_text}
 use Rattle.stab_circuit.specs.Items.{Items}
 use Rattle.stab_circuit.specs.Steps.{qubits_of}
-use Rattle.stab_circuit.specs.Paths.{Path, path_text}
+use Rattle.stab_edits.specs.Paths.{Path, path_text}
 use Rattle.stab_results.specs.declared.format.Kinds.{Kinds}
 use Rattle.stab_results.specs.Formats.{entry}
 use Rattle.stab_regions.specs.Faults.{FaultPlace, bits_in, IsDeterministic}

@@ -5,7 +5,7 @@ use Rattle.stab_io.specs.Devices.{OutputView, Took, TookAndFailed}
 use Rattle.stab_io.specs.declared.refusal.Refusal.{Refusal}
 use Rattle.stab_io.specs.declared.refusal.Fault.{Fault}
 use Rattle.stab_io.specs.Refusals.{number_of, name_of}
-use Rattle.stab_circuit.specs.Paths.{path_text}
+use Rattle.stab_edits.specs.Paths.{path_text}
 use Rattle.stab_texts.specs.declared.random.Bit.{Bit}
 use Rattle.stab_texts.specs.declared.random.Bit.TheVariants.{Detector, Observable}
 use Rattle.stab_texts.specs.declared.random.Random.{Random}

@@ -10,7 +10,7 @@ use Rattle.stab_gates.specs.declared.letter.Letter.{Letter}
 use Rattle.stab_gates.specs.LetterTexts.{letter_text}
 use Rattle.stab_circuit.specs.Items.{Items}
 use Rattle.stab_circuit.specs.Steps.{unroll, qubits_of, detectors_of}
-use Rattle.stab_circuit.specs.Paths.{Path}
+use Rattle.stab_edits.specs.Paths.{Path}
 use Rattle.stab_results.specs.declared.format.Kinds.{Kinds}
 use Rattle.stab_results.specs.Formats.{entry, shot_bytes}
 use Rattle.stab_regions.specs.Faults.{FaultPlace, faults_of, bits_in, IsDeterministic, IsFaultTable, RowsAdd}

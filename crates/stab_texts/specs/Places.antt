@@ -3,8 +3,8 @@
 use Rattle.std.specs.Prelude.{ℕ, ◌-◌, ◌==◌, nat_lt, Bool, false, List, [], ◌∷◌, length, slice_index_or, if◌then◌else◌}
 use Rattle.stab_circuit.specs.Items.{Items}
 use Rattle.stab_circuit.specs.Steps.{Step, observable, unroll}
-use Rattle.stab_circuit.specs.Paths.{Path}
-use Rattle.stab_circuit.specs.StepPaths.{outside, paths_of}
+use Rattle.stab_edits.specs.Paths.{Path}
+use Rattle.stab_edits.specs.StepPaths.{outside, paths_of}
 use Rattle.stab_regions.specs.Tables.{steps_before_detector}
 use Rattle.stab_run.specs.Points.{coins_of}
 use Rattle.stab_texts.specs.declared.random.Bit.{Bit}

@@ -8,8 +8,8 @@ use Rattle.stab_io.specs.declared.refusal.Fault.{Fault}
 use Rattle.stab_items.specs.Prints.{item_coordinates}
 use Rattle.stab_circuit.specs.Items.{Items, OneItem, entries}
 use Rattle.stab_circuit.specs.Steps.{unroll, qubits_of, detectors_of, observables_of}
-use Rattle.stab_circuit.specs.Paths.{Path, path_text}
-use Rattle.stab_circuit.specs.Places.{item_at}
+use Rattle.stab_edits.specs.Paths.{Path, path_text}
+use Rattle.stab_edits.specs.Places.{item_at}
 use Rattle.stab_regions.specs.Faults.{bits_in, IsDeterministic}
 use Rattle.stab_texts.specs.Coins.{CoinRow, IsCoinTable}
 use Rattle.stab_texts.specs.declared.random.Bit.{Bit}

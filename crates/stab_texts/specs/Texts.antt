@@ -1,7 +1,7 @@
 -- Texts: what is written of several texts, and of what a line is about.
 -- Source: this project's own.
 use Rattle.std.specs.Prelude.{ℕ, zero, suc, ◌+◌, List, [], ◌∷◌, ◌++◌, codes, decimal}
-use Rattle.stab_circuit.specs.Paths.{Path, path_text}
+use Rattle.stab_edits.specs.Paths.{Path, path_text}
 
 -- texts one after another
 abbrev pub texts_joined : List (List ℕ) → List ℕ

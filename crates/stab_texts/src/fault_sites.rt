@@ -2,7 +2,7 @@
 ghost use Rattle.std.specs.Prelude.{◌≡◌, true, false, slice_get, [], ◌∷◌, None, if◌then◌else◌};
 ghost use Rattle.std.specs.List.{flat_map};
 ghost use Rattle.stab_circuit.specs.Steps.{one};
-ghost use Rattle.stab_circuit.specs.Cursors.{step_shown};
+ghost use Rattle.stab_edits.specs.Cursors.{step_shown};
 ghost use Rattle.stab_regions.specs.Faults.{all_at, behind, in_front, marked_at, sites_at};
 ghost use Rattle.stab_texts.specs.inner.FaultSites.{factor_sites, site_found, site_shown};
 

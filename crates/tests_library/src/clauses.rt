@@ -12,14 +12,14 @@ ghost use Rattle.stab_tableau.specs.Tableaus.{stabilises};
 ghost use Rattle.stab_tableau.specs.Columns.{destabiliser_of};
 ghost use Rattle.stab_tableau.specs.Groups.{SameGroup};
 ghost use Rattle.stab_tableau.specs.Traces.{member};
-ghost use Rattle.stab_circuit.specs.Paths.{numbers};
+ghost use Rattle.stab_edits.specs.Paths.{numbers};
 ghost use Rattle.stab_circuit.specs.Items.{entries};
-ghost use Rattle.stab_circuit.specs.Edits.{edited, steps_before, verdict, put_item};
-ghost use Rattle.stab_circuit.specs.declared.edit.Edit.TheVariants.{Insert as inserting};
-ghost use Rattle.stab_circuit.specs.Repeats.{repeated_blocks};
+ghost use Rattle.stab_edits.specs.Edits.{edited, steps_before, verdict, put_item};
+ghost use Rattle.stab_edits.specs.declared.edit.Edit.TheVariants.{Insert as inserting};
+ghost use Rattle.stab_edits.specs.Repeats.{repeated_blocks};
 ghost use Rattle.stab_circuit.specs.Steps.{unroll, records_of, steps_cap, check_of, check_within};
-ghost use Rattle.stab_circuit.specs.StepPaths.{item_steps_left};
-ghost use Rattle.stab_circuit.specs.Views.{circuit_items};
+ghost use Rattle.stab_edits.specs.StepPaths.{item_steps_left};
+ghost use Rattle.stab_edits.specs.Views.{circuit_items};
 ghost use Rattle.stab_circuit.specs.Limits.{most_stride};
 ghost use Rattle.stab_run.specs.Records.{ones};
 ghost use Rattle.stab_run.specs.Runs.{run_of};
@@ -258,7 +258,7 @@ fn sign_after_run<C: Coins>(session: &mut Session<C>, pauli: &Pauli) -> Option<b
     session.sign_of(pauli)
 }
 
-/// An edit carries out no more steps than there are from the change on. One that is refused tells its first fault, and gives its item back.
+/// An edit carries out no more steps than there are from the change on. A refused one reports its first fault, and gives its item back.
 fn edited_or_given_back<C: Coins>(session: &mut Session<C>, edit: Edit) -> Result<Report, Refused>
     ensures applied { IfOk result (λ r. r.applied ≤ steps_from_change edit session.old session.new) }
     ensures refused { IfErr result (λ r. IsCallFault (verdict session.old.qubits edit (entries session.old.items)) r.fault) }

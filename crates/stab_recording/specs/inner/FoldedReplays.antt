@@ -3,9 +3,9 @@
 use Rattle.std.specs.Prelude.{◌≡◌, ◌≢◌, ℕ, ◌+◌, ◌-◌, ◌*◌, ◌<◌, ◌≤◌, ◌^◌, ◌⊎◌, Bool, List, [], ◌∷◌, ◌++◌, Option, None, Some, All, IfSome, length, slice_get, take, drop}
 use Rattle.stab_tableau.specs.Tableaus.{TableauState, stabilises}
 use Rattle.stab_tableau.specs.Conjugations.{IsConjugated}
-use Rattle.stab_circuit.specs.Steps.{Step, most_steps}
-use Rattle.stab_circuit.specs.declared.circuit.repeats.Repeat.{Repeat}
-use Rattle.stab_circuit.specs.Repeats.{IsRepeat}
+use Rattle.stab_items.specs.Steps.{Step, most_steps}
+use Rattle.stab_edits.specs.declared.circuit.repeats.Repeat.{Repeat}
+use Rattle.stab_edits.specs.Repeats.{IsRepeat}
 use Rattle.stab_run.specs.Records.{ones}
 use Rattle.stab_run.specs.Points.{RunOutput, origin, joined, all_coins_of, point_after}
 use Rattle.stab_run.specs.ProgramStates.{StepFits, output_of}

@@ -3,13 +3,13 @@
 use Rattle.std.specs.Prelude.{◌≡◌, ℕ, ◌≤◌, min, List, All, None, refl}
 use Rattle.std.specs.Coded.{Coded, code_by, coded×, coded_ℕ}
 use Rattle.stab_gates.specs.Limits.{most_qubits}
-use Rattle.stab_circuit.specs.Items.{Items}
-use Rattle.stab_circuit.specs.Steps.{unroll, records_of, observables_of, steps_cap, check_within}
-use Rattle.stab_circuit.specs.Cursors.{IsApart}
-use Rattle.stab_circuit.specs.declared.circuit.repeats.Repeat.{Repeat}
-use Rattle.stab_circuit.specs.Repeats.{AreRepeats}
+use Rattle.stab_items.specs.Items.{Items}
+use Rattle.stab_items.specs.Steps.{unroll, records_of, observables_of, steps_cap, check_within}
+use Rattle.stab_edits.specs.Cursors.{IsApart}
+use Rattle.stab_edits.specs.declared.circuit.repeats.Repeat.{Repeat}
+use Rattle.stab_edits.specs.Repeats.{AreRepeats}
 use Rattle.stab_recording.specs.Samplers.{SamplerState}
-use Rattle.stab_circuit.specs.inner.StoredItems.{items_code}
+use Rattle.stab_items.specs.inner.StoredItems.{items_code}
 
 -- it is stored as the pair of its fields
 abbrev pub sampler_code : Coded SamplerState

@@ -1,7 +1,7 @@
 -- Replays beside an older run: where they differ from it, and what they hold while copies go ahead of the tableau.
 -- Source: this project's own.
 use Rattle.std.specs.Prelude.{◌≡◌, ◌≢◌, ◌⊎◌, ℕ, ◌≤◌, Bool, true, false, List, [], ◌∷◌, length, take, drop}
-use Rattle.stab_circuit.specs.Steps.{Step}
+use Rattle.stab_items.specs.Steps.{Step}
 use Rattle.stab_tableau.specs.Tableaus.{TableauState}
 use Rattle.stab_run.specs.Points.{RunOutput}
 use Rattle.stab_frames.specs.Pivots.{PivotsState}

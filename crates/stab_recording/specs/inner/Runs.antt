@@ -1,7 +1,7 @@
 -- Runs: replays of all steps from the first on, with no older run to meet.
 -- Source: this project's own.
 use Rattle.std.specs.Prelude.{ℕ, Bool, List, [], length}
-use Rattle.stab_circuit.specs.Steps.{Step}
+use Rattle.stab_items.specs.Steps.{Step}
 use Rattle.stab_recording.specs.declared.replay.Plan.{Plan}
 use Rattle.stab_recording.specs.declared.replay.Replay.{Replay}
 use Rattle.stab_recording.specs.Replays.{IsAtStop}

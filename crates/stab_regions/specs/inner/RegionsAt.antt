@@ -1,7 +1,7 @@
 -- Regions at a place: what the pass backwards holds between two steps, and how one step changes it.
 use Rattle.std.specs.Prelude.{◌≡◌, ℕ, ◌+◌, ◌-◌, ◌==◌, ◌<◌, ◌≤◌, ◌^◌, nat_lt, Bool, false, not, ◌&&◌, ◌||◌, List, [], ◌∷◌, length, slice_index_or, if◌then◌else◌}
 use Rattle.stab_gates.specs.declared.letter.Letter.{Letter}
-use Rattle.stab_circuit.specs.Steps.{Step, detector, observable, is_detector}
+use Rattle.stab_items.specs.Steps.{Step, detector, observable, is_detector}
 use Rattle.stab_regions.specs.declared.regions.Regions.{Regions}
 use Rattle.stab_regions.specs.Regions.{Region, region_of, region_before, keeps_region, with_looks, asks_observable}
 use Rattle.stab_regions.specs.Tables.{named}

@@ -1,7 +1,7 @@
 -- Sites: the places for faults at a step, by its qubits and by the sides on which faults are asked for.
 use Rattle.std.specs.Prelude.{ℕ, Bool, true, false, List, [], ◌∷◌}
 use Rattle.stab_gates.specs.declared.gate.Gate.TheVariants as gate
-use Rattle.stab_circuit.specs.Steps.{Step, one, two, controlled, collapse, product, detector, observable, factor_qubits}
+use Rattle.stab_items.specs.Steps.{Step, one, two, controlled, collapse, product, detector, observable, factor_qubits}
 use Rattle.stab_regions.specs.declared.sites.Asked.{Asked}
 use Rattle.stab_regions.specs.declared.sites.Asked.TheVariants.{Nowhere, Marked, Everywhere}
 use Rattle.stab_regions.specs.declared.sites.Sides.{Sides}

@@ -3,8 +3,8 @@ use Rattle.std.specs.Prelude.{◌≡◌, ℕ, ◌+◌, ◌<◌, ◌≤◌, false
 use Rattle.std.specs.List.{flat_map}
 use Rattle.stab_gates.specs.declared.letter.Letter.{Letter}
 use Rattle.stab_gates.specs.declared.letter.Letter.TheVariants as letter
-use Rattle.stab_circuit.specs.Steps.{Step, observable, detectors_of}
-use Rattle.stab_circuit.specs.Cursors.{IsApart}
+use Rattle.stab_items.specs.Steps.{Step, observable, detectors_of}
+use Rattle.stab_edits.specs.Cursors.{IsApart}
 use Rattle.stab_run.specs.ProgramStates.{StepFits}
 use Rattle.stab_distance.specs.Ascending.{IsAscending}
 use Rattle.stab_regions.specs.Rows.{odd}

@@ -9,8 +9,8 @@ use Rattle.stab_lines.specs.declared.operation.Kind.{Kind}
 use Rattle.stab_lines.specs.declared.operation.Kind.TheVariants as kind
 use Rattle.stab_circuit.specs.Items.{OneItem, operation, repeat, listed}
 use Rattle.stab_circuit.specs.Steps.{one, unroll, past, qubits_of, check_within, most_steps}
-use Rattle.stab_circuit.specs.Places.{item_at}
-use Rattle.stab_circuit.specs.Rounds.{pieces}
+use Rattle.stab_edits.specs.Places.{item_at}
+use Rattle.stab_edits.specs.Rounds.{pieces}
 use Rattle.stab_run.specs.Runs.{gate_of}
 use Rattle.stab_session.specs.declared.pending.Pending.{Pending}
 use Rattle.stab_session.specs.declared.pending.Pending.TheVariants.{Inserted, Replaced, Deleted}

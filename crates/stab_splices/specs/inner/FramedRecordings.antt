@@ -4,8 +4,8 @@ use Rattle.std.specs.Prelude.{◌≡◌, ℕ, ◌+◌, ◌-◌, ◌*◌, ◌≤�
 use Rattle.stab_gates.specs.declared.letter.Letter.TheVariants.{I}
 use Rattle.stab_tableau.specs.Tableaus.{TableauState, stabilises}
 use Rattle.stab_tableau.specs.Conjugations.{IsConjugated}
-use Rattle.stab_circuit.specs.Steps.{Step}
-use Rattle.stab_circuit.specs.declared.edit.Span.{Span}
+use Rattle.stab_items.specs.Steps.{Step}
+use Rattle.stab_edits.specs.declared.edit.Span.{Span}
 use Rattle.stab_recording.specs.declared.checkpoint.Checkpoint.{Checkpoint}
 use Rattle.stab_recording.specs.declared.checkpoint.Meeting.{Meeting}
 use Rattle.stab_recording.specs.Checkpoints.{IsCheckpoint, checkpoint_steps}

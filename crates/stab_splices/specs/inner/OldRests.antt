@@ -3,7 +3,7 @@
 use Rattle.std.specs.Prelude.{◌≡◌, ℕ, ◌+◌, ◌≤◌, List, [], Option, None, Some, length, take, drop, map, vec_capacity}
 use Rattle.stab_tableau.specs.Tableaus.{stabilises}
 use Rattle.stab_tableau.specs.Conjugations.{IsConjugated}
-use Rattle.stab_circuit.specs.declared.edit.Span.{Span}
+use Rattle.stab_edits.specs.declared.edit.Span.{Span}
 use Rattle.stab_run.specs.ProgramStates.{output_of}
 use Rattle.stab_recording.specs.declared.checkpoint.Checkpoint.{Checkpoint}
 use Rattle.stab_recording.specs.LaidCheckpoints.{moved, moved_copy, all_laid}

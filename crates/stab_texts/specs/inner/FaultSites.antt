@@ -4,8 +4,8 @@ use Rattle.std.specs.Prelude.{◌≡◌, ℕ, List, [], ◌∷◌, take, drop, r
 use Rattle.stab_circuit.specs.Items.{Items}
 use Rattle.stab_lines.specs.declared.product.Factor.{Factor}
 use Rattle.stab_regions.specs.Faults.{Site, in_front, behind}
-use Rattle.stab_circuit.specs.StepPaths.{paths_of}
-use Rattle.stab_circuit.specs.declared.circuit.step_items.StepItem.{StepItem}
+use Rattle.stab_edits.specs.StepPaths.{paths_of}
+use Rattle.stab_edits.specs.declared.circuit.step_items.StepItem.{StepItem}
 use Rattle.stab_texts.specs.declared.fault_sites.Site.{Site as SiteValue}
 
 -- the place that a value stands for

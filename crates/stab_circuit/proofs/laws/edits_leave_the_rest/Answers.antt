@@ -1,4 +1,4 @@
-use Rattle.stab_circuit.proofs.EditLemmas.{edits_leave}
+use Rattle.stab_circuit.proofs.Names.{edits_leave}
 use Rattle.stab_circuit.proofs.laws.edits_leave_the_rest.Goals as goal
 
 pub returns : goal.returns

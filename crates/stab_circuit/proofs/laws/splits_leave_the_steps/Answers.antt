@@ -1,4 +1,4 @@
-use Rattle.stab_circuit.proofs.SplitLemmas.{split_alike}
+use Rattle.stab_circuit.proofs.Names.{split_alike}
 use Rattle.stab_circuit.proofs.laws.splits_leave_the_steps.Goals as goal
 
 pub returns : goal.returns

@@ -1,0 +1,11 @@
+pub mod Views
+pub mod Cursors
+pub mod Paths
+pub mod Places
+pub mod StepPaths
+pub mod Edits
+pub mod Rounds
+pub mod Repeats
+pub mod Splits
+pub mod Editings
+pub mod inner

@@ -1,0 +1,10 @@
+pub mod Walks
+pub mod Places
+pub mod Splices
+pub mod Judgements
+pub mod EditResults
+pub mod StepItems
+pub mod Stretches
+pub mod Gaps
+pub mod Repeats
+pub mod Changes
