@@ -19,8 +19,8 @@ pub use Rattle.stab_circuit.specs.Readings.{IsFaultOf, ReadsCircuit}
 pub use Rattle.stab_circuit.specs.Steps.{Step, one, two, controlled, collapse, product, detector, observable, unroll, makes, records_of, looks_too_far, most_steps, steps_cap, is_detector, detectors_of, detectors_in, qubits_of, observables_of, measured, controlled_step}
 unfoldable pub use Rattle.stab_circuit.specs.Steps.{check_of}
 pub use Rattle.stab_edits.specs.Views.{circuit_items}
-pub use Rattle.stab_circuit.specs.declared.steps.Steps.{Steps}
-pub use Rattle.stab_circuit.specs.declared.steps.Steps.TheVariants.{Gates, Pairs, Measurements, Detectors, Single}
+pub use Rattle.stab_items.specs.declared.steps.Steps.{Steps}
+pub use Rattle.stab_items.specs.declared.steps.Steps.TheVariants.{Gates, Pairs, Measurements, Detectors, Single}
 pub use Rattle.stab_frames.proofs.AgainLemmas.{pivot-conjugated}
 pub use Rattle.stab_frames.proofs.EditLemmas.{coins-flip}
 pub use Rattle.stab_frames.proofs.FrontLemmas.{group-origin}

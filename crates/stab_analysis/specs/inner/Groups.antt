@@ -1,8 +1,8 @@
 -- Groups: how many coins steps take that are given together.
 -- Source: this project's own.
 use Rattle.std.specs.Prelude.{ℕ, length}
-use Rattle.stab_circuit.specs.declared.steps.Steps.{Steps}
-use Rattle.stab_circuit.specs.declared.steps.Steps.TheVariants.{Gates, Pairs, Measurements, Detectors, Single}
+use Rattle.stab_items.specs.declared.steps.Steps.{Steps}
+use Rattle.stab_items.specs.declared.steps.Steps.TheVariants.{Gates, Pairs, Measurements, Detectors, Single}
 use Rattle.stab_edits.specs.Cursors.{step_shown}
 use Rattle.stab_run.specs.Points.{coins_of}
 
