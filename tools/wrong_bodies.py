@@ -109,16 +109,24 @@ def try_edits(edits: list[Path]) -> tuple[int, str]:
     return rt.returncode, said
 
 
+def text_of(path: str) -> str:
+    """The text of a file that is named in words."""
+    try:
+        return Path(path).read_text(encoding="utf-8")
+    except (OSError, UnicodeDecodeError) as error:
+        raise argparse.ArgumentTypeError(str(error)) from None
+
+
 def main() -> int:
     words = argparse.ArgumentParser(description=__doc__, formatter_class=argparse.RawDescriptionHelpFormatter)
     either = words.add_mutually_exclusive_group(required=True)
-    either.add_argument("gate", type=Path, metavar="GATE", nargs="?")
+    either.add_argument("gate", type=text_of, metavar="GATE", nargs="?")
     either.add_argument("--try", dest="tries", action="store_true", help="try those of a release, and compare all that were tried")
     asked = words.parse_args()
     if asked.tries and shutil.which("rt") is None:
         words.error("it needs the Rattle toolchain: its command rt is not on the PATH")
     edits = edits_of_release() if asked.tries else edits_of_gate()
-    status, said = try_edits(edits) if asked.tries else (0, asked.gate.read_text(encoding="utf-8"))
+    status, said = try_edits(edits) if asked.tries else (0, asked.gate)
     told = {(it[1], it[2]): it[3] for it in REFUSED.finditer(said)}
     # Crates below have wrong bodies of the gate.
     edits += [it for it in edits_of_gate() if asked.tries and (crate_of(it), it.stem) in told]

@@ -123,3 +123,10 @@ def test_it_asks_for_a_gate_or_a_try(tmp_path: Path) -> None:
     assert run("--help")[0] == 0 and "--try" in run("--help")[1]
     assert [it[0] for it in (run(), run("--try", "gate"), run("--other"))] == [2, 2, 2]
     assert "its command rt is not on the PATH" in run("--try", path=str(tmp_path))[2]
+
+
+def test_a_file_that_cannot_be_read_is_named(tmp_path: Path) -> None:
+    (tmp_path / "bytes").write_bytes(b"\xff\n")
+    for file, why in ((tmp_path / "none", "No such file"), (tmp_path, "directory"), (tmp_path / "bytes", "can't decode")):
+        status, output, said = run(file)
+        assert (status, output) == (2, "") and why in said and "Traceback" not in said

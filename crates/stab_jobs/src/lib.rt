@@ -3,7 +3,7 @@
 //! - `numbers`: how many shots, qubits and steps between checkpoints.
 //! - `job`: where coins come from, the commands with their options, and the job that the words of a command line ask for.
 //!
-//! What a command does is proved where it is run, in `stab_analysis` and `stab_commands`, and which words ask for a
+//! What a command does is proved where it is run, in `stab_analysis`, `stab_commands` and `stab_editor`, and which words ask for a
 //! job in `stab_args`.
 //!
 //! Source: this project's own.

@@ -16,7 +16,7 @@
 //! - `logged_input`: an input in memory that keeps a log of such reads.
 //!
 //! What answers requests is a trait here, `Answer`, over the items and the mark that are held: the answers
-//! from a session, and scripts answered by them, are `stab_commands`'.
+//! from a session, and scripts answered by them, are `stab_editor`'s.
 //!
 //! Source: this project's own.
 //!

@@ -9,7 +9,7 @@
 //! - `opening`: how a recording is made for the first time.
 //!
 //! Replays, and frames over what is left of a run, are `stab_recording`'s. What edits are, and which steps they change, is
-//! `stab_circuit`'s: here an edit is a span of steps that changed.
+//! `stab_edits`': here an edit is a span of steps that changed.
 //!
 //! Source: how a recording follows an edit is this project's own.
 //!
