@@ -17,13 +17,13 @@ pub use Rattle.stab_io.specs.declared.refusal.Fault.{Fault}
 pub use Rattle.stab_io.specs.declared.refusal.Refusal.{Refusal}
 pub use Rattle.stab_io.specs.declared.refusal.Refusal.TheVariants.{BadLine, TooDeep, OutOfMemory, LookbackTooFar, TooManySteps, PlaceOutOfRange, NotABlock, QubitOutOfRange, BadBlock, TooLong}
 pub use Rattle.stab_lines.proofs.BoolLemmas.{chosen, passed, and_left, and_right, both}
-pub use Rattle.stab_lines.specs.FirstLines.{BeginsWithInstruction, TellsInstruction}
+pub use Rattle.stab_line_reader.specs.FirstLines.{BeginsWithInstruction, TellsInstruction}
 pub use Rattle.stab_lines.specs.Lines.{is_byte}
 unfoldable pub use Rattle.stab_lines.specs.Lines.{content_of}
 unfoldable pub use Rattle.stab_lines.specs.Meanings.{meaning_of}
 pub use Rattle.stab_lines.specs.Meanings.{is_close, is_of_line}
 pub use Rattle.stab_lines.specs.Words.{pieces_after}
-pub use Rattle.stab_lines.specs.declared.meanings.Line.TheVariants.{Blank, Close, Open}
+pub use Rattle.stab_lines.specs.declared.operation.Line.TheVariants.{Blank, Close, Open}
 pub use Rattle.stab_lines.specs.declared.operation.Kind.{Kind}
 pub use Rattle.stab_lines.specs.declared.operation.Operation.{Operation}
 pub use lib.Dec.{eqb}
@@ -41,7 +41,8 @@ pub use Rattle.stab_circuit.specs.inner.Readers.{Progress, is_whole, meaning_at,
 pub use Rattle.stab_edits.specs.Edits.{outermost, with_item, rebuilt, edited_inside, changed, edited_in, edited, taken_in, taken, list_verdict, verdict, inner, edit_path, taken_at, put_item, steps_in, steps_before, first_changed, behind_taken, behind_put}
 pub use Rattle.stab_circuit.specs.inner.Stretches.{Ran, reading_on, outside, Reads, items_of, IsStretch, KeepsStretches, IsRunOf, IsRun, IsEnded, RunsOn, AreStretches}
 pub use Rattle.stab_lines.proofs.FreeLemmas.{Each, each-append, Free, free-append, free_spaces, free_any, any_free, split_free}
-pub use Rattle.stab_lines.proofs.LineLaws.{line_good, blank_is_empty, refused_as_line, printed_again, good_said}
+pub use Rattle.stab_lines.proofs.GoodLineLemmas.{line_good}
+pub use Rattle.stab_line_reader.proofs.LineLaws.{blank_is_empty, refused_as_line, printed_again, good_said}
 pub use Rattle.stab_lines.specs.Laws.{IsLine, line_printed, Says}
 pub use Rattle.std.proofs.lemmas.Option.{slice_get_within}
 pub use Rattle.stab_io.proofs.DeviceLemmas.{gave_more}
@@ -49,7 +50,7 @@ pub use Rattle.stab_io.specs.Devices.{InputView, Gave}
 pub use Rattle.stab_io.specs.Refusals.{whole, Refuses, IsCallFault}
 pub use Rattle.stab_items.proofs.ItemLemmas.{listed-append, depth-join, join_done, join_assoc, listed_pushed, no_length}
 pub use Rattle.stab_items.proofs.SummaryLemmas.{past_named-join}
-pub use Rattle.stab_lines.specs.declared.meanings.Line.{Line}
+pub use Rattle.stab_lines.specs.declared.operation.Line.{Line}
 pub use Rattle.stab_circuit.specs.Inputs.{GaveTooMuch, GaveFront, ReadsText}
 pub use Rattle.stab_circuit.specs.Laws.{StandsForOneOnly, AreLinesOf, AreOfLines, PutsLines}
 pub use Rattle.stab_edits.specs.Paths.{Path}

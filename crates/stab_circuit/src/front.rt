@@ -2,10 +2,11 @@ ghost use Rattle.std.specs.Prelude.{◌≡◌, ◌<◌, ℕ, List, false, length
 ghost use Rattle.std.specs.Option.{option_copied};
 ghost use Rattle.stab_items.specs.Circuits.{meaning_after as meaning_after_of};
 ghost use Rattle.stab_circuit.specs.inner.KnownLines.{IsCut};
-ghost use Rattle.stab_lines.specs.FirstLines.{TellsInstruction};
+ghost use Rattle.stab_line_reader.specs.FirstLines.{TellsInstruction};
 
 use stab_io::Refusal;
-use stab_lines::{Kind, Line, detector_in_front, instruction_in_front, is_close};
+use stab_line_reader::{detector_in_front, instruction_in_front, is_close};
+use stab_lines::{Kind, Line};
 use std::alloc::Global;
 
 /// The instruction that the first line means, if a look at its bytes is enough to see it, and the lines

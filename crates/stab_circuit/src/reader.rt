@@ -2,7 +2,8 @@ use crate::front::{before_lines, first_instruction, meaning_after};
 use crate::known_lines::KnownLines;
 use stab_io::{Fault, Refusal};
 use stab_items::{Instruction, Item, items_summary};
-use stab_lines::{Count, Line, Sequence, content, first_piece, meaning};
+use stab_line_reader::{content, meaning};
+use stab_lines::{Count, Line, Sequence, first_piece};
 use std::alloc::Global;
 use std::mem;
 

@@ -6,7 +6,7 @@ use crate::line_part::{LinePart, Separator, pieces, words};
 use crate::names::{finding_on_name, is_reset};
 use crate::sentences;
 use stab_io::Refusal;
-use stab_lines::is_close;
+use stab_line_reader::is_close;
 use std::alloc::{AllocError, Global};
 
 /// A line that has the shape of one, and is refused.

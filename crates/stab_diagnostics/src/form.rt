@@ -1,6 +1,7 @@
 //! What an instruction takes, and what refuses a line, both as `stab_lines` reads them.
 use stab_io::Refusal;
-use stab_lines::{Kind, Line, meaning};
+use stab_line_reader::meaning;
+use stab_lines::{Kind, Line};
 use std::alloc::{AllocError, Global};
 
 /// What an instruction takes.

@@ -2,7 +2,8 @@
 use crate::finding::Finding;
 use crate::line_part::LinePart;
 use crate::sentences;
-use stab_lines::{ends_with, first_piece, is_spacing};
+use stab_line_reader::ends_with;
+use stab_lines::{first_piece, is_spacing};
 
 /// The bytes of a byte order mark in UTF-8.
 const BYTE_ORDER_MARK: &[u8] = b"\xEF\xBB\xBF";

@@ -1,5 +1,6 @@
 //! Parts of a line, by their places in it.
-use stab_lines::{content, is_spacing, without_spacing_in_front};
+use stab_line_reader::content;
+use stab_lines::{is_spacing, without_spacing_in_front};
 use std::alloc::{AllocError, Global};
 
 /// A part of a line: the places of its first byte and of the one after its last.

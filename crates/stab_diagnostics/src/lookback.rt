@@ -4,7 +4,8 @@ use crate::form::joined;
 use crate::instruction_parts::parts_of;
 use crate::line_part::{LinePart, words};
 use stab_io::Refusal;
-use stab_lines::{Line, meaning};
+use stab_line_reader::meaning;
+use stab_lines::Line;
 use std::alloc::{AllocError, Global};
 
 /// The first word of a line that looks back over more than this many records.

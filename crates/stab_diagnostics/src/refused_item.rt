@@ -4,7 +4,8 @@
 //! the fewest records are before an item of it, so a lookback that is refused is so in the first round.
 use crate::counts::Counts;
 use stab_io::Refusal;
-use stab_lines::{Count, Kind, Line, content, meaning};
+use stab_line_reader::{content, meaning};
+use stab_lines::{Count, Kind, Line};
 use std::alloc::{AllocError, Global};
 
 /// The most steps of a circuit.

@@ -21,7 +21,7 @@ pub use Rattle.stab_lines.specs.Prints.{operation_text, open_text}
 pub use Rattle.stab_lines.specs.Targets.{pair_qubits}
 pub use Rattle.stab_lines.specs.declared.axis.Axis.{Axis}
 pub use Rattle.stab_lines.specs.declared.control.ControlledPair.{ControlledPair}
-pub use Rattle.stab_lines.specs.declared.meanings.Line.TheVariants.{Close}
+pub use Rattle.stab_lines.specs.declared.operation.Line.TheVariants.{Close}
 pub use Rattle.stab_lines.specs.declared.operation.Kind.{Kind}
 pub use Rattle.stab_lines.specs.declared.operation.Kind.TheVariants.{Tick}
 pub use Rattle.stab_lines.specs.declared.operation.Measurement.{Measurement}
@@ -40,7 +40,7 @@ pub use Rattle.stab_items.specs.inner.Margins.{margin_depth}
 pub use Rattle.stab_items.specs.inner.Summaries.{IsPairApart, IsSwapApart, IsProductApart, greatest, window, looks_back, furthest, steps_summary, kind_summary_of, summary_of, followed_by, repeated, judged, IsSummary, IsSumOf}
 pub use Rattle.stab_gates.specs.Letters.{◌⊕◌}
 pub use Rattle.stab_lines.proofs.FreeLemmas.{Each}
-pub use Rattle.stab_lines.proofs.LineLaws.{line_good}
+pub use Rattle.stab_lines.proofs.GoodLineLemmas.{line_good}
 pub use Rattle.stab_lines.proofs.SureLemmas.{IsQubit, IsMeasured, IsPair, IsControlled, IsProduct, IsGoodKind, IsGoodLine}
 pub use Rattle.stab_lines.specs.Laws.{IsLine}
 pub use Rattle.stab_items.specs.Detectors.{detects}

@@ -1,5 +1,5 @@
 -- Steps of instructions and items whose qubits are different ones.
-use Rattle.stab_items.proofs.Names.{◌≡◌, ◌<◌, ℕ, ◌+◌, zero, suc, List, [], ◌∷◌, ◌++◌, length, take, get_or, All, subst, sym, ap, ◌∙◌, true, false, append-nil, take-length, take_more, All-nil, All-cons, All-append, All-map, Gate, Axis, Factor, ControlledPair, MeasureTarget, Measurement, Operation, letter_of, Items, OneItem, operation, repeat, done, before, listed, Step, one, two, collapse, detector, observable, measured, measured_product, controlled_step, steps_of, rounds, unroll, IsApart, IsPairApart, IsSwapApart, IsProductApart}
+use Rattle.stab_items.proofs.Names.{◌≡◌, ◌<◌, ℕ, ◌+◌, zero, suc, List, [], ◌∷◌, ◌++◌, length, take, get_or, All, subst, sym, ap, ◌∙◌, true, false, append-nil, take-length, take_more, All-nil, All-cons, All-append, All-map, Gate, Axis, Factor, ControlledPair, MeasureTarget, Measurement, letter_of, Items, OneItem, repeat, done, before, listed, Step, one, two, collapse, detector, observable, measured, measured_product, controlled_step, steps_of, rounds, unroll, IsApart, IsPairApart, IsSwapApart, IsProductApart}
 use Rattle.stab_gates.specs.declared.gate.PairGate.TheVariants as gate
 use Rattle.stab_lines.specs.declared.control.ControlledPair.TheVariants as pair
 use Rattle.stab_lines.specs.declared.operation.Kind.TheVariants as kind

@@ -8,9 +8,9 @@ use Rattle.stab_io.specs.declared.refusal.Refusal.TheVariants.{BadBlock, TooDeep
 use Rattle.stab_io.specs.declared.refusal.Fault.{Fault}
 use Rattle.stab_io.specs.Refusals.{whole}
 use Rattle.stab_lines.specs.declared.operation.Operation.{Operation}
-use Rattle.stab_lines.specs.declared.meanings.Line.{Line}
-use Rattle.stab_lines.specs.declared.meanings.Line.TheVariants.{Blank, Close, Open}
-use Rattle.stab_lines.specs.declared.meanings.Line.TheVariants as line
+use Rattle.stab_lines.specs.declared.operation.Line.{Line}
+use Rattle.stab_lines.specs.declared.operation.Line.TheVariants.{Blank, Close, Open}
+use Rattle.stab_lines.specs.declared.operation.Line.TheVariants as line
 use Rattle.stab_lines.specs.Lines.{is_byte, content_of}
 use Rattle.stab_lines.specs.Laws.{IsLine}
 use Rattle.stab_items.specs.Items.{Items, OneItem, done, next, block, before}

@@ -2,9 +2,9 @@
 -- Source: this project's own.
 use Rattle.std.specs.Prelude.{◌≡◌, ℕ, false, List, [], ◌++◌, replicate, codes, Ok}
 use Rattle.std.specs.List.{list_any}
-use Rattle.stab_lines.specs.declared.meanings.Line.{Line}
-use Rattle.stab_lines.specs.declared.meanings.Line.TheVariants.{Blank, Close, Open}
-use Rattle.stab_lines.specs.declared.meanings.Line.TheVariants as line
+use Rattle.stab_lines.specs.declared.operation.Line.{Line}
+use Rattle.stab_lines.specs.declared.operation.Line.TheVariants.{Blank, Close, Open}
+use Rattle.stab_lines.specs.declared.operation.Line.TheVariants as line
 use Rattle.stab_lines.specs.Lines.{is_byte, content_of}
 use Rattle.stab_lines.specs.Meanings.{meaning_of}
 use Rattle.stab_lines.specs.Prints.{open_text, operation_text}

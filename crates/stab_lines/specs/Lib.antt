@@ -9,7 +9,6 @@ pub mod Axes
 pub mod Products
 pub mod Controls
 pub mod Meanings
-pub mod FirstLines
 pub mod Prints
 pub mod Laws
 pub mod inner

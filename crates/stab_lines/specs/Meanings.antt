@@ -9,8 +9,8 @@ use Rattle.stab_lines.specs.declared.name.Name.{Name}
 use Rattle.stab_lines.specs.declared.name.Name.TheVariants as name
 use Rattle.stab_lines.specs.declared.operation.Kind.{Kind}
 use Rattle.stab_lines.specs.declared.operation.Kind.TheVariants as kind
-use Rattle.stab_lines.specs.declared.meanings.Line.{Line}
-use Rattle.stab_lines.specs.declared.meanings.Line.TheVariants as line
+use Rattle.stab_lines.specs.declared.operation.Line.{Line}
+use Rattle.stab_lines.specs.declared.operation.Line.TheVariants as line
 use Rattle.stab_lines.specs.Results.{◌>>=◌, each}
 use Rattle.stab_lines.specs.Lines.{Shape, shape_of, starts_with_byte}
 use Rattle.stab_lines.specs.Words.{words, is_blank, arguments_of}

@@ -77,7 +77,7 @@ impl Coordinates {
     ghost use Rattle.stab_lines.specs.Words.{arguments_of};
 
     /// A copy of what the brackets hold.
-    pub(crate) fn of(alloc: Global, arguments: &[u8]) -> Result<Coordinates, AllocError>
+    pub fn of(alloc: Global, arguments: &[u8]) -> Result<Coordinates, AllocError>
         ensures ok { IfOk result (λ c. c ≡ arguments_of arguments.now) }
     {
         let written = if arguments.len() <= SHORT {

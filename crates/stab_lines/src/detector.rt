@@ -1,25 +1,14 @@
-ghost use Rattle.std.specs.Prelude.{◌≡◌, false, IfSome, Ok};
-ghost use Rattle.std.specs.List.{list_any};
-ghost use Rattle.stab_lines.specs.Results.{Gives, each};
-ghost use Rattle.stab_lines.specs.Lines.{is_brace};
-ghost use Rattle.stab_lines.specs.Words.{words, arguments_of};
-ghost use Rattle.stab_lines.specs.Targets.{lookback_of};
-ghost use Rattle.stab_lines.specs.inner.DetectorContents.{behind_coordinates};
-
 use crate::coordinates::Coordinates;
 use crate::located::Located;
 use crate::range::Lookbacks;
-use crate::target::{lookbacks, record_at_front};
-use crate::word::is_blank;
-use stab_io::Refusal;
 use std::alloc::{AllocError, Global};
 use std::marker::Model;
 
 /// How many bytes of coordinates are in place.
-pub const SHORT: usize = 13;
+pub const SHORT_COORDINATES: usize = 13;
 
 /// How many records are in place.
-pub const FEW: usize = 2;
+pub const FEW_RECORDS: usize = 2;
 
 /// The records of a detector, and the coordinates before them.
 ///
@@ -75,9 +64,9 @@ impl Form {
         ensures records { form_records result ≡ found.now }
         ensures kept { IsForm result }
     {
-        let mut text = [0; SHORT];
+        let mut text = [0; SHORT_COORDINATES];
         text[..written.len()].copy_from_slice(written);
-        let mut records = [0; FEW];
+        let mut records = [0; FEW_RECORDS];
         records[..found.len()].copy_from_slice(found);
         Form::Short {
             bytes: written.len() as u8,
@@ -95,11 +84,11 @@ impl DetectorTargets {
 
     /// As many of the numbers as are given, from the first on, after coordinates, which are as many of the bytes as are given.
     /// More bytes than these are copied, since a copy of a fixed number takes no call.
-    pub(crate) fn in_place(
+    pub fn in_place(
         bytes: &[u8],
         len: usize,
         count: usize,
-        records: [u32; FEW],
+        records: [u32; FEW_RECORDS],
     ) -> DetectorTargets
         requires long { 13 ≤ length bytes.now }
         requires short { len ≤ 13 }
@@ -107,8 +96,8 @@ impl DetectorTargets {
         requires each { All IsLookback (take count records) }
         ensures value { result ≡ (arguments_of (take len bytes.now), take count records) }
     {
-        let mut text = [0; SHORT];
-        text.copy_from_slice(bytes.split_at(SHORT).0);
+        let mut text = [0; SHORT_COORDINATES];
+        text.copy_from_slice(bytes.split_at(SHORT_COORDINATES).0);
         DetectorTargets {
             form: Form::Short {
                 bytes: len as u8,
@@ -119,8 +108,20 @@ impl DetectorTargets {
         }
     }
 
+    /// Few records after coordinates that are written with few bytes, which take no memory.
+    pub fn few(written: &[u8], records: &[u32]) -> DetectorTargets
+        requires short { length written.now ≤ 13 }
+        requires few { length records.now ≤ 2 }
+        requires each { All IsLookback records.now }
+        ensures value { result ≡ (arguments_of written.now, records.now) }
+    {
+        DetectorTargets {
+            form: Form::short(written, records),
+        }
+    }
+
     /// Records after coordinates, in memory of their own.
-    fn long(
+    pub fn long(
         alloc: Global,
         coordinates: Coordinates,
         records: Lookbacks,
@@ -177,61 +178,5 @@ impl DetectorTargets {
             Form::Long(located) => Form::Long(located.copy(alloc)?),
         };
         Ok(DetectorTargets { form })
-    }
-}
-
-/// The records that the words are, after coordinates that are written in this way.
-pub fn detector_targets(
-    alloc: Global,
-    written: &[u8],
-    words_text: &[u8],
-) -> Result<DetectorTargets, Refusal>
-    ensures gives { Gives result (behind_coordinates written.now (each lookback_of (words words_text.now))) }
-{
-    match short_records(written, words_text) {
-        Some(targets) => Ok(targets),
-        None => long_records(alloc, written, words_text),
-    }
-}
-
-/// The same, in memory of their own.
-pub fn long_records(
-    alloc: Global,
-    written: &[u8],
-    words_text: &[u8],
-) -> Result<DetectorTargets, Refusal>
-    ensures gives { Gives result (behind_coordinates written.now (each lookback_of (words words_text.now))) }
-{
-    let records = lookbacks(alloc, words_text)?;
-    let coordinates = Coordinates::of(alloc, written)?;
-    Ok(DetectorTargets::long(alloc, coordinates, records)?)
-}
-
-/// The same in place, if the coordinates and the records are few and a look at the words' bytes
-/// is enough to see it. There is no brace among such words.
-pub fn short_records(written: &[u8], words_text: &[u8]) -> Option<DetectorTargets>
-    ensures in_front { IfSome result (λ d. d.0 ≡ arguments_of written.now) }
-    ensures behind { IfSome result (λ d. each lookback_of (words words_text.now) ≡ Ok d.1) }
-    ensures clear { IfSome result (λ _. list_any is_brace words_text.now ≡ false) }
-{
-    if written.len() > SHORT {
-        return None;
-    }
-    let mut found = [0; FEW];
-    let mut count = 0;
-    let mut rest = words_text;
-    while count < FEW
-        && let Some((number, after)) = record_at_front(rest)
-    {
-        found[count] = number;
-        count += 1;
-        rest = after;
-    }
-    if is_blank(rest) {
-        Some(DetectorTargets {
-            form: Form::short(written, &found[..count]),
-        })
-    } else {
-        None
     }
 }

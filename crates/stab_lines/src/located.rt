@@ -48,7 +48,7 @@ impl<T: Drop> Located<T> {
     ghost use Rattle.std.specs.Prelude.{◌≡◌, IfOk};
 
     /// Targets after coordinates.
-    pub(crate) fn new(
+    pub fn new(
         alloc: Global,
         coordinates: Coordinates,
         targets: T,

@@ -6,7 +6,7 @@ use crate::coordinates::Coordinates;
 use crate::detector::DetectorTargets;
 use crate::located::Located;
 use crate::product::{Product, copied_products};
-use crate::range::{Lookbacks, MeasureTarget, ObservableNumber, Pair, Qubit};
+use crate::range::{Count, Lookbacks, MeasureTarget, ObservableNumber, Pair, Qubit};
 use crate::sequence::Sequence;
 use stab_gates::Gate;
 use std::alloc::{AllocError, Global};
@@ -99,4 +99,13 @@ impl Operation {
         let tag = self.tag.copy(alloc)?;
         Ok(Operation { kind, tag })
     }
+}
+
+/// What the content of a line means.
+#[derive(Drop)]
+pub enum Line {
+    Blank,
+    Close,
+    Open { count: Count, tag: Sequence<u8> },
+    Operation(Operation),
 }

@@ -10,13 +10,13 @@ ghost use Rattle.stab_lines.specs.Prints.{axis_text as axis_text_of, kind_name a
 
 use crate::axis::Axis;
 use crate::control::ControlledPair;
-use crate::line::without_spacing;
 use crate::name::Instruction;
 use crate::operation::{Kind, Measurement};
 use crate::product::{Factor, Product};
 use crate::range::{Count, Lookback, MeasureTarget, Pair, Qubit};
+use crate::search::first_piece;
+use crate::spacing::{is_blank, without_spacing};
 use crate::table::{controlled_gates, gates, measurements, others};
-use crate::word::{first_piece, is_blank};
 use itoa::Buffer;
 use stab_gates::Gate;
 use stab_io::{Output, Refusal, write_all};

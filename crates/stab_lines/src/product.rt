@@ -42,7 +42,8 @@ impl Product {
     ghost use Rattle.std.specs.Prelude.{◌≡◌, false, IfOk};
     ghost use Rattle.stab_lines.specs.Products.{names_twice};
 
-    pub(crate) fn new(factors: Sequence<Factor>) -> Product
+    /// The product of these factors, which are on different qubits.
+    pub fn new(factors: Sequence<Factor>) -> Product
         requires different { names_twice factors ≡ false }
         ensures value { result ≡ factors }
     {

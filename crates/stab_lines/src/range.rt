@@ -26,7 +26,8 @@ impl Model for Qubit {
 }
 
 impl Qubit {
-    pub(crate) fn new(number: u16) -> Qubit
+    /// The qubit of this number.
+    pub fn new(number: u16) -> Qubit
         requires small { number < most_qubits }
         ensures value { result ≡ number }
     {
@@ -64,7 +65,8 @@ impl Model for Pair {
 impl Pair {
     ghost use Rattle.std.specs.Prelude.{◌≡◌, ◌≢◌};
 
-    pub(crate) fn new(first: Qubit, second: Qubit) -> Pair
+    /// The pair of these qubits.
+    pub fn new(first: Qubit, second: Qubit) -> Pair
         requires different { first ≢ second }
         ensures value { result ≡ (first, second) }
     {
@@ -108,7 +110,8 @@ impl Model for ObservableNumber {
 }
 
 impl ObservableNumber {
-    pub(crate) fn new(number: u16) -> ObservableNumber
+    /// The observable of this number.
+    pub fn new(number: u16) -> ObservableNumber
         requires small { number < most_observables }
         ensures value { result ≡ number }
     {
@@ -147,7 +150,8 @@ impl Lookback {
     ghost use Rattle.std.specs.Prelude.{◌≡◌};
     ghost use Rattle.stab_lines.specs.Lookbacks.{IsLookback};
 
-    pub(crate) fn new(number: u32) -> Lookback
+    /// The record that is so far back.
+    pub fn new(number: u32) -> Lookback
         requires in_range { IsLookback number }
         ensures value { result ≡ number }
     {
@@ -190,7 +194,8 @@ impl Lookbacks {
     ghost use Rattle.std.specs.Prelude.{◌≡◌, All, IfOk};
     ghost use Rattle.stab_lines.specs.Lookbacks.{IsLookback};
 
-    pub(crate) fn new(numbers: Sequence<u32>) -> Lookbacks
+    /// The records that are so far back.
+    pub fn new(numbers: Sequence<u32>) -> Lookbacks
         requires each { All IsLookback numbers }
         ensures value { result ≡ numbers }
     {

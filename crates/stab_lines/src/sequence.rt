@@ -27,7 +27,7 @@ impl<T> Model for Sequence<T> {
 
 impl<T> Sequence<T> {
     /// The empty sequence, which takes no memory.
-    pub(crate) fn new(alloc: Global) -> Sequence<T>
+    pub fn new(alloc: Global) -> Sequence<T>
         ensures value { result ≡ [] }
     {
         Sequence {
@@ -50,7 +50,7 @@ impl Sequence<u8> {
     ghost use Rattle.std.specs.Prelude.{◌≡◌, IfOk};
 
     /// A copy of the bytes.
-    pub(crate) fn of_bytes(alloc: Global, bytes: &[u8]) -> Result<Sequence<u8>, AllocError>
+    pub fn of_bytes(alloc: Global, bytes: &[u8]) -> Result<Sequence<u8>, AllocError>
         ensures ok { IfOk result (λ s. s ≡ bytes.now) }
     {
         let list = Vec::from_slice(alloc, bytes)?;
@@ -83,7 +83,7 @@ impl<T: Drop> Sequence<T> {
     ghost use Rattle.std.specs.Prelude.{◌≡◌};
 
     /// The elements of a vector.
-    pub(crate) fn of(mut list: Vec<T>) -> Sequence<T>
+    pub fn of(mut list: Vec<T>) -> Sequence<T>
         ensures value { result ≡ list.items }
     {
         if list.len() != 1 {

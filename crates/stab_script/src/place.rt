@@ -6,7 +6,8 @@ ghost use Rattle.stab_lines.specs.Words.{value};
 ghost use Rattle.stab_script.specs.ScriptWords.{first_word as first_of, behind_word, is_place_number, place_of};
 
 use stab_circuit::Path;
-use stab_lines::{capped_value, first_piece, is_number, is_spacing, without_spacing_in_front};
+use stab_line_reader::{capped_value, is_number};
+use stab_lines::{first_piece, is_spacing, without_spacing_in_front};
 
 /// The most numbers of a place.
 const MOST_NUMBERS: usize = 17;

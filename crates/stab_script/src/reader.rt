@@ -10,7 +10,7 @@ use crate::gathered::Gathered;
 use crate::request::{ItemEdit, Request, read_request};
 use stab_circuit::Path;
 use stab_io::{Fault, Refusal};
-use stab_lines::{content, ends_with, is_close};
+use stab_line_reader::{content, ends_with, is_close};
 use std::alloc::Global;
 use std::marker::Model;
 

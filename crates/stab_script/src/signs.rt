@@ -6,7 +6,8 @@ ghost use Rattle.stab_circuit.specs.Steps.{is_inverted as inverted_of};
 ghost use Rattle.stab_script.specs.Signs.{unsigned as unsigned_of, is_letter as is_letter_of, letter_at as letter_of, lettered, string_within, string_without_sign, string_of_word};
 
 use stab_io::Refusal;
-use stab_lines::{Factor, read_product, starts_with};
+use stab_line_reader::{read_product, starts_with};
+use stab_lines::Factor;
 use stab_pauli::{Letter, Pauli};
 use stab_run::write_product;
 use std::alloc::Global;

@@ -9,8 +9,8 @@ use Rattle.stab_io.specs.declared.refusal.Refusal.{Refusal}
 use Rattle.stab_io.specs.declared.refusal.Refusal.TheVariants.{BadBlock, TooDeep, OutOfMemory}
 use Rattle.stab_io.specs.declared.refusal.Fault.{Fault}
 use Rattle.stab_io.specs.Refusals.{whole}
-use Rattle.stab_lines.specs.declared.meanings.Line.TheVariants.{Blank, Close, Open}
-use Rattle.stab_lines.specs.declared.meanings.Line.TheVariants as line
+use Rattle.stab_lines.specs.declared.operation.Line.TheVariants.{Blank, Close, Open}
+use Rattle.stab_lines.specs.declared.operation.Line.TheVariants as line
 use Rattle.stab_circuit.specs.declared.reader.OpenBlock.{OpenBlock as StoredBlock}
 use Rattle.stab_circuit.specs.declared.reader.CircuitReader.{CircuitReader}
 use Rattle.stab_items.specs.Items.{Items, OneItem, done, next, block, before, join, listed, depth}

@@ -1,0 +1,24 @@
+-- Records of a detector that are read into a few places.
+use Rattle.stab_line_reader.proofs.Names.{◌≡◌, ◌<◌, ℕ, ◌+◌, true, List, [], ◌∷◌, length, take, set, All, Result, Ok, sym, ap, ◌∙◌, subst, take_more_set, All-nil, All-cons, All-append, Refusal, each, words, is_blank, IsLookback, lookback_of, BeginsWithTarget}
+use Rattle.stab_line_reader.proofs.ResultLemmas.{behind, behind_none, behind_next}
+use Rattle.stab_lines.proofs.PieceLemmas.{blank_words}
+use Rattle.stab_lines.proofs.TargetLemmas.{lookback_in_range}
+
+-- a record more is in range
+pub found_in_range : (found : List ℕ) (count k : ℕ) (bs rest : List ℕ) → count < length found → BeginsWithTarget lookback_of bs k rest → All IsLookback (take count found)
+    → All IsLookback (take (count + 1) (set found count k))
+found_in_range found count k bs rest room h before =
+    subst (All IsLookback) (sym (take_more_set found count k room))
+    (All-append IsLookback (take count found) (k ∷ []) before (All-cons IsLookback k [] (lookback_in_range h.0 k h.2) (All-nil IsLookback)))
+
+-- a record more, and what is read after it
+pub found_more : (found : List ℕ) (count k : ℕ) (bs rest : List ℕ) → count < length found → BeginsWithTarget lookback_of bs k rest
+    → behind (take (count + 1) (set found count k)) (each lookback_of (words rest)) ≡ behind (take count found) (each lookback_of (words bs))
+found_more found count k bs rest room h =
+    ap (λ l. behind l (each lookback_of (words rest))) (take_more_set found count k room)
+    ∙ sym (behind_next lookback_of (take count found) h.0 (words rest) k h.2)
+    ∙ sym (ap (λ ws. behind (take count found) (each lookback_of ws)) h.1)
+
+-- no record more
+pub found_all : (found bs : List ℕ) (given : Result (List ℕ) Refusal) → is_blank bs ≡ true → behind found (each lookback_of (words bs)) ≡ given → given ≡ Ok found
+found_all found bs given blank e = sym e ∙ ap (λ ws. behind found (each lookback_of ws)) (blank_words bs blank) ∙ behind_none found

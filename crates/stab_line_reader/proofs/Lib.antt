@@ -1,0 +1,24 @@
+mod Names
+mod ResultLemmas
+mod NumberLemmas
+mod CoordinateLemmas
+mod DetectorLemmas
+mod ProductLemmas
+mod FrontTargetLemmas
+mod ClearLemmas
+mod ControlLemmas
+mod AgainLemmas
+mod FactorLemmas
+mod ControlAgainLemmas
+mod NeatLemmas
+mod ShapeLemmas
+mod ContentLemmas
+mod PrintedLemmas
+mod MeaningLemmas
+mod DetectorContentLemmas
+mod DetectorLineLemmas
+mod SpacedTargetLemmas
+mod PlainLineLemmas
+mod EmptyLemmas
+mod RefusalLemmas
+pub mod LineLaws

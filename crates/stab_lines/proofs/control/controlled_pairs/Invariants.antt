@@ -1,9 +1,0 @@
-use Rattle.stab_lines.proofs.Names.{◌≡◌, length, words, controlled_of}
-use Rattle.stab_lines.proofs.ResultLemmas.{behind}
-use Rattle.stab_lines.proofs.control.controlled_pairs.Given as goal
-
-abbrev pub invariant-loop-pair : goal.invariant-loop-pair
-invariant-loop-pair l = behind l.found.items (controlled_of (words l.rest)) ≡ controlled_of (words l.words_text)
-
-abbrev pub decreases-loop-pair : goal.decreases-loop-pair
-decreases-loop-pair l = length l.rest
