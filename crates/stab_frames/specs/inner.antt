@@ -1,4 +1,4 @@
--- Definitions that only private contracts cite.
+-- Definitions that only private contracts, and those of calls for `stab_recording`, cite.
 pub mod Weights
 pub mod Draws
 pub mod Propagates
