@@ -2,7 +2,7 @@
 """Compares the clause that each wrong body's file names with the one that refused it.
 
 A wrong body is an edit of a source of a crate. The gate tries `crates/CRATE/must-fail/NAME.edit`, and GATE is a file with what `rt ci` or
-`rt must-fail` printed. `tools/wrong_bodies/CRATE/NAME.edit`, which would take a fifth of the gate's time, are tried before each release:
+`rt must-fail` printed. `tools/wrong_bodies/CRATE/NAME.edit`, which would take a fourth of the gate's time, are tried before each release:
 --try puts them into must-fail/ of a copy of what git keeps, runs `rt ci` there for their crates, which tries those of the crates below
 too, shows what it prints, and compares all that it tried. The status is 1 if one isn't refused by the clause that it names, or `rt` failed.
 
