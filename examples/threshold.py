@@ -36,7 +36,9 @@ class Matching:
         self.between = {check: nearest(inside, check) for check in inside}
 
     def decode_batch(self, detectors: np.ndarray) -> np.ndarray:
-        """Whether the observable is flipped in each shot, bool (shots, 1)."""
+        """Whether the observable is flipped in each shot, bool (shots, 1). ValueError if detectors are parities, some 1 without noise."""
+        if not getattr(detectors, "are_flips", True):
+            raise ValueError("these are parities, of which some are 1 without noise: give what detect(.., flips=True) draws")
         return np.array([[self.decode(self.checks[shot].tolist())] for shot in detectors[:, self.checks]], dtype=bool)
 
     def decode(self, seen: list[int]) -> bool:
@@ -70,7 +72,7 @@ def graph_of(model: stabsim.ErrorModel, checks: set[int]) -> networkx.Graph:
         # Errors that differ for the other checks alone are one edge.
         before = graph.edges[one, other]["chance"] if graph.has_edge(one, other) else 0.0
         both = before * (1 - chance) + chance * (1 - before)
-        graph.add_edge(one, other, chance=both, weight=math.log((1 - both) / both), flips=flipped[-1] >= model.detectors)
+        graph.add_edge(one, other, chance=both, weight=math.log((1 - both) / both), flips=flipped[-1] >= model.num_detectors)
     return graph
 
 

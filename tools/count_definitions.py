@@ -10,10 +10,11 @@ import sys
 from collections.abc import Iterable, Iterator
 from dataclasses import dataclass, field
 
+from clauses import Place, named_by, places_in
 from pages import text_of
 from program import TOP
 
-# What is proved, and the definitions that its clauses name.
+# What is proved: the definitions that its clauses name, or the functions whose clauses they are.
 THEOREMS = {
     "sample and detect": ["stab_commands.Outputs.EndsRun", "stab_commands.Outputs.sample_of", "stab_commands.Outputs.detect_of"],
     "stabilisers": ["stab_commands.Stabilisers.EndsStabilisers"],
@@ -21,11 +22,24 @@ THEOREMS = {
     "faults, coins and deterministic --explain": [
         "stab_texts.FaultTables.EndsFaults", "stab_texts.CoinTables.EndsCoins", "stab_texts.Reasons.EndsExplain"],
     "distance": ["stab_texts.Distances.EndsDistance"],
+    "errors everywhere": [
+        "stab_errors.EverywhereLaws.WrongRecordsAreInverted", "stab_errors.EverywhereLaws.LettersAreErrors", "stab_errors.EverywhereLaws.StringsAreErrors"],
     "edit": ["stab_editor.ScriptEndings.EndsPlainEdit"],
     "edit --framed": ["stab_editor.ScriptEndings.EndsEdit"],
     "a job and its status": ["stab_cli.Jobs.EndsJob"],
     "what a session is": ["stab_session.Headline.IsRunOfItems", "stab_session.Sessions.IsSignIn", "stab_tableau.Reduced.AreReduced"],
     "an edit of a session": ["stab_session.SessionEdits.IsEditedBy", "stab_session.SessionEdits.IsAsBefore"],
+    "what an edit costs": ["stab_session::apply"],
+    "laws": [
+        "stab_tableau::gates_keep_sound", "stab_tableau::outcomes_keep_sound", "stab_tableau::members_are_a_group",
+        "stab_tableau::free_where_anticommuting", "stab_run::same_future", "stab_tableau::traces_have_one_list",
+        "stab_circuit::printed_items_are_read_back"],
+    "what the program calls": [
+        "stab_args::parse_words", "stab_args::read_coins", "stab_cli::run_job_watched", "stab_cli::write_usage", "stab_texts::write_fault"],
+    "calls of the library": [
+        *(f"{crate}::*" for crate in ("stab_io", "stab_pauli", "stab_tableau", "stab_edits", "stab_circuit", "stab_session", "stab_results")),
+        "stab_recording::run_once", "stab_recording::shot", "stab_run::coin", "stab_errors::errors", "stab_errors::distance",
+        "stab_regions::deterministic", "stab_regions::faults"],
 }
 ROW = re.compile(r"\| `(\w+/specs/[\w/]+\.antt)` \|")
 HEAD = re.compile(r"(?:(?:abbrev|unfoldable|opaque|pub|record|data)\s+)+([^\s:({]+)")
@@ -34,10 +48,6 @@ DATA = re.compile(r"(?:pub )?data\b")
 USE = re.compile(r"(?:pub )?use Rattle\.(\w+\.)specs\.([\w.]+)\.\{([^}]*)\}")
 USE_AS = re.compile(r"use Rattle\.(\w+\.)specs\.([\w.]+) as (\w+)")
 PASSED_ON = re.compile(r"pub use Rattle\.(\w+)\.specs\.(?!declared)([\w.]+)$", re.MULTILINE)
-NAME = re.compile(r"[^\s()\[\]{},;:.λ→×⊎≡∷]+")
-
-# A file, as a crate and a path with dots, and a name in it.
-Place = tuple[str, str]
 
 
 @dataclass
@@ -91,15 +101,8 @@ def all_definitions() -> Files:
 
 
 def uses(lines: list[str], file: File) -> Iterator[Place]:
-    """What a definition names, operators as they are defined: with a place for what is on each side."""
-    text = "\n".join(lines)
-    words = set(NAME.findall(text))
-    for word in words | {f"◌{word}◌" for word in words}:
-        if word in file.made:
-            yield file.name, word
-        elif word in file.imported:
-            yield file.imported[word]
-    yield from ((file.imported[used][0], name) for used, name in re.findall(r"(\w+\.)(\w+)", text) if used in file.imported)
+    """What a definition names, in its file or elsewhere."""
+    yield from places_in("\n".join(lines), {name: (file.name, name) for name in file.made} | file.imported)
 
 
 def reached(found: Files, roots: Iterable[str]) -> Definitions:
@@ -122,10 +125,11 @@ def reached(found: Files, roots: Iterable[str]) -> Definitions:
 def new_definitions(found: Files) -> Iterator[tuple[str, Definitions, Definitions]]:
     """For each theorem all definitions that it rests on, and those that no theorem above it has."""
     so_far: Definitions = {}
-    for theorem, roots in THEOREMS.items():
-        its = reached(found, roots)
+    for theorem, names in THEOREMS.items():
+        roots = {root for name in names for root in (named_by(name) if "::" in name else [name])}
+        its = reached(found, sorted(roots))
         if not its:
-            sys.exit(f"no definition is named {roots}")
+            sys.exit(f"no definition is named {names}")
         yield theorem, its, {key: it for key, it in its.items() if key not in so_far}
         so_far |= its
 

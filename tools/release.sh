@@ -38,7 +38,7 @@ install_below() {
 
 # A build leaves files beside the sources, which would come into the next wheel, so it is made of copies.
 mkdir "$made/source"
-cp -R python man completions "$made/source"
+cp -R python man completions docs examples "$made/source"
 rm -rf "$made/source/python/build" "$made/source/python"/*.egg-info
 find "$made/source" -name __pycache__ -prune -exec rm -r {} +
 "$python" -m pip wheel --quiet --no-deps --no-index --no-build-isolation -w "$dist" "$made/source/python"

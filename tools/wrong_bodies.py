@@ -7,7 +7,8 @@ A wrong body is an edit of a source of a crate. The gate tries `crates/CRATE/mus
 too, shows what it prints, and compares all that it tried. The status is 1 if one isn't refused by the clause that it names, or `rt` failed.
 
 The first line of a wrong body names a clause: `clause: value of Tableau::same_group`. It has to be the goal that stopped the proof:
-`returns-clause-LABEL`, or `returns` if a function ensures one clause alone, or the invariant of a type: `clause: invariant of Session`."""
+`returns-clause-LABEL`, or `returns` if a function ensures one clause alone, the invariant of a type, `clause: invariant of Session`, or
+what a call asks of the function that makes it, `clause: requires of tagged_tick`."""
 import argparse
 import re
 import shutil
@@ -75,6 +76,8 @@ def refuser(crate: str, told: str) -> str:
         return f"{named[1]} of {function.full_name()}"
     if goal.startswith("invariant"):
         return f"invariant of {function.type}"
+    if re.fullmatch(r"[\w-]+-requires(?:-clause-\w+)?", goal):
+        return f"requires of {function.full_name()}"
     if goal.startswith("returns") and "-clause-" not in goal and len(own) == 1:
         return f"{own[0]} of {function.full_name()}"
     return f"goal `{goal}` of {function.full_name()}"

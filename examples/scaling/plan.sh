@@ -14,6 +14,14 @@ program=${STABSIM:-$top/stabsim}
 circuit=$1 seed=$2 shots=$3 parts=$4 format=$5 folder=$6
 shift 6
 [ $# -gt 0 ] || set -- sample
+for number in "$seed" "$shots" "$parts"; do
+    case $number in
+    '' | *[!0-9]*)
+        echo "plan: '$number' is no number: the seed, the shots and the parts are decimal digits" >&2
+        exit 2
+        ;;
+    esac
+done
 if [ "$parts" -lt 1 ] || [ "$shots" -gt $((parts * 1000000)) ]; then
     echo "plan: a part has at most 1000000 shots, so more parts are needed" >&2
     exit 2

@@ -8,7 +8,8 @@ set -eu
 here=$(CDPATH='' cd -- "$(dirname -- "$0")" && pwd)
 STABSIM=${STABSIM:-$(CDPATH='' cd -- "$here/../.." && pwd)/stabsim}
 export STABSIM
-missing=$("$here/plan.sh" "$@" | paste -s -d , -)
+missing=$("$here/plan.sh" "$@")
+missing=$(echo "$missing" | paste -s -d , -)
 folder=$(CDPATH='' cd -- "$6" && pwd)
 set --
 if [ -n "$missing" ]; then

@@ -3,6 +3,7 @@
 - `Circuit`: a circuit in Stim's text without noise, and what the program says of it, as arrays.
 - `Session`: a circuit with its recorded run, which follows each edit; made by `Circuit.edit`.
 - `from_stim`: any circuit of Stim's, with its noise; `without_noise`: its text without that, which the program reads.
+- `NoiseModel`: noise of the literature, put on a circuit; `with_chances` changes its chances.
 - `error_model`: what the noise of a circuit flips, and how often.
 - `collect`: counts logical errors of many error models, on many cores, with a file to go on from.
 - `codes`: circuits of codes; it needs no numpy.
@@ -17,12 +18,13 @@ from typing import TYPE_CHECKING
 __version__ = "0.2.0"
 
 __all__ = [
-    "BadErrorModel", "BadShots", "Block", "Cause", "Changed", "Circuit", "CircuitError", "CoinTable", "Collection", "DecidingCoin", "Decoder",
-    "Diagram", "Distance", "ErrorModel", "FaultTable", "Flow", "Instruction", "Item", "ItemSteps", "MissingProgram", "NotDecomposed", "Numbers",
-    "OtherExperiment", "Parity", "Path", "Predict", "ProgramFailed", "RandomBit", "Rate", "Refused", "SameDistribution", "SameFlows", "Seeded",
-    "Session", "SessionEnded", "SessionNumbers", "SparseMatrix", "StabsimError", "StimCircuit", "Sums", "Sure",
-    "UnsupportedNoise", "codes", "collect", "combine", "error_model", "find_program", "fit_rate", "from_stim", "m2d", "plot",
-    "rate_per_round", "read_shots", "without_noise", "write_shots",
+    "BadErrorModel", "BadPrediction", "BadShots", "Block", "Cause", "Changed", "Channel", "Circuit", "CircuitError", "CoinTable", "Collection", "DecidingCoin",
+    "Decoder", "Diagram", "Distance", "ErrorModel", "FaultTable", "Flow", "Instruction", "Item", "ItemSteps", "MissingProgram", "NoiseModel",
+    "NoisySession", "NotDecomposed", "Numbers", "OtherExperiment", "Parity", "Path", "Predict", "ProgramFailed", "RandomBit", "Rate", "Refused",
+    "Retargeted", "SameDistribution", "SameFlows", "Seeded", "Session", "SessionEnded", "SessionNumbers", "SparseMatrix", "StabsimError",
+    "StimCircuit", "Sums",
+    "Sure", "UnsupportedNoise", "codes", "collect", "combine", "error_model", "find_program", "fit_rate", "from_stim", "m2d", "plot",
+    "rate_per_round", "read_shots", "retargeted", "with_chances", "without_noise", "write_shots",
 ]
 
 # A module is read when one of its names is asked for first, so that `stabsim.codes` needs no numpy.
@@ -38,21 +40,25 @@ if TYPE_CHECKING:
     from stabsim.diagrams import Diagram
     from stabsim.distances import Distance
     from stabsim.errors import (
-        BadErrorModel, BadShots, MissingProgram, NotDecomposed, OtherExperiment, ProgramFailed, Refused, SessionEnded, StabsimError,
-        UnsupportedNoise,
+        BadErrorModel, BadPrediction, BadShots, MissingProgram, NotDecomposed, OtherExperiment, ProgramFailed, Refused, SessionEnded,
+        StabsimError, UnsupportedNoise,
     )
     from stabsim.faults import FaultTable
     from stabsim.flows import Flow, SameFlows
     from stabsim.formats import read_shots, write_shots
+    from stabsim.judging import without_noise
     from stabsim.measured import m2d
     from stabsim.models import ErrorModel, error_model
+    from stabsim.noise_models import NoiseModel
+    from stabsim.noise_rules import Channel, with_chances
+    from stabsim.noisy_session import NoisySession
     from stabsim.parities import Parity, SameDistribution
     from stabsim.plotting import plot
     from stabsim.program import find_program
-    from stabsim.profile import without_noise
     from stabsim.random_bits import DecidingCoin, RandomBit
     from stabsim.rates import Rate, fit_rate, rate_per_round
     from stabsim.reading import Block, Instruction, Item
+    from stabsim.retargeting import Retargeted, retargeted
     from stabsim.script import Path
     from stabsim.seeds import Seeded
     from stabsim.session import Session
@@ -74,20 +80,24 @@ else:
         "counting": ("Decoder", "Predict"),
         "diagrams": ("Diagram",),
         "distances": ("Distance",),
-        "errors": ("BadErrorModel", "BadShots", "MissingProgram", "NotDecomposed", "OtherExperiment", "ProgramFailed", "Refused", "SessionEnded",
-                   "StabsimError", "UnsupportedNoise"),
+        "errors": ("BadErrorModel", "BadPrediction", "BadShots", "MissingProgram", "NotDecomposed", "OtherExperiment", "ProgramFailed", "Refused",
+                   "SessionEnded", "StabsimError", "UnsupportedNoise"),
         "faults": ("FaultTable",),
         "flows": ("Flow", "SameFlows"),
         "formats": ("read_shots", "write_shots"),
+        "judging": ("without_noise",),
         "measured": ("m2d",),
         "models": ("ErrorModel", "error_model"),
+        "noise_models": ("NoiseModel",),
+        "noise_rules": ("Channel", "with_chances"),
+        "noisy_session": ("NoisySession",),
         "parities": ("Parity", "SameDistribution"),
         "plotting": ("plot",),
         "program": ("find_program",),
-        "profile": ("without_noise",),
         "random_bits": ("DecidingCoin", "RandomBit"),
         "rates": ("Rate", "fit_rate", "rate_per_round"),
         "reading": ("Block", "Instruction", "Item"),
+        "retargeting": ("Retargeted", "retargeted"),
         "script": ("Path",),
         "seeds": ("Seeded",),
         "session": ("Session",),

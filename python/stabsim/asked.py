@@ -2,17 +2,23 @@
 
 import functools
 from dataclasses import dataclass
+from typing import get_args
 
 import numpy as np
 
-from stabsim import bits, coins, faults, program
+from stabsim import bits, checking, coins, faults, program
 from stabsim.coins import CoinTable
 from stabsim.coordinates import detector_coordinates
 from stabsim.distances import Distance, Letters, distance_of, of_marks, option_words
+from stabsim.errors import Refused
 from stabsim.faults import FaultTable
 from stabsim.random_bits import RandomBit, bit_of
 from stabsim.sampling import Sampled
 from stabsim.sure import Sure, deterministic_of
+
+# What `check` says of noise, and what is added to that.
+WITHOUT_NOISE = "stabsim.without_noise"
+WITH_NOISE = "With its noise stabsim.from_stim(text) is the circuit: it samples, and has an error model."
 
 
 @dataclass(frozen=True)
@@ -46,7 +52,12 @@ class Asked(Sampled):
     @functools.cached_property
     def known_numbers(self) -> Numbers:
         """What `check` says, which is asked for once."""
-        lines = program.run(["check"], self.text).decode().split("\n")
+        try:
+            lines = program.run(["check"], self.asked).decode().split("\n")
+        except Refused as refused:
+            if WITHOUT_NOISE not in refused.explanation:
+                raise
+            raise Refused(refused.number, refused.name, refused.line, f"{refused.explanation}\n{WITH_NOISE}") from None
         return Numbers(**{name: int(number) for name, _, number in (line.partition(": ") for line in lines if line)})
 
     def widths(self) -> tuple[int, int, int]:
@@ -62,7 +73,7 @@ class Asked(Sampled):
         ['-XX', '+ZZ']
         """
         self.numbers()
-        return program.run(["stabilisers", *program.seed_words(seed)], self.text).decode().split()
+        return program.run(["stabilisers", *program.seed_words(seed)], self.asked).decode().split()
 
     def deterministic(self) -> Sure:
         """Which detectors, bool (detectors,), and observables, bool (observables,), are the same for all random bits.
@@ -73,7 +84,7 @@ class Asked(Sampled):
         [False, True]
         """
         has = self.numbers()
-        written = program.run(["deterministic", "--out_format", "b8"], self.text)
+        written = program.run(["deterministic", "--out_format", "b8"], self.asked)
         return deterministic_of(bits.of_b8(written, 1, has.detectors + has.observables)[0], has.detectors)
 
     def faults(self, *, everywhere: bool = False, sure_only: bool = False) -> FaultTable:
@@ -89,7 +100,7 @@ class Asked(Sampled):
         """
         has = self.numbers()
         words = ["--everywhere"] * everywhere + ["--deterministic_only"] * sure_only
-        return faults.table_of(program.run(["faults", *words], self.text), has.detectors, has.observables, everywhere)
+        return faults.table_of(program.run(["faults", *words], self.asked), has.detectors, has.observables, everywhere)
 
     def coins(self) -> CoinTable:
         """Which records, detectors and observables each coin flips that decides an outcome.
@@ -101,10 +112,10 @@ class Asked(Sampled):
         """
         widths = self.widths()
         words = [["sample"], ["detect", "--append_observables"]]
-        parts = [program.run([*its, "--coins", "", "--out_format", "b8"], self.text) for its in words]
+        parts = [program.run([*its, "--coins", "", "--out_format", "b8"], self.asked) for its in words]
         counts = (widths[0], widths[1] + widths[2])
         constants = np.concatenate([bits.of_b8(part, 1, count)[0] for part, count in zip(parts, counts)])
-        return coins.table_of(program.run(["coins"], self.text), widths, constants)
+        return coins.table_of(program.run(["coins"], self.asked), widths, constants)
 
     def explain(self) -> list[RandomBit]:
         """Why detectors and observables are random: for each that is not the same for all random bits, which coins decide it.
@@ -115,8 +126,8 @@ class Asked(Sampled):
         D0 of item 1 is decided by item 0 (DecidingCoin(number=0, path='0'),)
         """
         self.numbers()
-        lines = program.run(["deterministic", "--explain"], self.text).decode().splitlines()
-        rows = detector_coordinates(self.text) if lines else np.zeros((0, 0))
+        lines = program.run(["deterministic", "--explain"], self.asked).decode().splitlines()
+        rows = detector_coordinates(self.asked) if lines else np.zeros((0, 0))
         return [bit_of(line, rows) for line in lines]
 
     def distance(self, *, everywhere: bool = False, letters: Letters = "all", most: int | None = None, graphlike: bool = False,
@@ -133,10 +144,11 @@ class Asked(Sampled):
         >>> import stabsim
         >>> c = stabsim.Circuit("R 0 1 2\\nI[X] 0 1 2\\nMPP Z0*Z1 Z1*Z2\\nDETECTOR rec[-1]\\nDETECTOR rec[-2]\\nM 0\\nOBSERVABLE_INCLUDE(0) rec[-1]")
         >>> print(c.distance(), c.distance(most=2), sep="; ")
-        distance 3 of all errors; none up to 2 of all errors
+        distance 3 of all marked errors; none up to 2 of all marked errors
         """
+        checking.one_of("letters", letters, get_args(Letters))
         self.numbers()
         words = [*["--everywhere"] * everywhere, *([] if letters == "all" else ["--letters", letters]), *option_words(most, graphlike),
                  *["--deterministic_only"] * sure_only]
-        found = distance_of(program.run(["distance", *words], self.text).decode())
-        return found if everywhere else of_marks(found, self.text)
+        found = distance_of(program.run(["distance", *words], self.asked).decode(), everywhere)
+        return found if everywhere else of_marks(found, self.asked)

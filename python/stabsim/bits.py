@@ -5,10 +5,20 @@ from typing import Any
 import numpy as np
 from numpy.typing import NDArray
 
+from stabsim import checking
+
 
 def bytes_of_shot(bits: int) -> int:
     """How many bytes a shot of this many bits has in the format b8."""
     return (bits + 7) // 8
+
+
+def make_room(shots: int, bits: int) -> None:
+    """Raises MemoryError, before anything is run, if memory is refused to an array of this many shots and bits."""
+    try:
+        np.empty((shots, max(bits, 1)), dtype=np.bool_)
+    except (MemoryError, ValueError, OverflowError):
+        raise MemoryError(f"shots is {shots}, of {bits} bits each, which memory does not hold: take fewer at once") from None
 
 
 def of_b8(data: bytes, shots: int, bits: int) -> NDArray[np.bool_]:
@@ -36,13 +46,15 @@ def packed(shots: NDArray[np.bool_]) -> NDArray[np.uint8]:
 
 def table_of(shots: NDArray[np.bool_] | NDArray[np.uint8], bits: int, name: str) -> NDArray[np.bool_]:
     """Shots that a user gave by this name, as a bool array (shots, bits): they are one, or they are packed, uint8."""
+    if not isinstance(shots, np.ndarray):
+        raise TypeError(f"{name} is {checking.shown(shots)}: give a bool array (shots, {bits}), as numpy.array(.., dtype=bool)")
     given: NDArray[Any] = np.asarray(shots)
     each = bytes_of_shot(bits)
     if given.ndim == 2 and given.dtype == np.bool_ and given.shape[1] == bits:
         return given
     if given.ndim == 2 and given.dtype == np.uint8 and given.shape[1] == each:
         return unpacked(given, bits)
-    raise ValueError(f"{name} is a bool array (shots, {bits}), or packed a uint8 array (shots, {each}), and not {given.dtype} {given.shape}")
+    raise ValueError(f"{name} is an array {given.dtype} {given.shape}: give a bool array (shots, {bits}), or packed a uint8 array (shots, {each})")
 
 
 def of_text(line: bytes) -> NDArray[np.bool_]:

@@ -1,6 +1,7 @@
 """Which part of a circuit's noise makes a mechanism of its error model."""
 
-from dataclasses import dataclass
+import functools
+from dataclasses import dataclass, replace
 from typing import NamedTuple
 
 import numpy as np
@@ -10,7 +11,7 @@ from stabsim.circuit_errors import CircuitError
 from stabsim.combining import starts_of
 from stabsim.marking import Source
 from stabsim.placing import placed
-from stabsim.reading import Item
+from stabsim.reading import Item, items_of, walk
 
 
 class Cause(NamedTuple):
@@ -37,12 +38,22 @@ class Causes:
     """Which errors of a circuit each mechanism is made of.
 
     sources: the errors by instruction, one after another; mechanisms: int32 (errors,), the mechanism of each error, in the order of the
-    sources and of all of their times, -1 of one that flips nothing; items: those of the circuit with its noise.
+    sources and of all of their times, -1 of one that flips nothing; items: those of the circuit with its noise; text: the user's.
     """
 
     sources: tuple[Source, ...]
     mechanisms: NDArray[np.int32]
     items: tuple[Item, ...]
+    text: str
+
+    @functools.cached_property
+    def paths(self) -> dict[int, str]:
+        """For each line of an item of the user's the path of that."""
+        return {item.line: item.path for item in walk(items_of(self.text))}
+
+    def renumbered(self, mechanisms: NDArray[np.int64]) -> "Causes":
+        """The same of a model that has mechanisms of other numbers, which are given for each."""
+        return replace(self, mechanisms=np.where(self.mechanisms < 0, -1, mechanisms[self.mechanisms]).astype(np.int32))
 
     def of(self, mechanism: int) -> list[Cause]:
         """The errors that make a mechanism, by their lines."""
@@ -50,8 +61,10 @@ class Causes:
         return sorted(found, key=lambda cause: (cause.line, cause.rounds, cause.error))
 
     def error_of(self, mechanism: int) -> CircuitError:
-        """One of the errors that make a mechanism, the first, at its place in the circuit without noise."""
-        return min((placed(self.items, *its) for its in self.times_of(mechanism)), key=lambda error: (error.steps, str(error)))
+        """One of the errors that make a mechanism, the first: at the path of its item of noise, with steps and records as they are counted
+        without noise."""
+        errors = (replace(placed(self.items, *its), path=self.paths[its[0].line]) for its in self.times_of(mechanism))
+        return min(errors, key=lambda error: (error.steps, str(error)))
 
     def times_of(self, mechanism: int) -> list[tuple[Source, list[int], int]]:
         """The errors that make a mechanism: of which source, in which rounds of the blocks around it, and which of its times in these."""

@@ -3,7 +3,11 @@
 import re
 from dataclasses import dataclass
 
+from stabsim import checking
+
 FACTOR = re.compile(r"([XYZ])(\d+)")
+LINE = re.compile(r"\s*\d+ \d+(/\d+)* (M\d+|[XYZ]\d+(\*[XYZ]\d+)*)( [DL]\d+)*\s*", re.ASCII)
+EXAMPLE = "a line as `stabsim distance` writes it, such as '1207 3/0/2 X3*Z4 D24 L0'"
 
 
 @dataclass(frozen=True)
@@ -30,6 +34,8 @@ class CircuitError:
     @classmethod
     def of_line(cls, line: str) -> "CircuitError":
         """The error of a line such as `1207 3/0/2 X3*Z4 D24 L0`, or with `M17` for a wrong record."""
+        if not LINE.fullmatch(checking.of_kind("line", line, str, EXAMPLE)):
+            raise ValueError(f"line is {checking.shown(line)}: give {EXAMPLE}")
         steps, path, error, *bits = line.split()
         paulis = tuple((int(qubit), letter) for letter, qubit in FACTOR.findall(error))
         record = int(error[1:]) if error.startswith("M") else None

@@ -5,6 +5,7 @@ from dataclasses import dataclass
 import numpy as np
 from numpy.typing import NDArray
 
+from stabsim import checking
 from stabsim.table_lines import rows_of
 
 
@@ -17,7 +18,7 @@ class CoinTable:
     numbers: int64 (coins,), its number among all coins.
     indptr: int64 (coins + 1,), and indices: int64 (flips,): row i flips indices[indptr[i]:indptr[i + 1]], ascending, where a record is its
     number, detectors are counted on after the records, and observables after the detectors.
-    records, detectors, observables: int, how many of each the circuit has.
+    num_records, num_detectors, num_observables: int, how many of each the circuit has.
 
     >>> import stabsim
     >>> table = stabsim.Circuit("H 0\\nCX 0 1\\nM 0\\nX 1\\nM 1\\nDETECTOR rec[-1]").coins()
@@ -30,16 +31,16 @@ class CoinTable:
     numbers: NDArray[np.int64]
     indptr: NDArray[np.int64]
     indices: NDArray[np.int64]
-    records: int
-    detectors: int
-    observables: int
+    num_records: int
+    num_detectors: int
+    num_observables: int
     bits: NDArray[np.bool_]
 
     def __len__(self) -> int:
         return len(self.steps)
 
     def __repr__(self) -> str:
-        return f"<stabsim.CoinTable: {len(self)} coins, {self.records} records, {self.detectors} detectors, {self.observables} observables>"
+        return f"<stabsim.CoinTable: {len(self)} coins, {self.num_records} records, {self.num_detectors} detectors, {self.num_observables} observables>"
 
     def constants(self) -> NDArray[np.bool_]:
         """The bits of coins 0, bool (records + detectors + observables,)."""
@@ -47,6 +48,7 @@ class CoinTable:
 
     def flipped(self, row: int) -> NDArray[np.int64]:
         """What the coin of a row flips, int64 (flips,)."""
+        row = checking.place("row", row, len(self))
         return self.indices[self.indptr[row] : self.indptr[row + 1]]
 
     def dense(self) -> NDArray[np.bool_]:

@@ -13,6 +13,7 @@ adds up what files count.
 """
 
 import argparse
+import contextlib
 import csv
 import importlib
 import json
@@ -20,13 +21,14 @@ import os
 import pathlib
 import signal
 import sys
-from collections.abc import Iterable
+from collections.abc import Iterable, Iterator
 from concurrent.futures import ProcessPoolExecutor
 from typing import IO, Any
 
+from stabsim import program
 from stabsim.collecting import collect
 from stabsim.counting import Decoder
-from stabsim.errors import StabsimError
+from stabsim.errors import BadPrediction, StabsimError
 from stabsim.models import ErrorModel, error_model
 from stabsim.sums import Sums
 from stabsim.totals import combine
@@ -48,11 +50,29 @@ def command_line() -> argparse.ArgumentParser:
     return words
 
 
+def told(what: object) -> SystemExit:
+    """What ends the command with one line on standard error and status 1."""
+    return SystemExit(f"stabsim-collect: {what}")
+
+
+@contextlib.contextmanager
+def telling(path: str = "") -> Iterator[None]:
+    """Ends the command with a line if what it was given is wrong, such as the file of a path."""
+    try:
+        yield
+    except OSError as fault:
+        # It names its file.
+        raise told(fault) from None
+    except (StabsimError, TypeError, ValueError) as fault:
+        raise told(f"{path}: {fault}" if path else fault) from None
+
+
 def model_of(path: str, decompose: bool) -> ErrorModel:
     """The error model of a file."""
-    if path.endswith(".dem"):
-        return ErrorModel.from_file(path)
-    return error_model(pathlib.Path(path).read_text(encoding="utf-8"), decompose=decompose)
+    with telling(path):
+        if path.endswith(".dem"):
+            return ErrorModel.from_file(path)
+        return error_model(program.text_of(pathlib.Path(path).read_bytes()), decompose=decompose)
 
 
 def name_of(path: str) -> str:
@@ -81,7 +101,16 @@ def decoder_of(words: str) -> tuple[str, Decoder]:
     # The folder of the command is no place for modules when a command of a package runs.
     if os.getcwd() not in sys.path:
         sys.path.insert(0, os.getcwd())
-    decoder: Decoder = getattr(importlib.import_module(module), name)
+    try:
+        found = importlib.import_module(module)
+    except ModuleNotFoundError as lack:
+        # A module that this one asks for is not what was named.
+        if not f"{module}.".startswith(f"{lack.name}."):
+            raise
+        raise told(f"there is no module {lack.name}, here or installed") from None
+    if not hasattr(found, name):
+        raise told(f"the module {module} has no {name}")
+    decoder: Decoder = getattr(found, name)
     return f"{module}.{name}", decoder
 
 
@@ -97,19 +126,28 @@ def write(counted: Iterable[Sums], output: IO[str]) -> None:
 
 
 def count(given: argparse.Namespace) -> list[Sums]:
-    """Counts what the words ask for."""
+    """Counts what the words ask for. What a decoder raises comes through, as Python shows it."""
     names = [name_of(path) for path in given.files]
     twice = {name for name in names if names.count(name) > 1}
     if twice:
-        raise ValueError(f"two files are named {min(twice)}")
+        raise told(f"two files are named {min(twice)}")
     decoder = decoder_of(given.decoder)
     models = {name: model_of(path, given.decompose) for name, path in zip(names, given.files)}
-    # This process gets an interrupt, and ends the others.
-    with ProcessPoolExecutor(given.processes, initializer=signal.signal, initargs=(signal.SIGINT, signal.SIG_IGN)) as executor:
-        counting = collect(models, decoder, shots=given.shots, errors=given.errors, seed=given.seed, executor=executor, save=given.save,
-                           metadata={name: metadata_of(name) for name in names})
+    with telling():
+        # This process gets an interrupt, and ends the others.
+        executor = ProcessPoolExecutor(given.processes, initializer=signal.signal, initargs=(signal.SIGINT, signal.SIG_IGN))
+    with executor:
+        with telling():
+            counting = collect(models, decoder, shots=given.shots, errors=given.errors, seed=given.seed, executor=executor, save=given.save,
+                               metadata={name: metadata_of(name) for name in names})
         sums = {it.name: it for it in counting}
     return [sums[name] for name in names]
+
+
+def combined(given: argparse.Namespace) -> list[Sums]:
+    """What files count, together."""
+    with telling():
+        return combine(*given.files)
 
 
 def main() -> int:
@@ -118,13 +156,15 @@ def main() -> int:
     if not given.combine and (given.decoder is None or ":" not in given.decoder):
         words.error("--decoder MODULE:FUNCTION says what decodes")
     try:
-        write(combine(*given.files) if given.combine else count(given), sys.stdout)
-    except (StabsimError, ValueError, OSError, ImportError, AttributeError) as fault:
-        print(f"stabsim-collect: {fault}", file=sys.stderr)
-        return 1
+        counted = combined(given) if given.combine else count(given)
+    except BadPrediction as fault:
+        raise told(fault) from None
     except KeyboardInterrupt:
         print("stabsim-collect: interrupted" + (f"; the same words go on from {given.save}" if given.save else ""), file=sys.stderr)
         return 130
+    # A closed pipe ends the command without a word, as it ends others.
+    signal.signal(signal.SIGPIPE, signal.SIG_DFL)
+    write(counted, sys.stdout)
     return 0
 
 

@@ -14,7 +14,7 @@ from typing import Any
 import numpy as np
 from numpy.typing import ArrayLike, NDArray
 
-from stabsim import drawing
+from stabsim import checking
 from stabsim.counting import Counted, Decoder, Load, Part, held
 from stabsim.ledger import Key, Ledger
 from stabsim.models import ErrorModel
@@ -59,8 +59,8 @@ class Work:
     def take_shots(self, size: int) -> tuple[int, int]:
         """The first shot of the next part, and how many it has."""
         first = self.next_shot
-        # A part ends where a block of shots does, so that no block is drawn twice.
-        end = first - first % drawing.BLOCK + size
+        # After a part that was cut short the next ends where one of these always does, so that blocks of shots are not drawn twice.
+        end = first - first % size + size
         self.next_shot = end if self.shots is None else min(end, self.shots)
         return first, self.next_shot - first
 
@@ -163,14 +163,16 @@ def collect(models: Mapping[str, ErrorModel], decoder: Decoder | tuple[str, Deco
     (shots, detectors), to predicted observables, an array (shots, observables); with an executor of processes both are sent there,
     once to each. A decoder has a name: its module's and its own, or the one that is given, as ("name", function).
     seed: of all shots; each model has a seed of its own by this and its name. executor: of concurrent.futures; without it a thread
-    of its own counts. save: a file of counts, from which counting goes on if it is there: by the names of model and decoder; part_shots:
-    about how many shots a part has; waiting: how many parts may be with the executor at once. metadata: what is to be kept of a model,
-    by its name, as JSON has it; without it the file's. postselect: by the name of a model, or as a function of it, a bool array
-    (detectors,): shots in which one of these detectors is flipped are discarded.
+    of its own counts. save: a file of counts, from which counting goes on if it is there: by the names of model and decoder.
+    part_shots: how many shots a part has; it ends at a multiple of this, and 1,024 shots are drawn at a time. waiting: how many parts
+    may be with the executor at once. metadata: what is to be kept of a model, by its name, as JSON has it; without it the file's.
+    postselect: by the name of a model, or as a function of it, a bool array (detectors,): shots in which one of these detectors is
+    flipped are discarded.
 
     Yields the sums of a model as they are counted, at last those of each model whole; `Collection` says how it ends. They depend on
     models, decoder, seed, shots, errors, part_shots and postselect alone, except for the seconds. With tqdm a line on standard error says
-    how far it is if that is a terminal. Raises stabsim.OtherExperiment if the file counts something else by one of the names.
+    how far it is if that is a terminal. Raises stabsim.OtherExperiment if the file counts something else by one of the names; what a
+    decoder raises comes through, with a note that names the model.
 
     >>> import numpy, stabsim
     >>> models = {f"p={p}": stabsim.ErrorModel.from_dem(f"error({p}) D0 L0\\nerror({p}) L0") for p in (0.25, 0.5)}
@@ -181,15 +183,22 @@ def collect(models: Mapping[str, ErrorModel], decoder: Decoder | tuple[str, Deco
     p=0.5 1000 True
     """
     check(models, shots, errors, seed, part_shots, waiting)
+    if executor is not None:
+        checking.of_kind("executor", executor, Executor, "one of concurrent.futures, as ThreadPoolExecutor()")
+    if save is not None:
+        checking.file_name("save", save)
+    if not (metadata is None or isinstance(metadata, Mapping)):
+        raise TypeError(f"metadata is {checking.shown(metadata)}: give what is to be kept by the names of models, as {{'d=3': {{'d': 3}}}}")
+    if not (postselect is None or callable(postselect) or isinstance(postselect, Mapping)):
+        raise TypeError(f"postselect is {checking.shown(postselect)}: give bool arrays by the names of models, as {{'d=3': mask}}, or a function")
     decoder_name, function = named(decoder)
-    size = max(part_shots // drawing.BLOCK, 1) * drawing.BLOCK
     said = metadata_of(models, metadata or {})
     masks = {name: mask_of(name, model, postselect) for name, model in models.items()}
     works = {name: Work(Key(name, decoder_name, fingerprint_of(model, masks[name]), seed_of(name, seed)), shots, errors, said[name])
              for name, model in models.items()}
     # No decoder asks what makes its mechanisms.
     loads = {name: Load(replace(model, causes=None), function, masks[name]) for name, model in models.items()}
-    return Collection(works, loads, size, executor, save, waiting)
+    return Collection(works, loads, part_shots, executor, save, waiting)
 
 
 def check(models: Mapping[str, ErrorModel], shots: int | None, errors: int | None, seed: int, part_shots: int, waiting: int) -> None:
@@ -199,10 +208,9 @@ def check(models: Mapping[str, ErrorModel], shots: int | None, errors: int | Non
     if shots is None and errors is None:
         raise ValueError("say how many shots or how many errors are enough")
     for name, number, least in (("shots", shots, 0), ("errors", errors, 1), ("part_shots", part_shots, 1), ("waiting", waiting, 1)):
-        if number is not None and number < least:
-            raise ValueError(f"{name} is {number}, and {least} is the least")
-    if not isinstance(seed, (int, np.integer)):
-        raise TypeError(f"the seed is a whole number, and not {seed!r}")
+        if number is not None:
+            checking.whole(name, number, least)
+    checking.whole("seed", seed)
 
 
 def named(decoder: Decoder | tuple[str, Decoder]) -> tuple[str, Decoder]:
@@ -236,8 +244,8 @@ def mask_of(name: str, model: ErrorModel, postselect: Postselect | None) -> Mask
     if given is None:
         return None
     mask = np.asarray(given)
-    if mask.dtype != np.bool_ or mask.shape != (model.detectors,):
-        raise ValueError(f"postselect of {name} is a bool array ({model.detectors},), and not {mask.dtype} {mask.shape}")
+    if mask.dtype != np.bool_ or mask.shape != (model.num_detectors,):
+        raise ValueError(f"postselect of {name} is a bool array ({model.num_detectors},), and not {mask.dtype} {mask.shape}")
     return mask if mask.any() else None
 
 

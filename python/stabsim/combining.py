@@ -40,7 +40,11 @@ def starts_of(lengths: Numbers) -> Numbers:
 
 def odd(sets: Numbers, columns: Numbers, width: int) -> tuple[Numbers, Numbers]:
     """Of pairs of a set and a column those that come an odd number of times, ascending."""
-    keys, counts = np.unique(sets * width + columns, return_counts=True)
+    keys = sets * width + columns
+    if (np.diff(keys) > 0).all():
+        # They are ascending as they are, so none comes twice.
+        return sets, columns
+    keys, counts = np.unique(keys, return_counts=True)
     keys = keys[counts % 2 == 1]
     return keys // max(width, 1), keys % max(width, 1)
 

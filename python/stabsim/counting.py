@@ -11,6 +11,7 @@ from typing import Any
 import numpy as np
 from numpy.typing import NDArray
 
+from stabsim.errors import BadPrediction
 from stabsim.models import ErrorModel
 
 Predict = Callable[[NDArray[np.bool_]], Any]
@@ -109,6 +110,15 @@ held = Held()
 decoders = Decoders()
 
 
+def prediction(part: Part, load: Load, detectors: NDArray[np.bool_]) -> NDArray[Any]:
+    """What the decoder of a part's model predicts. What it raises gets a note that names the model."""
+    try:
+        return np.asarray(decoders.of(part, load)(detectors))
+    except Exception as fault:
+        fault.add_note(f"raised by the decoder of {part.name}")
+        raise
+
+
 def count(part: Part, load: Load | None = None) -> Counted | Missing:
     """Draws the shots of a part, decodes them, and counts those in which some observable was predicted wrongly."""
     worker = f"{platform.node()} {os.getpid()}"
@@ -120,9 +130,9 @@ def count(part: Part, load: Load | None = None) -> Counted | Missing:
     if found.postselect is not None:
         is_kept = ~detectors[:, found.postselect].any(axis=1)
         detectors, observables = detectors[is_kept], observables[is_kept]
-    predicted = np.asarray(decoders.of(part, found)(detectors))
+    predicted = prediction(part, found, detectors)
     if predicted.shape != observables.shape:
-        raise ValueError(f"the decoder of {part.name} gave an array {predicted.shape}, and not one of (shots, observables), "
-                         f"which is {observables.shape}")
+        raise BadPrediction(f"the decoder of {part.name} gave an array {predicted.shape}, and not one of (shots, observables), "
+                            f"which is {observables.shape}")
     errors = int(np.any(predicted.astype(np.bool_) != observables, axis=1).sum())
     return Counted(part.name, part.first_shot, part.shots, errors, time.perf_counter() - began, part.shots - len(detectors), worker)

@@ -6,12 +6,13 @@ from typing import NamedTuple
 import numpy as np
 from numpy.typing import NDArray
 
+from stabsim import checking
 from stabsim.combining import rows_of, starts_of
 from stabsim.edges import MOST_OBSERVABLES, Edges, Mechanisms, likeliest
 from stabsim.errors import NotDecomposed
 
 # For each mechanism the numbers of those that flip the same together: its own, if it is not taken apart.
-Parts = tuple[tuple[int, ...], ...]
+Numbered = tuple[tuple[int, ...], ...]
 
 # Detectors, ascending.
 Detectors = tuple[int, ...]
@@ -19,6 +20,40 @@ Detectors = tuple[int, ...]
 # Some detectors of a mechanism are left to be flipped. By what is flipped of the observables so far, as a number in base 2: how
 # unlikely the likeliest mechanisms are that do so, and which they are.
 Ways = dict[int, tuple[float, tuple[int, ...]]]
+
+
+@dataclass(frozen=True, eq=False)
+class Parts:
+    """What each mechanism of a decomposed model is written as: parts that flip the same together, one or more.
+
+    starts: int64 (mechanisms + 1,): mechanism i has the parts starts[i] to starts[i + 1]. indptr: int64 (parts + 1,), and indices: int64
+    (flips,): what each part flips, as an ErrorModel has it of mechanisms. `parts[i]` is a list of arrays, a part each.
+    """
+
+    starts: NDArray[np.int64]
+    indptr: NDArray[np.int64]
+    indices: NDArray[np.int64]
+
+    @classmethod
+    def of_mechanisms(cls, numbered: Numbered, indptr: NDArray[np.int64], indices: NDArray[np.int64]) -> "Parts":
+        """Parts that are mechanisms, whose numbers are given, of a model with these."""
+        parts = np.array([part for its in numbered for part in its], dtype=np.int64)
+        _, columns = rows_of(parts, indptr, indices)
+        return cls(starts_of(np.array([len(its) for its in numbered], dtype=np.int64)), starts_of(np.diff(indptr)[parts]), columns)
+
+    def of(self, mechanisms: NDArray[np.int64]) -> "Parts":
+        """The parts of some mechanisms."""
+        counts = np.diff(self.starts)[mechanisms]
+        _, parts = rows_of(mechanisms, self.starts, np.arange(len(self.indptr) - 1))
+        _, columns = rows_of(parts, self.indptr, self.indices)
+        return Parts(starts_of(counts), starts_of(np.diff(self.indptr)[parts]), columns)
+
+    def __len__(self) -> int:
+        return len(self.starts) - 1
+
+    def __getitem__(self, mechanism: int) -> list[NDArray[np.int64]]:
+        mechanism = checking.place("mechanism", mechanism, len(self))
+        return [self.indices[self.indptr[part] : self.indptr[part + 1]] for part in range(self.starts[mechanism], self.starts[mechanism + 1])]
 
 
 class Edge(NamedTuple):
@@ -62,7 +97,7 @@ class Table:
 
 
 def parts_of(chances: NDArray[np.float64], indptr: NDArray[np.int64], indices: NDArray[np.int64], detectors: int,
-             ignore_failures: bool) -> Parts:
+             ignore_failures: bool) -> Numbered:
     """For each mechanism those that it is written as. One that flips more than two detectors is taken apart: into mechanisms of one
     or two detectors, no detector twice, which add up to its detectors and observables, and whose chances have the greatest product.
 

@@ -17,7 +17,7 @@ def flips(chances: NDArray[np.float64], indptr: NDArray[np.int64], indices: NDAr
           shots: int, seed: int, first_shot: int) -> NDArray[np.bool_]:
     """What is flipped in shots first_shot, first_shot + 1 .. of a seed, as a bool array (shots, width)."""
     if shots < 0 or first_shot < 0 or not 0 <= seed < 2**64:
-        raise ValueError("shots are 0 or more, and a seed is in 0..2**64")
+        raise ValueError("shots are 0 or more, and a seed is from 0 to 2**64 - 1")
     drawn = np.zeros((shots, width), dtype=np.bool_)
     end = first_shot + shots
     for block in range(first_shot // BLOCK, -(-end // BLOCK)):

@@ -75,14 +75,14 @@ class SessionEnded(StabsimError):
 
 
 class UnsupportedNoise(StabsimError):
-    """A noise channel, or a probability of one, of which no error model is made.
+    """Noise that Stim reads, and of which no error model is made; what Stim refuses too is `Refused`.
 
     line: int, counted from 1; why: str.
 
     >>> import stabsim
-    >>> stabsim.error_model("R 0\\nX_ERROR(1.5) 0\\nM 0")
+    >>> stabsim.error_model("R 0\\nDEPOLARIZE1(0.8) 0\\nM 0")
     Traceback (most recent call last):
-    stabsim.errors.UnsupportedNoise: line 2: X_ERROR wants 1 chance of at most 1 in all
+    stabsim.errors.UnsupportedNoise: line 2: DEPOLARIZE1(0.8) is stronger than full depolarising
     """
 
     def __init__(self, line: int, why: str) -> None:
@@ -117,13 +117,34 @@ class BadErrorModel(StabsimError):
 class BadShots(StabsimError):
     """A file has no shots of the format and the numbers of bits that were named.
 
+    why: str; line: int, counted from 1, or None in a format without lines.
+
     >>> import stabsim
     >>> import os, tempfile
     >>> with tempfile.TemporaryDirectory() as folder:
-    ...     stabsim.Circuit("012").to_file(os.path.join(folder, "shots.01"))
-    ...     stabsim.read_shots(os.path.join(folder, "shots.01"), format="01", num_measurements=3)  # doctest: +ELLIPSIS
+    ...     stabsim.Circuit("010\\n012\\n").to_file(os.path.join(folder, "shots.01"))
+    ...     stabsim.read_shots(os.path.join(folder, "shots.01"), format="01", num_measurements=3)
     Traceback (most recent call last):
-    stabsim.errors.BadShots: ...
+    stabsim.errors.BadShots: line 2: a character is neither 0 nor 1
+    """
+
+    def __init__(self, why: str, line: int | None = None) -> None:
+        super().__init__(why, line)
+        self.why = why
+        self.line = line
+
+    def __str__(self) -> str:
+        return self.why if self.line is None else f"line {self.line}: {self.why}"
+
+
+class BadPrediction(StabsimError, ValueError):
+    """A decoder gave something that is no bool array (shots, observables).
+
+    >>> import stabsim
+    >>> model = stabsim.ErrorModel.from_dem("error(0.1) D0 D1 L0")
+    >>> list(stabsim.collect({"one": model}, ("copy", lambda model: lambda detectors: detectors), shots=8, seed=1))
+    Traceback (most recent call last):
+    stabsim.errors.BadPrediction: the decoder of one gave an array (8, 2), and not one of (shots, observables), which is (8, 1)
     """
 
 
@@ -144,7 +165,7 @@ class OtherExperiment(StabsimError):
     >>> import os, tempfile
     >>> import numpy, stabsim
     >>> def nothing(model):
-    ...     return lambda detectors: numpy.zeros((len(detectors), model.observables), dtype=bool)
+    ...     return lambda detectors: numpy.zeros((len(detectors), model.num_observables), dtype=bool)
     >>> models = {"one": stabsim.ErrorModel.from_dem("error(0.1) D0 L0")}
     >>> with tempfile.TemporaryDirectory() as folder:
     ...     for seed in (1, 2):

@@ -5,6 +5,7 @@ from dataclasses import dataclass
 import numpy as np
 from numpy.typing import NDArray
 
+from stabsim import checking
 from stabsim.table_lines import rows_of
 
 
@@ -17,8 +18,8 @@ class FaultTable:
     paulis: str (faults,), X or Z.
     qubits: int64 (faults,).
     indptr: int64 (faults + 1,), and indices: int64 (flips,): fault i flips indices[indptr[i]:indptr[i + 1]], ascending, where
-    a detector is its number, and an observable is `detectors` and its number.
-    detectors, observables: int, how many of each the circuit has.
+    a detector is its number, and an observable is `num_detectors` and its number.
+    num_detectors, num_observables: int, how many of each the circuit has.
     everywhere: whether all faults were asked for, and not those at marks alone.
 
     >>> import stabsim
@@ -33,8 +34,8 @@ class FaultTable:
     qubits: NDArray[np.int64]
     indptr: NDArray[np.int64]
     indices: NDArray[np.int64]
-    detectors: int
-    observables: int
+    num_detectors: int
+    num_observables: int
     everywhere: bool = False
 
     def __len__(self) -> int:
@@ -42,15 +43,16 @@ class FaultTable:
 
     def __repr__(self) -> str:
         marks = "" if len(self) or self.everywhere else "; no place is marked by I, and everywhere=True asks for all places"
-        return f"<stabsim.FaultTable: {len(self)} faults, {self.detectors} detectors, {self.observables} observables{marks}>"
+        return f"<stabsim.FaultTable: {len(self)} faults, {self.num_detectors} detectors, {self.num_observables} observables{marks}>"
 
     def flipped(self, fault: int) -> NDArray[np.int64]:
         """What a fault flips, int64 (flips,): detectors, and observables counted on after them."""
+        fault = checking.place("fault", fault, len(self))
         return self.indices[self.indptr[fault] : self.indptr[fault + 1]]
 
     def dense(self) -> NDArray[np.bool_]:
         """The table as a bool array (faults, detectors + observables)."""
-        table = np.zeros((len(self), self.detectors + self.observables), dtype=np.bool_)
+        table = np.zeros((len(self), self.num_detectors + self.num_observables), dtype=np.bool_)
         table[np.repeat(np.arange(len(self)), np.diff(self.indptr)), self.indices] = True
         return table
 

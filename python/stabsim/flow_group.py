@@ -53,9 +53,9 @@ def measured_text(text: str, rows: Iterable[Product], qubits: int) -> str:
 
 def generators_of(table: CoinTable, rows: Sequence[Product], qubits: int) -> list[Flow]:
     """Flows of which all others are products: table is that of `measured_text`, whose last records are the signs of the rows."""
-    records = table.records - len(rows)
+    records = table.num_records - len(rows)
     found = []
-    for together in local_parities(table.columns(table.records), fixed=records):
+    for together in local_parities(table.columns(table.num_records), fixed=records):
         product = [rows[place - records] for place in sorted(together) if place >= records]
         its = [place - records for place in together if place < records]
         value = bool(table.constants()[list(together)].sum() % 2)

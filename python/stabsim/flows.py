@@ -4,12 +4,13 @@ import re
 from collections.abc import Iterable, Sequence
 from dataclasses import dataclass
 
-from stabsim import targets
+from stabsim import checking, targets
 from stabsim.reading import closed_text
 from stabsim.targets import Product
 
 MOST_QUBITS = 512
 RECORD = re.compile(r"rec\[(-?\d+)\]")
+READER = "stabsim.Flow.of_text('X0 -> Z0')"
 DENSE = re.compile(r"[IXYZ_]+")
 
 
@@ -31,21 +32,28 @@ class Flow:
     is_negative: bool = False
     records: tuple[int, ...] = ()
 
+    def __post_init__(self) -> None:
+        for name, letters in (("input", self.input), ("output", self.output)):
+            if not is_product(letters):
+                raise ValueError(f"{name} is {checking.shown(letters)}: give pairs of a qubit and a letter, as ((0, 'X'),), or take {READER}")
+        if not isinstance(self.records, tuple) or not all(isinstance(it, int) for it in self.records):
+            raise TypeError(f"records is {checking.shown(self.records)}: give a tuple of whole numbers, as (-1,), or take {READER}")
+
     @classmethod
     def of_text(cls, text: str) -> "Flow":
         """The flow of a text: Paulis as `X0*Z1`, a letter for each qubit as `XZ_`, or 1; records rec[-1] from the end, or rec[0] from
         the beginning. ValueError if it is misspelt."""
-        before, arrow, behind = text.partition("->")
+        before, arrow, behind = checking.of_kind("text", text, str, "a text, as 'X0 -> Z0 xor rec[-1]'").partition("->")
         words = [word.strip() for word in re.split(r"\bxor\b", behind)]
         if not arrow:
-            raise ValueError(f"{text!r} is no flow, as X0 -> Z0 xor rec[-1]")
+            raise ValueError(f"{checking.shown(text)} is no flow, as X0 -> Z0 xor rec[-1]")
         paulis, records = ("1", words) if RECORD.fullmatch(words[0]) else (words[0], words[1:])
         first, second = signed(before.strip(), text), signed(paulis, text)
         found = set[int]()
         for word in records:
             record = RECORD.fullmatch(word)
             if not record:
-                raise ValueError(f"{word!r} of {text!r} is no record, as rec[-1]")
+                raise ValueError(f"{checking.shown(word)} of {checking.shown(text)} is no record, as rec[-1]")
             found ^= {int(record[1])}
         return cls(first[1], second[1], first[0] ^ second[0], tuple(sorted(found)))
 
@@ -97,6 +105,15 @@ class SameFlows:
         return self.same
 
 
+def is_product(letters: object) -> bool:
+    """Whether a value is pairs of a qubit and its letter, no qubit twice."""
+    if not isinstance(letters, tuple) or not all(isinstance(pair, tuple) and len(pair) == 2 for pair in letters):
+        return False
+    qubits = [qubit for qubit, _ in letters]
+    are_qubits = all(isinstance(qubit, int) and qubit >= 0 for qubit in qubits)
+    return are_qubits and len(set(qubits)) == len(qubits) and all(letter in ("X", "Y", "Z") for _, letter in letters)
+
+
 def signed(text: str, whole: str) -> tuple[bool, tuple[tuple[int, str], ...]]:
     """A product with a sign, as whether it is negative and its letters by their qubits."""
     negative, rest = text.startswith("-"), text[1:] if text[:1] in ("+", "-") and len(text) > 1 else text
@@ -106,7 +123,7 @@ def signed(text: str, whole: str) -> tuple[bool, tuple[tuple[int, str], ...]]:
         return negative, tuple((qubit, letter) for qubit, letter in enumerate(rest) if letter not in "I_")
     product = targets.multiplied(rest) if "!" not in rest else None
     if product is None:
-        raise ValueError(f"{text!r} of {whole!r} is no product, as X0*Z1, XZ_ or 1")
+        raise ValueError(f"{checking.shown(text)} of {checking.shown(whole)} is no product, as X0*Z1, XZ_ or 1")
     return negative ^ product[0], tuple(sorted(product[1].items()))
 
 

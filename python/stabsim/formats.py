@@ -9,7 +9,7 @@ from typing import Literal, NamedTuple, TypeVar, overload
 import numpy as np
 from numpy.typing import NDArray
 
-from stabsim import bits
+from stabsim import bits, checking
 from stabsim.combining import starts_of
 from stabsim.errors import BadShots
 from stabsim.table_lines import begins_of, numbers_in
@@ -28,6 +28,7 @@ Function = TypeVar("Function")
 LINE_END, SPACE, COMMA, ZERO = ord("\n"), ord(" "), ord(","), ord("0")
 # How many zeros a byte of r8 counts that no 1 follows, and how many shots ptb64 has together.
 LONG, TOGETHER = 255, 64
+ADD_UP = "num_measurements, num_detectors and num_observables add up to"
 # What a line of dets begins with.
 SHOT = b"shot"
 
@@ -60,7 +61,7 @@ def read_shots(path: str | PathLike[str], *, format: Format, num_measurements: i
            [0, 0, 0]])
     """
     kinds = kinds_of(num_measurements, num_detectors, num_observables)
-    data = np.frombuffer(pathlib.Path(path).read_bytes(), dtype=np.uint8)
+    data = np.frombuffer(pathlib.Path(checking.file_name("path", path)).read_bytes(), dtype=np.uint8)
     found = chosen(READERS, format)(data, kinds)
     return bits.packed(found) if bit_packed else found
 
@@ -79,32 +80,45 @@ def write_shots(path: str | PathLike[str], shots: Bits | Packed, *, format: Form
     """
     kinds = kinds_of(num_measurements, num_detectors, num_observables)
     table = bits.table_of(shots, sum(kinds.values()), "shots")
-    pathlib.Path(path).write_bytes(chosen(WRITERS, format)(table, kinds))
+    pathlib.Path(checking.file_name("path", path)).write_bytes(chosen(WRITERS, format)(table, kinds))
 
 
 def kinds_of(measurements: int, detectors: int, observables: int) -> Kinds:
     """How many bits of each kind a shot has, by the prefix of the kind."""
-    kinds = {"M": measurements, "D": detectors, "L": observables}
-    if min(kinds.values()) < 0:
-        raise ValueError("a shot has 0 or more bits of each kind")
-    return kinds
+    return {"M": checking.whole("num_measurements", measurements), "D": checking.whole("num_detectors", detectors),
+            "L": checking.whole("num_observables", observables)}
 
 
 def chosen(functions: dict[str, Function], format: str) -> Function:
     """The function of a format."""
-    if format not in functions:
-        raise ValueError(f"the format {format!r} is none of {', '.join(functions)}")
-    return functions[format]
+    return functions[checking.one_of("format", format, functions)]
+
+
+def lines_in(data: Bytes) -> Bytes:
+    """Lines of a file, whose ends may have a carriage return, as those of a circuit may. The last one has an end too."""
+    lines = np.frombuffer(data.tobytes().replace(b"\r\n", b"\n"), dtype=np.uint8)
+    if len(lines) and lines[-1] != LINE_END:
+        raise BadShots("the last line has no end", int(np.sum(lines == LINE_END)) + 1)
+    return lines
+
+
+def refuse_any(is_wrong: NDArray[np.bool_], lines: NDArray[np.int64] | range, why: str) -> None:
+    """Raises BadShots at the first of the lines, counted from 0, in which something is wrong."""
+    wrong = np.flatnonzero(is_wrong)
+    if len(wrong):
+        raise BadShots(why, int(lines[wrong[0]]) + 1)
 
 
 def read_01(data: Bytes, kinds: Kinds) -> Bits:
     width = sum(kinds.values())
-    if len(data) % (width + 1):
-        raise BadShots(f"these are no lines of {width} characters")
-    lines = data.reshape(-1, width + 1)
-    if np.any(lines[:, width] != LINE_END) or np.any((lines[:, :width] | 1) != ZERO + 1):
-        raise BadShots(f"these are no lines of {width} characters 0 and 1")
-    return np.equal(lines[:, :width], ZERO + 1)
+    text = lines_in(data)
+    lengths = np.diff(np.flatnonzero(text == LINE_END), prepend=-1) - 1
+    shots = range(len(lengths))
+    first = int(lengths[lengths != width][:1].sum())
+    refuse_any(lengths != width, shots, f"it has {first} characters, and {ADD_UP} {width}")
+    table = text.reshape(-1, width + 1)[:, :width]
+    refuse_any(np.any((table | 1) != ZERO + 1, axis=1), shots, "a character is neither 0 nor 1")
+    return np.equal(table, ZERO + 1)
 
 
 def write_01(shots: Bits, kinds: Kinds) -> bytes:
@@ -160,38 +174,35 @@ class Words(NamedTuple):
 
 def words_of(data: Bytes, separator: int) -> Words:
     """The words of lines, between which a separator is."""
-    if len(data) and data[-1] != LINE_END:
-        raise BadShots("the last line has no end")
     ends = np.flatnonzero((data == separator) | (data == LINE_END))
     is_last = data[ends] == LINE_END
     return Words(begins_of(ends), ends, np.cumsum(is_last) - is_last, np.append(True, is_last[:-1])[: len(ends)])
 
 
-def places_in(data: Bytes, starts: NDArray[np.int64], ends: NDArray[np.int64]) -> NDArray[np.int64]:
-    """The numbers from starts to ends, each of 1 to 9 digits."""
+def places_in(data: Bytes, starts: NDArray[np.int64], ends: NDArray[np.int64], lines: NDArray[np.int64]) -> NDArray[np.int64]:
+    """The numbers from starts to ends, each of 1 to 9 digits, which are in these lines."""
     lengths = ends - starts
     # How many digits are in front of each byte: between the ends of a number there are as many as it is long.
     digits = starts_of(np.logical_and(data >= ZERO, data <= ZERO + 9).astype(np.int64))
-    if np.any((lengths < 1) | (lengths > 9) | (digits[ends] - digits[starts] != lengths)):
-        raise BadShots("a place is no number")
+    refuse_any((lengths < 1) | (lengths > 9) | (digits[ends] - digits[starts] != lengths), lines, "a place is no number, or has over 9 digits")
     return numbers_in(data, starts, ends)
 
 
 def table_of(lines: NDArray[np.int64], places: NDArray[np.int64], count: int, width: int) -> Bits:
     """The bits of this many lines, whose ones are at these places."""
-    if np.any(places >= width):
-        raise BadShots(f"a place is past the {width} bits of a shot")
+    refuse_any(places >= width, lines, f"a place is past the last bit, and {ADD_UP} {width}")
     table = np.zeros((count, width), dtype=np.bool_)
     table[lines, places] = True
     return table
 
 
 def read_hits(data: Bytes, kinds: Kinds) -> Bits:
-    words = words_of(data, COMMA)
+    text = lines_in(data)
+    words = words_of(text, COMMA)
     # A line without hits is one empty word.
-    is_some = ~((words.starts == words.ends) & words.is_first & (data[words.ends] == LINE_END))
-    places = places_in(data, words.starts[is_some], words.ends[is_some])
-    return table_of(words.lines[is_some], places, int(np.sum(words.is_first)), sum(kinds.values()))
+    is_some = ~((words.starts == words.ends) & words.is_first & (text[words.ends] == LINE_END))
+    starts, ends, lines = (it[is_some] for it in words[:3])
+    return table_of(lines, places_in(text, starts, ends, lines), int(np.sum(words.is_first)), sum(kinds.values()))
 
 
 def write_hits(shots: Bits, kinds: Kinds) -> bytes:
@@ -199,26 +210,24 @@ def write_hits(shots: Bits, kinds: Kinds) -> bytes:
 
 
 def read_dets(data: Bytes, kinds: Kinds) -> Bits:
-    words = words_of(data, SPACE)
+    text = lines_in(data)
+    words = words_of(text, SPACE)
     heads = np.flatnonzero(words.is_first)
-    is_shot = words.ends[heads] - words.starts[heads] == len(SHOT)
-    if not is_shot.all() or np.any(data[words.starts[heads, None] + np.arange(len(SHOT))] != np.frombuffer(SHOT, dtype=np.uint8)):
-        raise BadShots("a line does not begin with the word shot")
+    shots = range(len(heads))
+    refuse_any(words.ends[heads] - words.starts[heads] != len(SHOT), shots, "it does not begin with the word shot")
+    letters = text[words.starts[heads, None] + np.arange(len(SHOT))]
+    refuse_any(np.any(letters != np.frombuffer(SHOT, dtype=np.uint8), axis=1), shots, "it does not begin with the word shot")
     starts, ends, lines = (it[~words.is_first] for it in words[:3])
+    refuse_any(starts == ends, lines, "it has two spaces side by side, or one at its end")
     # A word has a place and a kind, and the kinds come one after another.
-    if np.any(starts == ends):
-        raise BadShots("a line has two spaces side by side, or one at its end")
-    letters = data[starts]
-    first = np.zeros(256, dtype=np.int64)
-    count = np.full(256, -1, dtype=np.int64)
+    first, count = np.zeros(256, dtype=np.int64), np.full(256, -1, dtype=np.int64)
     for letter, begin in zip(kinds, itertools.accumulate(kinds.values(), initial=0)):
         first[ord(letter)], count[ord(letter)] = begin, kinds[letter]
-    if np.any(count[letters] < 0):
-        raise BadShots("a word is none of M, D and L with a number")
-    places = places_in(data, starts + 1, ends)
-    if np.any(places >= count[letters]):
-        raise BadShots("a number is past the bits of its kind")
-    return table_of(lines, first[letters] + places, len(heads), sum(kinds.values()))
+    its = text[starts]
+    refuse_any(count[its] < 0, lines, "a word is none of M, D and L with a number")
+    places = places_in(text, starts + 1, ends, lines)
+    refuse_any(places >= count[its], lines, "a number is past the bits of its kind, of which num_measurements, num_detectors or num_observables says how many there are")
+    return table_of(lines, first[its] + places, len(heads), sum(kinds.values()))
 
 
 def write_dets(shots: Bits, kinds: Kinds) -> bytes:

@@ -1,12 +1,15 @@
 """The process of a session, `stabsim edit --framed`, and the form of its replies: each says first how many lines it has."""
 
 import itertools
+import os
 import subprocess
 import tempfile
 import threading
+from typing import NoReturn
 
 from stabsim import program
 from stabsim.errors import Refused, SessionEnded
+from stabsim.explaining import in_words
 
 # The form of replies that this module reads.
 FRAMED_VERSION = 1
@@ -15,8 +18,16 @@ FRAMED_VERSION = 1
 LAST_SECONDS = 5.0
 
 
-class FramedProcess:
-    """A process that answers one request after another. One thread at a time asks it.
+class OfOneProcess:
+    """What holds a process and its pipes: a copy of it would read the replies to the other's requests."""
+
+    def __reduce__(self) -> NoReturn:
+        raise TypeError("a session is not copied and not sent to another process, since it has one of its own: open another by `edit`")
+
+
+class FramedProcess(OfOneProcess):
+    """A process that answers one request after another. One thread at a time asks it, of the process that started it alone: another
+    one that was forked has the same pipes, and would read replies that are not its own.
 
     ended: why no more can be asked, or None; said: what the process said on standard error, once it has ended.
     """
@@ -24,6 +35,7 @@ class FramedProcess:
     def __init__(self, words: list[str], text: str) -> None:
         """Starts a session of a circuit's text with these options; raises what the circuit is refused by."""
         self.lock = threading.Lock()
+        self.owner = os.getpid()
         self.ended: str | None = None
         self.said = ""
         self.program = program.find_program()
@@ -40,15 +52,25 @@ class FramedProcess:
         return self.process.pid
 
     def close(self) -> None:
-        """Ends the process; if it has ended already, it stays so."""
+        """Ends the process; if it has ended already, it stays so. In a process that was forked the pipes alone are closed there."""
         self.ended = self.ended or "it was closed"
-        self.end_process()
-        for pipe in (self.process.stdout, self.process.stderr):
+        if self.owner == os.getpid():
+            # It has nothing to keep, and would wait for the end of a pipe that a process which was forked may hold open.
+            self.process.kill()
+            self.end_process()
+        for pipe in (self.process.stdin, self.process.stdout, self.process.stderr):
             if pipe:
                 pipe.close()
 
+    def __del__(self) -> None:
+        # Without a process nothing was begun.
+        if "process" in vars(self):
+            self.close()
+
     def ask(self, request: bytes) -> list[bytes]:
         """The lines of the reply to one request of one line or more; raises Refused if it is one."""
+        if self.owner != os.getpid():
+            raise SessionEnded(f"the session belongs to process {self.owner}, and this is process {os.getpid()}: open one here by `edit`")
         if not self.lock.acquire(blocking=False):
             raise RuntimeError("another thread is in a call of this session")
         try:
@@ -76,7 +98,7 @@ class FramedProcess:
         if len(words) == 2 and words[0] == b"ok":
             return self.read_lines(int(words[1]))
         if len(words) == 3 and words[0] == b"refused":
-            raise Refused(int(words[1]), words[2].decode())
+            raise in_words(int(words[1]), words[2].decode())
         raise self.broken(f"it said {b' '.join(words)!r}, which is no reply")
 
     def read_line(self) -> bytes:

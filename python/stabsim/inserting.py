@@ -67,10 +67,11 @@ def located(items: tuple[Item, ...], number: int, is_record: bool, above: str = 
 
 def by_itself(session: "Session", number: int, is_record: bool) -> Found:
     """Where a step or record is, once the rounds around it are split off their blocks."""
-    found = located(items_of(session.circuit()), number, is_record)
+    found = located(items_of(session.printed()), number, is_record)
     while found.block:
         session.split(found.block, found.round_number)
-        found = located(items_of(session.circuit()), number, is_record)
+        found = located(items_of(session.printed()), number, is_record)
+    session.write_out(found.path)
     return found
 
 
@@ -91,7 +92,7 @@ def put_paulis(session: "Session", error: CircuitError) -> None:
     path = found.path
     if found.item and found.offset:
         cut = found.offset * (2 if found.item.name in names.TWO_QUBITS else 1)
-        first, second = (str(replace(found.item, targets=its)) for its in (found.item.targets[:cut], found.item.targets[cut:]))
+        first, second = (str(replace(session.plain(found.item), targets=its)) for its in (found.item.targets[:cut], found.item.targets[cut:]))
         *outer, last = path.split("/")
         path = "/".join([*outer, str(int(last) + 1)])
         session.insert(path, second)
@@ -107,4 +108,4 @@ def invert(session: "Session", record: int) -> None:
     targets = list(found.item.targets)
     target = targets[found.offset]
     targets[found.offset] = target.removeprefix("!") if target.startswith("!") else f"!{target}"
-    session.replace(found.path, str(replace(found.item, targets=tuple(targets))))
+    session.replace(found.path, str(replace(session.plain(found.item), targets=tuple(targets))))

@@ -103,7 +103,7 @@ class Ledger:
 
 def rows_of(data: bytes, path: str | PathLike[str]) -> list[Row]:
     """The lines of a file, those of an empty one too."""
-    text = data.decode()
+    text = data.decode("utf-8", "surrogateescape")
     if not text:
         return []
     if text.startswith(OLDER):

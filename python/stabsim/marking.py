@@ -8,7 +8,7 @@ import numpy as np
 from numpy.typing import NDArray
 
 from stabsim.channels import LETTERS, ONE, TWO, Errors, depolarising, independent
-from stabsim.errors import Refused, UnsupportedNoise
+from stabsim.errors import UnsupportedNoise
 from stabsim.names import CHANNELS, ELSE, FIRST, FLIPS, MEASUREMENTS
 from stabsim.reading import Block, Instruction, Item, headed
 from stabsim.targets import apart, qubits_of
@@ -95,8 +95,6 @@ class Marker:
 
     def instruction(self, item: Instruction, first: int) -> tuple[list[Source], int]:
         """Writes one instruction."""
-        if item.name == ELSE:
-            raise UnsupportedNoise(item.line, f"{ELSE} follows {FIRST} or another {ELSE} on the line in front of it")
         if item.name in CHANNELS:
             return self.channel(item, first)
         if item.name in MEASUREMENTS and item.arguments:
@@ -112,8 +110,6 @@ class Marker:
         """Writes a mark for each target of a channel."""
         each = 2 if item.name.endswith("2") else 1
         count = len(item.targets)
-        if count % each:
-            raise UnsupportedNoise(item.line, f"{item.name} is on pairs of qubits")
         if not count:
             return [], first
         self.lines.append(" ".join(["I", *item.targets]))
@@ -124,7 +120,7 @@ class Marker:
 
     def errors(self, item: Instruction) -> Errors:
         """The independent errors of a channel."""
-        chances = chances_of(item, {"PAULI_CHANNEL_1": 3, "PAULI_CHANNEL_2": 15}.get(item.name, 1))
+        chances = item.numbers()
         if item.name in FLIPS:
             return {FLIPS[item.name]: chances[0]}
         if item.name.startswith("DEPOLARIZE"):
@@ -152,7 +148,7 @@ class Marker:
         disjoint: Errors = {}
         none_yet = 1.0
         for item, error in zip(items, errors):
-            [chance] = chances_of(item, 1)
+            [chance] = item.numbers()
             letters = "".join(LETTERS[error.get(qubit, 0)] for qubit in qubits)
             disjoint[letters] = disjoint.get(letters, 0.0) + chance * none_yet
             none_yet *= 1 - chance
@@ -169,7 +165,7 @@ class Marker:
     def measurement(self, item: Instruction, first: int) -> tuple[list[Source], int]:
         """Writes a measurement whose record may be wrong: as if a Pauli in front of it turned the outcome over, and the same
         after it undid that. A reset after the outcome forgets it by itself."""
-        [chance] = chances_of(item, 1)
+        [chance] = item.numbers()
         is_reset = item.name.startswith("MR")
         sources: list[Source] = []
         for targets in apart(item.targets, qubits_of):
@@ -215,24 +211,9 @@ def paulis_of(item: Instruction) -> dict[str, int]:
     """The letter on each qubit of an error on several, as a number in LETTERS; those of one qubit are multiplied."""
     found: dict[str, int] = {}
     for target in item.targets:
-        letter, qubit = target[:1].upper(), target[1:]
-        if letter not in ("X", "Y", "Z") or not qubit.isdigit():
-            raise UnsupportedNoise(item.line, f"the targets of {item.name} are Paulis, as X0 Z3")
-        name = str(int(qubit))
-        found[name] = found.get(name, 0) ^ LETTERS.index(letter)
+        qubit = str(int(target[1:]))
+        found[qubit] = found.get(qubit, 0) ^ LETTERS.index(target[0].upper())
     return found
-
-
-def chances_of(item: Instruction, count: int) -> list[float]:
-    """The arguments, which are this many chances and make no more than 1 together."""
-    try:
-        chances = item.numbers()
-    except Refused:
-        chances = []
-    # A sum of chances such as fifteen fifteenths is 1 up to rounding.
-    if len(chances) != count or not all(0 <= chance <= 1 for chance in chances) or sum(chances) > 1 + 1e-9:
-        raise UnsupportedNoise(item.line, f"{item.name} wants {count} chance{'s' * (count > 1)} of at most 1 in all")
-    return chances
 
 
 def mark_of(name: str, target: str) -> tuple[str, str]:

@@ -7,11 +7,12 @@ from typing import Literal, overload
 import numpy as np
 from numpy.typing import NDArray
 
-from stabsim import bits
+from stabsim import bits, checking
 from stabsim.circuit import Circuit
 from stabsim.combining import Numbers, odd
 from stabsim.names import MEASUREMENTS
 from stabsim.reading import Block, Instruction, Item, items_of
+from stabsim.stim_circuit import StimCircuit
 
 Bits = NDArray[np.bool_]
 Packed = NDArray[np.uint8]
@@ -21,31 +22,40 @@ TOGETHER = 8192
 
 
 @overload
-def m2d(circuit: Circuit, records: Bits | Packed, *, separate_observables: Literal[False] = ...) -> Bits: ...
+def m2d(circuit: Circuit | StimCircuit, records: Bits | Packed, *, separate_observables: Literal[False] = ...,
+        flips: bool = ...) -> Bits: ...
 
 
 @overload
-def m2d(circuit: Circuit, records: Bits | Packed, *, separate_observables: Literal[True]) -> tuple[Bits, Bits]: ...
+def m2d(circuit: Circuit | StimCircuit, records: Bits | Packed, *, separate_observables: Literal[True],
+        flips: bool = ...) -> tuple[Bits, Bits]: ...
 
 
-def m2d(circuit: Circuit, records: Bits | Packed, *, separate_observables: bool = False) -> Bits | tuple[Bits, Bits]:
+def m2d(circuit: Circuit | StimCircuit, records: Bits | Packed, *, separate_observables: bool = False,
+        flips: bool = False) -> Bits | tuple[Bits, Bits]:
     """The detectors of given records, bool (shots, detectors), as of a machine that ran the circuit: raw parities, as those of `detect`.
 
-    records: bool (shots, records), or packed as `read_shots` gives them, uint8 (shots, (records + 7) // 8). With separate_observables a
-    pair: that array, and the observables, bool (shots, observables). If a detector is 1 without noise, so is it here; the parities of
-    `circuit.detect(1)`, added modulo 2, leave what was flipped.
+    circuit: one of `from_stim` is taken without its noise. records: bool (shots, records), or packed as `read_shots` gives them, uint8
+    (shots, (records + 7) // 8). With separate_observables a pair: that array, and the observables, bool (shots, observables). If a detector
+    is 1 without noise, so is it here. flips: what was flipped alone, as decoders take it; stabsim.Refused names a bit that coins decide.
 
     >>> import numpy, stabsim
     >>> circuit = stabsim.Circuit("M 0 1\\nDETECTOR rec[-1] rec[-2]\\nOBSERVABLE_INCLUDE(0) rec[-1]\\n")
     >>> stabsim.m2d(circuit, numpy.array([[0, 0], [0, 1], [1, 1]], dtype=bool)).astype(int).tolist()
     [[0], [1], [0]]
     """
-    has = circuit.numbers()
+    if isinstance(circuit, StimCircuit):
+        circuit = circuit.circuit
+    has = checking.of_kind("circuit", circuit, Circuit, "a circuit, as stabsim.Circuit(text) or stabsim.from_stim(text)").numbers()
     table = bits.table_of(records, has.records, "records")
     sums = sums_of(items_of(circuit.text))
     rows = np.append(sums.of_detectors[:, 0], has.detectors + sums.of_observables[:, 0])
     columns = np.append(sums.of_detectors[:, 1], sums.of_observables[:, 1])
     found = parities(table, *odd(rows, columns, has.records), has.detectors + has.observables)
+    if flips:
+        # It refuses a bit that coins decide, of which no run has the value without errors.
+        circuit.faults()
+        found ^= np.concatenate(circuit.detect(1, seed=0, separate_observables=True), axis=1)
     return (found[:, : has.detectors], found[:, has.detectors :]) if separate_observables else found[:, : has.detectors]
 
 

@@ -1,16 +1,17 @@
 """Detector error models: what the noise of a circuit flips, and how often. No proof covers them."""
 
 import hashlib
+import itertools
 import pathlib
 from collections.abc import Iterator
 from dataclasses import dataclass, field, replace
 from os import PathLike
-from typing import TYPE_CHECKING, Literal, overload
+from typing import TYPE_CHECKING, Literal, get_args, overload
 
 import numpy as np
 from numpy.typing import NDArray
 
-from stabsim import bits, chunks, combining, dem, drawing, program, sparse
+from stabsim import bits, checking, chunks, combining, dem, drawing, program, sparse
 from stabsim.causes import Cause, Causes
 from stabsim.circuit import Circuit
 from stabsim.circuit_errors import CircuitError
@@ -21,9 +22,8 @@ from stabsim.errors import Refused
 from stabsim.faults import FaultTable
 from stabsim.judging import in_users_words, judged
 from stabsim.marking import Marked, Source, marked
-from stabsim.model_distance import distance_of_model
+from stabsim.model_distance import distance_of_model, sat_problem_of_model
 from stabsim.profile import Profile
-from stabsim.reading import Item
 from stabsim.seeds import SeededBits, SeededBytes, drawn_seed, seeded
 
 if TYPE_CHECKING:
@@ -41,74 +41,125 @@ class ErrorModel:
 
     chances: float64 (mechanisms,).
     indptr: int64 (mechanisms + 1,), and indices: int64 (flips,): mechanism i flips indices[indptr[i]:indptr[i + 1]], ascending,
-    where a detector is its number, and an observable is `detectors` and its number. No two mechanisms flip the same, and
-    they are in the order of what they flip.
-    detectors, observables: int, how many of each there are.
+    where a detector is its number, and an observable is `num_detectors` and its number. Of a model that was made of a circuit no two
+    mechanisms flip the same, and they are in the order of what they flip.
+    num_detectors, num_observables: int, how many of each there are.
     coordinates: float64 (detectors, width), nan if a detector has none.
     approximated: the lines of the circuit whose disjoint errors were taken for independent ones, if that was asked for.
-    parts: if the model is decomposed, for each mechanism the numbers of those that `dem` writes it as: its own, or for one
-    that flips more than two detectors those of others that flip the same together.
+    parts: if the model is decomposed, the parts that `dem` writes each mechanism as: `parts[i]` has what each part flips.
     causes: of a model that was made of a circuit, what `explain` looks up.
+
+    Its text is `str(model)`. Models with the same mechanisms, parts and coordinates in the same order are equal.
 
     >>> import stabsim
     >>> model = stabsim.error_model("R 0\\nX_ERROR(0.25) 0\\nM(0.125) 0\\nM 0\\nDETECTOR rec[-1]\\nDETECTOR rec[-2]\\n")
-    >>> print(model, model.chances.tolist(), [model.flipped(it).tolist() for it in range(len(model))])
-    <stabsim.ErrorModel: 2 mechanisms, 2 detectors, 0 observables> [0.25, 0.125] [[0, 1], [1]]
+    >>> model, model.chances.tolist(), [model.flipped(it).tolist() for it in range(len(model))]
+    (<stabsim.ErrorModel: 2 mechanisms, 2 detectors, 0 observables>, [0.25, 0.125], [[0, 1], [1]])
     """
 
     chances: NDArray[np.float64]
     indptr: NDArray[np.int64]
     indices: NDArray[np.int64]
-    detectors: int
-    observables: int
+    num_detectors: int
+    num_observables: int
     coordinates: NDArray[np.float64] = field(repr=False)
     approximated: tuple[int, ...] = ()
     parts: Parts | None = field(default=None, repr=False)
     causes: Causes | None = field(default=None, repr=False)
+    # The text that it was read from. A model with another field, by dataclasses.replace, was not read.
+    was_read: str | None = field(default=None, init=False, repr=False)
 
     @classmethod
     def from_dem(cls, text: str) -> "ErrorModel":
         """The model of a text of Stim's detector error models, with its `repeat`, `shift_detectors` and `^`.
 
-        Errors that flip the same are joined, as independent ones, and those that flip nothing are left out. A part of an error that is
-        no error by itself is a mechanism of chance 0. stabsim.BadErrorModel names the line of what can't be read.
+        Each error is a mechanism, also if others flip the same or it flips nothing: `joined` joins them. The model is written as it was
+        read. stabsim.BadErrorModel names the line of what can't be read; blocks may be nested 16 deep.
 
         >>> import stabsim
-        >>> model = stabsim.ErrorModel.from_dem("repeat 2 {\\nerror(0.125) D0 D1\\nshift_detectors 1\\n}\\nerror(0.25) D0 L0\\n")
-        >>> print(model.dem, end="")
-        error(0.125) D0 D1
-        error(0.125) D1 D2
-        error(0.25) D2 L0
-        detector D0
-        detector D1
-        detector D2
-        logical_observable L0
+        >>> model = stabsim.ErrorModel.from_dem("repeat 2 {\\n  error(0.125) D0 D1\\n  shift_detectors 1\\n}\\nerror[a](0.25) D0 ^ L0\\n")
+        >>> [model.flipped(it).tolist() for it in range(len(model))], [part.tolist() for part in model.parts[2]]
+        ([[0, 1], [1, 2], [2, 3]], [[2], [3]])
+        >>> print(model, end="")
+        repeat 2 {
+          error(0.125) D0 D1
+          shift_detectors 1
+        }
+        error[a](0.25) D0 ^ L0
         """
-        made = dem.read(text)
-        errors = made.errors
-        return cls(errors.chances, errors.indptr, errors.indices, made.detectors, made.observables, made.coordinates, parts=made.parts)
+        made = dem.read(checking.text("text", text, "stabsim.ErrorModel.from_file(path)"))
+        model = cls(made.chances, made.indptr, made.indices, made.detectors, made.observables, made.coordinates, parts=made.parts)
+        object.__setattr__(model, "was_read", text)
+        return model
 
     @classmethod
     def from_file(cls, path: str | PathLike[str]) -> "ErrorModel":
         """The model whose text a file has, as `from_dem` reads it."""
-        return cls.from_dem(program.text_of(pathlib.Path(path).read_bytes()))
+        return cls.from_dem(program.text_of(pathlib.Path(checking.file_name("path", path)).read_bytes()))
+
+    def joined(self) -> "ErrorModel":
+        """The model with mechanisms that flip the same joined, as independent ones, and those that flip nothing left out, in the order of
+        what they flip. Of several that have parts those of the likeliest stay.
+
+        >>> import stabsim
+        >>> print(stabsim.ErrorModel.from_dem("error(0.5) D1\\nerror(0.25) D0\\nerror(0.25) D0\\nerror(0.1)\\n").joined(), end="")
+        error(0.375) D0
+        error(0.5) D1
+        detector D0
+        detector D1
+        """
+        found = combining.combined(self.chances, np.repeat(np.arange(len(self)), np.diff(self.indptr)), self.indices)
+        # The likeliest of a mechanism comes last, and stays.
+        order = np.argsort(self.chances, kind="stable")
+        order = order[found.mechanisms[order] >= 0]
+        likeliest = np.zeros(len(found.chances), dtype=np.int64)
+        likeliest[found.mechanisms[order]] = order
+        parts = None if self.parts is None else self.parts.of(likeliest)
+        causes = None if self.causes is None else self.causes.renumbered(found.mechanisms)
+        return replace(self, chances=found.chances, indptr=found.indptr, indices=found.indices, parts=parts, causes=causes)
+
+    @property
+    def all_parts(self) -> Parts:
+        """The parts of each mechanism; of a model that is not decomposed it is its only one."""
+        return Parts(np.arange(len(self) + 1), self.indptr, self.indices) if self.parts is None else self.parts
+
+    def __eq__(self, other: object) -> bool:
+        if not isinstance(other, ErrorModel):
+            return NotImplemented
+        return self.fields() == other.fields() and np.array_equal(self.coordinates, other.coordinates, equal_nan=True)
+
+    def __hash__(self) -> int:
+        return hash(self.fields())
+
+    def fields(self) -> tuple[object, ...]:
+        """What is equal in equal models, except coordinates."""
+        parts = self.all_parts
+        arrays = (self.chances, self.indptr, self.indices, parts.starts, parts.indptr, parts.indices)
+        return self.num_detectors, self.num_observables, *(its.tobytes() for its in arrays)
 
     def __len__(self) -> int:
         return len(self.chances)
 
+    def __bool__(self) -> bool:
+        return True
+
+    def __str__(self) -> str:
+        return self.dem
+
     def __repr__(self) -> str:
         about = f", lines {list(self.approximated)} approximated" if self.approximated else ""
-        return f"<stabsim.ErrorModel: {len(self)} mechanisms, {self.detectors} detectors, {self.observables} observables{about}>"
+        return f"<stabsim.ErrorModel: {len(self)} mechanisms, {self.num_detectors} detectors, {self.num_observables} observables{about}>"
 
     def flipped(self, mechanism: int) -> NDArray[np.int64]:
         """What a mechanism flips, int64 (flips,): detectors, and observables counted on after them."""
+        mechanism = checking.place("mechanism", mechanism, len(self))
         return self.indices[self.indptr[mechanism] : self.indptr[mechanism + 1]]
 
     def check_matrices(self) -> tuple[Bits, Bits]:
         """What mechanisms flip as a pair of bool arrays: (detectors, mechanisms) and (observables, mechanisms)."""
-        table = np.zeros((self.detectors + self.observables, len(self)), dtype=np.bool_)
+        table = np.zeros((self.num_detectors + self.num_observables, len(self)), dtype=np.bool_)
         table[self.indices, np.repeat(np.arange(len(self)), np.diff(self.indptr))] = True
-        return table[: self.detectors], table[self.detectors :]
+        return table[: self.num_detectors], table[self.num_detectors :]
 
     def sparse_check_matrices(self, form: sparse.Form = "csc") -> tuple[sparse.SparseMatrix, sparse.SparseMatrix]:
         """What mechanisms flip as a pair of sparse matrices, (detectors, mechanisms) and (observables, mechanisms), by columns (`csc`)
@@ -119,9 +170,8 @@ class ErrorModel:
         >>> [matrix.shape for matrix in model.sparse_check_matrices("csr")]
         [(1, 2), (1, 2)]
         """
-        if form not in ("csr", "csc"):
-            raise ValueError(f"the form is csr or csc, and not {form}")
-        checks, observables = sparse.split_columns(self.indptr, self.indices, self.detectors, self.detectors + self.observables)
+        checking.one_of("form", form, get_args(sparse.Form))
+        checks, observables = sparse.split_columns(self.indptr, self.indices, self.num_detectors, self.num_detectors + self.num_observables)
         return checks.transposed(form), observables.transposed(form)
 
     def explain(self, mechanism: int) -> list[Cause]:
@@ -134,8 +184,7 @@ class ErrorModel:
         2 X_ERROR X0 0.25
         3 M record of 0 0.125
         """
-        if not 0 <= mechanism < len(self):
-            raise IndexError(f"mechanism {mechanism} is not in 0..{len(self)}")
+        mechanism = checking.place("mechanism", mechanism, len(self))
         if self.causes is None:
             raise ValueError("this model was read, and not made of a circuit, so what makes its mechanisms is not known")
         return self.causes.of(mechanism)
@@ -143,7 +192,8 @@ class ErrorModel:
     def distance(self, *, most: int | None = None, graphlike: bool = False) -> Distance:
         """The least number of mechanisms that flip an observable and together no detector, by the program: of those that have a chance,
         each counts as one error. `Distance.mechanisms` has their numbers; of a model that was made of a circuit, `Distance.errors` has
-        an error for each, at its place in the circuit without noise. most, graphlike: as of `Circuit.distance`; a mechanism has no parts.
+        an error for each, with the path of its item of noise, and its step. most: as of `Circuit.distance`. graphlike: only mechanisms that
+        flip at most two detectors; of a decomposed model only such parts, as Stim does, each with the number of a mechanism that has it.
 
         >>> import stabsim
         >>> c = stabsim.from_stim("R 0 1\\nX_ERROR(0.1) 0 1\\nM 0 1\\nDETECTOR rec[-1] rec[-2]\\nOBSERVABLE_INCLUDE(0) rec[-1]")
@@ -154,37 +204,61 @@ class ErrorModel:
         found = distance_of_model(self, most, graphlike)
         return found if self.causes is None else replace(found, errors=tuple(self.error_of(it, self.causes) for it in found.mechanisms))
 
+    def shortest_error_sat_problem(self) -> str:
+        """The same question as a text for MaxSAT solvers, in their format `p wcnf`: an assignment that breaks W of the clauses of weight 1,
+        and no other, is a set of W mechanisms that flip an observable and no detector, and each such set is one. Variable k says that the
+        k-th mechanism that has a chance happens.
+
+        >>> import stabsim
+        >>> print(stabsim.ErrorModel.from_dem("error(0.1) D0\nerror(0.1) D0 L0").shortest_error_sat_problem(), end="")
+        p wcnf 3 8 3
+        1 -1 0
+        1 -2 0
+        3 -1 -2 -3 0
+        3 1 2 -3 0
+        3 1 -2 3 0
+        3 -1 2 3 0
+        3 -3 0
+        3 2 0
+        """
+        return sat_problem_of_model(self)
+
     def error_of(self, mechanism: int, causes: Causes) -> CircuitError:
         """The first of the errors that make a mechanism, with what it flips."""
         flipped = self.flipped(mechanism).tolist()
-        detectors = tuple(it for it in flipped if it < self.detectors)
+        detectors = tuple(it for it in flipped if it < self.num_detectors)
         return replace(causes.error_of(mechanism), detectors=detectors,
-                       observables=tuple(it - self.detectors for it in flipped[len(detectors):]))
+                       observables=tuple(it - self.num_detectors for it in flipped[len(detectors):]))
 
     @property
     def dem(self) -> str:
-        """The model as text of Stim's detector error models, which Stim and PyMatching read; parts have `^` between them."""
+        """The model as text of Stim's detector error models, which Stim and PyMatching read; parts have `^` between them. A model that was
+        read is written as it was."""
+        if self.was_read is not None:
+            return self.was_read
         lines = [f"# The disjoint errors of line {line} were taken for independent ones." for line in self.approximated]
-        flips = [" ".join(map(self.name, self.flipped(mechanism).tolist())) for mechanism in range(len(self))]
-        for mechanism, chance in enumerate(self.chances.tolist()):
-            parts = self.parts[mechanism] if self.parts else (mechanism,)
-            lines.append(f"error({chance!r}) {' ^ '.join(flips[part] for part in parts)}")
+        names = [f"D{it}" for it in range(self.num_detectors)] + [f"L{it}" for it in range(self.num_observables)]
+        bounds, parts = self.all_parts.indptr.tolist(), self.all_parts.indices.tolist()
+        flips = [" ".join([names[it] for it in parts[first:last]]) for first, last in itertools.pairwise(bounds)]
+        for chance, (first, last) in zip(self.chances.tolist(), itertools.pairwise(self.all_parts.starts.tolist())):
+            lines.append(" ".join([f"error({chance!r})", *filter(None, [" ^ ".join(filter(None, flips[first:last]))])]))
         for detector, place in enumerate(self.coordinates):
             numbers = ", ".join(f"{number:.12g}" for number in place[~np.isnan(place)])
             lines.append(f"detector({numbers}) D{detector}" if numbers else f"detector D{detector}")
-        lines += [f"logical_observable L{observable}" for observable in range(self.observables)]
+        lines += [f"logical_observable L{observable}" for observable in range(self.num_observables)]
         return "".join(line + "\n" for line in lines)
 
     def name(self, index: int) -> str:
         """D and the number of a detector, or L and that of an observable."""
-        return f"D{index}" if index < self.detectors else f"L{index - self.detectors}"
+        return f"D{index}" if index < self.num_detectors else f"L{index - self.num_detectors}"
 
     @property
     def fingerprint(self) -> str:
         """The same for models of the same mechanisms and parts, and for no others that one will meet."""
-        digest = hashlib.sha256(f"{self.detectors} {self.observables} {self.parts or ''}".encode())
-        for part in (self.chances, self.indptr, self.indices):
-            digest.update(part.tobytes())
+        digest = hashlib.sha256(f"{self.num_detectors} {self.num_observables} ".encode())
+        parts = () if self.parts is None else (self.parts.starts, self.parts.indptr, self.parts.indices)
+        for array in (self.chances, self.indptr, self.indices, *parts):
+            digest.update(array.tobytes())
         return digest.hexdigest()[:16]
 
     @overload
@@ -209,9 +283,11 @@ class ErrorModel:
         >>> model.sample(2, seed=5, bit_packed=True)[0].tolist()
         [[1, 0], [1, 0]]
         """
+        shots, first_shot = chunks.checked(shots, first_shot)
+        bits.make_room(shots, self.num_detectors + self.num_observables)
         seed = drawn_seed(seed)
-        drawn = drawing.flips(self.chances, self.indptr, self.indices, self.detectors + self.observables, shots, seed, first_shot)
-        detectors, observables = drawn[:, : self.detectors], drawn[:, self.detectors :]
+        drawn = drawing.flips(self.chances, self.indptr, self.indices, self.num_detectors + self.num_observables, shots, seed, first_shot)
+        detectors, observables = drawn[:, : self.num_detectors], drawn[:, self.num_detectors :]
         if bit_packed:
             return seeded(bits.packed(detectors), seed), seeded(bits.packed(observables), seed)
         return seeded(detectors, seed), seeded(observables, seed)
@@ -241,9 +317,10 @@ class ErrorModel:
         return (self.sample(count, seed=seed, first_shot=first) for first, count in parts)
 
 
-def error_model(circuit: "str | StimCircuit", *, decompose: bool = False, ignore_decomposition_failures: bool = False,
+def error_model(circuit: "str | Circuit | StimCircuit", *, decompose: bool = False, ignore_decomposition_failures: bool = False,
                 approximate_disjoint_errors: bool = False, sure_only: bool = False) -> ErrorModel:
-    """The detector error model of a circuit of Stim's with noise: of its text, or what `from_stim` made of it.
+    """The detector error model of a circuit of Stim's with noise: of its text, or what `from_stim` made of it. That of a `Circuit`, which has
+    no noise, has no mechanisms; ValueError if its file had some.
 
     The circuit's noise may be X_ERROR, Y_ERROR, Z_ERROR, DEPOLARIZE1, DEPOLARIZE2, PAULI_CHANNEL_1, PAULI_CHANNEL_2, E with perhaps
     ELSE_CORRELATED_ERROR after it, and a chance of a wrong record, as M(0.01), on all measurements; stabsim.UnsupportedNoise names
@@ -261,12 +338,24 @@ def error_model(circuit: "str | StimCircuit", *, decompose: bool = False, ignore
     error(0.25) D0
     detector(1) D0
     """
-    profile = judged(circuit) if isinstance(circuit, str) else circuit.profile
+    profile = profile_of(circuit)
     marks, table = faults_of(profile, approximate_disjoint_errors, sure_only)
-    model = model_of(marks, table, detector_rows(places_of(profile.circuit.items())), profile.noisy.items())
+    model = model_of(marks, table, detector_rows(places_of(profile.circuit.items())), profile)
     if not decompose:
         return model
-    return replace(model, parts=parts_of(model.chances, model.indptr, model.indices, model.detectors, ignore_decomposition_failures))
+    numbered = parts_of(model.chances, model.indptr, model.indices, model.num_detectors, ignore_decomposition_failures)
+    return replace(model, parts=Parts.of_mechanisms(numbered, model.indptr, model.indices))
+
+
+def profile_of(circuit: "str | Circuit | StimCircuit") -> Profile:
+    """What a circuit becomes for the program, with its noise beside it."""
+    if isinstance(circuit, Circuit):
+        if circuit.left_out:
+            raise ValueError(f"circuit is {circuit!r}: give what stabsim.from_stim reads, which keeps its noise")
+        circuit = circuit.text
+    if not isinstance(getattr(circuit, "profile", None), Profile):
+        circuit = checking.of_kind("circuit", circuit, str, "a text of a circuit, or what stabsim.from_stim(text) reads")
+    return judged(circuit) if isinstance(circuit, str) else circuit.profile
 
 
 def faults_of(profile: Profile, approximate: bool, sure_only: bool) -> tuple[Marked, FaultTable]:
@@ -284,8 +373,8 @@ def faults_of(profile: Profile, approximate: bool, sure_only: bool) -> tuple[Mar
         raise Refused(refused.number, refused.name, None, MARKS_COUNT if refused.name == "TooManySteps" else "") from None
 
 
-def model_of(circuit: Marked, table: FaultTable, coordinates: NDArray[np.float64], items: tuple[Item, ...]) -> ErrorModel:
-    """The model of a marked circuit, whose table of faults has X and Z of each mark, one after the other; items: those with noise."""
+def model_of(circuit: Marked, table: FaultTable, coordinates: NDArray[np.float64], profile: Profile) -> ErrorModel:
+    """The model of a marked circuit, whose table of faults has X and Z of each mark, one after the other, and which was made of a profile."""
     parts = [errors_of(source, table) for source in circuit.sources]
     counts = [len(chances) for chances, _, _ in parts]
     firsts = combining.starts_of(np.array(counts, dtype=np.int64))
@@ -295,8 +384,8 @@ def model_of(circuit: Marked, table: FaultTable, coordinates: NDArray[np.float64
         np.concatenate(nothing + [errors + first for (_, errors, _), first in zip(parts, firsts)]),
         np.concatenate(nothing + [columns for _, _, columns in parts]),
     )
-    return ErrorModel(joined.chances, joined.indptr, joined.indices, table.detectors, table.observables, coordinates, circuit.approximated,
-                      causes=Causes(tuple(circuit.sources), joined.mechanisms.astype(np.int32), items))
+    return ErrorModel(joined.chances, joined.indptr, joined.indices, table.num_detectors, table.num_observables, coordinates, circuit.approximated,
+                      causes=Causes(tuple(circuit.sources), joined.mechanisms.astype(np.int32), profile.noisy.items(), profile.text))
 
 
 def errors_of(source: Source, table: FaultTable) -> tuple[NDArray[np.float64], NDArray[np.int64], NDArray[np.int64]]:
@@ -310,6 +399,6 @@ def errors_of(source: Source, table: FaultTable) -> tuple[NDArray[np.float64], N
             rows.append(2 * marks[:, place] + second)
             errors.append(np.arange(len(marks)))
     of_row, columns = combining.rows_of(np.concatenate(rows), table.indptr, table.indices)
-    width = table.detectors + table.observables
+    width = table.num_detectors + table.num_observables
     sets, columns = combining.odd(np.concatenate(errors)[of_row], columns, width)
     return np.full(len(marks), source.chance), sets, columns

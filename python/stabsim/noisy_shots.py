@@ -6,15 +6,15 @@ the same whatever others are drawn with it. What happens is drawn from raw words
 
 import itertools
 from collections.abc import Iterable, Iterator, Sequence
+from concurrent.futures import Executor
 from dataclasses import dataclass, field
 
 import numpy as np
 from numpy.typing import NDArray
 
-from stabsim import bits, names, program
+from stabsim import bits, checking, chunks, names, program
 from stabsim.channels import ONE, TWO
-from stabsim.errors import Refused, UnsupportedNoise
-from stabsim.marking import chances_of
+from stabsim.errors import Refused
 from stabsim.reading import Block, Instruction, Item
 from stabsim.sizes import sizes_of
 
@@ -22,6 +22,7 @@ from stabsim.sizes import sizes_of
 MOST_SHOTS = 64
 MOST_WORDS = 1 << 19
 MOST_WORDS_OF_SHOT = 1 << 22
+DETECT = "Of detectors `detect` draws shots without that."
 
 
 @dataclass
@@ -55,23 +56,39 @@ class Plan:
             yield "".join(parts)
 
 
-def records(items: Sequence[Item], shots: int, seed: int, first_shot: int) -> NDArray[np.bool_]:
-    """The records of shots first_shot, first_shot + 1 .. of a seed, bool (shots, records)."""
-    if shots < 0 or first_shot < 0 or not 0 <= seed < 2**64:
-        raise ValueError("shots are 0 or more, and a seed is in 0..2**64")
+def records(items: Sequence[Item], shots: int, seed: int, first_shot: int, executor: Executor | None = None) -> NDArray[np.bool_]:
+    """The records of shots first_shot, first_shot + 1 .. of a seed, bool (shots, records); with an executor its workers take blocks."""
+    shots, first_shot = chunks.checked(shots, first_shot)
     words = words_in(items)
     if words > MOST_WORDS_OF_SHOT:
-        raise Refused(9, "TooManySteps", None, f"A shot is written out, and has {words} words; {MOST_WORDS_OF_SHOT} are the most.")
+        raise Refused(9, "TooManySteps", None, f"A shot is written out, and has {words} words; {MOST_WORDS_OF_SHOT} are the most.\n{DETECT}")
     plan, sizes = plan_of(items), sizes_of(without_channels(items))
+    bits.make_room(shots, sizes.records)
     size = max(1, min(MOST_SHOTS, MOST_WORDS // max(words, 1)))
     reset = f"R {' '.join(map(str, range(sizes.qubits)))}\n"
+    blocks = range(first_shot // size, -(-(first_shot + shots) // size))
+    bounds = [[min(max(shot - block * size, 0), size) for shot in (first_shot, first_shot + shots)] for block in blocks]
+    texts = ("".join(reset + shot for shot in itertools.islice(plan.texts_of(seed, block, size), end)) for block, (_, end) in zip(blocks, bounds))
     found = [np.zeros((0, sizes.records), dtype=np.bool_)]
-    for block in range(first_shot // size, -(-(first_shot + shots) // size)):
-        first, end = (min(max(shot - block * size, 0), size) for shot in (first_shot, first_shot + shots))
-        text = "".join(reset + shot for shot in itertools.islice(plan.texts_of(seed, block, size), end))
-        asked = ["sample", "--shots", "1", *program.seed_words(seed), "--first_shot", str(block), "--out_format", "b8"]
-        found.append(bits.of_b8(program.run(asked, text), 1, end * sizes.records).reshape(end, sizes.records)[first:])
+    for data, (first, end) in zip(runs_of(executor, texts, seed, blocks), bounds):
+        found.append(bits.of_b8(data, 1, end * sizes.records).reshape(end, sizes.records)[first:])
     return np.concatenate(found)
+
+
+def runs_of(executor: Executor | None, texts: Iterable[str], seed: int, shots: Iterable[int]) -> Iterable[bytes]:
+    """What `run` gives of each text, here or by the workers of an executor."""
+    if executor is None:
+        return map(run, texts, itertools.repeat(seed), shots)
+    workers = checking.of_kind("executor", executor, Executor, "one of concurrent.futures, as ThreadPoolExecutor()")
+    return workers.map(run, texts, itertools.repeat(seed), shots)
+
+
+def run(text: str, seed: int, shot: int) -> bytes:
+    """The records of a text that was made of a shot or several, with the coins of one shot of the program's."""
+    try:
+        return program.run(["sample", "--shots", "1", *program.seed_words(seed), "--first_shot", str(shot), "--out_format", "b8"], text)
+    except Refused as refused:
+        raise Refused(refused.number, refused.name, None, f"A shot is written out, with its errors as gates.\n{DETECT}") from None
 
 
 def words_in(items: Sequence[Item]) -> int:
@@ -107,32 +124,22 @@ def add_items(plan: Plan, items: Sequence[Item]) -> None:
         elif item.name == names.FIRST:
             chain = itertools.takewhile(lambda it: it.name == names.ELSE, items[place + 1 :])
             add_chain(plan, [item, *(it for it in chain if isinstance(it, Instruction))])
-        elif item.name == names.ELSE:
-            check_chained(item, items[place - 1] if place else None)
         elif item.name in names.MEASUREMENTS and item.arguments:
             add_measurement(plan, item)
-        elif item.name not in names.ANNOTATIONS:
+        # An error that may happen if others did not came with those.
+        elif item.name not in (*names.ANNOTATIONS, names.ELSE):
             plan.parts.append(f"{item}\n")
-
-
-def check_chained(item: Instruction, before: Item | None) -> None:
-    """An error that may happen if others did not is right after one of them."""
-    if before is None or before.name not in names.CORRELATED:
-        raise UnsupportedNoise(item.line, f"{item.name} follows {names.FIRST} or another {item.name} on the line in front of it")
 
 
 def add_channel(plan: Plan, item: Instruction) -> None:
     """Adds a site for each time that a channel acts."""
     letters: Sequence[str] = TWO if item.name.endswith("2") else ONE
     size = len(letters[0])
-    if len(item.targets) % size:
-        raise UnsupportedNoise(item.line, f"{item.name} is on pairs of qubits")
+    chances = item.numbers()
     if item.name in names.FLIPS:
-        letters, chances = [names.FLIPS[item.name]], chances_of(item, 1)
+        letters = [names.FLIPS[item.name]]
     elif item.name.startswith("DEPOLARIZE"):
-        chances = [chances_of(item, 1)[0] / len(letters)] * len(letters)
-    else:
-        chances = chances_of(item, len(letters))
+        chances = [chances[0] / len(letters)] * len(letters)
     for first in range(0, len(item.targets), size):
         qubits = item.targets[first : first + size]
         plan.add_site("", chances, [gates(zip(error, qubits)) for error in letters])
@@ -142,7 +149,7 @@ def add_chain(plan: Plan, items: Sequence[Instruction]) -> None:
     """Adds one site for an error on several qubits, and those that may happen if it and those between did not."""
     none_yet, chances = 1.0, []
     for item in items:
-        [chance] = chances_of(item, 1)
+        [chance] = item.numbers()
         chances.append(chance * none_yet)
         none_yet *= 1 - chance
     plan.add_site("", chances, [gates((target[0].upper(), target[1:]) for target in item.targets) for item in items])
@@ -150,7 +157,7 @@ def add_chain(plan: Plan, items: Sequence[Instruction]) -> None:
 
 def add_measurement(plan: Plan, item: Instruction) -> None:
     """Adds a site for each measured target: a wrong record is one that is inverted."""
-    [chance] = chances_of(item, 1)
+    [chance] = item.numbers()
     plan.parts.append(item.name)
     for target in item.targets:
         plan.add_site(f" {target}", [chance], [f" {target[1:] if target.startswith('!') else '!' + target}"])

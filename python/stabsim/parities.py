@@ -1,8 +1,8 @@
-"""Parities of records that no coin decides: those that are local, and which of them a circuit's detectors don't give."""
+"""Parities of records that no coin decides: those that are local, and those that detectors and observables declare."""
 
 import functools
 import operator
-from collections.abc import Iterable, Iterator, Mapping, Sequence
+from collections.abc import Iterable, Iterator, Sequence
 from dataclasses import dataclass
 from typing import NamedTuple
 
@@ -19,15 +19,17 @@ Records = frozenset[int]
 class Parity(NamedTuple):
     """Some records whose parity is the same for all random bits.
 
-    records: tuple of int, ascending, from 0; value: bool, the parity.
+    records: tuple of int, ascending, from 0; value: bool, the parity. is_logical: whether it may be an observable, as `missing_detectors`
+    says.
 
     >>> import stabsim
     >>> stabsim.Circuit("MX 0 !0").missing_detectors()
-    [Parity(records=(0, 1), value=True)]
+    [Parity(records=(0, 1), value=True, is_logical=False)]
     """
 
     records: tuple[int, ...]
     value: bool
+    is_logical: bool = False
 
 
 @dataclass(frozen=True)
@@ -52,37 +54,65 @@ class SameDistribution:
         return self.same
 
 
-def local_parities(columns: Sequence[int], fixed: int | None = None) -> list[Records]:
+class Independent:
+    """Records whose columns are independent, as sums of some, with which others are found to depend on them.
+
+    rows: by the length of a vector that vector, and the records whose columns add up to it. having: by record the rows that had it.
+    """
+
+    def __init__(self) -> None:
+        self.rows: dict[int, tuple[int, set[int]]] = {}
+        self.having: dict[int, set[int]] = {}
+
+    def rest(self, record: int, column: int) -> tuple[int, set[int]]:
+        """What is left of a record's column without those that it depends on, and the records of which that is the sum."""
+        vector, together = column, {record}
+        while vector and vector.bit_length() in self.rows:
+            other, its = self.rows[vector.bit_length()]
+            vector ^= other
+            together ^= its
+        return vector, together
+
+    def add(self, rows: set[int], records: set[int]) -> None:
+        """Adds records to some rows."""
+        for row in rows:
+            self.rows[row][1].symmetric_difference_update(records)
+        for record in records if rows else ():
+            self.having[record] = self.having.get(record, set()) ^ rows
+
+    def drop(self, lengths: Iterable[int]) -> None:
+        """Drops the vectors of these lengths, which no later column has."""
+        for length in lengths:
+            self.rows.pop(length, None)
+
+
+def local_parities(columns: Iterable[int], fixed: int | None = None, later: Sequence[int] | None = None) -> list[Records]:
     """The parities that no coin decides, as a basis: for each record that those before it determine one that ends with it and begins as
     late as any can.
 
     columns: for each record the coins that flip it, as digits of a number. The last records whose columns are independent are kept; a
     record that depends on them makes a parity with some, of which the first is then given up. fixed: a place from which on nothing is
-    given up, so that what is there is made of what is before it.
+    given up, so that what is there is made of what is before it. later: for each record how many coins flip one after it, if just the
+    digits of these are the lowest; the rest is forgotten.
     """
-    rows: dict[int, tuple[int, set[int]]] = {}
+    kept = Independent()
     found = []
     for record, column in enumerate(columns):
-        vector, together = column, {record}
-        while vector and vector.bit_length() in rows:
-            other, its = rows[vector.bit_length()]
-            vector ^= other
-            together ^= its
+        vector, together = kept.rest(record, column)
         if vector:
-            rows[vector.bit_length()] = (vector, together)
-            continue
-        found.append(frozenset(together))
-        if fixed is not None and record >= fixed:
-            continue
-        oldest = min(together)
-        for _, its in rows.values():
-            if oldest in its:
-                its ^= together
+            kept.rows[vector.bit_length()] = (vector, set())
+            kept.add({vector.bit_length()}, together)
+        else:
+            found.append(frozenset(together))
+        if not vector and (fixed is None or record < fixed):
+            kept.add(kept.having.get(min(together), set()) & kept.rows.keys(), together)
+        if later is not None and record:
+            kept.drop(range(later[record] + 1, later[record - 1] + 1))
     return found
 
 
-def known_parities(items: Iterable[Item]) -> list[Records]:
-    """The records of each detector, and after them those of each observable."""
+def known_parities(items: Iterable[Item]) -> tuple[list[Records], list[Records]]:
+    """The records of each detector, and those of each observable that has any."""
     detectors: list[Records] = []
     observables: dict[int, Records] = {}
     for observable, records in declared(items, 0):
@@ -90,7 +120,7 @@ def known_parities(items: Iterable[Item]) -> list[Records]:
             detectors.append(records)
         else:
             observables[observable] = observables.get(observable, frozenset()) ^ records
-    return detectors + list(observables.values())
+    return detectors, list(observables.values())
 
 
 def declared(items: Iterable[Item], before: int) -> Iterator[tuple[int | None, Records]]:
@@ -109,65 +139,11 @@ def declared(items: Iterable[Item], before: int) -> Iterator[tuple[int | None, R
         before = Sizes(records=before).before(its, item.repeat or 1).records
 
 
-def missing_parities(parities: Sequence[Records], known: Iterable[Records]) -> list[Records]:
-    """Of a basis of local parities those that known ones don't give, those of the least span first.
-
-    Each parity has its own last record, so a known one is a sum of them in one way. Of each independent known one that parity is left out
-    which spans most.
-    """
-    ordered = sorted(parities, key=lambda it: (max(it) - min(it), len(it), max(it)))
-    place_of = {max(it): place for place, it in enumerate(ordered)}
-    left_out: dict[int, set[int]] = {}
-    for records in known:
-        places = places_in(records, ordered, place_of)
-        while places and max(places) in left_out:
-            places ^= left_out[max(places)]
-        if places:
-            left_out[max(places)] = places
-    having: dict[int, list[int]] = {}
-    for place, records in enumerate(ordered):
-        for record in records:
-            having.setdefault(record, []).append(place)
-    return [lightened(place, ordered, having) for place in range(len(ordered)) if place not in left_out]
-
-
-def places_in(records: Records, ordered: Sequence[Records], place_of: dict[int, int]) -> set[int]:
-    """The places of the parities that add up to some records: none if coins decide their parity."""
-    left, found = set(records), set[int]()
-    while left:
-        place = place_of.get(max(left))
-        if place is None:
-            return set()
-        found ^= {place}
-        left ^= ordered[place]
-    return found
-
-
-def lightened(place: int, ordered: Sequence[Records], having: Mapping[int, Sequence[int]]) -> Records:
-    """A parity, or its sum with earlier ones within its span, if that has fewer records; having: the places of those that have a record."""
-    best = ordered[place]
-    first, last = min(best), max(best)
-    is_lighter = True
-    while is_lighter:
-        near = (ordered[it] for it in {it for record in best for it in having[record] if it < place})
-        lightest = min((best ^ it for it in near if first <= min(it) and max(it) <= last), key=lambda it: (len(it), max(it)), default=best)
-        is_lighter = len(lightest) < len(best)
-        best = lightest if is_lighter else best
-    return best
-
-
-def missing_of(table: CoinTable, items: Iterable[Item]) -> list[Parity]:
-    """What `Circuit.missing_detectors` answers."""
-    parities = local_parities(table.columns(table.records))
-    missing = missing_parities(parities, known_parities(items))
-    return [Parity(tuple(sorted(records)), bool(table.constants()[list(records)].sum() % 2)) for records in missing]
-
-
 def compared(first: CoinTable, second: CoinTable) -> SameDistribution:
     """What `Circuit.same_distribution` answers: each parity that no coin of one decides must be the same in the other."""
-    if first.records != second.records:
-        raise ValueError(f"{first.records} records and {second.records} have no distribution in common")
-    tables = [(table.columns(table.records), table.constants()) for table in (first, second)]
+    if first.num_records != second.num_records:
+        raise ValueError(f"{first.num_records} records and {second.num_records} have no distribution in common")
+    tables = [(table.columns(table.num_records), table.constants()) for table in (first, second)]
     for columns, _ in tables:
         for records in sorted(local_parities(columns), key=lambda it: (len(it), max(it))):
             values = [value_of(records, *table) for table in tables]
@@ -188,6 +164,6 @@ def detector_lines(parities: Iterable[Parity | Iterable[int]], records: int) -> 
     for parity in parities:
         its = parity.records if isinstance(parity, Parity) else tuple(parity)
         if not all(0 <= record < records for record in its):
-            raise ValueError(f"{list(its)} are not all records of 0..{records}")
+            raise ValueError(f"{list(its)} are not all records of the circuit, which has {records}, counted from 0")
         lines.append(" ".join(["DETECTOR", *(f"rec[{record - records}]" for record in its)]) + "\n")
     return "".join(lines)

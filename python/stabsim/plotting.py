@@ -4,9 +4,12 @@ import importlib
 from collections.abc import Callable, Iterable
 from typing import Any
 
+from stabsim import checking
 from stabsim.rates import Rate
 from stabsim.sums import Sums
 
+# What is drawn.
+EXAMPLE = "the sums of stabsim.combine('counts.csv'), or those that stabsim.collect yields"
 Number = str | float | Callable[[Sums], float]
 
 # Colours that also differ for those who can't distinguish red from green, by Okabe and Ito, and a mark beside each.
@@ -30,10 +33,11 @@ def plot(counted: Iterable[Sums], *, x: Number, group: str | Callable[[Sums], An
     >>> [text.get_text() for text in axes.get_legend().get_texts()]
     ['d = 3', 'd = 5']
     """
+    every = [checking.of_kind("a sum", it, Sums, EXAMPLE) for it in checking.several("counted", counted, EXAMPLE)]
     if axes is None:
         axes = importlib.import_module("matplotlib.pyplot").subplots()[1]
     groups: dict[Any, list[tuple[float, Rate]]] = {}
-    for sums in counted:
+    for sums in every:
         rate = sums.rate(max_likelihood_factor=max_likelihood_factor).per_round(number_of(sums, rounds))
         groups.setdefault(of(sums, group), []).append((number_of(sums, x), rate))
     for place, (name, points) in enumerate(groups.items()):

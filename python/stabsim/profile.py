@@ -4,16 +4,20 @@ Nothing is asked of the program here.
 """
 
 import functools
-from collections.abc import Callable, Iterable
+from collections.abc import Callable, Sequence
 from dataclasses import dataclass, field
+from typing import NamedTuple
 
 from stabsim import names, quoting
 from stabsim.errors import Refused, UnsupportedNoise
+from stabsim.noise_lines import check_channel, check_measurement
 from stabsim.reading import Instruction, Item, Line, Parts, content_of, items_of, lines_of
-from stabsim.rewriting import WrongTarget, rewritten
-from stabsim.targets import qubits_of
+from stabsim.rewriting import WrongWord, rewritten
+from stabsim.targets import LONG_NUMBER, qubits_of
 
 MOST_QUBITS = 1024
+
+Fault = Refused | UnsupportedNoise
 
 
 @dataclass
@@ -23,11 +27,10 @@ class Copy:
     lines: list[str] = field(default_factory=list)
     origins: list[int] = field(default_factory=list)
 
-    def add(self, lines: Iterable[str], origin: int) -> None:
+    def add(self, lines: Sequence[str], origin: int) -> None:
         """Adds lines that come from one."""
-        for line in lines:
-            self.lines.append(line)
-            self.origins.append(origin)
+        self.lines += lines
+        self.origins += [origin] * len(lines)
 
     @property
     def text(self) -> str:
@@ -37,6 +40,15 @@ class Copy:
     def items(self) -> tuple[Item, ...]:
         """Its items, with the lines that they come from."""
         return items_of(Line(origin, line, content_of(line)) for line, origin in zip(self.lines, self.origins))
+
+
+class Made(NamedTuple):
+    """What one line becomes in each text of a profile, and what is left out of it, if it has noise."""
+
+    circuit: Sequence[str]
+    noisy: Sequence[str]
+    judged: Sequence[str]
+    left_out: str = ""
 
 
 @dataclass(frozen=True)
@@ -53,67 +65,79 @@ class Profile:
     judged: Copy = field(default_factory=Copy)
     left_out: dict[int, str] = field(default_factory=dict)
 
-    def add(self, origin: int, circuit: list[str], noisy: list[str], judged: list[str]) -> None:
+    @classmethod
+    def of_read(cls, text: str) -> "Profile":
+        """The profile of a text that the program reads, which stays as it is."""
+        lines = text.split("\n")
+        copy = Copy(lines, list(range(1, len(lines) + 1)))
+        return cls(text, copy, copy, copy)
+
+    def add(self, origin: int, made: Made) -> None:
         """Adds what one line becomes in each text."""
-        for copy, lines in ((self.circuit, circuit), (self.noisy, noisy), (self.judged, judged)):
-            copy.add(lines, origin)
+        self.circuit.add(made.circuit, origin)
+        self.noisy.add(made.noisy, origin)
+        self.judged.add(made.judged, origin)
+        if made.left_out:
+            self.left_out[origin] = made.left_out
 
 
-def profile_of(text: str) -> Profile:
-    """The texts that a text of Stim's becomes. Raises stabsim.UnsupportedNoise at heralded errors, which make records, and
-    stabsim.Refused at targets that an instruction which the program does not read can't have."""
+def profile_of(text: str) -> tuple[Profile, Fault | None]:
+    """The texts that a text of Stim's becomes, and None; or those of the lines in front of the first line that can't become such, and
+    why it can't: stabsim.UnsupportedNoise at heralded errors, which make records, and stabsim.Refused at other noise that Stim refuses,
+    and at targets that an instruction which the program does not read can't have."""
     profile = Profile(text)
-    # Most circuits need no qubit of its own for padding, and it takes another look at the whole text.
+    # Most circuits need no qubit of its own for known records, and it takes another look at the whole text.
     spare = functools.cache(lambda: spare_qubit(text))
+    before = ""
     for line in lines_of(text):
         parts = line.parts
-        if parts is None or line.opens:
-            profile.add(line.number, [line.text], [line.text], [line.text])
-        elif parts.name in names.UNREAD_NOISE:
-            add_channel(profile, line, parts)
-        else:
-            add_instruction(profile, line, parts, rewriting_of(line, parts, spare))
-    return profile
+        try:
+            profile.add(line.number, made_of(line, parts, before, spare))
+        except WrongWord as wrong:
+            said = quoting.quoted(line, wrong.word, wrong.cure, is_argument=wrong.name == "BadArguments")
+            return profile, Refused(wrong.number, wrong.name, line.number, said)
+        except UnsupportedNoise as unsupported:
+            return profile, unsupported
+        if line.content:
+            before = parts.name if parts else ""
+    return profile, None
 
 
-def add_channel(profile: Profile, line: Line, parts: Parts) -> None:
-    """Adds a channel: a line with its qubits that does nothing is judged in its place."""
-    if parts.name in names.HERALDED:
-        raise UnsupportedNoise(line.number, f"{parts.name} makes records, so that what is without it is another circuit")
-    qubits: Iterable[str] = parts.targets
-    if parts.name in names.CORRELATED:
-        if not all(target[0] in "XYZxyz" for target in parts.targets):
-            raise UnsupportedNoise(line.number, f"the targets of {parts.name} are Paulis, as X0 Z3")
-        qubits = (target[1:] for target in parts.targets)
-    profile.left_out[line.number] = line.content
-    profile.add(line.number, [], [] if parts.name in names.IDLE else [line.text], [" ".join(["QUBIT_COORDS", *qubits])])
+def made_of(line: Line, parts: Parts | None, before: str, spare: Callable[[], int]) -> Made:
+    """What a line with these parts becomes; before: the name of the instruction on the line before it."""
+    if parts is None or line.opens or (len(line.text) > 4000 and LONG_NUMBER.search(line.text)):
+        return Made([line.text], [line.text], [line.text])
+    if parts.name in names.UNREAD_NOISE:
+        return channel(line, parts, before)
+    return instruction(line, parts, spare)
 
 
-def add_instruction(profile: Profile, line: Line, parts: Parts, rewriting: list[Parts] | None) -> None:
-    """Adds an instruction, or what does the same. Arguments of measurements are the chance of a wrong record."""
+def channel(line: Line, parts: Parts, before: str) -> Made:
+    """What a channel becomes: a line with its qubits that does nothing is judged in its place."""
+    check_channel(parts, line.number, before)
+    qubits = (target[1:] for target in parts.targets) if parts.name in names.CORRELATED else parts.targets
+    noisy = [] if parts.name in names.IDLE else [line.text]
+    return Made([], noisy, [" ".join(["QUBIT_COORDS", *qubits])], line.content)
+
+
+def instruction(line: Line, parts: Parts, spare: Callable[[], int]) -> Made:
+    """What an instruction becomes: itself, or what does the same. Arguments of measurements are the chance of a wrong record."""
     is_noisy = bool(parts.arguments) and parts.name in names.MEASURING
+    left_out = ""
     if is_noisy:
-        profile.left_out[line.number] = f"({', '.join(parts.arguments)}) of {parts.name}"
+        check_measurement(parts)
+        left_out = f"({', '.join(parts.arguments)}) of {parts.name}"
+    rewriting = rewritten(parts, spare)
     if rewriting is None:
         quiet = [line.without_arguments() if is_noisy else line.text]
-        profile.add(line.number, quiet, [line.text], quiet)
-        return
+        return Made(quiet, [line.text], quiet, left_out)
     _, hash_sign, comment = line.text.partition("#")
     written = [str(Instruction(line.number, *it)) for it in rewriting]
     without = [str(Instruction(line.number, it.name, it.tag, () if is_noisy else it.arguments, it.targets)) for it in rewriting]
     noisy, quiet = ([line.indentation + it for it in lines] for lines in (written, without))
     if quiet and hash_sign:
         quiet[0] += f" #{comment}"
-    profile.add(line.number, quiet, noisy, quiet)
-
-
-def rewriting_of(line: Line, parts: Parts, spare: Callable[[], int]) -> list[Parts] | None:
-    """What an instruction becomes; a wrong target is refused."""
-    try:
-        return rewritten(parts, spare)
-    except WrongTarget as wrong:
-        said = quoting.quoted(line, wrong.word, wrong.cure)
-        raise Refused(wrong.number, wrong.name, line.number, said) from None
+    return Made(quiet, noisy, quiet, left_out)
 
 
 def spare_qubit(text: str) -> int:
@@ -122,25 +146,11 @@ def spare_qubit(text: str) -> int:
     for line in lines_of(text):
         if line.parts and not line.opens and line.parts.name != "MPAD":
             named.update(*(qubits_of(target) for target in line.parts.targets if "[" not in target))
+    # A greater one is refused.
+    named &= set(range(MOST_QUBITS))
     beyond = max(named, default=-1) + 1
     candidates: list[int] = [beyond, *range(beyond)]
     for qubit in candidates:
         if qubit < MOST_QUBITS and qubit not in named:
             return qubit
-    raise WrongTarget("", 6, "QubitOutOfRange", f"A known record takes a qubit of its own, and all {MOST_QUBITS} are named.")
-
-
-def without_noise(text: str) -> str:
-    """The circuit of a text of Stim's without its noise: channels are left out, and measurements lose the chance of a wrong record.
-
-    Instructions that the program does not read become those that it reads, as by `from_stim`. Everything else stays as it is written,
-    comments too. Raises stabsim.UnsupportedNoise at heralded errors, which make records.
-
-    >>> import stabsim
-    >>> print(stabsim.without_noise('''R 0 1
-    ... DEPOLARIZE2(0.01) 0 1
-    ... MXX(0.02) 0 1  # a check'''))
-    R 0 1
-    MPP X0*X1 # a check
-    """
-    return profile_of(text).circuit.text
+    raise WrongWord("", 6, "QubitOutOfRange", f"A known record takes a qubit of its own, and all {MOST_QUBITS} are named.")

@@ -8,12 +8,17 @@ import shutil
 import subprocess
 import tempfile
 
+from stabsim import checking
 from stabsim.errors import MissingProgram, ProgramFailed, Refused
 
 # The version of the program that first had what this package asks for.
 NEEDED_VERSION = (0, 2, 0)
 
 REFUSAL = re.compile(r"^stabsim: (?:line (\d+): )?refused (\d+) (\w+)$", re.MULTILINE)
+
+# A text that no instruction has, and a file's name may be.
+FILE_NAME = re.compile(r"[^\s#(\[{*]*[./][^\s#(\[{*]*")
+NO_FILE = "\nIf this is the name of a file, stabsim.Circuit.from_file(name) reads it, and with its noise stabsim.StimCircuit.from_file(name)."
 
 WHAT_TO_DO = (
     "Build it by `./stabsim --version` at the top of its repository, and use this package from there, "
@@ -82,10 +87,8 @@ def text_of(data: bytes) -> str:
 
 
 def seed_words(seed: int) -> list[str]:
-    """The option of a seed; raises ValueError if it is out of range."""
-    if not 0 <= seed < 2**64:
-        raise ValueError(f"the seed {seed} is not in 0..2**64")
-    return ["--seed", str(seed)]
+    """The option of a seed; raises TypeError or ValueError if it is none."""
+    return ["--seed", str(checking.seed("seed", seed))]
 
 
 def version_text(version: tuple[int, int, int]) -> str:
@@ -102,7 +105,7 @@ def run(words: list[str], text: str) -> bytes:
         done = subprocess.run([program, *words, "--in", file.name], stdin=subprocess.DEVNULL, capture_output=True, check=False)
     if done.returncode:
         # What `check` writes of a circuit that is refused is why.
-        why = done.stdout.decode(errors="replace") if words[0] == "check" else ""
+        why = done.stdout.decode(errors="replace").rstrip("\n") + NO_FILE * bool(FILE_NAME.fullmatch(text)) if words[0] == "check" else ""
         raise failure(program, done.returncode, done.stderr.decode(errors="replace"), why)
     return done.stdout
 

@@ -6,11 +6,10 @@ from dataclasses import dataclass
 import numpy as np
 from numpy.typing import NDArray
 
-from stabsim import flow_group, parities
+from stabsim import checking, flow_group, missing, parities
 from stabsim.asked import Asked
 from stabsim.flows import Flow, SameFlows, asking_text
 from stabsim.parities import Parity, SameDistribution
-from stabsim.reading import items_of
 
 
 @dataclass(frozen=True)
@@ -28,13 +27,15 @@ class Questioned(Asked):
         >>> [c.has_flow(it) for it in ("X0 -> X1 xor rec[-1]", "X0 -> X1", "1 -> XX xor rec[-1]", "Z0 -> Z0")]
         [True, False, True, False]
         """
-        return bool(self.flows_that_hold([Flow.of_text(flow) if isinstance(flow, str) else flow])[0])
+        if isinstance(flow, str):
+            flow = Flow.of_text(flow)
+        return bool(self.flows_that_hold([checking.of_kind("flow", flow, Flow, "a text as 'X0 -> Z0 xor rec[-1]', or a stabsim.Flow")])[0])
 
     def flows_that_hold(self, flows: Sequence[Flow]) -> NDArray[np.bool_]:
         """Which flows the circuit has, bool (flows,): one, or several of which all that one circuit could have."""
         before = self.numbers()
         qubits = max([before.qubits, *(flow.qubits for flow in flows)])
-        asked = Asked(asking_text(self.text, flows, qubits, before.records))
+        asked = Asked(asking_text(self.asked, flows, qubits, before.records))
         is_deterministic = asked.deterministic().detectors[before.detectors :]
         is_negative = asked.detect(1, seed=0)[0, before.detectors :]
         found: NDArray[np.bool_] = is_deterministic & (is_negative == np.array([flow.sign for flow in flows], dtype=np.bool_))
@@ -52,12 +53,12 @@ class Questioned(Asked):
         Z0 -> Z1
         1 -> X0 xor rec[-1]
         """
-        return self.generators_on(self.numbers().qubits, qubits, records)
+        return self.generators_on(self.numbers().qubits, some_qubits(qubits), records)
 
     def generators_on(self, count: int, qubits: Iterable[int] | None, records: bool) -> list[Flow]:
         """The generators with this many qubits, as many as the circuit names or more."""
-        rows = flow_group.joint_rows(Asked(flow_group.measured_text(self.text, [], count)).stabilisers(), count)
-        found = flow_group.generators_of(Asked(flow_group.measured_text(self.text, rows, count)).coins(), rows, count)
+        rows = flow_group.joint_rows(Asked(flow_group.measured_text(self.asked, [], count)).stabilisers(), count)
+        found = flow_group.generators_of(Asked(flow_group.measured_text(self.asked, rows, count)).coins(), rows, count)
         return found if qubits is None and records else flow_group.within(found, qubits, records, count)
 
     def same_flows(self, other: "Questioned", *, qubits: Iterable[int] | None = None, records: bool = True) -> SameFlows:
@@ -74,10 +75,11 @@ class Questioned(Asked):
         >>> print(found.same, found.flow, found.first)
         False Z1 -> Z0 True
         """
+        checked(other)
         has = [circuit.numbers() for circuit in (self, other)]
         if records and has[0].records != has[1].records:
             raise ValueError(f"{has[0].records} records and {has[1].records} have no flows in common; records=False leaves them out")
-        count, some = max(its.qubits for its in has), None if qubits is None else list(qubits)
+        count, some = max(its.qubits for its in has), some_qubits(qubits)
         for circuit, another in ((self, other), (other, self)):
             flows = circuit.generators_on(count, some, records)
             lacking = np.flatnonzero(~another.flows_that_hold(flows))
@@ -85,16 +87,23 @@ class Questioned(Asked):
                 return SameFlows(False, flows[lacking[0]], circuit is self)
         return SameFlows(True)
 
-    def missing_detectors(self) -> list[Parity]:
+    def missing_detectors(self, *, unknown_input: bool = False, observables: bool = False) -> list[Parity]:
         """Parities of records that are the same for all random bits, and that the circuit's detectors and observables don't give: such that all
-        others are sums of these and those. Each has few records, which are near in time. `Circuit.with_detectors` puts them in.
+        others are sums of these and those. `Circuit.with_detectors` puts them in. Each has a detecting region that lasts as few instructions
+        as can be, then begins at few resets, then has few records.
+
+        A parity that is in none of the three less than an observable may be that observable in another form: its sum with it is what is
+        answered. unknown_input: the qubits are in any state at first, and not 0. observables: take observables for unknown; what may
+        be one is then `is_logical`. Without observables this is so too, by the longest parity that begins at a reset.
 
         >>> import stabsim
-        >>> c = stabsim.Circuit("R 0\\nREPEAT 3 {\\nMX 0\\n}\\nX 0\\nMX 0\\nDETECTOR rec[-2] rec[-3]")
-        >>> c.missing_detectors()
-        [Parity(records=(0, 1), value=False), Parity(records=(2, 3), value=False)]
+        >>> c = stabsim.Circuit("R 0 1 2\\nM 0 1 2\\nOBSERVABLE_INCLUDE(0) rec[-3]")
+        >>> [its.records for its in c.missing_detectors()]
+        [(0, 1), (0, 2)]
+        >>> [(its.records, its.is_logical) for its in c.missing_detectors(observables=True)]
+        [((0,), True), ((1,), True), ((2,), True)]
         """
-        return parities.missing_of(self.coins(), items_of(self.text))
+        return missing.missing_detectors(self.asked, self.numbers().qubits, unknown_input, observables)
 
     def same_distribution(self, other: "Questioned") -> SameDistribution:
         """Whether another circuit with as many records gives the same distribution of them, and else a parity in which they differ.
@@ -107,4 +116,14 @@ class Questioned(Asked):
         >>> pair.same_distribution(stabsim.Circuit("H 0 1\\nM 0 1"))
         SameDistribution(same=False, parity=(0, 1), first=False, second=None)
         """
-        return parities.compared(self.coins(), other.coins())
+        return parities.compared(self.coins(), checked(other).coins())
+
+
+def checked(other: Questioned) -> Questioned:
+    """The circuit that another is compared with."""
+    return checking.of_kind("other", other, Questioned, "a circuit without noise, as stabsim.Circuit(text), or stabsim.from_stim(text).circuit")
+
+
+def some_qubits(qubits: Iterable[int] | None) -> list[int] | None:
+    """The qubits that a flow is on, or None if it may be on any."""
+    return None if qubits is None else [checking.whole("a qubit", it) for it in checking.several("qubits", qubits, "[0, 3]")]

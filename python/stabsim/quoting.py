@@ -16,14 +16,19 @@ WINDOW = 100
 BEFORE = 40
 CUT = ".."
 
+# An argument, which has no spacing around it.
+ARGUMENT = re.compile(r"[^(),\s](?:[^(),]*[^(),\s])?")
+
 # Where a word begins and ends in its line.
 Span = tuple[int, int]
 
 
-def quoted(line: Line, word: str, *sentences: str) -> str:
-    """A line with carets under one of its targets, or under all of its content, and what is said of it."""
-    spans = [span for span in target_spans(line.text) if line.text[slice(*span)] == word]
-    return "\n".join([*marked(by_bytes(line), spans[0] if spans else content_span(line)), *sentences])
+def quoted(line: Line, word: str | int, *sentences: str, is_argument: bool = False) -> str:
+    """A line with carets under one of its targets, or of its arguments, by its text or number, or under all of its content, and what is
+    said of it."""
+    spans = (argument_spans if is_argument else target_spans)(line.text)
+    hit = spans[word : word + 1] if isinstance(word, int) else [span for span in spans if line.text[slice(*span)] == word]
+    return "\n".join([*marked(by_bytes(line), hit[0] if hit else content_span(line)), *sentences])
 
 
 def by_bytes(line: Line) -> Line:
@@ -105,6 +110,12 @@ def target_spans(text: str) -> list[Span]:
     """Where the targets of a line are."""
     cut = PARTS.match(text.split("#", 1)[0])
     return [found.span() for found in WORD.finditer(cut.string, cut.start(5))] if cut else []
+
+
+def argument_spans(text: str) -> list[Span]:
+    """Where the arguments of a line are."""
+    cut = PARTS.match(text.split("#", 1)[0])
+    return [found.span() for found in ARGUMENT.finditer(cut.string, cut.start(4), cut.end(4))] if cut else []
 
 
 def content_span(line: Line) -> Span:

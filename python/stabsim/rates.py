@@ -4,6 +4,8 @@ import math
 from collections.abc import Callable
 from typing import NamedTuple
 
+from stabsim import checking
+
 
 class Rate(NamedTuple):
     """A rate, with the least and the greatest that explain what was counted about as well.
@@ -31,10 +33,11 @@ def fit_rate(shots: int, errors: int, *, max_likelihood_factor: float = 1000.0) 
     >>> rate.low, rate.best, round(rate.high, 6)
     (0.0, 0.0, 0.006884)
     """
-    if not 0 <= errors <= shots:
-        raise ValueError(f"{errors} errors in {shots} shots are none that can be")
-    if not max_likelihood_factor >= 1:
-        raise ValueError("the factor is 1 or more")
+    shots, errors = checking.whole("shots", shots), checking.whole("errors", errors)
+    if errors > shots:
+        raise ValueError(f"errors is {errors}: give a whole number up to {shots}, the shots")
+    if not checking.number("max_likelihood_factor", max_likelihood_factor) >= 1:
+        raise ValueError(f"max_likelihood_factor is {max_likelihood_factor}: give a number from 1 on")
     if not shots:
         return Rate(0.0, 0.5, 1.0)
     best = errors / shots
@@ -56,8 +59,9 @@ def rate_per_round(rate: float, rounds: float) -> float:
     >>> round(stabsim.rate_per_round(2 * 0.1 * 0.9, 2), 12)
     0.1
     """
-    if not 0 <= rate <= 1 or not rounds > 0:
-        raise ValueError("a rate is in 0..=1, and rounds are more than 0")
+    rate = checking.chance("rate", rate)
+    if not checking.number("rounds", rounds) > 0:
+        raise ValueError(f"rounds is {rounds}: give a number above 0")
     if rate > 0.5:
         return 1 - rate_per_round(1 - rate, rounds)
     return 0.5 if rate == 0.5 else -math.expm1(math.log1p(-2 * rate) / rounds) / 2

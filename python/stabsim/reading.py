@@ -12,11 +12,17 @@ from typing import NamedTuple
 from stabsim.errors import Refused
 
 SPACING = " \t\r"
-# How many digits the count of a block may have.
+# How many digits the count of a block may have, and how deep blocks may be nested.
 MOST_DIGITS = 18
+MOST_DEPTH = 16
+# How many bytes a circuit's text may have, and so characters.
+MOST_CHARACTERS = 16_777_216
 # The spacing in front, a name, a tag, arguments, and the rest of a line. The program allows no spacing in front of the arguments.
 PARTS = re.compile(r"([ \t\r]*)([A-Za-z][A-Za-z0-9_]*)(\[[^\]]*\])?([ \t\r]*\([^)]*\))?(.*)", re.DOTALL)
 WORD = re.compile(r"[^ \t\r]+")
+NUMBER = re.compile(r"[+-]?(\d+\.?\d*|\.\d+)([eE][+-]?\d+)?", re.ASCII)
+# Lines that may open or close a block.
+BRACED = re.compile(r"^[^{}\n]*[{}].*", re.MULTILINE)
 
 # Other names of instructions, with those by which they are printed.
 ALIASES = {
@@ -105,10 +111,9 @@ class Instruction:
         >>> stabsim.Circuit("DETECTOR(1, 2.5)").items[0].numbers()
         [1.0, 2.5]
         """
-        try:
-            return [float(argument) for argument in self.arguments]
-        except ValueError:
-            raise Refused(2, "BadArguments", self.line, f"({', '.join(self.arguments)}) are not all numbers.") from None
+        if not all(map(NUMBER.fullmatch, self.arguments)):
+            raise Refused(2, "BadArguments", self.line, f"({', '.join(self.arguments)}) are not all numbers.")
+        return [float(argument) for argument in self.arguments]
 
     def __str__(self) -> str:
         brackets = f"({', '.join(self.arguments)})" if self.arguments else ""
@@ -192,6 +197,15 @@ def lines_of(text: str) -> Iterator[Line]:
         yield Line(number, line, content_of(line))
 
 
+def lines_like(text: str, pattern: re.Pattern[str]) -> Iterator[Line]:
+    """The lines that a pattern finds, which takes far less time than to look at each line of a text."""
+    number, start = 1, 0
+    for found in pattern.finditer(text):
+        number += text.count("\n", start, found.start())
+        start = found.start()
+        yield Line(number, found[0], content_of(found[0]))
+
+
 @dataclass(slots=True)
 class Opened:
     """A list of items that is being read: of a block, or the outermost one."""
@@ -211,10 +225,13 @@ class Opened:
 
 
 def items_of(text: str | Iterable[Line], only: tuple[str, ...] = ()) -> tuple[Item, ...]:
-    """The items of a text or of lines, blocks with theirs. Raises Refused if a line is misshapen or a block is not closed.
+    """The items of a text or of lines, blocks with theirs. Raises Refused if a line is misshapen or a block is not closed, or if the
+    text is longer than a circuit may be.
 
     only: read only instructions whose names begin with one of these; the others are counted in paths, and left out.
     """
+    if isinstance(text, str) and len(text) > MOST_CHARACTERS:
+        raise Refused(14, "TooLong", None, f"The text has more than {MOST_CHARACTERS} bytes.")
     opened = [Opened(0, 1, "", "", [])]
     for line in lines_of(text) if isinstance(text, str) else text:
         if line.opens:
@@ -243,6 +260,8 @@ def instruction_of(line: Line, path: str) -> Instruction:
 def block_of(line: Line, path: str) -> Opened:
     """The block that a line opens."""
     parts = line.parts
+    if path.count("/") == MOST_DEPTH:
+        raise Refused(10, "TooDeep", line.number)
     if parts is None or parts.name != "REPEAT" or len(parts.targets) != 1:
         raise Refused(5, "BadBlock", line.number)
     [count] = parts.targets
@@ -260,7 +279,7 @@ def is_number(word: str) -> bool:
 
 def closed_text(text: str) -> str:
     """A text with an end of its last line. Raises Refused if its blocks are not closed, since what is put after it would be in them."""
-    items_of(text)
+    items_of(lines_like(text, BRACED))
     return text if text.endswith("\n") or not text else text + "\n"
 
 

@@ -51,6 +51,7 @@ BY_SECOND = {"XCZ": "CX", "YCZ": "CY", "CZ": "CZ"}
 OF_PAIRS = {"MXX": "X", "MYY": "Y", "MZZ": "Z"}
 # Square roots of a product, and of its negative.
 ROOTS = {"SPP": ("S", "S_DAG"), "SPP_DAG": ("S_DAG", "S")}
+GATES = frozenset((*ON_ONE, *ON_TWO, *BY_SECOND, *ROOTS))
 
 SPACED_STAR = re.compile(r" ?\* ?")
 
@@ -58,28 +59,30 @@ SPACED_STAR = re.compile(r" ?\* ?")
 Written = tuple[str, Sequence[str]]
 
 
-class WrongTarget(ValueError):
-    """A target that an instruction of Stim's does not take.
+class WrongWord(ValueError):
+    """A target or an argument that an instruction of Stim's does not take.
 
-    word: the target, or none if it is all of them; number and name: those of the refusal; cure: what the instruction takes.
+    word: the target or argument, or its number among them, or an empty text if it is all of them; number and name: those of the refusal;
+    cure: what the instruction takes.
     """
 
-    def __init__(self, word: str, number: int, name: str, cure: str) -> None:
+    def __init__(self, word: str | int, number: int, name: str, cure: str) -> None:
         super().__init__(word, number, name, cure)
         self.word, self.number, self.name, self.cure = word, number, name, cure
 
 
 def rewritten(line: Parts, spare: Callable[[], int]) -> list[Parts] | None:
     """The lines that do the same as a line, each with its tag, and measurements with its arguments; None if the line stays as it is.
-    Arguments that no gate takes stay on the first line, for the program to refuse. Raises WrongTarget.
+    Raises WrongWord.
 
     spare: answers a qubit that the circuit names nowhere.
     """
+    if line.arguments and line.name in GATES:
+        raise WrongWord(0, 2, "BadArguments", f"{line.name} takes no arguments: take the brackets out.")
     lines = lines_for(line, spare)
     if lines is None:
         return None
-    return [Parts(name, line.tag, line.arguments if not place or name in MEASUREMENTS else (), tuple(on))
-            for place, (name, on) in enumerate(lines)]
+    return [Parts(name, line.tag, line.arguments if name in MEASUREMENTS else (), tuple(on)) for name, on in lines]
 
 
 def lines_for(line: Parts, spare: Callable[[], int]) -> list[Written] | None:
@@ -98,7 +101,7 @@ def lines_for(line: Parts, spare: Callable[[], int]) -> list[Written] | None:
     if line.name == "MPP":
         return shortened(line, spare)
     if line.name == "MPAD":
-        return [("M", padding(line, spare))]
+        return known([is_one(target) for target in line.targets], spare)
     return None
 
 
@@ -106,7 +109,7 @@ def qubits(line: Parts) -> Sequence[str]:
     """The targets, which are qubits."""
     for target in line.targets:
         if not is_number(target):
-            raise WrongTarget(target, 3, "BadTarget", f"{line.name} takes qubits, which are numbers.")
+            raise WrongWord(target, 3, "BadTarget", f"{line.name} takes qubits, which are numbers.")
     return line.targets
 
 
@@ -114,18 +117,18 @@ def measured(line: Parts) -> Sequence[str]:
     """The targets, which are qubits, each perhaps with a `!`."""
     for target in line.targets:
         if not targets.MEASURED.fullmatch(target):
-            raise WrongTarget(target, 3, "BadTarget", f"{line.name} takes qubits, each perhaps with one `!` before it.")
+            raise WrongWord(target, 3, "BadTarget", f"{line.name} takes qubits, each perhaps with one `!` before it.")
     return line.targets
 
 
 def pairs(line: Parts, on: Sequence[str]) -> list[tuple[str, str]]:
     """Targets two by two."""
     if len(on) % 2:
-        raise WrongTarget(on[-1], 4, "BadPairing", f"{line.name} takes pairs of qubits: this one has no partner.")
+        raise WrongWord(len(on) - 1, 4, "BadPairing", f"{line.name} takes pairs of qubits: this one has no partner.")
     found = list(zip(on[::2], on[1::2]))
-    for first, second in found:
+    for place, (first, second) in enumerate(found):
         if int(first.removeprefix("!")) == int(second.removeprefix("!")):
-            raise WrongTarget(second, 4, "BadPairing", f"{line.name} takes pairs of two different qubits.")
+            raise WrongWord(2 * place + 1, 4, "BadPairing", f"{line.name} takes pairs of two different qubits.")
     return found
 
 
@@ -146,12 +149,12 @@ def controlled_from_behind(line: Parts) -> list[Written] | None:
     if gate == line.name and not has_records:
         return None
     if len(line.targets) % 2:
-        raise WrongTarget(line.targets[-1], 4, "BadPairing", f"{line.name} takes pairs: this one has no partner.")
+        raise WrongWord(len(line.targets) - 1, 4, "BadPairing", f"{line.name} takes pairs: this one has no partner.")
     on: list[str] = []
     for first, second in zip(line.targets[::2], line.targets[1::2]):
         is_record = bool(targets.RECORD.fullmatch(first))
         if is_record and gate != line.name:
-            raise WrongTarget(first, 3, "BadTarget", f"{line.name} takes a qubit first, and then a qubit or a record.")
+            raise WrongWord(first, 3, "BadTarget", f"{line.name} takes a qubit first, and then a qubit or a record.")
         if not (is_record and targets.RECORD.fullmatch(second)):
             on += (first, second) if gate == line.name and is_number(second) else (second, first)
     return [(gate, on)] if on else []
@@ -166,7 +169,7 @@ def root(name: str, target: str) -> Iterator[Written]:
     """The square root of a product: its letters become Z, their parity goes to the last qubit and is taken back after the turn there."""
     product = targets.multiplied(target)
     if product is None:
-        raise WrongTarget(target, 3, "BadTarget", f"{name} takes products of X, Y and Z, as X0*!Y1, which are their own inverses.")
+        raise WrongWord(target, 3, "BadTarget", f"{name} takes products of X, Y and Z, as X0*!Y1, which are their own inverses.")
     negative, letters = product
     if not letters:
         return
@@ -183,10 +186,10 @@ def products(line: Parts) -> Sequence[str]:
 
 
 def shortened(line: Parts, spare: Callable[[], int]) -> list[Written] | None:
-    """Measured products with each qubit once, and no spacing in them; None if they are so already, or can't be measured, which the
-    program says. One of no letters is a record that is known: that of a qubit of its own."""
+    """Measured products with each qubit once, and no spacing in them; None if they are so already, or misspelt, which the program
+    says. One of no letters is a record that is known."""
     on = products(line)
-    shorter = [targets.multiplied(target) if has_qubit_twice(target) else None for target in on]
+    shorter = [real_product(target) if has_qubit_twice(target) else None for target in on]
     if not any(shorter):
         return None if len(on) == len(line.targets) else [("MPP", on)]
     lines: list[Written] = []
@@ -194,8 +197,16 @@ def shortened(line: Parts, spare: Callable[[], int]) -> list[Written] | None:
         if product is None or product[1]:
             lines.append(("MPP", [target if product is None else targets.text_of_product(*product)]))
         else:
-            lines.append(("M", ["!" * product[0] + str(spare())]))
+            lines += known([product[0]], spare)
     return joined(lines)
+
+
+def real_product(target: str) -> tuple[bool, targets.Product] | None:
+    """A product multiplied out, as by `multiplied`, None if it is misspelt. Only without a factor of i it can be measured."""
+    product = targets.multiplied(target)
+    if product is None and all(map(targets.FACTOR.fullmatch, target.split("*"))):
+        raise WrongWord(target, 3, "BadTarget", "Multiplied out, this is i or -i times a product of Paulis, which can't be measured.")
+    return product
 
 
 def has_qubit_twice(target: str) -> bool:
@@ -213,9 +224,16 @@ def joined(lines: list[Written]) -> list[Written]:
     return list(found)
 
 
-def padding(line: Parts, spare: Callable[[], int]) -> list[str]:
-    """Measurements of a qubit that stays 0, for bits that are given."""
-    for target in line.targets:
-        if target not in ("0", "1"):
-            raise WrongTarget(target, 3, "BadTarget", "MPAD takes bits, 0 or 1.")
-    return ["!" * (target == "1") + str(spare()) for target in line.targets]
+def is_one(target: str) -> bool:
+    """The bit that a target of padding is."""
+    if target not in ("0", "1"):
+        raise WrongWord(target, 3, "BadTarget", "MPAD takes bits, 0 or 1.")
+    return target == "1"
+
+
+def known(bits: Sequence[bool], spare: Callable[[], int]) -> list[Written]:
+    """Records that are known: those of a qubit that was reset, so that they depend on nothing in front of them."""
+    if not bits:
+        return [("M", [])]
+    qubit = str(spare())
+    return [("R", [qubit]), ("M", ["!" * bit + qubit for bit in bits])]

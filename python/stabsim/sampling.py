@@ -16,6 +16,11 @@ class Sampled:
 
     text: str
 
+    @property
+    def asked(self) -> str:
+        """The text that the program is asked."""
+        return self.text
+
     def widths(self) -> tuple[int, int, int]:
         """How many records, detectors and observables there are, as the program counts them."""
         raise NotImplementedError
@@ -124,5 +129,7 @@ class Sampled:
     def packed(self, what: shot_parts.What, width: int, shots: int, seed: int, first_shot: int, executor: Executor | None,
                parts: int) -> NDArray[np.uint8]:
         """Shots of this many bits, packed, from one run of the program or from several."""
-        asked = shot_parts.Shots(self.text, what, seed, first_shot, shots)
+        shots, first_shot = chunks.checked(shots, first_shot)
+        bits.make_room(shots, width)
+        asked = shot_parts.Shots(self.asked, what, seed, first_shot, shots)
         return bits.packed_of_b8(shot_parts.bytes_of(asked, executor, parts), shots, width)

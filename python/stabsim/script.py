@@ -1,9 +1,9 @@
 """Lines of an edit script: what may be sent so that exactly one reply comes."""
 
 import re
-from collections.abc import Sequence
+from collections.abc import Iterable, Sequence
 
-from stabsim import program
+from stabsim import checking, program
 from stabsim.errors import Refused
 from stabsim.reading import Line, lines_of
 
@@ -17,10 +17,18 @@ Path = int | str | Sequence[int]
 
 def path_text(path: Path) -> str:
     """A path as it is written."""
-    text = path if isinstance(path, str) else str(path) if isinstance(path, int) else "/".join(map(str, path))
-    if not PATH.fullmatch(text):
-        raise ValueError(f"{path!r} is no path: a number, or numbers joined by slashes")
-    return text
+    if not isinstance(path, str):
+        path = "/".join(str(checking.whole("path", it)) for it in ([path] if not isinstance(path, Iterable) else path))
+    if not PATH.fullmatch(path):
+        raise ValueError(f"path is {checking.shown(path)}: give a number, or numbers that lead into blocks, as 3/0/2")
+    return path
+
+
+def item_text(text: str) -> str:
+    """The text of an item that a user gave; TypeError or ValueError if it is none, or has nothing in it."""
+    if not any(line.content for line in lines_of(checking.of_kind("text", text, str, "an instruction or a whole block, as 'X 0'"))):
+        raise ValueError(f"text is {checking.shown(text)}: give one instruction on one line, or one whole block")
+    return checking.encodable("text", text)
 
 
 def edit_lines(words: str, item: str) -> bytes:
@@ -35,7 +43,7 @@ def edit_lines(words: str, item: str) -> bytes:
         if is_too_long(lines[0]):
             raise Refused(14, "TooLong")
         if closing_line(lines) != len(lines):
-            raise ValueError("the text is not one instruction on one line, and not one whole block")
+            raise ValueError("the text is not one instruction on one line, and not one whole block: put items in one by one")
     elif lines[0].opens:
         raise ValueError("the block is not closed")
     return program.bytes_of(text + "\n")

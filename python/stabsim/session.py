@@ -1,35 +1,44 @@
 """An editing session: a circuit that is run and kept, its edits, and what is asked of it."""
 
+import contextlib
 import re
-from collections.abc import Callable, Iterable
+from collections.abc import Callable, Iterable, Iterator, Sequence
 from types import TracebackType
 
 import numpy as np
 from numpy.typing import NDArray
 
-from stabsim import bits, program
+from stabsim import bits, checking, program
 from stabsim.circuit_errors import CircuitError
 from stabsim.distances import Distance, distance_of, of_marks
 from stabsim.errors import Refused
 from stabsim.explaining import explaining
-from stabsim.framed import FramedProcess
+from stabsim.framed import FramedProcess, OfOneProcess
 from stabsim.history import Change, History, Request
 from stabsim.inserting import put_in
 from stabsim.random_bits import DecidingCoin, coins_of
+from stabsim.reading import Instruction, items_of
+from stabsim.retargeting import Retargeted, of_items
 from stabsim.rounds import longest_part, parts_of_block, place_behind
-from stabsim.script import Path, edit_lines, path_text
+from stabsim.script import Path, edit_lines, item_text, path_text
 from stabsim.session_answers import Changed, ItemSteps, SessionNumbers
 from stabsim.sure import Sure, deterministic_of
 
 Bits = NDArray[np.bool_]
 
+# The limits of the program.
+MOST_QUBITS, MOST_STRIDE = 1024, 65_536
+# What `sign` is asked of.
+PAULIS = "a string of Paulis without spacing, as X0*Z3 or +XZ_"
 
-class Session:
+
+class Session(OfOneProcess):
     """A circuit that is run, kept, and changed by edits. Made by `Circuit.edit`.
 
     It is a context manager, and its process ends with it. One thread at a time uses it. An edit that is refused raises
     stabsim.Refused, with words for a fault of the item's own, and changes nothing. If the process has ended, or was interrupted
-    in a reply, every call raises stabsim.SessionEnded. All calls except `close` ask the program, so none is a property.
+    in a reply, every call raises stabsim.SessionEnded, and so it does in a process that was forked. A session is not copied. All calls
+    except `close` ask the program, so none is a property.
 
     >>> import stabsim
     >>> with stabsim.Circuit("H 0\\nCX 0 1\\nM 0 1\\nDETECTOR rec[-1] rec[-2]").edit() as session:
@@ -42,8 +51,8 @@ class Session:
 
     def __init__(self, text: str, *, qubits: int | None = None, seed: int = 0, stride: int | None = None) -> None:
         words = program.seed_words(seed)
-        words += [] if qubits is None else ["--qubits", str(qubits)]
-        words += [] if stride is None else ["--stride", str(stride)]
+        words += [] if qubits is None else ["--qubits", str(checking.whole("qubits", qubits, 0, MOST_QUBITS + 1))]
+        words += [] if stride is None else ["--stride", str(checking.whole("stride", stride, 1, MOST_STRIDE + 1))]
         self.history = History()
         self.process = FramedProcess(words, text)
 
@@ -63,8 +72,9 @@ class Session:
 
     # Edits. A path is a number, or numbers that lead into blocks, as 3/0/2.
 
-    def insert(self, path: Path, text: str) -> None:
-        """Puts an item, one instruction or one whole block, in front of the one at the path, or after all of its list.
+    def insert(self, path: Path, text: str, *, keep_records: bool = False) -> None:
+        """Puts an item, one instruction or one whole block, in front of the one at the path, or after all of its list. keep_records:
+        whether lookbacks go on naming the records that they named, as `retarget` has it.
 
         >>> import stabsim
         >>> with stabsim.Circuit("REPEAT 2 {\\n    M 0\\n}").edit() as session:
@@ -76,11 +86,14 @@ class Session:
         }
         """
         at = path_text(path)
-        with explaining(text):
+        if keep_records:
+            self.retarget([("insert", at, item_text(text))])
+            return
+        with explaining(item_text(text)):
             self.change(Change.of_one(edit_lines(f"insert {at}", text), delete_line(at)))
 
-    def replace(self, path: Path, text: str) -> None:
-        """Puts an item in the place of the one at the path.
+    def replace(self, path: Path, text: str, *, keep_records: bool = False) -> None:
+        """Puts an item in the place of the one at the path. keep_records: as in `insert`.
 
         >>> import stabsim
         >>> with stabsim.Circuit("X 0\\nM 0").edit() as session:
@@ -89,11 +102,14 @@ class Session:
         array([ True])
         """
         at = path_text(path)
-        with explaining(text):
+        if keep_records:
+            self.retarget([("replace", at, item_text(text))])
+            return
+        with explaining(item_text(text)):
             self.change(Change.of_one(edit_lines(f"replace {at}", text), edit_lines(f"replace {at}", self.old_item(at))))
 
-    def delete(self, path: Path) -> None:
-        """Takes the item at the path out.
+    def delete(self, path: Path, *, keep_records: bool = False) -> None:
+        """Takes the item at the path out. keep_records: as in `insert`; a record that is gone leaves the lists that named it.
 
         >>> import stabsim
         >>> with stabsim.Circuit("X 0\\nM 0").edit() as session:
@@ -102,7 +118,57 @@ class Session:
         array([False])
         """
         at = path_text(path)
+        if keep_records:
+            self.retarget([("delete", at)])
+            return
         self.change(Change.of_one(delete_line(at), edit_lines(f"insert {at}", self.old_item(at))))
+
+    def move(self, path: Path, to: Path, *, keep_records: bool = False) -> None:
+        """Moves the item at a path in front of the one at another, or after all, of the same list. keep_records: as in `insert`.
+
+        >>> import stabsim
+        >>> with stabsim.Circuit("M 0\\nX 0\\nM 1").edit() as session:
+        ...     session.move(2, 0)
+        ...     session.records()
+        array([False, False])
+        """
+        at, end = path_text(path), path_text(to)
+        if keep_records:
+            self.retarget([("move", at, end)])
+            return
+        (*around, first), (*other, last) = at.split("/"), end.split("/")
+        if around != other:
+            raise ValueError(f"item {at} is moved within its list alone")
+        with self.one_step():
+            text = self.item(at)
+            self.delete(at)
+            self.insert("/".join([*around, str(int(last) - (int(last) > int(first)))]), text)
+
+    def retarget(self, edits: Iterable[Sequence[object]]) -> Retargeted:
+        """Makes several edits by one step, so that lookbacks go on naming the records that they named: `stabsim.retargeted` of the circuit as
+        it is, which has been made then.
+
+        >>> import stabsim
+        >>> with stabsim.Circuit("M 0\\nM 1\\nDETECTOR rec[-2]").edit() as session:
+        ...     made = session.retarget([("insert", 1, "M 1"), ("delete", 2)])
+        ...     print(session.circuit(), made.records)
+        M 0
+        M 1
+        DETECTOR rec[-2]
+         [0 1]
+        """
+        made = of_items(items_of(self.circuit()), edits)
+        with self.one_step():
+            for kind, at, *words in made.edits:
+                if kind == "insert":
+                    self.insert(at, words[0])
+                elif kind == "replace":
+                    self.replace(at, words[0])
+                elif kind == "split":
+                    self.split(at, int(words[0]))
+                else:
+                    self.delete(at)
+        return made
 
     def split(self, path: Path, round_number: int) -> None:
         """Splits a round, counted from 0, off the block at the path, so that it can be edited by itself: the rounds before it
@@ -116,6 +182,7 @@ class Session:
         [3, 1, 5]
         """
         at = path_text(path)
+        checking.whole("round_number", round_number)
         block = self.old_item(at)
         self.change(Change((Request(f"split {at} {round_number}\n".encode(), b""),), joining(at, block, round_number)))
 
@@ -143,9 +210,17 @@ class Session:
         }
          True 4
         """
+        example = "those of a distance, as circuit.distance().errors"
+        some = [checking.of_kind("an error", it, CircuitError, example) for it in checking.several("errors", errors, example)]
+        with self.one_step():
+            put_in(self, some)
+
+    @contextlib.contextmanager
+    def one_step(self) -> Iterator[None]:
+        """Makes what is edited meanwhile one step. If one edit fails, those before it are taken back."""
         before = len(self.history.done)
         try:
-            put_in(self, errors)
+            yield
         except BaseException:
             while len(self.history.done) > before and not self.process.ended:
                 self.undo()
@@ -189,11 +264,19 @@ class Session:
 
     def circuit(self) -> str:
         """The text of the circuit as it is now."""
+        return self.printed()
+
+    def printed(self) -> str:
+        """The circuit as the program prints it."""
         return text_of_lines(self.process.ask(b"show circuit\n"))
 
     def item(self, path: Path) -> str:
         """The text of the item at the path."""
-        return text_of_lines(self.process.ask(f"show item {path_text(path)}\n".encode()))
+        return self.printed_item(path_text(path))
+
+    def printed_item(self, path: str) -> str:
+        """The item at the path as the program prints it."""
+        return text_of_lines(self.process.ask(f"show item {path}\n".encode()))
 
     def place(self, path: Path) -> ItemSteps:
         """Where the steps of the item at the path are in the unrolled circuit, and which records, detectors and coins they make."""
@@ -224,10 +307,11 @@ class Session:
         ...     print(session.distance(5))
         ...     session.replace(1, "I[X] 0")
         ...     print(session.distance(5))
-        distance 2 of all errors
-        none of all errors
+        distance 2 of all marked errors
+        none of all marked errors
         """
-        found = distance_of(text_of_lines(self.process.ask(f"show distance {most}{' everywhere' * everywhere}\n".encode())))
+        checking.whole("most", most)
+        found = distance_of(text_of_lines(self.process.ask(f"show distance {most}{' everywhere' * everywhere}\n".encode())), everywhere)
         return found if everywhere else of_marks(found, self.circuit())
 
     def sign(self, pauli: str) -> int:
@@ -239,7 +323,9 @@ class Session:
         ...     [session.sign(it) for it in ("Z0", "+_X", "-ZX", "X0*X1")]
         [-1, 1, 1, 0]
         """
-        return {b"+": 1, b"-": -1, b"0": 0}[self.line(f"show sign {pauli}")]
+        if len(checking.of_kind("pauli", pauli, str, PAULIS).split()) != 1:
+            raise ValueError(f"pauli is {checking.shown(pauli)}: give {PAULIS}")
+        return {b"+": 1, b"-": -1, b"0": 0}[self.line(f"show sign {pauli.strip()}")]
 
     def mark(self) -> None:
         """From here on `changed` counts; the opening is the first mark."""
@@ -288,9 +374,18 @@ class Session:
     def old_item(self, path: str) -> str:
         """The text of an item that an edit is to take out; if there is none the edit itself is refused."""
         try:
-            return self.item(path)
+            return self.printed_item(path)
         except Refused:
             return ""
+
+    # What an item of the program's is for the user, who may have written it otherwise.
+
+    def plain(self, item: Instruction) -> Instruction:
+        """An instruction as the user would write it."""
+        return item
+
+    def write_out(self, path: str) -> None:
+        """Writes an instruction of the user's out that the path leads into as several: here there are none."""
 
     def line(self, request: str) -> bytes:
         """The reply of one line to a question."""
@@ -304,8 +399,8 @@ class Session:
 
 def bit_name(text: str) -> str:
     """The name of a detector or an observable."""
-    if not re.fullmatch(r"[DL]\d+", text):
-        raise ValueError(f"{text!r} is no detector, as D37, and no observable, as L0")
+    if not re.fullmatch(r"[DL]\d+", checking.of_kind("bit", text, str, "a detector, as D37, or an observable, as L0")):
+        raise ValueError(f"bit is {checking.shown(text)}: give a detector, as D37, or an observable, as L0")
     return text
 
 
@@ -323,9 +418,15 @@ def joining(path: str, block: str, round_number: int) -> tuple[Request, ...]:
         return ()
     longest = longest_part(parts)
     places = [place_behind(path, number) for number in range(len(parts))]
-    whole = Request(edit_lines(f"replace {places[longest]}", block), edit_lines(f"replace {places[longest]}", parts[longest]))
+    replaced = f"replace {places[longest]}"
+    whole = Request(lines_of_block(replaced, block), lines_of_block(replaced, parts[longest]))
     others = [(place, part) for place, part in zip(places, parts, strict=True) if place != places[longest]]
-    return (whole, *(Request(delete_line(place), edit_lines(f"insert {place}", part)) for place, part in reversed(others)))
+    return (whole, *(Request(delete_line(place), lines_of_block(f"insert {place}", part)) for place, part in reversed(others)))
+
+
+def lines_of_block(words: str, block: str) -> bytes:
+    """`edit_lines` of a block that is known to be whole, since the session wrote it: it is not looked through."""
+    return program.bytes_of(f"{words} {block.strip()}\n")
 
 
 def text_of_lines(lines: list[bytes]) -> str:

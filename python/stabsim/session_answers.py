@@ -46,7 +46,8 @@ class ItemSteps:
 
 @dataclass(frozen=True)
 class Changed:
-    """What differs from the mark, place by place: numbers of detectors, observables and records, int64 (changed,) each.
+    """What differs from the mark, place by place: numbers of detectors, observables and records, int64 (changed,) each. Those of records
+    are none unless `changed(records=True)` asked for them.
 
     lengths has, for each of the three whose number of places has changed, that number at the mark and now.
 

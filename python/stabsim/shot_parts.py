@@ -6,7 +6,7 @@ from concurrent.futures import Executor
 from dataclasses import dataclass, replace
 from typing import Literal
 
-from stabsim import program
+from stabsim import checking, program
 
 # The most shots of one run of the program.
 MOST_SHOTS = 1_000_000
@@ -28,11 +28,11 @@ class Shots:
 
 def bytes_of(shots: Shots, executor: Executor | None, parts: int) -> bytes:
     """The shots in the format b8, one after another; with an executor its workers take parts, as many as these or more."""
-    if shots.count < 0 or shots.first < 0 or shots.first + shots.count > 2**64 or parts < 1:
-        raise ValueError("shots are 0 or more, of numbers below 2**64, and parts 1 or more")
+    checking.whole("parts", parts, 1)
     if executor is None:
         return b"".join(map(run, split(shots, 1)))
-    return b"".join(executor.map(run, list(split(shots, parts))))
+    workers = checking.of_kind("executor", executor, Executor, "one of concurrent.futures, as ThreadPoolExecutor()")
+    return b"".join(workers.map(run, list(split(shots, parts))))
 
 
 def split(shots: Shots, parts: int) -> Iterator[Shots]:

@@ -6,9 +6,11 @@ from dataclasses import dataclass
 
 from stabsim import names
 from stabsim.errors import Refused
-from stabsim.reading import Block, Instruction, Item
+from stabsim.reading import Block, Instruction, Item, items_of, lines_like
 
 QUBIT = re.compile(r"(?<!\d)\d+")
+# Lines that are a TICK, or may open or close a block.
+TICKING = re.compile(r"^(?:[ \t\r]*TICK|[^{}\n]*[{}]).*", re.MULTILINE | re.IGNORECASE)
 
 
 @dataclass(frozen=True)
@@ -62,3 +64,8 @@ def observable_of(item: Instruction) -> int:
 def most_of(targets: Iterable[str]) -> int:
     """The greatest qubit that targets name, -1 if they name none."""
     return max((int(number) for target in targets if not target.startswith("rec[") for number in QUBIT.findall(target)), default=-1)
+
+
+def ticks_in(text: str) -> int:
+    """How many TICKs a text has that the program has judged."""
+    return sizes_of(items_of(lines_like(text, TICKING))).ticks

@@ -7,8 +7,11 @@ from typing import TypeVar
 Group = TypeVar("Group")
 
 RECORD = re.compile(r"rec\[-\d+\]")
+# Python reads no numbers of over 4,300 digits, and no qubit has as many; the program reads them if they are zeros.
+LONG_NUMBER = re.compile(r"\d{4001}", re.ASCII)
 MEASURED = re.compile(r"!?\d+", re.ASCII)
-FACTOR = re.compile(r"(!?)([XYZ])(\d+)", re.ASCII | re.IGNORECASE)
+PAULI = re.compile(r"[XYZxyz]\d+", re.ASCII)
+FACTOR = re.compile(r"(!?)([XYZ])(\d{1,4000})", re.ASCII | re.IGNORECASE)
 # Letters as pairs of exponents, of X and of Z, and back.
 EXPONENTS = {"X": (1, 0), "Y": (1, 1), "Z": (0, 1)}
 LETTERS = {pair: letter for letter, pair in EXPONENTS.items()}
@@ -19,7 +22,7 @@ Product = dict[int, str]
 
 def qubits_of(target: str) -> set[int]:
     """The qubits of a measured target: of a product those of its factors."""
-    return {int(number) for number in re.findall(r"\d+", target)}
+    return {int(number) for number in re.findall(r"\d{1,4000}", target)}
 
 
 def apart(groups: Iterable[Group], qubits: Callable[[Group], set[int]]) -> list[list[Group]]:

@@ -3,6 +3,7 @@
 import pathlib
 from os import PathLike
 
+from stabsim import checking
 from stabsim.errors import OtherExperiment
 from stabsim.ledger import Row, counted_of, last_metadata, rows_of
 from stabsim.sums import Sums
@@ -28,6 +29,9 @@ def combine(*paths: str | PathLike[str]) -> list[Sums]:
     """
     lines: dict[tuple[str, str], dict[Shots, Row]] = {}
     for path in paths:
+        if isinstance(path, (list, tuple)):
+            raise TypeError(f"path is {checking.shown(path)}: give files one by one, as combine('a.csv', 'b.csv')")
+        checking.file_name("path", path)
         data = pathlib.Path(path).read_bytes()
         for row in rows_of(data[: data.rfind(b"\n") + 1], path):
             add_row(lines.setdefault((row["name"], row["decoder"]), {}), row, path)

@@ -55,7 +55,7 @@ class Page:
             file = folder / "circuit.stim"
             file.write_text(text)
             named = [str(file)]
-        self.server = subprocess.Popen([sys.executable, "-B", "-m", "stabsim.page", *named, *words], stdout=subprocess.PIPE, text=True)
+        self.server = subprocess.Popen([sys.executable, "-B", "-m", "stabsim.page", *named, "--port", "0", *words], stdout=subprocess.PIPE, text=True)
         self.address = self.server.stdout.readline().strip()
 
     def open(self):
@@ -73,9 +73,9 @@ class Page:
         return waiting.until(lambda _: test())
 
     def settle(self):
-        """Waits until all that the page has asked for is answered, and what it shows is where it stays: the browser says new sizes of panes
-        some time later, and an answer may go to another moment."""
-        self.wait(lambda: self.ask("page.isIdle() && page.isInPlace()"))
+        """Waits until all that the page has asked for, or is about to ask for, is answered and drawn, and what it shows is where it stays: the
+        browser says new sizes of panes some time later, and an answer may go to another moment."""
+        self.wait(lambda: self.ask("page.isIdle() && page.isInPlace() && page.isDrawn()"))
 
     # What is shown.
 

@@ -7,14 +7,19 @@ import numpy as np
 
 def nothing(model):
     """Predicts that no observable is flipped."""
-    return lambda detectors: np.zeros((len(detectors), model.observables), dtype=bool)
+    return lambda detectors: np.zeros((len(detectors), model.num_observables), dtype=bool)
+
+
+def same(model):
+    """Predicts detectors in place of observables."""
+    return lambda detectors: detectors
 
 
 class Nothing:
     """The same, as a class whose objects decode."""
 
     def __init__(self, model):
-        self.observables = model.observables
+        self.observables = model.num_observables
 
     def decode(self, detectors):
         return np.zeros((len(detectors), self.observables), dtype=bool)
@@ -34,7 +39,7 @@ def slowly_nothing(model):
 
     def predict(detectors):
         time.sleep(0.05)
-        return np.zeros((len(detectors), model.observables), dtype=bool)
+        return np.zeros((len(detectors), model.num_observables), dtype=bool)
 
     return predict
 
@@ -44,10 +49,10 @@ def lookup(model):
     known = {}
     for mechanism in np.argsort(model.chances):
         flipped = model.flipped(mechanism)
-        known[tuple(flipped[flipped < model.detectors])] = flipped[flipped >= model.detectors] - model.detectors
+        known[tuple(flipped[flipped < model.num_detectors])] = flipped[flipped >= model.num_detectors] - model.num_detectors
 
     def predict(detectors):
-        predicted = np.zeros((len(detectors), model.observables), dtype=bool)
+        predicted = np.zeros((len(detectors), model.num_observables), dtype=bool)
         for shot, bits in enumerate(detectors):
             predicted[shot, known.get(tuple(np.flatnonzero(bits)), [])] = True
         return predicted
@@ -58,3 +63,8 @@ def lookup(model):
 def too_few(model):
     """A decoder whose predictions have a wrong shape."""
     return lambda detectors: np.zeros(len(detectors), dtype=bool)
+
+
+def raising(model):
+    """A decoder that fails."""
+    raise ValueError("no predictions today")

@@ -16,11 +16,10 @@ def graph_of(model):
     """The edges of a model, each with its chance, its weight and the observables that it flips, as a number in base 2."""
     chances = {}
     for mechanism, chance in enumerate(model.chances.tolist()):
-        for part in model.parts[mechanism] if model.parts else [mechanism]:
-            flipped = model.flipped(part).tolist()
-            ends = [it for it in flipped if it < model.detectors]
+        for flipped in map(np.ndarray.tolist, model.all_parts[mechanism]):
+            ends = [it for it in flipped if it < model.num_detectors]
             if 1 <= len(ends) <= 2:
-                observables = sum(1 << (it - model.detectors) for it in flipped if it >= model.detectors)
+                observables = sum(1 << (it - model.num_detectors) for it in flipped if it >= model.num_detectors)
                 edge = (ends[-1], ends[0] if len(ends) == 2 else BOUNDARY, observables)
                 chances[edge] = chances.get(edge, 0.0) * (1 - chance) + chance * (1 - chances.get(edge, 0.0))
     graph = networkx.Graph()
@@ -43,7 +42,7 @@ class Matching:
     """The likeliest set of edges that flips the detectors that are seen."""
 
     def __init__(self, model):
-        self.observables = model.observables
+        self.observables = model.num_observables
         graph = graph_of(model)
         self.to_boundary = nearest(graph, BOUNDARY)
         graph.remove_node(BOUNDARY)

@@ -18,7 +18,7 @@ class Search:
 
     @classmethod
     def of_model(cls, model):
-        return cls((model.flipped(number).tolist() for number in range(len(model))), model.detectors)
+        return cls((model.flipped(number).tolist() for number in range(len(model))), model.num_detectors)
 
     def seen(self, flips):
         return frozenset(it for it in flips if it < self.detectors)

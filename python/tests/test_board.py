@@ -28,7 +28,7 @@ def board(tmp_path):
 def test_an_edit_says_what_it_flipped_and_its_own_entry_alone(board):
     board.edit([Edit("insert", str(BLOCK), "X 1")])
     told = board.edit([Edit("insert", str(BLOCK), "X 10")])
-    assert set(told) == {"event", "age", "edits", "entries", "numbers", "position", "flipped"}
+    assert set(told) == {"event", "age", "edits", "entries", "numbers", "position", "flipped", "marked_at", "saved_at"}
     assert [entry["text"] for entry in told["entries"]] == [f"insert {BLOCK} X 10"]
     with stabsim.Circuit(CODE).edit() as session:
         session.insert(BLOCK, "X 10")
@@ -54,6 +54,18 @@ def test_bits_are_said_anew_if_some_come_or_go(board):
     board.edit([Edit("insert", "0", "X 1")])
     assert not BITS & set(board.edit([Edit("delete", "0")]))
     assert BITS <= set(board.edit([Edit("delete", str(BLOCK))]))
+
+
+def test_an_edit_that_names_a_new_qubit_says_where_all_are(board):
+    told = board.edit([Edit("insert", "0", "X 40")])
+    assert len(told["qubit_coordinates"]) == told["numbers"]["qubits"] > 40 and told["qubit_coordinates"][40] == []
+
+
+def test_room_that_a_refused_edit_has_made_is_told_with_the_next_edit(board):
+    with pytest.raises(stabsim.Refused):
+        board.edit([Edit("insert", "0", "X 40"), Edit("insert", "0", "DETECTOR rec[-1]")])
+    told = board.edit([Edit("insert", "0", "X 40")])
+    assert len(told["qubit_coordinates"]) == told["numbers"]["qubits"] > 40
 
 
 def test_going_back_says_no_entries(board):
@@ -182,12 +194,12 @@ def test_a_noisy_file_is_opened_without_its_noise_and_says_so(tmp_path):
     board = Board(opened_of(str(file)))
     opened = board.opened()
     board.close()
-    assert opened["left_out"].startswith("The noise of 2 lines is left out")
+    assert opened["notice"].startswith("The noise of 2 lines is left out")
     assert opened["circuit"] == "R 0 1\nM 0 1\nDETECTOR rec[-1]\n"
 
 
 def test_of_a_file_without_noise_nothing_is_said(board):
-    assert board.opened()["left_out"] == ""
+    assert board.opened()["notice"] == ""
 
 
 def test_a_refusal_of_a_noisy_file_names_its_line(tmp_path):

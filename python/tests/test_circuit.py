@@ -81,7 +81,7 @@ def test_marked_faults_flip_what_they_pass():
     assert table.paulis.tolist() == ["X", "Z", "X", "Z"]
     assert table.qubits.tolist() == [0, 0, 2, 2]
     assert [table.flipped(fault).tolist() for fault in range(4)] == [[0, 1], [], [0], []]
-    assert (table.detectors, table.observables, len(table)) == (1, 1, 4)
+    assert (table.num_detectors, table.num_observables, len(table)) == (1, 1, 4)
 
 
 def test_paths_of_blocks_come_with_their_numbers():
@@ -245,6 +245,12 @@ def test_a_circuit_stays_as_it_is():
     assert again == circuit and hash(again) == hash(circuit)
 
 
+def test_a_circuit_with_noise_is_told_what_reads_it():
+    for text in ("R 0\nX_ERROR(0.1) 0", "M(0.1) 0"):
+        with pytest.raises(stabsim.Refused, match=r"\nWith its noise stabsim.from_stim\(text\) is the circuit"):
+            stabsim.Circuit(text).sample(1)
+
+
 def test_a_missing_program_is_told_with_what_to_do(monkeypatch, tmp_path):
     monkeypatch.setenv("STABSIM", str(tmp_path / "nothing"))
     with pytest.raises(stabsim.MissingProgram, match="No such file.*Build it by"):
@@ -304,7 +310,7 @@ def test_numbers_out_of_range_are_value_errors():
                   lambda: circuit.detect(1, first_shot=2**64), lambda: circuit.stabilisers(seed=-1), lambda: circuit.edit(seed=2**64)):
         with pytest.raises(ValueError):
             wrong()
-    with pytest.raises(stabsim.ProgramFailed, match="status 2"):
+    with pytest.raises(ValueError, match="qubits is 2000: give a whole number from 0 to 1024"):
         circuit.edit(qubits=2000)
 
 

@@ -2,6 +2,7 @@
 
 import functools
 import itertools
+import signal
 import subprocess
 import sys
 
@@ -182,7 +183,7 @@ def test_the_search_finds_what_all_sets_have():
         model = stabsim.error_model(make(*given, noise=UNIFORM))
         flips = [frozenset(model.flipped(number).tolist()) for number in range(len(model))]
         sets = ((size, some) for size in range(1, 4) for some in itertools.combinations(flips, size))
-        least = next(size for size, some in sets if functools.reduce(frozenset.symmetric_difference, some) == {model.detectors})
+        least = next(size for size, some in sets if functools.reduce(frozenset.symmetric_difference, some) == {model.num_detectors})
         assert least == Search.of_model(model).distance()
 
 
@@ -238,6 +239,28 @@ def test_codes_need_no_numpy():
 def test_the_command_prints_the_same_text():
     for words, text in [(["surface_code", "--distance", "3", "--rounds", "2"], codes.surface_code(3, 2)),
                         (["steane_code", "--rounds", "2", "--noise", "0.01"], codes.steane_code(2, noise=codes.Noise.uniform(0.01))),
-                        (["dense_circuit", "--qubits", "3", "--steps", "40", "--seed", "2"], codes.dense_circuit(3, 40, 2))]:
+                        (["dense_circuit", "--qubits", "3", "--steps", "40", "--seed", "2"], codes.dense_circuit(3, 40, 2)),
+                        (["bivariate_bicycle_code", "--orders", "6", "3", "--a", "x^3+y+y2", "--b", "1 + x*y + x^2*y*y", "--rounds", "2", "--basis", "X"],
+                         codes.bivariate_bicycle_code(6, 3, [(3, 0), (0, 1), (0, 2)], [(0, 0), (1, 1), (2, 2)], 2, basis="X")),
+                        (["surface_code", "--distance", "3", "--rounds", "2", "--bad-schedule"], codes.surface_code(3, 2, bad_schedule=True)),
+                        # The [[144, 12, 12]] code, with 12 rounds.
+                        (["bivariate_bicycle_code"], codes.bivariate_bicycle_code(12, 6, *SEVENTY_TWO, 12)),
+                        (["bivariate_bicycle_code", "--basis", "X"], codes.bivariate_bicycle_code(12, 6, *SEVENTY_TWO, 12, basis="X"))]:
         done = subprocess.run([sys.executable, "-m", "stabsim.codes", *words], capture_output=True, text=True, check=True)
         assert done.stdout == text
+
+
+@pytest.mark.parametrize("wrong", ["x+", "z", "x^-1", "2*x", "", "x*"])
+def test_the_command_refuses_what_is_no_polynomial(wrong):
+    words = ["bivariate_bicycle_code", "--orders", "6", "3", "--a", wrong, "--b", "1+x+y", "--rounds", "2"]
+    done = subprocess.run([sys.executable, "-m", "stabsim.codes", *words], capture_output=True, text=True, check=False)
+    assert done.returncode == 2 and not done.stdout and "is no term such as 1, x, y^2 and x^3*y" in done.stderr
+
+
+def test_a_closed_pipe_ends_the_command_without_a_word():
+    # Its text is longer than a pipe holds.
+    words = [sys.executable, "-m", "stabsim.codes", "surface_code", "--distance", "21", "--rounds", "9", "--written-out"]
+    with subprocess.Popen(words, stdout=subprocess.PIPE, stderr=subprocess.PIPE, text=True) as running:
+        assert running.stdout.readline().startswith("# Rotated surface code of distance 21")
+        running.stdout.close()
+        assert running.stderr.read() == "" and running.wait() == -signal.SIGPIPE

@@ -48,7 +48,7 @@ def random_circuit(seed):
 
 def line_of(table, row):
     """A row as the program writes it."""
-    names = [f"M{it}" for it in range(table.records)] + [f"D{it}" for it in range(table.detectors)] + [f"L{it}" for it in range(table.observables)]
+    names = [f"M{it}" for it in range(table.num_records)] + [f"D{it}" for it in range(table.num_detectors)] + [f"L{it}" for it in range(table.num_observables)]
     return " ".join([f"{table.steps[row]} {table.paths[row]} c{table.numbers[row]}", *(names[it] for it in table.flipped(row))])
 
 
@@ -76,8 +76,8 @@ def test_the_runs_of_all_coins_are_sums_of_rows(seed):
 def test_a_bit_is_random_by_the_coins_that_flip_it(seed):
     circuit = random_circuit(seed)
     table, deterministic = circuit.coins(), circuit.deterministic()
-    dense = table.dense()[:, table.records :]
-    names = [f"D{it}" for it in range(table.detectors)] + [f"L{it}" for it in range(table.observables)]
+    dense = table.dense()[:, table.num_records :]
+    names = [f"D{it}" for it in range(table.num_detectors)] + [f"L{it}" for it in range(table.num_observables)]
     found = {bit.name: bit for bit in circuit.explain()}
     assert list(found) == [name for name, stays in zip(names, [*deterministic.detectors, *deterministic.observables]) if not stays]
     with circuit.edit() as session:
@@ -126,5 +126,5 @@ def test_the_lines_of_explanations_are_read():
 
 def test_what_is_no_bit_has_no_coins():
     with stabsim.Circuit("M 0").edit() as session:
-        with pytest.raises(ValueError, match="no detector"):
+        with pytest.raises(ValueError, match="give a detector, as D37, or an observable"):
             session.why("M0")

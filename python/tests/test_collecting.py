@@ -50,7 +50,7 @@ def test_each_model_draws_shots_of_its_own():
     shots = [np.concatenate(model.sample(4096, seed=seed), axis=1) for seed in seeds]
     assert not any(np.array_equal(*pair) for pair in itertools.combinations(shots, 2))
     # The seed that the sums have draws these shots again.
-    assert [it.errors for it in found.values()] == [int(it[:, model.detectors :].any(axis=1).sum()) for it in shots]
+    assert [it.errors for it in found.values()] == [int(it[:, model.num_detectors :].any(axis=1).sum()) for it in shots]
     again = [it.seed for it in stabsim.collect({"other": model}, deciding.nothing, shots=10, seed=4)]
     assert again == [found["other"].seed] and seed_of("one", 4) != seed_of("one", 5)
 
@@ -65,6 +65,23 @@ def test_a_decoder_makes_fewer_errors():
 def test_enough_errors_end_the_counting_at_a_part():
     [last] = sums_of({"d3": MODELS["d3"]}, deciding.nothing, errors=200, seed=4, part_shots=1024).values()
     assert last[0] % 1024 == 0 and last[1] == errors_in("d3", last[0]) >= 200 > errors_in("d3", last[0] - 1024)
+
+
+def test_a_part_has_the_shots_that_are_asked_for_and_ends_at_a_multiple_of_them(tmp_path):
+    path = tmp_path / "counts.csv"
+    words = {"seed": 4, "save": path, "part_shots": 1000}
+    assert sums_of(MODELS, deciding.nothing, shots=2500, **words) == {name: (2500, errors_in(name, 2500)) for name in MODELS}
+    assert sums_of(MODELS, deciding.nothing, shots=4000, **words) == {name: (4000, errors_in(name, 4000)) for name in MODELS}
+    with open(path, newline="") as file:
+        parts = [(int(row["first_shot"]), int(row["shots"])) for row in csv.DictReader(file) if row["name"] == "d3"]
+    assert parts == [(0, 1000), (1000, 1000), (2000, 500), (2500, 500), (3000, 1000)]
+
+
+@pytest.mark.parametrize("kind", [ThreadPoolExecutor, ProcessPoolExecutor])
+def test_what_a_decoder_raises_comes_through_with_the_name_of_the_model(kind):
+    with kind(1) as executor, pytest.raises(ValueError, match="no predictions today") as raised:
+        sums_of({"d3": MODELS["d3"]}, deciding.raising, shots=10, seed=4, executor=executor)
+    assert raised.value.__notes__ == ["raised by the decoder of d3"]
 
 
 @pytest.mark.parametrize("kind", [ThreadPoolExecutor, ProcessPoolExecutor])
@@ -265,8 +282,10 @@ def test_a_counting_that_is_closed_lets_its_file_go(tmp_path):
     ({"models": [MODELS["d3"]]}, TypeError, "by name"), ({"models": {"d3": "M 0"}}, TypeError, "by name"), ({"decoder": 5}, TypeError, "a function"),
     ({"decoder": ("name", 5)}, TypeError, "a function"), ({"seed": "4"}, TypeError, "seed"), ({"shots": -1}, ValueError, "shots"),
     ({"errors": 0}, ValueError, "errors"), ({"waiting": 0}, ValueError, "waiting"), ({"part_shots": 0}, ValueError, "part_shots"),
-    ({"metadata": {"d4": {}}}, ValueError, "no model"), ({"metadata": {"d3": {"x": object()}}}, TypeError, "JSON"),
-    ({"postselect": {"d3": [True]}}, ValueError, "postselect of d3"), ({"postselect": lambda model: np.zeros(model.detectors)}, ValueError, "postselect"),
+    ({"part_shots": 1e3}, TypeError, "part_shots is 1000.0.*give a whole number"), ({"seed": True}, TypeError, "seed is True"),
+    ({"metadata": {"d4": {}}}, ValueError, "no model"), ({"metadata": {"d3": {"x": object()}}}, TypeError, "JSON"), ({"executor": 4}, TypeError, "executor is 4"),
+    ({"postselect": np.zeros(24, bool)}, TypeError, "postselect is .* give bool arrays by the names"),
+    ({"postselect": {"d3": [True]}}, ValueError, "postselect of d3"), ({"postselect": lambda model: np.zeros(model.num_detectors)}, ValueError, "postselect"),
 ])
 def test_wrong_arguments_are_told_by_the_call(wrong, kind, why, tmp_path):
     words = {"models": MODELS, "decoder": deciding.nothing, "shots": 10, "seed": 4, "save": tmp_path / "counts.csv", **wrong}
@@ -302,7 +321,7 @@ def test_metadata_is_kept(tmp_path):
 
 def masks_of(model):
     """Every other detector of a model, bool (detectors,)."""
-    return np.arange(model.detectors) % 2 == 0
+    return np.arange(model.num_detectors) % 2 == 0
 
 
 @pytest.mark.parametrize("kind", [None, ProcessPoolExecutor])

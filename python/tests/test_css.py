@@ -4,6 +4,7 @@ import itertools
 
 import numpy as np
 import pytest
+import stabsim
 from stabsim import codes
 from stabsim.codes.colouring import layers_of
 from stabsim.codes.lattices import toric_lattice, unrotated_lattice
@@ -116,6 +117,98 @@ def test_the_smallest_bicycle_code_has_distance_6():
     assert both_distances(codes.CssCode(*codes.bicycle_matrices(*BICYCLES["72"][0])), 6) == (6, 6)
 
 
+# Their polynomials have three terms each.
+SCHEDULED = {"18": (3, 3, [(0, 0), (0, 1), (0, 2)], [(0, 0), (0, 1), (1, 0)]), "72": BICYCLES["72"][0], "90": BICYCLES["90"][0]}
+
+
+@pytest.mark.parametrize("name", SCHEDULED)
+def test_a_round_of_a_bicycle_code_measures_each_check_in_seven_layers(name):
+    code = codes.CssCode(*codes.bicycle_matrices(*SCHEDULED[name]))
+    lines = codes.bivariate_bicycle_code(*SCHEDULED[name], rounds=1).splitlines()
+    layers = [line.split()[1:] for line in lines if line.startswith("CX")]
+    assert len(layers) == 7 and all(len(set(layer)) == len(layer) for layer in layers)
+    # The ancillas are reset; then a check is its record, and stays what it is.
+    [reset] = [line for line in lines if line.startswith("R ") and f" {code.n} " in line]
+    [end] = [place for place, line in enumerate(lines) if line.startswith("MR")]
+    circuit = stabsim.Circuit("\n".join([reset, *lines[lines.index(reset) + 1 : end + 1]]))
+    checks = [*(("X", its) for its in code.x_checks), *(("Z", its) for its in code.z_checks)]
+    products = ["*".join(f"{letter}{qubit}" for qubit in its) for letter, its in checks]
+    records = [f"rec[{place - len(checks)}]" for place in range(len(checks))]
+    assert circuit.flows_that_hold([stabsim.Flow.of_text(f"{product} -> {record}") for product, record in zip(products, records)]).all()
+    assert circuit.flows_that_hold([stabsim.Flow.of_text(f"1 -> {product} xor {record}") for product, record in zip(products, records)]).all()
+
+
+# The layers in which Bravyi and others let checks of X, and those of Z, meet their qubits: 0, 1 and 2 are those that a polynomial's terms
+# lead to in the left half, and 3, 4 and 5 those of the other's in the right half.
+X_MEETS = (None, 1, 4, 3, 5, 0, 2)
+Z_MEETS = (3, 5, 0, 1, 2, 4, None)
+
+
+def published_bicycle(l, m, a, b, rounds, basis, observables):
+    """Their memory experiment: in a round all checks are prepared and measured in their own letters, without H. Detectors are in the order of
+    ours, and these are the lines of observables."""
+    size = l * m
+    left, right, x_checks, z_checks = (range(first, first + size) for first in (0, size, 2 * size, 3 * size))
+
+    def led(half, check, term, sign):
+        return half[(check // m + sign * term[0]) % l * m + (check % m + sign * term[1]) % m]
+
+    of_x = [[led(left, check, it, 1) for it in a] + [led(right, check, it, 1) for it in b] for check in range(size)]
+    of_z = [[led(left, check, it, -1) for it in b] + [led(right, check, it, -1) for it in a] for check in range(size)]
+    lines = [f"{'RX' if basis == 'X' else 'R'} {words(range(2 * size))}"]
+    for number in range(rounds):
+        lines += [f"RX {words(x_checks)}", f"R {words(z_checks)}"]
+        for x, z in zip(X_MEETS, Z_MEETS):
+            pairs = [(x_checks[it], of_x[it][x]) for it in range(size) if x is not None] + [(of_z[it][z], z_checks[it]) for it in range(size) if z is not None]
+            lines += ["TICK", "CX " + words(qubit for pair in pairs for qubit in pair)]
+        lines += [f"MX {words(x_checks)}", f"M {words(z_checks)}"]
+        backs = [*(("X", 2 * size - it) for it in range(size)), *(("Z", size - it) for it in range(size))]
+        lines += [f"DETECTOR rec[-{back}]" + f" rec[-{back + 2 * size}]" * (number > 0) for letter, back in backs if number or letter == basis]
+    lines.append(f"{'MX' if basis == 'X' else 'M'} {words(range(2 * size))}")
+    for check, on in enumerate(of_x if basis == "X" else of_z):
+        own = 2 * size + (2 if basis == "X" else 1) * size - check
+        lines.append(f"DETECTOR {words(f'rec[-{2 * size - qubit}]' for qubit in on)} rec[-{own}]")
+    return "\n".join([*lines, *observables, ""])
+
+
+def words(its):
+    return " ".join(map(str, its))
+
+
+def flipped_by_errors(text):
+    """What errors anywhere flip, each once."""
+    table = stabsim.Circuit(text).faults(everywhere=True)
+    return {tuple(table.flipped(fault).tolist()) for fault in range(len(table))} - {()}
+
+
+@pytest.mark.parametrize("basis", ["X", "Z"])
+@pytest.mark.parametrize("name", ["72", "90"])
+def test_errors_of_a_bicycle_code_flip_what_errors_of_the_published_circuit_flip(name, basis):
+    ours = codes.bivariate_bicycle_code(*SCHEDULED[name], rounds=3, basis=basis)
+    observables = [line for line in ours.splitlines() if line.startswith("OBSERVABLE_INCLUDE")]
+    theirs = published_bicycle(*SCHEDULED[name], 3, basis, observables)
+    found = flipped_by_errors(ours)
+    assert len(observables) == BICYCLES[name][2] and len(found) > 1000 and found == flipped_by_errors(theirs)
+
+
+@pytest.mark.parametrize("basis", ["X", "Z"])
+def test_the_circuit_of_the_smallest_bicycle_code_has_distance_6(basis):
+    given = SCHEDULED["72"]
+    circuit = stabsim.Circuit(codes.bivariate_bicycle_code(*given, rounds=2, basis=basis))
+    assert circuit.distance(everywhere=True, letters="XZ").distance == 6
+    # With all checks of X before those of Z errors of ancillas spread further.
+    other = stabsim.Circuit(codes.css_code(*codes.bicycle_matrices(*given), 2, basis=basis))
+    assert other.distance(everywhere=True, letters="XZ").distance == 4
+
+
+def test_a_bicycle_code_has_three_terms_in_each_polynomial():
+    for a in ([(0, 0), (0, 1)], [(0, 0), (0, 1), (0, 2), (1, 0)], [(0, 0), (1, 0), (4, 0)]):
+        for given in ((3, 3, a, SCHEDULED["18"][3]), (3, 3, SCHEDULED["18"][3], a)):
+            with pytest.raises(ValueError, match="three different terms"):
+                codes.bivariate_bicycle_code(*given, rounds=1)
+    assert codes.bivariate_bicycle_code(3, 3, *map(iter, SCHEDULED["18"][2:]), rounds=1).startswith("# Bivariate bicycle code [[18, 4]]")
+
+
 @pytest.mark.parametrize("name", [*CODES, *BICYCLES])
 def test_logical_operators_commute_but_for_those_of_one_qubit(name):
     code = CODES[name][0] if name in CODES else codes.CssCode(*codes.bicycle_matrices(*BICYCLES[name][0]))
@@ -159,6 +252,16 @@ def test_matrices_of_no_code_are_refused(hx, hz, why):
 
 def test_too_many_qubits_are_refused():
     with pytest.raises(ValueError, match="1024 are the most"):
-        codes.bivariate_bicycle_code(16, 17, [(0, 0)], [(0, 0)], 1)
-    with pytest.raises(ValueError, match="1 or more"):
+        codes.bivariate_bicycle_code(16, 17, *SCHEDULED["18"][2:], 1)
+    with pytest.raises(ValueError, match="l is 0: give a whole number from 1 on"):
         codes.bicycle_matrices(0, 3, [], [])
+
+
+@pytest.mark.parametrize("given, kind", [
+    ((3.0, 3, [(0, 0)], [(0, 0)]), TypeError), ((3, 3, 5, [(0, 0)]), TypeError), ((3, 3, [(0, 0)], [3]), TypeError),
+    ((3, 3, [(0, 0)], [(0, "1")]), TypeError), ((3, 3, [(0, 0, 1)], [(0, 0)]), ValueError),
+])
+def test_polynomials_of_another_form_are_told_with_theirs(given, kind):
+    for call in (codes.bicycle_matrices, lambda *given: codes.bivariate_bicycle_code(*given, rounds=1)):
+        with pytest.raises(kind, match="^[^\n]* is [^\n]*: give [^\n]*$"):
+            call(*given)

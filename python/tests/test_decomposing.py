@@ -162,14 +162,14 @@ def test_the_matching_is_the_likeliest_set_of_errors(text):
     edges = [(ends, data) for *ends, data in matching.graph_of(model).edges(data=True)]
     sets = np.arange(2 ** len(edges))[:, None] >> np.arange(len(edges)) & 1
     weights = sets @ [data["weight"] for _, data in edges]
-    flips = np.array([[it in ends for it in range(model.detectors)] + [data["flips"]] for ends, data in edges], dtype=int)
+    flips = np.array([[it in ends for it in range(model.num_detectors)] + [data["flips"]] for ends, data in edges], dtype=int)
     found = sets @ flips % 2
     lightest = {}
     for row, weight in sorted(zip(map(tuple, found.tolist()), weights.tolist(), strict=True), key=lambda pair: pair[1]):
         lightest.setdefault(row, weight)
     decoder = matching.Matching(model)
     seen = {row[:-1] for row in lightest}
-    assert len(seen) == 2**model.detectors
+    assert len(seen) == 2**model.num_detectors
     for detectors in seen:
         ways = [lightest.get((*detectors, flip), math.inf) for flip in (0, 1)]
         if not math.isclose(*ways):

@@ -214,8 +214,74 @@ def test_numbers_in_blocks_grow_with_their_rounds():
     assert [word for word in words if word[0].isdigit() and len(word) > 1] == ["2+3k+j", "4+3k"]
 
 
+NOISY = stabsim.from_stim("""R 0 1 2
+X_ERROR(0.01) 0 1
+DEPOLARIZE1(0.000533333) 2
+TICK
+REPEAT 1000 {
+    MR(0.01) !1
+}
+DEPOLARIZE2(0.001) 0 1
+PAULI_CHANNEL_1(0.1, 0.2, 0.05) 2
+E(0.125) X0 Z2
+ELSE_CORRELATED_ERROR(0.25) Y1
+E(0.5)
+MPP(0.02) !X0*Z2
+MX 0 !1
+CX rec[-1] 0
+""")
+
+
+def words_of(circuit):
+    """The words of the timeline of a circuit."""
+    return [it.text for it in circuit.diagram("timeline").elements if isinstance(it, elements.Words)]
+
+
+def glyphs_of(circuit):
+    """The labels of the shapes of a timeline, of those that have one."""
+    return [it.label for it in circuit.diagram("timeline").elements if isinstance(it, elements.Glyph) and it.label]
+
+
+def test_a_timeline_shows_noise_with_its_chances():
+    assert glyphs_of(NOISY) == ["0"] * 3 + ["X", "X", "D1", "!M", "D2", "D2", "P1", "X", "Z", "Y", "!X", "Z", "MX", "!MX", "X"]
+    chances = ["0.01", "0.01", "0.00053", "0.001", "Σ0.35", "0.12", "0.25"]
+    assert [it.text for it in NOISY.diagram("timeline").elements if isinstance(it, elements.Words) and it.fill == "flip"] == chances
+    records = ["M0+k(0.01)", "M1000(0.02)", "M1001", "M1002", "if M1002"]
+    assert [word for word in words_of(NOISY) if word.startswith(("M", "if"))] == records
+    # The circuit alone has the same without noise.
+    assert glyphs_of(NOISY.circuit) == ["0"] * 3 + ["!M", "!X", "Z", "MX", "!MX", "X"]
+    assert [word for word in words_of(NOISY.circuit) if word.startswith("M")] == ["M0+k", "M1000", "M1001", "M1002"]
+
+
+@pytest.mark.parametrize("circuit", [
+    NOISY, stabsim.Circuit("M 0\nREPEAT 100000 {\nTICK\nREPEAT 2 {\nTICK\nM 0\n}\n}"), stabsim.Circuit("REPEAT 1000000 {\nM 0\n}\nTICK"),
+    stabsim.Circuit("REPEAT 250000 {\nTICK\nM 0\nTICK\n}\nCX rec[-1] 1\nTICK"),
+], ids=["noisy", "blocks", "wide frame", "last tick"])
+def test_no_words_of_a_timeline_are_cut_or_over_others_of_their_line(circuit):
+    picture = circuit.diagram("timeline")
+    spans = {}
+    for it in picture.elements:
+        if isinstance(it, elements.Words):
+            # A letter of a fixed width has 0.6 of its size, and a bold one of the page's font 0.64 on the average.
+            wide = it.size * len(it.text) * (0.6 if it.is_mono else 0.64 if it.weight > 400 else 0.55)
+            left = it.x - {"start": 0, "middle": 0.5, "end": 1}[it.anchor] * wide
+            spans.setdefault(it.y, []).append((left, left + wide))
+    for line in map(sorted, spans.values()):
+        assert line[0][0] >= 0 and line[-1][1] <= picture.width
+        assert all(before[1] <= after[0] for before, after in zip(line, line[1:]))
+
+
+def test_a_picture_is_saved_as_svg_alone(tmp_path):
+    picture = stabsim.Circuit("H 0").diagram("timeline")
+    for name in ("x.png", "x"):
+        with pytest.raises(ValueError, match=r"ends in .svg: .*x.svg in place of"):
+            picture.save(tmp_path / name)
+    picture.save(tmp_path / "x.SVG")
+    assert [file.name for file in tmp_path.iterdir()] == ["x.SVG"]
+
+
 def test_what_is_asked_wrongly_is_said():
-    with pytest.raises(IndexError, match="tick 99 is not in 0..="):
+    with pytest.raises(IndexError, match="tick 99 is not from 0 to "):
         REPETITION.diagram("timeslice", tick=99)
     with pytest.raises(ValueError, match="of a tick"):
         REPETITION.diagram("detslice")
@@ -223,7 +289,7 @@ def test_what_is_asked_wrongly_is_said():
         REPETITION.diagram("timeline", tick=1)
     with pytest.raises(ValueError, match="D99 is no detector"):
         REPETITION.diagram("detslice", tick=1, detectors=["D99"])
-    with pytest.raises(ValueError, match="not a pie"):
+    with pytest.raises(ValueError, match="kind is 'pie': give one of 'timeline', 'timeslice'"):
         REPETITION.diagram("pie")
     with pytest.raises(ValueError, match="theme is auto, light or dark"):
         REPETITION.diagram("timeline").svg("pink")

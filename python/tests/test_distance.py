@@ -1,5 +1,7 @@
 """Distances of circuits: by hand, against all small sets of errors, and put into sessions."""
 
+import functools
+import itertools
 import pathlib
 import random
 import sys
@@ -68,16 +70,16 @@ def test_distances_by_hand(name):
     text, expected = BY_HAND[name]
     circuit = stabsim.Circuit(text)
     found = circuit.distance()
-    assert found.distance == expected and found.searched == "all errors"
+    assert found.distance == expected and found.searched == "all marked errors"
     if expected:
         check_hidden(circuit, found)
         assert circuit.distance(most=expected).distance == expected
         fewer = circuit.distance(most=expected - 1)
-        assert (fewer.distance, fewer.errors, str(fewer)) == (None, (), f"none up to {expected - 1} of all errors")
+        assert (fewer.distance, fewer.errors, str(fewer)) == (None, (), f"none up to {expected - 1} of all marked errors")
         with circuit.edit() as session:
             assert session.distance(expected).distance == expected and session.distance(expected - 1) == fewer
     else:
-        assert found.errors == () and str(found) == "none of all errors"
+        assert found.errors == () and str(found) == "none of all marked errors"
 
 
 def test_letters_leave_errors_out():
@@ -197,7 +199,7 @@ def test_each_mechanism_of_a_model_is_an_error_at_its_place():
             session.insert_errors([error])
             changed = session.changed()
             assert changed.detectors.tolist() == list(error.detectors) and changed.observables.tolist() == list(error.observables)
-            assert [*error.detectors, *(model.detectors + it for it in error.observables)] == model.flipped(mechanism).tolist()
+            assert [*error.detectors, *(model.num_detectors + it for it in error.observables)] == model.flipped(mechanism).tolist()
             # Its path is where it is put in, or the measurement whose record is wrong.
             if error.record is None and error.path.count("/") == 0:
                 assert session.place(error.path).steps.start == error.steps
@@ -227,11 +229,48 @@ def test_a_model_that_was_read_has_a_distance():
     model = stabsim.ErrorModel.from_dem("error(0.1) D0 L0\nerror(0.1) D0 D1\nerror(0.1) D1\nerror(0.1) D2 L1 ^ D0\n")
     found = model.distance()
     # D2 and D0 are flipped by parts of an error, of which none is an error by itself.
-    assert (found.distance, found.errors, [model.flipped(it).tolist() for it in found.mechanisms]) == (3, (), [[0, 1], [0, 3], [1]])
+    assert (found.distance, found.errors, [model.flipped(it).tolist() for it in found.mechanisms]) == (3, (), [[0, 3], [0, 1], [1]])
     assert model.distance(most=2).distance is None
     assert stabsim.ErrorModel.from_dem("error(0.1) L0\nerror(0.2) D0").distance().distance == 1
     assert stabsim.ErrorModel.from_dem("detector D3\n").distance().distance is None
     assert stabsim.ErrorModel.from_dem("").distance().distance is None
+
+
+@pytest.mark.parametrize("graphlike", [False, True])
+def test_a_distance_without_errors_to_search_says_why(graphlike):
+    quiet = "R 0\nM 0\nDETECTOR rec[-1]\nOBSERVABLE_INCLUDE(0) rec[-1]\n"
+    assert str(stabsim.from_stim(quiet).distance(graphlike=graphlike)) == "none of no errors, since the circuit has no noise"
+    for text in ("", "detector D0\n", "error(0) L0\n", "error(0) D0 ^ L0\n"):
+        found = stabsim.ErrorModel.from_dem(text).distance(graphlike=graphlike)
+        assert str(found) == "none of no errors, since the model has none that has a chance"
+    # An error that flips nothing is one.
+    silent = stabsim.ErrorModel.from_dem("error(0.1)\n").distance(graphlike=graphlike)
+    assert str(silent) == ("none of graph-like errors" if graphlike else "none of all errors")
+
+
+def test_the_graphlike_distance_of_a_decomposed_model_is_that_of_its_parts():
+    text = "error(0.1) D0 D1 ^ D2 L0\nerror(0.1) D0 D1\nerror(0.1) D2\n"
+    model = stabsim.ErrorModel.from_dem(text)
+    found = model.distance(graphlike=True)
+    assert (str(found), found.mechanisms) == ("distance 2 of graph-like parts of errors", (0, 2))
+    assert str(model.distance()) == "distance 3 of all errors"
+    # Without parts the first error flips three detectors, and is left out; parts that never happen are too.
+    assert str(stabsim.ErrorModel.from_dem(text.replace(" ^", "")).distance(graphlike=True)) == "none of graph-like errors"
+    assert model.from_dem(text.replace("(0.1)", "(0)", 1)).distance(graphlike=True).distance is None
+    # A part by itself is named as such.
+    assert model.from_dem(text + "error(0.1) L0 D2\n").distance(graphlike=True).mechanisms == (2, 3)
+
+
+@pytest.mark.parametrize("seed", range(10))
+def test_the_graphlike_distance_of_a_decomposed_model_is_the_least_of_all_sets_of_parts(seed):
+    numbers = random.Random(seed)
+    bits = ["D0", "D1", "D2", "D3", "L0"]
+    errors = [[numbers.sample(bits, numbers.choice([1, 2, 3])) for _ in range(numbers.choice([1, 2, 3]))] for _ in range(6)]
+    model = stabsim.ErrorModel.from_dem("".join(f"error(0.1) {' ^ '.join(map(' '.join, parts))}\n" for parts in errors) + "detector D3\nerror(0.1) D0 ^ D1")
+    edges = sorted({tuple(sorted(part)) for parts in [*errors, [["D0"], ["D1"]]] for part in parts if len({*part} - {"L0"}) < 3})
+    least = next((size for size in range(1, len(edges) + 1) for some in itertools.combinations(edges, size)
+                  if functools.reduce(set.symmetric_difference, map(set, some), set()) == {"L0"}), None)
+    assert model.distance(graphlike=True).distance == least
 
 
 def test_an_observable_of_many_mechanisms_is_written_on_several_lines():
@@ -244,13 +283,13 @@ def test_the_lines_of_answers_are_read():
     found = distance_of("distance 2 of graph-like errors\n7 3/0 X3*Z4 D2 L0\n9 4 M17 D2\n")
     assert (found.distance, found.searched, [str(error) for error in found.errors]) == (2, "graph-like errors", ["X3*Z4", "M17"])
     assert (found.errors[0].path, found.errors[1].record, found.errors[0].observables) == ("3/0", 17, (0,))
-    assert str(distance_of("none up to 3\n")) == "none up to 3 of all errors"
+    assert str(distance_of("none up to 3\n")) == "none up to 3 of all marked errors"
     assert str(distance_of("none up to 3 of graph-like errors\n")) == "none up to 3 of graph-like errors"
-    assert str(distance_of("none\n")) == "none of all errors"
+    assert str(distance_of("none\n", everywhere=True)) == "none of all errors everywhere"
     with pytest.raises(ValueError, match="is no distance"):
         distance_of("some\n")
 
 
 def test_a_limit_below_0_is_a_value_error():
-    with pytest.raises(ValueError, match="fewer than none"):
+    with pytest.raises(ValueError, match="most is -1"):
         stabsim.Circuit("I 0").distance(most=-1)

@@ -94,6 +94,29 @@ def test_what_is_no_such_file_is_told(format, data, tmp_path):
         stabsim.read_shots(path, format=format, **NUMBERS)
 
 
+@pytest.mark.parametrize("format, data, line, said", [
+    ("01", b"10101\n101\n", 2, "it has 3 characters, and num_measurements, num_detectors and num_observables add up to 5"), ("01", b"10101\n00000\n10102\n", 3, "neither 0 nor 1"),
+    ("01", b"10101\n00", 2, "the last line has no end"), ("hits", b"1\n\n2,x\n", 3, "no number"), ("hits", b"1\n4,5\n", 2, "past the last bit, and num_measurements, num_detectors and num_observables add up to 5"),
+    ("hits", b"1\n2,,3\n", 2, "no number"), ("dets", b"shot M0\nshoe M0\n", 2, "begin with the word shot"),
+    ("dets", b"shot\n\n", 2, "begin with the word shot"), ("dets", b"shot\nshot M0  M1\n", 2, "two spaces"),
+    ("dets", b"shot\nshot M0 Q1\n", 2, "none of M, D and L"), ("dets", b"shot\nshot\nshot D1\n", 3, "past the bits of its kind"),
+    ("dets", b"shot\nshot M0", 2, "the last line has no end"),
+])
+def test_a_line_at_fault_is_named(format, data, line, said, tmp_path):
+    path = tmp_path / "shots"
+    path.write_bytes(data)
+    with pytest.raises(stabsim.BadShots, match=f"^line {line}: .*{said}") as told:
+        stabsim.read_shots(path, format=format, **NUMBERS)
+    assert told.value.line == line
+
+
+@pytest.mark.parametrize("format", ["01", "hits", "dets"])
+def test_lines_may_end_in_a_carriage_return(format, tmp_path):
+    path = tmp_path / "shots"
+    path.write_bytes(BYTES[format].replace(b"\n", b"\r\n"))
+    assert np.array_equal(stabsim.read_shots(path, format=format, **NUMBERS), SHOTS)
+
+
 def test_a_byte_too_many_is_told(tmp_path):
     path = tmp_path / "shots"
     path.write_bytes(b"123")
@@ -107,8 +130,8 @@ def test_wrong_arguments_are_told(tmp_path):
     for shots in (SHOTS[:, :4], SHOTS[0], SHOTS.astype(int), np.zeros((3, 2), dtype=np.uint8)):
         with pytest.raises(ValueError, match="bool array"):
             stabsim.write_shots(path, shots, format="01", **NUMBERS)
-    with pytest.raises(ValueError, match="none of 01, b8"):
+    with pytest.raises(ValueError, match="give one of '01', 'b8'"):
         stabsim.write_shots(path, SHOTS, format="b9", **NUMBERS)
-    with pytest.raises(ValueError, match="0 or more"):
+    with pytest.raises(ValueError, match="num_detectors is -1"):
         stabsim.read_shots(path, format="01", num_detectors=-1)
     assert not path.exists()

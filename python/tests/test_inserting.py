@@ -42,7 +42,7 @@ def test_errors_flip_what_the_table_says(text):
             faults = dice.sample(range(len(table)), 1 + number % 3)
             session.insert_errors(error_of(table, fault) for fault in faults)
             changed = session.changed()
-            flipped = {it for it in changed.detectors.tolist() if deterministic[it]} | {table.detectors + it for it in changed.observables.tolist()}
+            flipped = {it for it in changed.detectors.tolist() if deterministic[it]} | {table.num_detectors + it for it in changed.observables.tolist()}
             expected = set()
             for fault in faults:
                 expected ^= set(table.flipped(fault).tolist())

@@ -45,6 +45,14 @@ def test_records_need_not_be_those_of_a_run():
     assert observables.astype(int).tolist() == [[0, 0, 0], [0, 0, 0], [0, 0, 1], [0, 0, 1]]
 
 
+def test_flips_are_what_differs_from_the_circuit_without_noise():
+    circuit = stabsim.Circuit("X 0\nM 0 1\nDETECTOR rec[-2]\nDETECTOR rec[-1]\nOBSERVABLE_INCLUDE(0) rec[-1] rec[-2]\n")
+    records = np.array([[1, 0], [0, 0], [1, 1]], dtype=bool)
+    detectors, observables = stabsim.m2d(circuit, records, separate_observables=True, flips=True)
+    assert detectors.astype(int).tolist() == [[0, 0], [1, 0], [0, 1]] and observables.astype(int).tolist() == [[0], [1], [1]]
+    assert np.array_equal(stabsim.m2d(circuit, records, flips=True), detectors)
+
+
 def test_many_shots_are_taken_in_parts():
     circuit = stabsim.Circuit("M 0 1 2\nDETECTOR rec[-1] rec[-3]\n")
     records = np.random.default_rng(3).random((20_001, 3)) < 0.5
@@ -53,5 +61,5 @@ def test_many_shots_are_taken_in_parts():
 
 
 def test_records_of_another_circuit_are_refused():
-    with pytest.raises(ValueError, match="records is a bool array"):
+    with pytest.raises(ValueError, match="records is an array bool .*: give a bool array"):
         stabsim.m2d(stabsim.Circuit("M 0\n"), np.zeros((3, 2), dtype=bool))

@@ -156,7 +156,7 @@ def test_letters_of_one_qubit_are_multiplied_and_a_silent_error_hinders_those_be
 
 def test_a_chain_is_of_lines_side_by_side():
     for between in ("TICK", "X_ERROR(0.1) 0", "REPEAT 2 {\nTICK\n}"):
-        with pytest.raises(stabsim.UnsupportedNoise, match="follows E"):
+        with pytest.raises(stabsim.Refused, match="follows E"):
             stabsim.error_model(f"E(0.1) X0\n{between}\nELSE_CORRELATED_ERROR(0.1) X0\nM 0\n")
     text = "R 0\nE(0.1) X0\n# a comment\n\nELSE_CORRELATED_ERROR(0.5) X0\nE(0.2) X0\nM 0\nDETECTOR rec[-1]\n"
     assert close(mechanisms(stabsim.error_model(text)), {"D0": 0.55 * 0.8 + 0.45 * 0.2})
@@ -227,7 +227,7 @@ def test_sparse_matrices_are_the_dense_ones():
             assert sparse.form == form and sparse.shape == dense.shape and np.array_equal(sparse.dense(), dense)
             made = sparse.to_scipy()
             assert isinstance(made, kind) and made.has_canonical_format and np.array_equal(made.toarray(), dense)
-    with pytest.raises(ValueError, match="csr or csc"):
+    with pytest.raises(ValueError, match="one of 'csr', 'csc'"):
         model.sparse_check_matrices("coo")
 
 
@@ -237,11 +237,8 @@ def test_sparse_matrices_need_no_scipy():
     assert subprocess.run([sys.executable, "-c", code], capture_output=True, text=True, check=True).stdout == "[1]\n"
 
 
-@pytest.mark.parametrize("line", [
-    "ELSE_CORRELATED_ERROR(0.1) X0", "HERALDED_ERASE(0.1) 0", "DEPOLARIZE1(0.8) 0", "DEPOLARIZE2(0.1) 0",
-    "X_ERROR 0", "X_ERROR(1.5) 0", "X_ERROR(x) 0", "M(0.1, 0.2) 0", "PAULI_CHANNEL_1(0.5, 0.4, 0.2) 0", "E(0.1) 0",
-])
-def test_other_noise_is_told_with_its_line(line):
+@pytest.mark.parametrize("line", ["HERALDED_ERASE(0.1) 0", "DEPOLARIZE1(0.8) 0", "DEPOLARIZE2(0.95) 0 1"])
+def test_noise_without_a_model_is_told_with_its_line(line):
     with pytest.raises(stabsim.UnsupportedNoise) as told:
         stabsim.error_model(f"R 0\n{line}\nM 0\n")
     assert told.value.line == 2 and str(told.value).startswith("line 2: ")
@@ -312,7 +309,7 @@ def exact(model):
     """The chance of each set of flips, by all combinations of mechanisms."""
     chances = {}
     for happened in itertools.product([False, True], repeat=len(model)):
-        flips = np.zeros(model.detectors + model.observables, dtype=bool)
+        flips = np.zeros(model.num_detectors + model.num_observables, dtype=bool)
         chance = 1.0
         for mechanism, there in enumerate(happened):
             chance *= model.chances[mechanism] if there else 1 - model.chances[mechanism]
@@ -389,3 +386,31 @@ def test_models_of_other_chances_have_other_fingerprints():
     one, other = (stabsim.error_model(f"R 0\nX_ERROR({chance}) 0\nM 0\nDETECTOR rec[-1]\n") for chance in (0.1, 0.2))
     assert one.fingerprint != other.fingerprint
     assert one.fingerprint == stabsim.error_model("R 0\nX_ERROR(0.10) 0\nM 0\nDETECTOR rec[-1]\n").fingerprint
+
+
+def test_a_circuit_without_noise_has_a_model_without_mechanisms(tmp_path):
+    text = "R 0\nX_ERROR(0.25) 0\nM 0\nDETECTOR rec[-1]\n"
+    quiet = stabsim.from_stim(text).circuit
+    with pytest.raises(ValueError, match="give what stabsim.from_stim reads, which keeps its noise"):
+        stabsim.error_model(quiet)
+    assert stabsim.error_model(stabsim.Circuit(quiet.text)).dem == "detector D0\n"
+
+
+MODEL = stabsim.ErrorModel.from_dem("error(0.25) D0 L0\n")
+
+
+@pytest.mark.parametrize("call, kind", [
+    (lambda: stabsim.error_model(None), TypeError), (lambda: stabsim.error_model(5), TypeError), (lambda: stabsim.ErrorModel.from_dem(None), TypeError),
+    (lambda: stabsim.ErrorModel.from_dem(b"error(0.1) D0"), TypeError), (lambda: MODEL.sample(1.5), TypeError), (lambda: MODEL.sample(-1), ValueError),
+    (lambda: MODEL.sample(1, seed=True), TypeError), (lambda: MODEL.sample(1, first_shot="0"), TypeError), (lambda: MODEL.explain(None), TypeError),
+    (lambda: MODEL.sparse_check_matrices("coo"), ValueError), (lambda: MODEL.distance(most=-1), ValueError), (lambda: MODEL.distance(most=0.5), TypeError),
+])
+def test_what_a_model_can_not_take_is_named_with_what_to_give(call, kind):
+    with pytest.raises(kind, match="^[^\n]* is [^\n]*: give [^\n]*$"):
+        call()
+
+
+def test_a_mechanism_that_is_none_is_an_index_error():
+    for number in (-1, 1):
+        with pytest.raises(IndexError, match="give a whole number from 0 to 0"):
+            MODEL.flipped(number)

@@ -13,15 +13,15 @@ LEAST = {"text": 4.5, "mark": 3.0}
 # On which grounds each colour is drawn, as text and as a mark.
 GROUNDS = {
     "text": {
-        "ink": "sheet paper well hover chosen flip-soft", "quiet": "sheet paper well hover chosen", "accent": "sheet well hover chosen", "bad": "sheet",
+        "ink": "sheet paper well hover chosen flip-soft x-face y-face z-face op-face", "quiet": "sheet paper well hover chosen", "accent": "sheet well hover chosen", "bad": "sheet",
         "flip": "sheet well", "x": "sheet x-soft op-soft", "y": "sheet y-soft op-soft", "z": "sheet z-soft op-soft", "op": "sheet op-soft",
         "on-accent": "accent", "on-measure": "measure", "on-pauli": "x y z", "sheet": "ink",
     },
     "mark": {
-        "qubit": "sheet x-soft z-soft op-soft", "edge": "sheet well", "zero": "sheet well hover chosen", "one": "sheet well hover chosen",
-        "wire": "sheet x-soft z-soft op-soft", "accent": "sheet well hover x-soft z-soft", "flip": "sheet well hover chosen",
-        "x": "sheet well hover chosen x-soft z-soft", "y": "sheet well hover chosen x-soft z-soft", "z": "sheet well hover chosen x-soft z-soft",
-        "measure": "sheet x-soft z-soft", "quiet": "sheet well hover chosen", "ink": "sheet well hover chosen",
+        "qubit": "sheet x-face z-face op-face", "edge": "sheet well", "zero": "sheet well hover chosen", "one": "sheet well hover chosen",
+        "wire": "sheet x-face z-face op-face", "accent": "sheet well hover x-face z-face", "flip": "sheet well hover chosen",
+        "x": "sheet well hover chosen x-soft z-soft x-face z-face", "y": "sheet well hover chosen x-soft z-soft x-face z-face", "z": "sheet well hover chosen x-soft z-soft x-face z-face",
+        "measure": "sheet x-face z-face", "quiet": "sheet well hover chosen", "ink": "sheet well hover chosen",
     },
 }
 

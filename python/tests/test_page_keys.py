@@ -28,7 +28,7 @@ def put_x(page):
 def choose_known(page, qubit):
     """Chooses a qubit, and waits until it is known what each error there would flip."""
     page.choose_qubit(qubit)
-    page.wait(lambda: page.texts("#about-errors .follow:not(:disabled)"))
+    page.wait(lambda: page.find("about-errors").text and "not known yet" not in page.find("about-errors").text)
     page.settle()
 
 
@@ -122,7 +122,7 @@ def test_who_goes_on_before_an_edit_is_answered_stays_there(page):
     page.browser.execute_async_script(TWO_KEYS, "x", "]")
     page.wait(lambda: page.history() == ["opened", "insert 1 X 0"])
     page.settle()
-    assert page.find("moment-said").text == "tick 1" and page.ask("page.shown.way") is None and page.ask("page.shown.bit") == "D0"
+    assert page.find("moment-said").text == "tick 1" and page.ask("page.shown.bit") == "D0"
 
 
 def is_writing(page):
@@ -181,8 +181,8 @@ def test_the_tree_says_its_items_and_panes_are_one_tab_stop(page):
 
 
 # What the Tab key stops at, by panes of buttons and single fields; that of a round is there in a block alone.
-STOPS = ["tools", "text", "words", "round", "palette", "alone", "view", "picture", "timeline", "inspector", "since"]
-PANE = "const it = document.activeElement; return it.closest('#tools, #palette, #view')?.id ?? (it.id || it.closest('aside')?.id || 'none')"
+STOPS = ["tools", "line-tools", "text", "words", "round", "palette", "rounds-of-edits", "view", "picture", "faces", "timeline", "inspector", "since", "split-left", "split-right", "split-time"]
+PANE = "const it = document.activeElement; return it.closest('#tools, #line-tools, #palette, #rounds-of-edits, #view')?.id ?? (it.id || it.closest('aside')?.id || 'none')"
 
 
 def next_stop(page):

@@ -8,7 +8,7 @@ import pytest
 import stabsim
 from stabsim.page.board import Board
 from stabsim.page.edits import Edit
-from stabsim.page.opening import LINK, BadLink, Opened, opened_of, packed, unpacked
+from stabsim.page.opening import LINK, BadLink, Opened, opened, opened_of, packed, unpacked
 from stabsim.page.room import qubits_named, room_for
 
 # Each record is a coin's, so that other coins would be seen.
@@ -19,9 +19,9 @@ FILES = pathlib.Path(__file__).parent.parent / "stabsim" / "page" / "static" / "
 
 @pytest.fixture
 def board(tmp_path):
-    opened = Board(Opened(COINS, "coins.stim"), seed=5, save=tmp_path / "saved.stim")
-    yield opened
-    opened.close()
+    made = Board(Opened(COINS, "coins.stim"), seed=5, save=tmp_path / "saved.stim")
+    yield made
+    made.close()
 
 
 def test_nothing_is_an_empty_circuit():
@@ -59,26 +59,32 @@ def test_room_is_made_for_some_more_qubits(named, now, room):
 def test_another_circuit_is_an_entry_that_is_taken_back(board):
     board.edit([Edit("insert", "0", "X 3")])
     board.mark()
-    told = board.open("M 0\nX_ERROR(0.1) 0\n", "other.stim")
+    told = board.open(opened("M 0\nX_ERROR(0.1) 0\n", "other.stim"))
     assert (told["event"], told["name"], told["circuit"]) == ("opened", "other.stim", "M 0\n")
-    assert told["left_out"].startswith("The noise of 1 line") and [entry["text"] for entry in told["entries"]] == ["insert 0 X 3", "open other.stim"]
+    assert told["notice"].startswith("The noise of 1 line") and [entry["text"] for entry in told["entries"]] == ["insert 0 X 3", "open other.stim"]
     board.edit([Edit("insert", "0", "X 0")])
     # A script begins with the circuit that was opened last.
     assert board.script() == "insert 0 X 0\n"
     back = board.go(1)
-    assert (back["event"], back["name"], back["left_out"], back["circuit"]) == ("opened", "coins.stim", "", "X 3\n" + COINS)
+    assert (back["event"], back["name"], back["notice"], back["circuit"]) == ("opened", "coins.stim", "", "X 3\n" + COINS)
     assert board.go(3)["circuit"] == "X 0\nM 0\n"
 
 
-def test_a_circuit_that_is_refused_is_not_opened(board):
-    before = board.opened()
+def test_of_lines_that_became_others_each_is_told():
+    source = opened("R 0 1 2\nX_ERROR(0.1) 0\n# as it was\nMXX 0 1\nSQRT_XX 0 1\nM(0.01) 2\n")
+    assert source.notice == "2 lines are rewritten. The noise of 2 lines is left out: what is shown and saved is the circuit without it."
+    assert source.rewritten[0] == "line 4: MXX 0 1 is MPP X0*X1" and source.rewritten[1].startswith("line 5: SQRT_XX 0 1 is ")
+    assert source.left_out[0] == "line 2: X_ERROR(0.1) 0"
+    assert opened("R 0\nM 0\n").notice == ""
+
+
+def test_a_circuit_that_is_refused_is_not_read():
     with pytest.raises(stabsim.Refused):
-        board.open("H 0\nT 0\n", "other.stim")
-    assert board.opened() == before
+        opened("H 0\nT 0\n", "other.stim")
 
 
 def test_the_same_circuit_again_is_no_entry(board):
-    assert board.open(board.text(), "again.stim")["entries"] == []
+    assert board.open(Opened(board.text(), "again.stim"))["entries"] == []
 
 
 def test_saving_takes_the_name_of_the_old_file_and_leaves_no_other(board, tmp_path):

@@ -148,7 +148,7 @@ def test_a_schedule_is_exchanged_and_the_distance_falls(open_page):
     exchange_layers(page, 3)
     exchange_layers(page, 10)
     assert [line for line in page.circuit().splitlines() if "CX" in line] == [line for line in bad.splitlines() if "CX" in line]
-    page.wait(lambda: "before the last edits: distance 3 of all errors" in about(page, "distance"))
+    page.wait(lambda: "before the last edits: distance 3 of all errors everywhere" in about(page, "distance"))
     ask_distance(page)
     page.wait(lambda: page.texts("#about-distance h3") == ["Distance 2 of errors everywhere"])
 
@@ -182,10 +182,10 @@ def test_a_long_search_says_how_far_it_is_and_can_be_ended(open_page, tmp_path, 
     page.point_at("#about-distance .ask").click_and_hold().perform()
     page.ask("page.views.distance.take({state: 'running', is_marked: false, said: 'no set of 2', errors: []}, page.shown.state.items)")
     page.point_at("#about-distance .ask").release().perform()
-    page.wait(lambda: "the search was ended" in about(page, "distance") and not is_running(pid))
+    page.wait(lambda: "the search was stopped" in about(page, "distance") and not is_running(pid))
     ask_distance(page)
     page.wait(lambda: "no set of 1" in about(page, "distance"))
     # So is an edit, since the circuit is another.
     page.go_to(6)
     page.type_on(10, "x")
-    page.wait(lambda: len(page.history()) == 2 and not is_running(pid) and page.texts("#about-distance .ask") == ["Ask"])
+    page.wait(lambda: len(page.history()) == 2 and not is_running(pid) and page.texts("#about-distance .ask") == ["Compute"])

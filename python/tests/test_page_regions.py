@@ -65,37 +65,38 @@ def test_a_pauli_shows_the_region_of_the_first_bit_that_it_flips(page):
     assert page.letters() == ["X0", "Z2"]
     # What commutes with the region flips nothing, and no region is shown.
     page.type_on(0, "x")
-    page.wait(lambda: page.texts("#edits .now .told")[0].startswith("nothing changed"))
+    page.wait(lambda: page.texts("#edits .now .told") == [""])
     page.wait(lambda: "No detector chosen" in page.find("about-detector").text)
 
 
 def test_a_bit_that_a_coin_decides_has_no_region(open_page):
     page = open_page("RX 0\nTICK\nM 0\nDETECTOR(0, 0, 0) rec[-1]\n")
     page.click_bit("D0")
-    page.wait(lambda: said(page) == "a coin decides it, so that nothing flips it")
+    page.wait(lambda: said(page) == "it is random, so that nothing flips it")
 
 
 def test_too_many_steps_for_a_table_of_faults_are_said(open_page):
     page = open_page("R 0 1\nREPEAT 600000 {\n    TICK\n}\nM 0\nDETECTOR(0, 0, 0) rec[-1]\n")
     page.go_to(600_000)
     page.click_bit("D0")
-    page.wait(lambda: said(page) == "there is no table of faults: it was refused as 9 TooManySteps")
+    page.wait(lambda: said(page) == "there is no table of faults: it was refused as TooManySteps")
 
 
 def test_a_refusal_is_explained_at_its_item(page):
     page.choose("0")
     page.press("i")
     page.press("DETECTOR rec[-2]", Keys.ENTER)
-    page.wait(lambda: page.texts("#refusal") == ["refused 8 LookbackTooFar"])
+    page.wait(lambda: page.texts("#refusal") == ["refused"])
     assert page.texts("#fault") == ["DETECTOR rec[-2]\n         ^^^^^^^"]
     [why] = page.texts("#why")
-    assert "item 0" in why and page.find("message").text == f"refused 8 LookbackTooFar {why}"
+    assert "item 0" in why and page.find("message").text.endswith(f" · {why}")
 
 
 def test_a_refusal_is_explained_where_there_is_no_form(page):
+    page.click("#follow")
     page.choose("4")
     page.press(Keys.DELETE)
-    page.wait(lambda: "refused 8 LookbackTooFar" in page.row("4"))
+    page.wait(lambda: "refused" in page.row("4"))
     assert "item 5" in page.find("message").text
 
 
@@ -111,21 +112,16 @@ def test_of_a_file_without_noise_nothing_is_said(page):
     assert not page.find("left-out").is_displayed()
 
 
-def test_the_way_of_an_error_is_shown_tick_by_tick(open_page):
-    # By hand: X on the control is X on both after the CX; the measured one is taken out of the way by its reset.
-    page = open_page("R 0 1\nTICK\nCX 0 1\nTICK\nMR 1\nDETECTOR rec[-1]\nTICK\nM 0\nDETECTOR rec[-1]\n")
-    way = "Object.entries(page.shown.way?.letters ?? {}).map(([moment, on]) => `${moment} ` + Object.entries(on).map((it) => it.reverse().join('')).join(' '))"
-    page.choose_qubit(0)
-    page.wait(lambda: page.browser.execute_script("return !document.querySelector('.follow').disabled"))
-    page.click("[data-letter=X] .follow")
-    page.wait(lambda: page.ask(way) == ["0 X0", "1 X0 X1", "2 X0"])
-    page.go_to(1)
-    assert [it for it in page.glyphs() if it[0] == "X"] == [["X", "X"]] * 2
-    page.press(Keys.ESCAPE)
-    page.wait(lambda: page.ask(way) == [])
-    # That of an error which is put in comes by itself.
-    page.press("z")
-    page.wait(lambda: page.ask("page.shown.way?.letter") == "Z")
+def test_an_error_has_a_mark_at_its_own_tick_alone(open_page):
+    # Without detectors nothing says what becomes of X0: it is X0 X1 and then X0 Z1, and neither is guessed.
+    page = open_page("R 0 1\nTICK\nCX 0 1\nTICK\nH 1\nTICK\nM 0 1\n")
+    page.type_on(0, "x")
+    page.wait(lambda: page.history() == ["opened", "insert 1 X 0"])
+    marks = []
+    for moment in range(4):
+        page.go_to(moment)
+        marks.append([label for shape, label in page.glyphs() if shape == "X"])
+    assert marks == [["X"], [], [], []]
 
 
 def test_detectors_are_chosen_by_keys(page):

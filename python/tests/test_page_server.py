@@ -119,6 +119,13 @@ def test_a_tab_that_opens_while_deterministic_bits_are_told_is_told_them_too(tmp
     monkeypatch.setattr(serving, "deterministic_line", deterministic_line)
 
     async def work(server, connect):
+        told, tell = asyncio.Event(), server.found_deterministic
+
+        async def found_deterministic(*values):
+            told.set()
+            await tell(*values)
+
+        server.found_deterministic = found_deterministic
         await connect()
         assert await asyncio.to_thread(finding.wait, SECONDS)
         opened = server.board.opened
@@ -134,7 +141,7 @@ def test_a_tab_that_opens_while_deterministic_bits_are_told_is_told_them_too(tmp
         assert await asyncio.to_thread(opening.wait, SECONDS)
         # The deterministic bits are there once the second tab has been looked up, and before it hears of events.
         found.set()
-        await asyncio.sleep(0.5)
+        await told.wait()
         go_on.set()
         await second.hear(lambda message: message.get("deterministic") == "1")
 
@@ -184,6 +191,7 @@ def test_a_question_that_is_none_is_answered_and_the_tab_goes_on(tmp_path):
         tab = await connect()
         await tab.socket.send_str("no question")
         await tab.socket.send_json([1, 2])
+        await tab.socket.send_str("[" * 200_000)
         assert "nothing is known" in (await tab.ask(ask="weather"))["refused"]
 
     run_with_server(tmp_path, CODE, work)
@@ -193,7 +201,51 @@ def test_a_refusal_is_told_with_what_is_wrong(tmp_path):
     async def work(server, connect):
         tab = await connect()
         answer = await tab.ask(ask="edit", edits=[{"kind": "insert", "place": "1", "item": "MXX 0 1"}])
-        assert answer["refused"] == "refused 1 UnsupportedName"
+        assert answer["refused"] == "refused"
         assert answer["explanation"].split("\n")[:2] == ["MXX 0 1", "^^^"] and "MPP X0*X1" in answer["explanation"]
+
+    run_with_server(tmp_path, CODE, work)
+
+
+def test_a_circuit_that_is_longer_than_what_may_wait_is_sent_whole(tmp_path, monkeypatch):
+    monkeypatch.setattr(tabs, "MOST_WAITING", 40)
+
+    async def work(server, connect):
+        tab = await connect()
+        assert (await tab.hear(lambda message: message.get("event") == "opened"))["circuit"] == CODE
+        await tab.ask(ask="edit", edits=[{"kind": "insert", "place": "0", "item": "X 0"}])
+
+    run_with_server(tmp_path, CODE, work)
+
+
+def test_while_a_circuit_is_read_other_tabs_are_answered(tmp_path, monkeypatch):
+    begun, go_on, opened = threading.Event(), threading.Event(), serving.opened
+
+    def slowly(*given):
+        begun.set()
+        assert go_on.wait(SECONDS)
+        return opened(*given)
+
+    monkeypatch.setattr(serving, "opened", slowly)
+
+    async def work(server, connect):
+        tab, other = await connect(), await connect()
+        await tab.socket.send_json({"ask": "open", "text": "H 0\n", "name": "slow.stim", "id": 1})
+        await asyncio.to_thread(begun.wait, SECONDS)
+        await other.ask(ask="edit", edits=[{"kind": "insert", "place": "0", "item": "X 0"}])
+        assert server.board.text() == "X 0\n" + CODE
+        go_on.set()
+        await tab.hear(lambda message: message.get("id") == 1)
+        assert server.board.text() == "H 0\n"
+
+    run_with_server(tmp_path, CODE, work)
+
+
+def test_all_tabs_hear_that_the_circuit_was_saved(tmp_path):
+    async def work(server, connect):
+        tab, other = await connect(), await connect()
+        await tab.ask(ask="edit", edits=[{"kind": "insert", "place": "0", "item": "X 0"}])
+        await tab.ask(ask="saved")
+        assert (await other.hear(lambda message: message.get("event") == "saved"))["position"] == 1
 
     run_with_server(tmp_path, CODE, work)

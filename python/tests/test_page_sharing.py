@@ -92,9 +92,30 @@ def test_answers_are_guarded(page):
         headers = connection.getresponse().headers
         connection.close()
         assert headers["X-Content-Type-Options"] == "nosniff" and headers["Referrer-Policy"] == "no-referrer"
+        assert headers["Cross-Origin-Resource-Policy"] == "same-origin"
         assert headers["X-Frame-Options"] == "DENY" and "script-src 'self';" in headers["Content-Security-Policy"]
 
 
 def test_by_a_public_port_the_page_is_open_to_its_tunnel(open_page):
     page = open_page(FOUR, "--public-port", "1", is_opened=False)
     assert page.address.startswith("http://127.0.0.1:1/?token=")
+
+
+def paste(page, text):
+    page.browser.execute_script(
+        "const data = new DataTransfer(); data.setData('text', arguments[0]);"
+        "document.body.dispatchEvent(new ClipboardEvent('paste', {clipboardData: data, bubbles: true, cancelable: true}));", text)
+
+
+def test_a_refusal_names_the_line_marks_the_word_and_says_what_to_do(page):
+    paste(page, "R 0\n" + "TICK\n" * 1399 + "BADGATE 3\n")
+    page.wait(lambda: page.texts("#message mark") == ["BADGATE"])
+    said = page.find("message").get_attribute("textContent")
+    assert said == "line 1401: BADGATE 3 · No instruction has this name. Look at its spelling, or take the line out."
+
+
+def test_what_became_of_lines_is_told_in_one_line_with_a_list(page):
+    paste(page, "R 0 1\nX_ERROR(0.1) 0\nMXX 0 1\n")
+    page.wait(lambda: page.find("left-out").text.startswith("1 line is rewritten. The noise of 1 line is left out"))
+    page.click("#left-out")
+    page.wait(lambda: page.texts("#choice button") == ["line 3: MXX 0 1 is MPP X0*X1", "line 2: X_ERROR(0.1) 0"])

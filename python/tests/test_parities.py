@@ -1,4 +1,4 @@
-"""Parities that no coin decides, missing detectors and distributions, against brute force over all parities and all coins."""
+"""Parities that no coin decides, and distributions, against brute force over all parities and all coins."""
 
 import itertools
 import random
@@ -7,7 +7,7 @@ import numpy as np
 import pytest
 import stabsim
 from coins_by_runs import bits_of
-from stabsim import codes, coins, parities
+from stabsim import coins, parities
 
 
 def span_of(records):
@@ -59,62 +59,9 @@ def test_local_parities_span_as_little_as_any_basis(seed):
     assert len(set(map(min, found))) == len(set(map(max, found))) == len(found)
 
 
-@pytest.mark.parametrize("seed", range(40))
-def test_missing_parities_complete_the_known_ones_and_span_little(seed):
-    numbers = random.Random(seed)
-    columns = [numbers.getrandbits(3) for _ in range(8)]
-    deterministic = [it for it in subsets(8) if is_deterministic(it, columns)]
-    known = numbers.sample(deterministic, min(len(deterministic), 3)) + [frozenset(numbers.sample(range(8), 3))]
-    missing = parities.missing_parities(parities.local_parities(columns), known)
-    known = [it for it in known if it in deterministic]
-    assert all(it in deterministic for it in missing)
-    assert rank_of(missing + known) == rank_of(deterministic) == len(missing) + rank_of(known)
-    assert sorted(map(span_of, missing)) == least_spans(columns, known)
-
-
-@pytest.mark.parametrize("text", [codes.surface_code(3, 2, written_out=True), codes.colour_code(3, 1, written_out=True),
-                                  codes.bacon_shor_code(2, 2, written_out=True), codes.repetition_code(3, 2, written_out=True)],
-                         ids=["surface", "colour", "Bacon-Shor", "repetition"])
-def test_a_detector_that_was_taken_out_is_found(text):
-    whole = stabsim.Circuit(text)
-    table, missing = whole.coins(), whole.missing_detectors()
-    # At the end of the Bacon-Shor code each pair along a row is measured once more, by its two qubits, and not the product of a row alone.
-    assert missing == ([((7, 8, 9), False)] if "Bacon" in text else [])
-    lines = text.splitlines()
-    detectors = [place for place, line in enumerate(lines) if line.startswith("DETECTOR")]
-    each = parities.known_parities(whole.items)
-    for number, place in enumerate(detectors):
-        # The table has detectors that are none here, but its records are the same.
-        less = stabsim.Circuit("\n".join(lines[:place] + lines[place + 1 :]))
-        found = parities.missing_of(table, less.items)
-        assert len(found) == len(missing) + 1 and not any(it.value for it in found)
-        if not missing:
-            [[records, _]] = found
-            assert span_of(records) <= span_of(each[number])
-            assert len(records) <= len(each[number]) or span_of(records) < span_of(each[number])
-        mended = less.with_detectors(found)
-        assert mended.deterministic().detectors.all()
-        assert parities.missing_of(table, mended.items) == []
-        if place == detectors[-1]:
-            assert less.missing_detectors() == found and mended.missing_detectors() == []
-
-
-def test_missing_detectors_by_hand():
-    def missing(text):
-        return stabsim.Circuit(text).missing_detectors()
-
-    assert missing("MX 0 0 0") == [((0, 1), False), ((1, 2), False)]
-    assert missing("X 0\nM 0\nM 1") == [((0,), True), ((1,), False)]
-    assert missing("MX 0 0 0\nDETECTOR rec[-1] rec[-3]") == [((0, 1), False)]
-    # A detector that coins decide gives nothing, and an observable does.
-    assert missing("MX 0 0\nDETECTOR rec[-1]") == [((0, 1), False)]
-    assert missing("MX 0 0\nOBSERVABLE_INCLUDE(2) rec[-1]\nOBSERVABLE_INCLUDE(2) rec[-2]") == []
-    assert missing("REPEAT 2 {\nMX 0\n}\nREPEAT 1 {\nMX 0\nDETECTOR rec[-1] rec[-2]\n}") == [((0, 1), False)]
-
-
 def test_records_of_detectors_are_those_of_the_written_out_circuit():
     text = "REPEAT 2 {\nM 0\nREPEAT 2 {\nM 1 2\nDETECTOR rec[-1] rec[-2]\n}\nOBSERVABLE_INCLUDE(1) rec[-5] rec[-1]\n}\nDETECTOR rec[-1] rec[-1] rec[-3]"
-    assert parities.known_parities(stabsim.Circuit(text).items) == [{1, 2}, {3, 4}, {6, 7}, {8, 9}, {7}, {0, 4, 5, 9}]
+    assert parities.known_parities(stabsim.Circuit(text).items) == ([{1, 2}, {3, 4}, {6, 7}, {8, 9}, {7}], [{0, 4, 5, 9}])
 
 
 def random_circuit(seed, records=4):

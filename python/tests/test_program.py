@@ -80,5 +80,5 @@ def test_the_command_is_the_shipped_program(package):
     for name in ("__init__.py", "command.py"):
         shutil.copy(PACKAGE / name, package)
     words = [sys.executable, "-c", "from stabsim.command import run_program; run_program()", "a  b", "c"]
-    done = subprocess.run(words, env={**os.environ, "PYTHONPATH": str(package.parent)}, capture_output=True, text=True, check=True)
+    done = subprocess.run(words, env={**os.environ, "PYTHONPATH": str(package.parent)}, cwd=package.parent, capture_output=True, text=True, check=True)
     assert done.stdout in [f"{programs}/stabsim-x86-64-{level} a b c\n" for level in LEVELS]

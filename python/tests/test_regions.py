@@ -3,6 +3,7 @@
 import pytest
 import stabsim
 from stabsim import codes
+from stabsim.page import table_process
 from stabsim.page.moment_faults import MomentFaults
 from stabsim.page.moments import marked
 
@@ -121,3 +122,12 @@ def test_what_is_no_bit_is_refused():
     with pytest.raises(ValueError):
         faults.region("X3")
     assert faults.region("D9") == {}
+
+
+def test_an_edit_that_leaves_the_table_has_none_made_anew(monkeypatch):
+    made = []
+    monkeypatch.setattr(table_process.MomentFaults, "of_circuit", lambda text: made.append(text) or "a table")
+    table, code = table_process.Table(), "R 0 1\nTICK\nCX 0 1\nTICK\nM 1\nDETECTOR rec[-1]\n"
+    for text in (code, code.replace("CX 0 1", "CX 0 1\nX 0"), "QUBIT_COORDS(1, 2) 0\n" + code, code.replace("CX 0 1", "CX 1 0"), code.replace("CX 0 1", "CX 1 0\nZ 1")):
+        assert table.take(text) == ""
+    assert [text.count("CX 1 0") for text in made] == [0, 1]

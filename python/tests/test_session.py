@@ -96,7 +96,7 @@ def test_a_refused_edit_changes_nothing_and_is_not_taken_back():
     with stabsim.Circuit("M 0\n").edit() as session:
         for edit, number in [(lambda: session.insert(0, "X 5"), 6), (lambda: session.insert(7, "X 0"), 12), (lambda: session.delete(1), 12),
                              (lambda: session.replace("0/0", "X 0"), 17), (lambda: session.replace(0, "FOO 0"), 1),
-                             (lambda: session.insert(0, ""), 13), (lambda: session.insert(0, "DETECTOR rec[-1]"), 8)]:
+                             (lambda: session.insert(0, "DETECTOR rec[-1]"), 8)]:
             with pytest.raises(stabsim.Refused) as told:
                 edit()
             assert told.value.number == number and told.value.line is None
@@ -104,7 +104,7 @@ def test_a_refused_edit_changes_nothing_and_is_not_taken_back():
         assert session.records().tolist() == [False]
 
 
-def test_a_refused_edit_is_explained_by_the_item_that_it_puts_in():
+def test_a_refused_request_is_explained_by_the_item_that_it_puts_in_or_by_its_number():
     with stabsim.Circuit("M 0\n").edit() as session:
         for edit, number, said in [
             (lambda: session.insert(0, "CX 0 rec[-1]"), 3, "1: CX 0 rec[-1]\n        ^^^^^^^\n"),
@@ -115,11 +115,16 @@ def test_a_refused_edit_is_explained_by_the_item_that_it_puts_in():
                 edit()
             assert told.value.number == number and told.value.explanation.startswith(said)
         # By themselves these items have no fault, or another: 5 is past the session's qubits, and the circuit has one record.
-        for edit, number in [(lambda: session.insert(0, "X 5"), 6), (lambda: session.insert(1, "DETECTOR rec[-2]"), 8),
-                             (lambda: session.insert(7, "X 0"), 12), (lambda: session.insert(0, ""), 13)]:
+        for edit, number, said in [
+            (lambda: session.insert(0, "X 5"), 6, "It names a qubit that the session does not have"),
+            (lambda: session.insert(1, "DETECTOR rec[-2]"), 8, "A rec[-k] would look back past the first record"),
+            (lambda: session.insert(7, "X 0"), 12, "There is no such item"), (lambda: session.delete("0/0"), 17, "The path leads into an instruction"),
+            (lambda: session.sign("X0*"), 3, "A string of Paulis is written as X0*Z3"), (lambda: session.why("D7"), 12, "There is no such item"),
+            (lambda: stabsim.Circuit("M 3").edit(qubits=2), 6, "It names a qubit that the session does not have"),
+        ]:
             with pytest.raises(stabsim.Refused) as told:
                 edit()
-            assert told.value.number == number and told.value.explanation == ""
+            assert told.value.number == number and told.value.explanation.startswith(said)
 
 
 ROUNDS = "X 0\nREPEAT[a] 3 {\n    M 0\n    X 0\n}\nDETECTOR rec[-1] rec[-3]\n"
@@ -143,7 +148,7 @@ def test_a_round_is_split_off_and_put_back(number, heads):
 
 def test_a_refused_split_changes_nothing():
     with stabsim.Circuit(ROUNDS).edit() as session:
-        for path, number, refusal in [(1, 3, 12), (0, 0, 17), (3, 0, 12), ("1/0", 0, 17), (1, -1, 13)]:
+        for path, number, refusal in [(1, 3, 12), (0, 0, 17), (3, 0, 12), ("1/0", 0, 17)]:
             with pytest.raises(stabsim.Refused) as refused:
                 session.split(path, number)
             assert refused.value.number == refusal
@@ -343,3 +348,17 @@ def test_edits_of_a_session_are_runs_of_the_edited_circuit():
             detectors, observables = again.detect(1, seed=4, separate_observables=True)
             assert np.array_equal(session.records(), again.sample(1, seed=4)[0])
             assert np.array_equal(session.detectors(), detectors[0]) and np.array_equal(session.observables(), observables[0])
+
+
+LEFT_OPEN = """
+import stabsim
+kept = [stabsim.Circuit("M 0").edit() for _ in range(2)]
+kept[0].itself = kept[0]
+stabsim.Circuit("M 0").edit().records()
+print(*(it.process.number for it in kept))
+"""
+
+
+def test_a_session_that_is_left_open_ends_with_the_program_without_a_warning():
+    done = subprocess.run([sys.executable, "-X", "dev", "-c", LEFT_OPEN], capture_output=True, text=True, check=True)
+    assert done.stderr == "" and not any(os.path.exists(f"/proc/{number}") for number in done.stdout.split())

@@ -2,6 +2,7 @@
 
 import math
 import pickle
+from concurrent.futures import ThreadPoolExecutor
 
 import numpy as np
 import pytest
@@ -62,14 +63,77 @@ def test_lines_and_items_are_known_both_ways():
 def test_the_noise_stands_beside_with_its_lines_and_places():
     noise = stabsim.from_stim(TEXT).noise
     assert [(it.line, it.path, it.name, it.tag, it.arguments, it.targets) for it in noise] == [
-        (5, "3/0", "DEPOLARIZE2", "a", ("0.1",), ("0", "1")),
-        (8, "3/4", "MPP", "b", ("0.25",), ("X0*!X1",)),
-        (10, "3/5", "M", "", ("0.125",), ("2",)),
-        (14, "4", "X_ERROR", "", ("0.1",), ("0",)),
+        (5, "2/0", "DEPOLARIZE2", "a", ("0.1",), ("0", "1")),
+        (8, "2/3", "MPP", "b", ("0.25",), ("X0*!X1",)),
+        (10, "2/5", "M", "", ("0.125",), ("2",)),
+        (14, "3", "X_ERROR", "", ("0.1",), ("0",)),
     ]
     assert stabsim.from_stim(TEXT).left_out == [
         "line 5: DEPOLARIZE2[a](0.1) 0 1", "line 8: (0.25) of MXX", "line 9: I_ERROR(0.5) 2", "line 10: (0.125) of M", "line 14: X_ERROR(0.1) 0",
     ]
+
+
+def test_a_circuit_with_noise_is_written_added_and_repeated_with_it(tmp_path):
+    noisy = stabsim.from_stim("R 0\nX_ERROR(0.5) 0\nTICK")
+    both = 3 * noisy + stabsim.from_stim("MPAD 1\nM(1) 0\nDETECTOR rec[-1]\n")
+    assert both.text == "REPEAT 3 {\n    R 0\n    X_ERROR(0.5) 0\n    TICK\n}\nMPAD 1\nM(1) 0\nDETECTOR rec[-1]\n"
+    assert [(item.path, item.name) for item in both.walk()][:3] == [("0", "REPEAT"), ("0/0", "R"), ("0/1", "X_ERROR")] and len(both) == 4
+    # The second qubit is that of the known record.
+    assert (both.num_qubits, both.num_records, both.num_detectors, both.num_observables, both.num_ticks) == (2, 2, 1, 0, 3)
+    both.to_file(tmp_path / "both.stim")
+    assert stabsim.StimCircuit.from_file(tmp_path / "both.stim") == both
+    # One without noise is added on either side.
+    clean = stabsim.Circuit("R 0\nM 0")
+    assert (noisy + clean).text == noisy.text + "\nR 0\nM 0\n" and (clean + noisy).text == "R 0\nM 0\n" + noisy.text + "\n"
+    assert isinstance(clean + noisy, stabsim.StimCircuit) and isinstance(clean + clean, stabsim.Circuit)
+    for other in ("M 0", None):
+        with pytest.raises(TypeError):
+            both + other
+        with pytest.raises(TypeError):
+            other + both
+
+
+def test_a_circuit_with_noise_answers_what_one_without_answers_by_its_own_items():
+    # For the program ISWAP is three items, MXX another, and a channel none.
+    read = stabsim.from_stim("R 0 1\nX_ERROR(0.25) 0\nISWAP 0 1\nMXX(0.25) 0 1\nMX 0\nM 1 1\nDETECTOR(3) rec[-1] rec[-2]\nI 0\nOBSERVABLE_INCLUDE(0) rec[-3]\n")
+    assert read.num_qubits == 2 and read.numbers().items == len(read) == 9 and read.num_detectors == 1
+    assert read.coins().paths.tolist() == ["3", "4", "5"] and [bit.coins[0].path for bit in read.explain()] == ["4"]
+    table = read.faults(everywhere=True, sure_only=True)
+    assert list(dict.fromkeys(table.paths.tolist())) == ["0", "2", "3", "4", "5", "7"] and read.faults(sure_only=True).paths.tolist() == ["7", "7"]
+    other = read.circuit.faults(everywhere=True, sure_only=True)
+    assert np.array_equal(table.indices, other.indices) and np.array_equal(table.steps, other.steps)
+    assert read.deterministic().detectors.tolist() == [True] and read.deterministic().observables.tolist() == [False]
+    assert read.has_flow("1 -> X0*X1 xor rec[-4]") == read.circuit.has_flow("1 -> X0*X1 xor rec[-4]") and read.same_flows(read.circuit)
+    assert read.same_distribution(read.circuit) and read.stabilisers(seed=3) == read.circuit.stabilisers(seed=3)
+    assert read.missing_detectors() == read.circuit.missing_detectors() and read.detector_coordinates().tolist() == [[3.0]]
+    assert read.with_detectors([(0, 1)]).text == read.text + "DETECTOR rec[-4] rec[-3]\n"
+    assert read.detecting_regions() == read.circuit.detecting_regions() and len(read.flow_generators()) == len(read.circuit.flow_generators())
+
+
+def test_shots_with_noise_are_the_same_in_chunks_in_parts_and_packed():
+    read = stabsim.from_stim("R 0 1\nX_ERROR(0.25) 0\nMR(0.125) 0 1\nDETECTOR rec[-1]\nDETECTOR rec[-2]\nOBSERVABLE_INCLUDE(0) rec[-1]\n")
+    records, (detectors, observables) = read.sample(200, seed=5), read.detect(200, seed=5, separate_observables=True)
+    assert np.array_equal(np.concatenate(list(read.iter_sample(200, 70, seed=5))), records)
+    assert np.array_equal(np.concatenate([its for its, _ in read.iter_detect(200, 70, seed=5)]), detectors)
+    with ThreadPoolExecutor(2) as executor:
+        assert np.array_equal(read.sample(200, seed=5, executor=executor), records)
+        assert np.array_equal(read.detect(200, seed=5, executor=executor), detectors)
+    assert np.array_equal(read.sample(200, seed=5, bit_packed=True), np.packbits(records, axis=1, bitorder="little"))
+    packed = read.detect(200, seed=5, separate_observables=True, bit_packed=True)
+    assert all(np.array_equal(its, np.packbits(wanted, axis=1, bitorder="little")) for its, wanted in zip(packed, (detectors, observables)))
+    assert 0 < records[:, 0].mean() < 0.5 and packed[0].seed == 5
+
+
+def test_errors_of_the_noise_are_at_its_items():
+    read = stabsim.from_stim("R 0\nTICK\nISWAP 0 1\nREPEAT 2 {\n    H_XY 0\n    X_ERROR(0.25) 0\n}\nM(0.125) 0\nOBSERVABLE_INCLUDE(0) rec[-1]\n")
+    assert [(item.path, item.name) for item in read.noise] == [("3/1", "X_ERROR"), ("4", "M")]
+    [error] = read.distance().errors
+    assert error.path in ("3/1", "4") and read.distance(everywhere=True).errors[0].path in ("0", "2")
+    with pytest.raises(ValueError, match="letters is 'XZ': give everywhere=True"):
+        read.distance(letters="XZ")
+    assert read.circuit.distance().searched.startswith("no errors, since no place is marked")
+    marked = stabsim.from_stim("MXX 0 1\nI 1\nM 1\nOBSERVABLE_INCLUDE(0) rec[-1]\nOBSERVABLE_INCLUDE(0) rec[-1]\n")
+    assert marked.distance().searched == "all marked errors"
 
 
 def test_an_error_put_in_at_the_place_of_its_channel_flips_what_the_channel_does():
@@ -102,15 +166,20 @@ def test_a_text_that_the_program_reads_is_the_same():
     ("ISWAP 0 1 2\n", 4, 1, "1: ISWAP 0 1 2\n             ^\nISWAP takes pairs of qubits: this one has no partner."),
     ("ISWAP 0 1 10 010\n", 4, 1, "1: ISWAP 0 1 10 010\n                ^^^\nISWAP takes pairs of two different qubits."),
     ("MZZ 0 !0\n", 4, 1, "1: MZZ 0 !0\n         ^^\n"),
+    ("SWAPCX 0 1 1 1\n", 4, 1, "1: SWAPCX 0 1 1 1\n                ^\n"),
+    ("SWAPCX 0 1 1\n", 4, 1, "1: SWAPCX 0 1 1\n              ^\n"),
     ("XCX 0 rec[-1]\n", 3, 1, "1: XCX 0 rec[-1]\n         ^^^^^^^\nXCX takes qubits, which are numbers."),
     ("YCZ rec[-1] 0\n", 3, 1, "1: YCZ rec[-1] 0\n       ^^^^^^^\nYCZ takes a qubit first, and then a qubit or a record."),
     ("H_XY x\n", 3, 1, "1: H_XY x\n        ^\n"),
     ("MXX 0 !!1\n", 3, 1, "1: MXX 0 !!1\n         ^^^\n"),
     ("SPP X0*Y0\n", 3, 1, "1: SPP X0*Y0\n       ^^^^^\nSPP takes products of X, Y and Z, as X0*!Y1, which are their own inverses."),
     ("SPP X0*\n", 3, 1, "1: SPP X0*\n       ^^^\n"),
-    ("MPP X0*Y0\n", 3, 1, "1: MPP X0*Y0\n       ^^^^^\nThis product has one qubit twice."),
+    ("MPP Z1 X0*Y0*Z0\n", 3, 1, "1: MPP Z1 X0*Y0*Z0\n          ^^^^^^^^\nMultiplied out, this is i or -i times a product of Paulis"),
+    ("MPP X0*Q0\n", 3, 1, "1: MPP X0*Q0\n          ^^\nThis is no factor"),
     ("MPAD 0 2\n", 3, 1, "1: MPAD 0 2\n          ^\nMPAD takes bits, 0 or 1."),
-    ("ISWAP(0.5) 0 1\n", 2, 1, "1: ISWAP(0.5) 0 1\n"),
+    ("ISWAP(0.5) 0 0\n", 2, 1, "1: ISWAP(0.5) 0 0\n         ^^^\nISWAP takes no arguments"),
+    ("M 0\nCZ(0.5) 0 rec[-1]\n", 2, 2, "2: CZ(0.5) 0 rec[-1]\n      ^^^\nCZ takes no arguments"),
+    ("MPAD(2) 5\n", 2, 1, "1: MPAD(2) 5\n        ^\nThis is no chance"),
     ("X 0\nT 0\n", 1, 2, "2: T 0\n   ^\n"),
     ("X_ERROR(0.1) 0\nM 0\n}\n", 5, 3, "3: }\n"),
     ("ISWAP 0 1\nMXX 0 1\nREPEAT 3 {\n    M 0\n    CZ 1 rec[-4]\n}\n", 8, None, "5:     CZ 1 rec[-4]\n            ^^^^^^^\nThis looks back past the first record: "
@@ -155,7 +224,7 @@ def test_an_error_model_takes_all_of_the_text(text, wanted):
 
 def test_a_model_names_the_users_lines():
     with pytest.raises(stabsim.UnsupportedNoise) as told:
-        stabsim.error_model("ISWAP 0 1\nMXX 0 1\nX_ERROR(1.5) 0\n")
+        stabsim.error_model("ISWAP 0 1\nMXX 0 1\nDEPOLARIZE1(0.8) 0\n")
     assert told.value.line == 3
     found = stabsim.error_model("ISWAP 0 1\nCXSWAP 0 1\nPAULI_CHANNEL_1(0.1, 0, 0.2) 0\nM 0\n", approximate_disjoint_errors=True)
     assert found.approximated == (3,)
@@ -246,16 +315,36 @@ def test_detectors_without_noise_are_those_of_the_circuit():
         stabsim.from_stim(text + "X_ERROR(0.1) 0\n").detect(1)
 
 
-def test_noise_that_can_not_be_drawn_is_told_with_its_line():
-    for line in ("X_ERROR(1.5) 0", "DEPOLARIZE2(0.1) 0", "M(0.1, 0.2) 0", "ELSE_CORRELATED_ERROR(0.1) X0", "PAULI_CHANNEL_1(0.1) 0", "E(0.1) 5"):
-        with pytest.raises(stabsim.UnsupportedNoise) as told:
-            stabsim.from_stim(f"MXX 0 1\nISWAP 0 1\n{line}\n").sample(1)
-        assert told.value.line == 3
+def test_flips_are_parities_up_to_those_without_noise():
+    read = stabsim.from_stim("X 0\nX_ERROR(0.25) 0 1\nM 0 1\nDETECTOR rec[-2]\nDETECTOR rec[-1]\nOBSERVABLE_INCLUDE(0) rec[-1] rec[-2]\n")
+    raw, flipped = (read.detect(200, seed=6, separate_observables=True, flips=flips) for flips in (False, True))
+    assert np.array_equal(flipped[0], raw[0] ^ [True, False]) and np.array_equal(flipped[1], ~raw[1])
+    assert all(map(np.array_equal, flipped, stabsim.error_model(read).sample(200, seed=6)))
+    assert raw[0].seed == flipped[0].seed == 6 and np.array_equal(read.detect(200, seed=6, flips=True), flipped[0])
+    # Parts and copies know what they are; parities that are 0 without noise are flips.
+    assert not raw[0].are_flips and not pickle.loads(pickle.dumps(raw[0]))[3:].are_flips and flipped[0].are_flips
+    assert stabsim.from_stim("X_ERROR(0.25) 0\nM 0\nDETECTOR rec[-1]\n").detect(3).are_flips
+    # Without noise nothing is flipped.
+    assert not stabsim.from_stim("X 0\nM 0\nDETECTOR rec[-1]\n").detect(3, flips=True).any()
+
+
+def test_what_coins_decide_has_no_flips():
+    for noise in ("", "X_ERROR(0.1) 0\n"):
+        read = stabsim.from_stim(f"H 0\n{noise}M 0\nDETECTOR rec[-1]\n")
+        for ask in (lambda: read.detect(5, flips=True), lambda: stabsim.m2d(read, np.zeros((2, 1), dtype=bool), flips=True)):
+            with pytest.raises(stabsim.Refused, match="detector 0, item .* is not the same for all coins"):
+                ask()
+    assert stabsim.from_stim("H 0\nM 0\nDETECTOR rec[-1]\n").detect(100, seed=1).any()
 
 
 def test_a_shot_that_is_too_long_is_refused_before_it_is_written():
-    with pytest.raises(stabsim.Refused, match="9 TooManySteps"):
+    with pytest.raises(stabsim.Refused, match="9 TooManySteps\nA shot is written out, and has 2000000002 words.*\nOf detectors `detect` draws"):
         stabsim.from_stim("REPEAT 1000000000 {\nX_ERROR(0.1) 0\n}\nM 0\n").sample(1)
+
+
+def test_a_shot_has_as_many_steps_as_its_gates_and_errors():
+    with pytest.raises(stabsim.Refused, match="9 TooManySteps\nA shot is written out, with its errors as gates"):
+        stabsim.from_stim(f"REPEAT 1024 {{\nX {' 0' * 1024}\nX_ERROR(1) 0\n}}\n").sample(1)
 
 
 LONG = " ".join(map(str, range(300)))

@@ -105,12 +105,22 @@ def test_pairs_are_measured_as_products():
 def test_padding_gives_its_bits_on_a_qubit_of_its_own():
     read = stabsim.from_stim("X 0 4\nMPAD 0 1 1\nM 4\nREPEAT 2 {\n    MPAD[a] 1\n}\n")
     assert read.circuit.sample(1).tolist() == [[False, True, True, True, True, True]]
-    assert read.circuit.text == "X 0 4\nM 5 !5 !5\nM 4\nREPEAT 2 {\n    M[a] !5\n}\n"
+    assert read.circuit.text == "X 0 4\nR 5\nM 5 !5 !5\nM 4\nREPEAT 2 {\n    R[a] 5\n    M[a] !5\n}\n"
     full = "X 0 1023\nMPAD 1\n"
-    assert stabsim.from_stim(full).circuit.text == "X 0 1023\nM !1\n" and stabsim.from_stim("MPAD 1").circuit.text == "M !0"
+    assert stabsim.from_stim(full).circuit.text == "X 0 1023\nR 1\nM !1\n" and stabsim.from_stim("MPAD").circuit.text == "M"
     with pytest.raises(stabsim.Refused, match="a qubit of its own") as told:
         stabsim.from_stim(f"X {' '.join(map(str, range(1024)))}\nMPAD 1\n")
     assert (told.value.number, told.value.line) == (6, 2)
+
+
+@pytest.mark.parametrize("text, flows, no_flows", [
+    ("MPAD 0 1", ["1 -> rec[-2]", "1 -> -1 xor rec[-1]"], ["Z0 -> rec[-2]", "1 -> rec[-1]"]),
+    ("MPP X0*X0", ["1 -> rec[-1]", "X0 -> X0", "Z0 -> Z0"], ["Z1 -> rec[-1]", "1 -> -1 xor rec[-1]"]),
+    ("H 0\nMPP X0*Z1*X0*Z1 !Z1 !Y2*Y2", ["1 -> rec[-3]", "1 -> -1 xor rec[-1]", "Z1 -> -1 xor rec[-2]", "X0 -> Z0"], ["1 -> -1 xor rec[-2]"]),
+])
+def test_a_known_record_depends_on_no_input(text, flows, no_flows):
+    circuit = stabsim.from_stim(text).circuit
+    assert all(map(circuit.has_flow, flows)) and not any(map(circuit.has_flow, no_flows))
 
 
 @pytest.mark.parametrize("bit", [0, 1])
@@ -159,9 +169,9 @@ def test_products_are_multiplied_out_as_matrices_are():
 def test_products_with_a_qubit_twice_are_measured_if_they_can_be():
     # X times Y is i times Z, so both pairs together are -1 times Z0*Z1, which zeros stabilise.
     read = stabsim.from_stim("MPP[a] X0*Y0*X1*Y1 Z0*Z0 !X2*X2*Z1 X1*!X1*Z3*Z3\nMPP X0*X1\n")
-    assert read.circuit.text == "MPP[a] !Z0*Z1\nM[a] 4\nMPP[a] !Z1\nM[a] !4\nMPP X0*X1\n"
+    assert read.circuit.text == "MPP[a] !Z0*Z1\nR[a] 4\nM[a] 4\nMPP[a] !Z1\nR[a] 4\nM[a] !4\nMPP X0*X1\n"
     assert read.circuit.sample(1)[0, :4].tolist() == [True, False, True, True]
-    with pytest.raises(stabsim.Refused, match="has one qubit twice"):
+    with pytest.raises(stabsim.Refused, match="is i or -i times a product"):
         stabsim.from_stim("MPP X0*Y0\n")
 
 

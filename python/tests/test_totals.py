@@ -3,6 +3,7 @@
 import csv
 import io
 import os
+import re
 import signal
 import subprocess
 import sys
@@ -141,10 +142,50 @@ def test_the_command_is_interrupted_and_goes_on_from_its_file(tmp_path):
     (["a.stim", "--decoder", "deciding:nobody", "--shots", "5"], 1, "nobody"),
     (["a.stim", "--decoder", "nowhere:nobody", "--shots", "5"], 1, "nowhere"),
     (["a.stim", "--decoder", "deciding:nothing"], 1, "enough"), (["a.stim", "b/a.stim", "--decoder", "deciding:nothing"], 1, "two files are named a"),
-    (["bad.stim", "--decoder", "deciding:nothing", "--shots", "5"], 1, "line 1"), (["--combine", "a.stim"], 1, "no file of counts"),
+    (["a.stim", "bad.stim", "--decoder", "deciding:nothing", "--shots", "5"], 1, "stabsim-collect: bad.stim: line 1"),
+    (["a.stim", "random.stim", "--decoder", "deciding:nothing", "--shots", "5"], 1, "stabsim-collect: random.stim: refused 18"),
+    (["a.stim", "latin.dem", "--decoder", "deciding:nothing", "--shots", "5"], 1, "stabsim-collect: latin.dem: line 1"),
+    (["a.stim", "--decoder", "deciding:nothing", "--shots", "5", "--processes", "0"], 1, "max_workers"),
+    (["wide.dem", "--decoder", "deciding:same", "--shots", "5"], 1, "stabsim-collect: the decoder of wide gave an array (5, 2), and not one of"),
+    (["--combine", "a.stim"], 1, "no file of counts"), (["--combine", "latin.dem"], 1, "latin.dem is no file of counts"),
 ])
-def test_the_command_says_what_is_wrong(words, status, said, tmp_path):
+def test_the_command_says_what_is_wrong_and_in_which_file(words, status, said, tmp_path):
     (tmp_path / "a.stim").write_text("M 0\n")
     (tmp_path / "bad.stim").write_text("T 0\n")
+    (tmp_path / "random.stim").write_text("H 0\nX_ERROR(0.1) 0\nM 0\nDETECTOR rec[-1]\n")
+    (tmp_path / "wide.dem").write_text("error(0.5) D0 D1 L0\n")
+    (tmp_path / "latin.dem").write_bytes("größer\n".encode("latin-1"))
     done = run(tmp_path, *words)
     assert done.returncode == status and said in done.stderr and "Traceback" not in done.stderr and not done.stdout
+
+
+def test_a_comment_in_latin_1_is_no_fault_of_a_circuit(tmp_path):
+    (tmp_path / "latin.stim").write_bytes("# größer\nM 0\nOBSERVABLE_INCLUDE(0) rec[-1]\n".encode("latin-1"))
+    done = run(tmp_path, "latin.stim", "--decoder", "deciding:nothing", "--shots", "5")
+    assert (done.returncode, done.stderr) == (0, "") and done.stdout.splitlines()[1].startswith("latin,deciding.nothing,5,0,0,")
+
+
+def test_a_closed_pipe_ends_the_command_without_a_word(tmp_path):
+    count(tmp_path / "counts.csv", shots=10, seed=4)
+    reader, writer = os.pipe()
+    os.close(reader)
+    words = [sys.executable, "-m", "stabsim.collect_command", "--combine", "counts.csv"]
+    done = subprocess.run(words, cwd=tmp_path, stdout=writer, stderr=subprocess.PIPE, text=True, check=False)
+    os.close(writer)
+    assert (done.returncode, done.stderr) == (-signal.SIGPIPE, "")
+
+
+@pytest.mark.parametrize("code, kind", [
+    ("def decoder(model):\n    raise ValueError('mine')", "ValueError"),
+    ("def decoder(model):\n    return lambda detectors: open('mine')", "FileNotFoundError"),
+    ("import stabsim\ndef decoder(model):\n    raise stabsim.NotDecomposed('mine')", "NotDecomposed"), ("raise ValueError('mine')", "ValueError"),
+    ("import mine", "ModuleNotFoundError"),
+])
+def test_what_a_decoder_raises_is_shown_as_its_own(code, kind, tmp_path):
+    (tmp_path / "d=3.stim").write_text("M 0\nOBSERVABLE_INCLUDE(0) rec[-1]\n")
+    (tmp_path / "failing.py").write_text(code + "\n")
+    done = run(tmp_path, "d=3.stim", "--decoder", "failing:decoder", "--shots", "5")
+    assert done.returncode == 1 and not done.stdout and "stabsim-collect:" not in done.stderr
+    assert "Traceback" in done.stderr and "failing.py" in done.stderr and re.search(f"{kind}: .*mine", done.stderr)
+    # Only what is raised in a decoder is one model's.
+    assert ("raised by the decoder of d=3" in done.stderr) == ("decoder" in code)

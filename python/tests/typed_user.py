@@ -11,7 +11,7 @@ from stabsim import Circuit, ErrorModel, Refused, codes, collect, error_model
 
 def no_decoder(model: ErrorModel) -> stabsim.Predict:
     def predict(detectors: NDArray[np.bool_]) -> NDArray[np.bool_]:
-        return np.zeros((len(detectors), model.observables), dtype=np.bool_)
+        return np.zeros((len(detectors), model.num_observables), dtype=np.bool_)
 
     return predict
 
@@ -52,7 +52,8 @@ def files(circuit: Circuit) -> NDArray[np.bool_]:
 
 def codes_of() -> list[str]:
     code = codes.CssCode([[1, 1]], np.array([[1, 1]]))
-    return [codes.css_code([[1, 1]], [[1, 1]], 2), codes.toric_code(3, 2, basis="X"), codes.bivariate_bicycle_code(3, 3, [(0, 1)], [(1, 0)], 2), repr(code)]
+    three = [(0, 0), (0, 1), (1, 0)]
+    return [codes.css_code([[1, 1]], [[1, 1]], 2), codes.toric_code(3, 2, basis="X"), codes.bivariate_bicycle_code(3, 3, three, three, 2), repr(code)]
 
 
 def flipped(circuit: Circuit, path: stabsim.Path, text: str) -> NDArray[np.int64]:
@@ -96,13 +97,14 @@ def asked(circuit: Circuit, other: Circuit) -> list[int]:
 
 
 def noisy(text: str) -> int:
-    read: stabsim.StimCircuit = stabsim.from_stim(text)
+    read: stabsim.StimCircuit = 2 * stabsim.from_stim(text) + stabsim.StimCircuit.from_file("noisy.stim")
+    parities: NDArray[np.bool_] = stabsim.m2d(read, np.zeros((2, read.num_records), dtype=np.bool_))
     chances: list[float] = [chance for channel in read.noise for chance in channel.numbers()]
     shots: stabsim.Seeded[np.bool_] = read.sample(10)
     detectors, _ = read.detect(10, seed=shots.seed, separate_observables=True)
     with read.edit() as session:
         records: NDArray[np.bool_] = session.records()
-    print(chances, detectors.seed, records.sum(), read.items_of_line[1][0], error_model(read).dem)
+    print(chances, parities, detectors.seed, records.sum(), read.items_of_line[1][0], error_model(read).dem)
     return read.line_of_item["0"]
 
 

@@ -6,7 +6,7 @@ from functools import cached_property, lru_cache
 from random import Random
 from typing import Any
 
-from . import formats, numbers, scripts, states, sums
+from . import doubts, formats, numbers, scripts, states, sums
 from .coins import coins_of_seed
 from .distances import Distance
 from .reading import Items, Refused, items_of
@@ -18,6 +18,7 @@ Ended = tuple[int, bytes, bytes]
 Wrong = str | None
 
 NO_MARKS = b"stabsim: no place is marked by I; --everywhere asks for all places\n"
+NO_LETTERS = b"stabsim: no place is marked by I with X or Z; --everywhere asks for all places\n"
 # What a case is compared with if a run of it would take long.
 TOO_LARGE = "too large for the oracle"
 COUNTED = ("qubits", "items", "steps", "records", "detectors", "observables", "coins")
@@ -125,8 +126,10 @@ def edit(_: Items, case: Case) -> Ended:
 def faults(items: Items, case: Case) -> Ended:
     layout, everywhere = case.setting("out_format"), case.setting("everywhere", False)
     table = sums.faults(items, layout, everywhere, case.setting("deterministic_only", False))
+    if everywhere:
+        return 0, table, b""
     # In b8 a fault of a circuit without detectors and observables is of no byte.
-    return 0, table, NO_MARKS if not table and not everywhere and layout != "b8" else b""
+    return 0, table, doubts.told(items) + (NO_MARKS if not table and layout != "b8" else b"")
 
 
 def counted(items: Items, _: Case) -> Ended:
@@ -134,7 +137,7 @@ def counted(items: Items, _: Case) -> Ended:
     states.refuse_if_large(items, numbers.qubits(items))
     steps, records, detectors, coins = scripts.place_numbers(numbers.unroll(items))
     found = (numbers.qubits(items), len(items), steps, records, detectors, numbers.observables(items), coins)
-    return 0, "".join(f"{name}: {number}\n" for name, number in zip(COUNTED, found)).encode(), b""
+    return 0, "".join(f"{name}: {number}\n" for name, number in zip(COUNTED, found)).encode(), doubts.told(items)
 
 
 ANSWERS: dict[str, Callable[[Items, Case], Ended]] = {
@@ -178,7 +181,10 @@ def distance(items: Items, case: Case, answer: Ended) -> Ended:
     """The answer, if it is an unseen set of errors and no set of fewer is unseen, as far as all sets are tried; else what is wrong with it."""
     found = Distance(items, case.setting("everywhere", False), case.setting("letters", "XYZ"), case.setting("graphlike", False))
     wrong = found.wrong(answer[1], case.setting("most"))
-    return 0, wrong.encode() if wrong else answer[1], answer[2]
+    told = b"" if case.setting("everywhere", False) else doubts.told(items)
+    # That nothing is marked, or no letter is left, is told last.
+    last = answer[2].removeprefix(told)
+    return 0, wrong.encode() if wrong else answer[1], told + (last if last in (NO_MARKS, NO_LETTERS) else b"")
 
 
 def judge(case: Case, answer: Ended) -> tuple[Wrong, str]:

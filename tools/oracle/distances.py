@@ -110,6 +110,7 @@ class Distance:
 
     def __init__(self, items: Items, everywhere: bool, letters: str, graphlike: bool, deterministic_only: bool = False) -> None:
         self.graphlike = graphlike
+        self.of_all = " of all errors everywhere" if everywhere else " of all marked errors"
         errors = list((errors_everywhere if everywhere else errors_marked)(items, letters))
         parts = [part for error in errors for part in parts_of(error)]
         placed = list({it: None for error in errors + parts for it in error.letters})
@@ -155,7 +156,7 @@ class Distance:
         rights = {
             f"none{of_which}": not lines and self.least is None,
             f"none up to {most}{of_which}": not lines and most is not None and (self.least is None or self.least > most),
-            f"distance {len(lines)}{of_which or ' of all errors'}":
+            f"distance {len(lines)}{of_which or self.of_all}":
                 is_least and len(lines) <= (most or len(lines)) and self.are_unseen(lines),
         }
         return None if rights.get(first) else f"{first!r} with {lines}, but the least number of errors that are unseen is {self.least}"

@@ -13,6 +13,8 @@ Gates = list[tuple[str, str]]
 
 SPELLINGS = {name: [name] + [alias for alias, first in ALIASES.items() if first == name]
              for name in (*ONE_QUBIT, *TWO_QUBITS, "MPP", *COLLAPSES)}
+# Tags of marks, and some that are almost one.
+MARK_TAGS = ("a b", "X", "Y", "Z", "XZ", "XYZ", "pairs", "pairs", "Pairs", "x", "xz", "YX")
 UNDONE_BY = {"S": "S_DAG", "SQRT_X": "SQRT_X_DAG", "SQRT_Y": "SQRT_Y_DAG", "C_XYZ": "C_ZYX"}
 UNDONE_BY.update({undo: name for name, undo in UNDONE_BY.items()})
 
@@ -80,7 +82,8 @@ class Maker:
         if self.random.random() < 0.2:
             return self.annotation()
         name = self.random.choice(self.names)
-        tag = "[a b]" if self.random.random() < 0.05 else ""
+        tags = MARK_TAGS if name == "I" else ("a b",)
+        tag = f"[{self.random.choice(tags)}]" if self.random.random() < (0.3 if name == "I" else 0.05) else ""
         note = " # why" if self.random.random() < 0.05 else ""
         return f"{spelled(self.random, name)}{tag} {self.targets(name)}{note}"
 

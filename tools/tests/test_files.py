@@ -114,10 +114,11 @@ def test_no_command_but_edit_reads_a_script(circuit: pathlib.Path, command: str)
 
 
 ZERO, MARKED_ZERO = "R 0\nM 0\nDETECTOR rec[-1]\n", "R 0\nI 0\nM 0\n"
+NO_LETTERS = "stabsim: no place is marked by I with X or Z; --everywhere asks for all places\n"
 UNMARKED, MARKED = (f"R 0\n{mark}M 0\nOBSERVABLE_INCLUDE(0) rec[-1]\n" for mark in ("", "I[Y] 0\n"))
 # Two flips of a bit that is measured twice, and compared, are seen by no detector.
 TWICE = "R 0 1\nI[X] 0 1\nM 0 1\nDETECTOR rec[-1] rec[-2]\nOBSERVABLE_INCLUDE(0) rec[-1]\n"
-DISTANCE_OF_TWICE = "distance 2 of all errors\n2 1 X0 D0\n3 1 X1 D0 L0\n"
+DISTANCE_OF_TWICE = "distance 2 of all marked errors\n2 1 X0 D0\n3 1 X1 D0 L0\n"
 
 
 # Words, a circuit, the answer, and what is said beside it.
@@ -129,8 +130,10 @@ DISTANCE_OF_TWICE = "distance 2 of all errors\n2 1 X0 D0\n3 1 X1 D0 L0\n"
     ("faults", MARKED_ZERO, "1 1 X0\n1 1 Z0\n", ""),
     ("faults --out_format b8", MARKED_ZERO, "", ""),
     ("distance", UNMARKED, "none\n", NO_MARKS),
-    ("distance --everywhere", UNMARKED, "distance 1 of all errors\n1 0 X0 L0\n", ""),
-    ("distance", MARKED, "distance 1 of all errors\n1 1 Y0 L0\n", ""),
+    # A mark of Y alone has no letter left.
+    ("distance --letters XZ", MARKED, "none\n", NO_LETTERS),
+    ("distance --everywhere", UNMARKED, "distance 1 of all errors everywhere\n1 0 X0 L0\n", ""),
+    ("distance", MARKED, "distance 1 of all marked errors\n1 1 Y0 L0\n", ""),
     ("distance", TWICE, DISTANCE_OF_TWICE, ""),
     ("distance --progress", TWICE, DISTANCE_OF_TWICE, "distance: no set of 1\n"),
     ("distance --progress --most 1", TWICE, "none up to 1\n", "distance: no set of 1\n"),

@@ -2,6 +2,7 @@
 
 import hashlib
 import pathlib
+import re
 import shutil
 import subprocess
 import urllib.request
@@ -112,3 +113,13 @@ def test_pip_installs_commands_man_page_and_completions(top: pathlib.Path, tmp_p
     assert added.partition("\n")[2].startswith("d=3,matching,1024,0,8,0.0078125,")
     for name in ("man/man1/stabsim.1", "bash-completion/completions/stabsim.bash", "zsh/site-functions/_stabsim"):
         assert (here / "share" / name).is_file()
+    helped = output_of([here / "bin/stabsim", "help", "sample"], tmp_path)
+    assert "Usage: stabsim sample" in helped and f"{here}/share/doc/stabsim" in helped.splitlines()[0]
+    named = re.findall(r"\b(?:docs|examples)/[\w/.-]+\w", helped)
+    assert named and all((here / "share/doc/stabsim" / name).is_file() for name in named)
+
+
+def test_pip_needs_without_a_network_what_the_page_says() -> None:
+    [line] = [line for line in text_of(TOP / "docs/use/python.md").splitlines() if "Without a network" in line]
+    said = line.split("Without a network", 1)[1]
+    assert "`--no-index --no-build-isolation`" in said and all(name in said for name in NEEDED[:2]) and NEEDED[:2] == ["setuptools", "wheel"]

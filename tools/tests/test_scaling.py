@@ -149,6 +149,18 @@ def test_parts_of_any_size_are_the_whole(work: pathlib.Path, command: str, form:
     assert b"".join(each) == parts.output(*words, "--first_shot", "3", "--shots", str(sum(SIZES)))
 
 
+@pytest.mark.parametrize("script", ["plan.sh", "machines.sh", "slurm.sh"])
+@pytest.mark.parametrize("at, wrong", [(1, "-5"), (2, "-1000"), (2, "1e3"), (3, "-8"), (3, "")])
+def test_a_number_of_other_than_digits_is_refused_before_anything_runs(work: pathlib.Path, script: str, at: int, wrong: str) -> None:
+    (work / "m.stim").write_text("M 0\n")
+    words = [str(work / "m.stim"), "5", "1000", "8", "b8", str(work)]
+    words[at] = wrong
+    done = subprocess.run([SCRIPTS / script, *words], capture_output=True, text=True, check=False)
+    said = f"plan: '{wrong}' is no number: the seed, the shots and the parts are decimal digits\n"
+    assert (done.returncode, done.stdout, done.stderr) == (2, "", said)
+    assert [file.name for file in work.iterdir()] == ["m.stim"]
+
+
 def run_and_kill_on_machines(parts: Parts) -> None:
     """Runs the parts by GNU parallel, kills three of them, and runs them again."""
     running = parts.start("machines.sh")

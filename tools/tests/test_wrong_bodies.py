@@ -43,7 +43,7 @@ def told_of(edit: Path) -> str:
     """What rt prints of a wrong body that is refused by the clause that it names."""
     label = clause_of(edit)[0]
     file, function = function_of(edit)
-    goal = label if label == "invariant" else f"returns-clause-{label}"
+    goal = {"invariant": label, "requires": "new-requires"}.get(label, f"returns-clause-{label}")
     place = f"{file.relative_to(TOP / 'crates' / crate_of(edit))}:{function.start + 1}:5"
     return f"rt: must-fail {crate_of(edit)}/{edit.name}: refused, as it must be: note: {place}: its goal (`{goal}`)\n"
 
@@ -77,7 +77,7 @@ def test_a_wrong_body_can_be_applied(edit: Path) -> None:
 @pytest.mark.parametrize("edit", EDITS, ids=NAMES)
 def test_a_wrong_body_names_a_clause_that_is_there(edit: Path) -> None:
     label, _ = clause_of(edit)
-    assert label == "invariant" or label in wrong_bodies.labels_of(function_of(edit)[1])
+    assert label in ("invariant", "requires") or label in wrong_bodies.labels_of(function_of(edit)[1])
 
 
 def run(*words: str | Path, path: str = os.environ["PATH"]) -> Ended:

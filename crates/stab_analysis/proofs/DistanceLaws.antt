@@ -1,5 +1,5 @@
 -- Laws of a distance: how a call goes on that finds none, or finds one and sends it.
-use Rattle.stab_analysis.proofs.Names.{◌≡◌, refl, sym, ap, subst, ℕ, Bool, List, Result, Ok, Err, Option, Some, None, inr, IsErrAnd, OutputView, Fault, Items, DistanceOptions, Random, Distance, SendsFound, FaultsRefused, GoesOn, fault_of, random_of, IsDistanceOf, IsDistanceText, IsRefusedFor, answer_text, SendsAtOnce}
+use Rattle.stab_analysis.proofs.Names.{◌≡◌, refl, sym, ap, subst, ℕ, Bool, List, Result, Ok, Err, Option, Some, None, inr, IsErrAnd, OutputView, Fault, Items, DistanceOptions, Random, Distance, SendsFound, FaultsRefused, GoesOn, fault_of, random_of, HearsDistance, Heard, IsDistanceOf, IsDistanceText, IsRefusedFor, answer_text, SendsAtOnce}
 use Rattle.stab_analysis.proofs.FoundLaws.{found_at_once}
 
 -- a bit that is not deterministic, or lack of memory, ends the call before anything is written
@@ -18,3 +18,9 @@ refused_handed {T} are deterministic_only items e (Err y) old is refused =
 pub answer_sent : {T : Type 0} (options : DistanceOptions) (items : Items) (d : Distance) (old new : OutputView) (r : Result T Fault) → IsDistanceOf options items d.errors d.answer
     → SendsAtOnce (answer_text options items d.errors d.answer) old new r → SendsFound (IsDistanceText options items) old new r
 answer_sent options items d old new r is sent = found_at_once (IsDistanceText options items) old new (answer_text options items d.errors d.answer) r (d.errors, d.answer, is, refl) sent
+
+-- what was heard of a search was heard of a call that ends without an answer after it
+pub heard_handed : {T : Type 0} (options : DistanceOptions) (items : Items) (e : FaultsRefused) (r : Result T FaultsRefused) (old new : Option (List Heard)) → IsErrAnd r (λ y. y ≡ e)
+    → HearsDistance {T = T} options items old new (Err e.fault) → HearsDistance {T = T} options items old new (fault_of r)
+heard_handed options items e (Ok x) old new is heard = absurd is
+heard_handed options items e (Err y) old new is heard = heard

@@ -1,6 +1,7 @@
 mod Names
 pub mod FoundLaws
 pub mod DistanceLaws
+pub mod EndingLaws
 pub mod CheckLaws
 pub mod CountLaws
 pub mod LineLaws

@@ -55,6 +55,7 @@ pub use Rattle.stab_analysis.specs.CoinRuns.{AreCoinRuns, free_coins, AreBits}
 pub use Rattle.stab_analysis.specs.declared.coin_runs.CoinRuns.{CoinRuns}
 pub use Rattle.stab_diagnostics.specs.Explanations.{AppendsSome}
 pub use Rattle.stab_distance.proofs.IndexLemmas.{listed-set_here, listed-set_other, listed-push, listed-at}
+pub use Rattle.stab_distance.specs.Progress.{Heard}
 pub use Rattle.stab_distance.specs.inner.Indexes.{listed}
 pub use Rattle.stab_errors.specs.ErrorTables.{IsErrorTable}
 pub use Rattle.stab_errors.specs.Errors.{errors_of}
@@ -95,7 +96,7 @@ pub use Rattle.stab_analysis.specs.Checks.{SendsSome, numbers_of, IsCountedBy, n
 pub use Rattle.stab_texts.specs.CoinTables.{coin_text, coins_text, whole_bits, whole_kinds}
 pub use Rattle.stab_texts.specs.Deciders.{checked_bits, deciders}
 pub use Rattle.stab_texts.specs.Deterministic.{IsDeterministicText}
-pub use Rattle.stab_texts.specs.Distances.{IsDistanceOf, IsDistanceText, IsRefusedFor, answer_text, numbered_line, none_line, distance_line}
+pub use Rattle.stab_texts.specs.Distances.{HearsDistance, IsDistanceOf, IsDistanceText, IsRefusedFor, answer_text, numbered_line, none_line, distance_line}
 pub use Rattle.stab_texts.specs.Endings.{SendsFound, FlushesOrFault, SendsUnflushed}
 pub use Rattle.stab_texts.specs.FaultTables.{GoesOn, fault_of, random_of, set_all, IsFirstDecider, IsTableText, table_text}
 pub use Rattle.stab_texts.specs.Reasons.{bit_name, coordinates_at, decider_text, reason_line, reason_text, DeterministicHasNoDecider, has_bit, found_coordinates}

@@ -56,7 +56,7 @@ check_text items = numbers_text (numbers_of items)
 abbrev pub SendsSome : OutputView → OutputView → Type 0
 SendsSome old new = (bytes : List ℕ) × (answer : Result (Unit {0}) Fault) × Sends bytes old new answer
 
--- some bytes were sent that explain why a text was refused; nothing, if the input failed or memory was refused
+-- some bytes were sent that explain why a text was refused; nothing, if the input failed or the answer is 20
 abbrev pub Explains : OutputView → OutputView → Fault → Type 0
 Explains old new f = (new ≡ old) ⊎ ((f.refusal ≢ ReadFault) × (f.refusal ≢ OutOfMemory) × SendsSome old new)
 

@@ -1,5 +1,5 @@
 //! What a circuit is, by its numbers, or what is wrong with it.
-ghost use Rattle.std.specs.Prelude.{◌≡◌, None, IfOk, IfErr, length};
+ghost use Rattle.std.specs.Prelude.{◌≡◌, false, None, IfOk, IfErr, length};
 ghost use Rattle.std.specs.List.{flat_map};
 ghost use Rattle.stab_io.specs.Devices.{WritesAll};
 ghost use Rattle.stab_io.specs.Refusals.{whole};
@@ -8,13 +8,15 @@ ghost use Rattle.stab_edits.specs.Cursors.{step_shown};
 ghost use Rattle.stab_circuit.specs.Steps.{check_of, unroll, detectors_of, detectors_in};
 ghost use Rattle.stab_edits.specs.Views.{circuit_items};
 ghost use Rattle.stab_run.specs.Points.{all_coins_of, coins_of};
+ghost use Rattle.stab_texts.specs.DoubtLines.{TellsIfOk, Warns, doubts_of};
 ghost use Rattle.stab_texts.specs.Endings.{Sends};
 ghost use Rattle.stab_analysis.specs.Checks.{EndsCheck, Explains, SendsSome, check_text, number_line, numbers_of, numbers_text};
 
+use crate::doubts::doubts_of;
 use stab_circuit::{Circuit, Cursor, Step, circuit_of_text, read_text};
 use stab_diagnostics::write_explanation;
 use stab_io::{Fault, Input, Output, Refusal};
-use stab_texts::{finish, write_texts};
+use stab_texts::{finish, tell_doubts, write_texts};
 use std::alloc::Global;
 
 /// The numbers of a circuit.
@@ -152,6 +154,23 @@ fn send_numbers<O: Output>(alloc: Global, out: &mut O, circuit: &Circuit) -> Res
     finish(out)
 }
 
+/// Writes the lines of a circuit's numbers, and flushes; and reports its doubtful marks.
+fn send_check<O: Output, E: Output>(
+    alloc: Global,
+    out: &mut O,
+    err: &mut E,
+    circuit: &Circuit,
+) -> Result<(), Fault>
+    requires checked { check_of (circuit_items circuit.now) ≡ None }
+    ensures sends { Sends (check_text (circuit_items circuit.now)) (O.seen out.old) (O.seen out.new) result }
+    ensures tells { TellsIfOk (circuit_items circuit.now) (doubts_of false (circuit_items circuit.now)) (E.seen err.old) (E.seen err.new) result }
+{
+    let doubts = doubts_of(alloc, circuit, false)?;
+    send_numbers(alloc, out, circuit)?;
+    tell_doubts(err, circuit, doubts.as_slice());
+    Ok(())
+}
+
 /// Writes what is wrong with a text that was refused with this fault, and flushes. It reports nothing
 /// of a failure to do so, since the fault of the text is what the call answers.
 fn send_explanation<O: Output>(alloc: Global, out: &mut O, text: &[u8], fault: Fault)
@@ -162,7 +181,7 @@ fn send_explanation<O: Output>(alloc: Global, out: &mut O, text: &[u8], fault: F
     }
 }
 
-/// Does so, unless the input failed or memory was refused.
+/// Does so, unless the input failed or the answer is 20.
 fn explain<O: Output>(alloc: Global, out: &mut O, text: &[u8], fault: Fault)
     ensures explains { Explains (O.seen out.old) (O.seen out.new) fault }
 {
@@ -182,14 +201,18 @@ fn explain<O: Output>(alloc: Global, out: &mut O, text: &[u8], fault: Fault)
 ///
 /// If the text is refused, an explanation is written and flushed, and the fault is that of the
 /// text, whether or not this failed; what the explanation says is no part of what is proved. If
-/// the input fails, or memory is refused while the circuit is read, nothing is written. Reading, the flush and
+/// the input fails, or the answer is 20 while the circuit is read, nothing is written. Reading, the flush and
 /// the other faults are those of `run_sample`. Every step is passed once: there are at most 1,048,576.
-pub fn run_check<I: Input, O: Output>(
+///
+/// Marks that may be meant in another way are reported on `err` after a call without a fault.
+pub fn run_check<I: Input, O: Output, E: Output>(
     alloc: Global,
     input: &mut I,
     out: &mut O,
+    err: &mut E,
 ) -> Result<(), Fault>
     ensures ends { EndsCheck (I.seen input.old) (I.seen input.new) (O.seen out.old) (O.seen out.new) result }
+    ensures warns { Warns false (I.seen input.old) (I.seen input.new) (E.seen err.old) (E.seen err.new) result }
 {
     let text = match read_text(alloc, input) {
         Ok(text) => text,
@@ -200,7 +223,7 @@ pub fn run_check<I: Input, O: Output>(
         }
     };
     match circuit_of_text(alloc, text.as_slice()) {
-        Ok(circuit) => send_numbers(alloc, out, &circuit),
+        Ok(circuit) => send_check(alloc, out, err, &circuit),
         Err(fault) => {
             explain(alloc, out, text.as_slice(), fault);
             Err(fault)

@@ -6,19 +6,21 @@ ghost use Rattle.stab_circuit.specs.Items.{Items};
 ghost use Rattle.stab_circuit.specs.Steps.{check_of};
 ghost use Rattle.stab_edits.specs.Views.{circuit_items};
 ghost use Rattle.stab_errors.specs.ErrorTables.{IsErrorTable, StepsInside};
-ghost use Rattle.stab_errors.specs.Unseen.{IsDistance};
+ghost use Rattle.stab_errors.specs.Unseen.{IsDistance, TellsUnseen};
 ghost use Rattle.stab_texts.specs.FaultTables.{GoesOn, fault_of, random_of};
-ghost use Rattle.stab_texts.specs.Distances.{EndsDistance, IsDistanceOf, IsDistanceText, IsRefusedFor, answer_text, distance_line, if_graphlike, none_line, of_errors};
+ghost use Rattle.stab_texts.specs.DoubtLines.{Warns};
+ghost use Rattle.stab_texts.specs.Distances.{EndsDistance, HearsDistance, IsDistanceOf, IsDistanceText, IsRefusedFor, answer_text, distance_line, if_graphlike, none_line, of_errors, TellsDistance};
 ghost use Rattle.stab_analysis.specs.inner.Faults.{SendsAtOnce};
 
 use crate::deterministic::kinds_of;
+use crate::doubts::doubts_of;
 use crate::faults::refused_for;
 use itoa::Buffer;
 use stab_circuit::{Circuit, read_circuit};
 use stab_errors::{Answer, ErrorTable, Progress, distance, errors, graphlike_distance};
 use stab_io::{Fault, Input, Output, Refusal};
 use stab_jobs::DistanceOptions;
-use stab_texts::{FaultsRefused, finish, write_errors, write_texts};
+use stab_texts::{FaultsRefused, finish, tell_doubts, write_errors, write_texts};
 use std::alloc::Global;
 
 /// The errors of a circuit, and what a search found among them.
@@ -46,6 +48,7 @@ fn search<P: Progress>(
 ) -> Result<Answer, Refusal>
     ensures distance { IfOk result (λ a. (n : ℕ) (items : Items) → IsErrorTable n items errors.now → IsDistance options.graphlike n items errors.now.errors options.most a) }
     ensures err { IfErr result (λ r. r ≡ OutOfMemory) }
+    ensures told { (n : ℕ) (items : Items) → IsErrorTable n items errors.now → TellsUnseen options.graphlike n items errors.now.errors options.most (P.heard progress.old) (P.heard progress.new) result }
 {
     if options.graphlike {
         graphlike_distance(alloc, errors, options.most, progress)
@@ -68,6 +71,7 @@ pub fn find_distance<P: Progress>(
     ensures found { IfOk result (λ d. IsDistanceOf options (circuit_items circuit.now) d.errors d.answer) }
     ensures steps { IfOk result (λ d. StepsInside (circuit_items circuit.now) d.errors.errors) }
     ensures refused { IfErr result (λ r. IsRefusedFor options.deterministic_only (circuit_items circuit.now) r.random r.fault) }
+    ensures told { HearsDistance options (circuit_items circuit.now) (P.heard progress.old) (P.heard progress.new) (fault_of result) }
 {
     let n = circuit.qubits();
     let errors = errors(
@@ -97,13 +101,15 @@ pub fn find_distance<P: Progress>(
 }
 
 /// Of which errors a distance is.
-fn of_errors(graphlike: bool) -> &'static [u8]
-    ensures value { result.now ≡ of_errors graphlike }
+fn of_errors(graphlike: bool, everywhere: bool) -> &'static [u8]
+    ensures value { result.now ≡ of_errors graphlike everywhere }
 {
     if graphlike {
         b" of graph-like errors"
+    } else if everywhere {
+        b" of all errors everywhere"
     } else {
-        b" of all errors"
+        b" of all marked errors"
     }
 }
 
@@ -111,16 +117,26 @@ fn of_errors(graphlike: bool) -> &'static [u8]
 fn if_graphlike(graphlike: bool) -> &'static [u8]
     ensures value { result.now ≡ if_graphlike graphlike }
 {
-    if graphlike { of_errors(true) } else { b"" }
+    if graphlike {
+        of_errors(true, true)
+    } else {
+        b""
+    }
 }
 
 /// Writes the line of this number of errors.
-fn write_count<O: Output>(out: &mut O, count: usize, graphlike: bool) -> Result<(), Refusal>
-    ensures writes { WritesAll (O.seen out.old) (O.seen out.new) (distance_line count graphlike) result }
+fn write_count<O: Output>(
+    out: &mut O,
+    count: usize,
+    graphlike: bool,
+    everywhere: bool,
+) -> Result<(), Refusal>
+    ensures writes { WritesAll (O.seen out.old) (O.seen out.new) (distance_line count graphlike everywhere) result }
 {
     let mut digits = Buffer::new();
     let count = digits.format(count).as_bytes();
-    write_texts(out, &[b"distance ", count, of_errors(graphlike), b"\n"])
+    let errors = of_errors(graphlike, everywhere);
+    write_texts(out, &[b"distance ", count, errors, b"\n"])
 }
 
 /// Writes that there is no set, of at most this many errors if a number is given.
@@ -138,7 +154,7 @@ fn write_none<O: Output>(out: &mut O, most: Option<usize>, graphlike: bool) -> R
     }
 }
 
-/// Writes an answer: `distance W of all errors` and a line for each of the errors, such as
+/// Writes an answer: `distance W of all marked errors` and a line for each of the errors, such as
 /// `1207 3/0/2 X17*Z4 D24 L0`, or `none`, or `none up to W`.
 ///
 /// Refusal `WriteFault` after a prefix of the lines.
@@ -156,7 +172,7 @@ pub fn write_distance<O: Output>(
     match &found.answer {
         Answer::Least(numbers) => {
             let kinds = kinds_of(circuit, found.errors.deterministic().len());
-            write_count(out, numbers.len(), options.graphlike)?;
+            write_count(out, numbers.len(), options.graphlike, options.everywhere)?;
             write_errors(out, circuit, kinds, &found.errors, numbers.as_slice())
         }
         Answer::NoneWithin => write_none(out, options.most, options.graphlike),
@@ -190,6 +206,7 @@ fn send_distance<O: Output, P: Progress>(
 ) -> Result<(), FaultsRefused>
     requires checked { check_of (circuit_items circuit.now) ≡ None }
     ensures goes_on { GoesOn (IsDistanceText options (circuit_items circuit.now)) options.deterministic_only (circuit_items circuit.now) (random_of result) (O.seen out.old) (O.seen out.new) (fault_of result) }
+    ensures told { HearsDistance options (circuit_items circuit.now) (P.heard progress.old) (P.heard progress.new) (fault_of result) }
 {
     let found = find_distance(alloc, circuit, options, progress)?;
     Ok(send_answer(out, circuit, options, &found)?)
@@ -206,7 +223,7 @@ fn send_distance<O: Output, P: Progress>(
 /// `XAndZ` leave out Y, and products that have both kinds. With `graphlike`, the X and the Z of its letters take
 /// the place of an error that flips more than two detectors, and only errors are taken that flip at most two.
 ///
-/// The first line is `distance W of all errors`, or `distance W of graph-like errors`. Then each of the W errors
+/// The first line is `distance W of all marked errors`, or `of all errors everywhere`, or `of graph-like errors`. Then each of the W errors
 /// has a line, such as `1207 3/0/2 X17*Z4 D24 L0`: the number of steps in front of it, the path of its item, its
 /// letters and qubits, or `M17` for a wrong record, and what it flips. If no set is unseen, there is one line,
 /// `none`; with `most`, if none of at most `most` errors is, `none up to W`. Both end in ` of graph-like errors`
@@ -216,15 +233,23 @@ fn send_distance<O: Output, P: Progress>(
 /// is written or searched, names the first; `deterministic_only` leaves out such ones. Reading, the flush and the
 /// other faults are those of `run_faults`. `progress` hears of the number of errors, and then of each number of
 /// them that no unseen set has.
-pub fn run_distance<I: Input, O: Output, P: Progress>(
+///
+/// Unless errors are `everywhere`, marks that may be meant in another way are reported on `err` after a call without a fault.
+pub fn run_distance<I: Input, O: Output, E: Output, P: Progress>(
     alloc: Global,
     input: &mut I,
     out: &mut O,
+    err: &mut E,
     options: DistanceOptions,
     progress: &mut P,
 ) -> Result<(), FaultsRefused>
     ensures ends { EndsDistance options (I.seen input.old) (I.seen input.new) (O.seen out.old) (O.seen out.new) (fault_of result) (random_of result) }
+    ensures told { TellsDistance options (I.seen input.old) (I.seen input.new) (P.heard progress.old) (P.heard progress.new) (fault_of result) }
+    ensures warns { Warns options.everywhere (I.seen input.old) (I.seen input.new) (E.seen err.old) (E.seen err.new) (fault_of result) }
 {
     let circuit = read_circuit(alloc, input)?;
-    send_distance(alloc, &circuit, out, options, progress)
+    let doubts = doubts_of(alloc, &circuit, options.everywhere)?;
+    send_distance(alloc, &circuit, out, options, progress)?;
+    tell_doubts(err, &circuit, doubts.as_slice());
+    Ok(())
 }

@@ -10,6 +10,7 @@ ghost use Rattle.stab_texts.specs.Deterministic.{kinds_of};
 ghost use Rattle.stab_texts.specs.declared.random.Bit.TheVariants.{Detector, Observable};
 ghost use Rattle.stab_jobs.specs.declared.job.FaultLayout.TheVariants.{Lines, Shots};
 ghost use Rattle.stab_texts.specs.FaultTables.{EndsFaults, GoesOn, IsFirstDecider, IsFirstRandom, IsTableText, fault_of, table_text, random_of};
+ghost use Rattle.stab_texts.specs.DoubtLines.{Warns};
 ghost use Rattle.stab_texts.specs.Places.{adds_to, bit_of, path_of_bit, steps_before_bit};
 ghost use Rattle.stab_analysis.specs.inner.Faults.{PassesStep, SendsAtOnce};
 
@@ -17,12 +18,15 @@ use crate::coin_rows::placed_coin;
 use crate::coin_runs::CoinRuns;
 use crate::deciders::deciders;
 use crate::deterministic::kinds_of;
+use crate::doubts::doubts_of;
 use stab_circuit::{Circuit, Cursor, Path, Step, read_circuit};
 use stab_io::{Fault, Input, Output, Refusal};
 use stab_jobs::FaultLayout;
 use stab_regions::{FaultTable, faults};
 use stab_results::{Format, Kinds};
-use stab_texts::{Bit, Decider, FaultsRefused, Random, finish, write_lines, write_shots};
+use stab_texts::{
+    Bit, Decider, FaultsRefused, Random, finish, tell_doubts, write_lines, write_shots,
+};
 use std::alloc::Global;
 
 /// The number of the first bit that is 0.
@@ -324,16 +328,23 @@ fn send_faults<O: Output>(
 /// before anything is written, names the first, and the first coin that decides it. If `deterministic_only` asks
 /// for it, such ones are left out: no fault flips them. Reading, the flush and the other faults are
 /// those of `run_sample`, except that 20 comes before the first byte.
-pub fn run_faults<I: Input, O: Output>(
+///
+/// Unless faults are `everywhere`, marks that may be meant in another way are reported on `err` after a call without a fault.
+pub fn run_faults<I: Input, O: Output, E: Output>(
     alloc: Global,
     input: &mut I,
     out: &mut O,
+    err: &mut E,
     layout: FaultLayout,
     everywhere: bool,
     deterministic_only: bool,
 ) -> Result<(), FaultsRefused>
     ensures ends { EndsFaults layout everywhere deterministic_only (I.seen input.old) (I.seen input.new) (O.seen out.old) (O.seen out.new) (fault_of result) (random_of result) }
+    ensures warns { Warns everywhere (I.seen input.old) (I.seen input.new) (E.seen err.old) (E.seen err.new) (fault_of result) }
 {
     let circuit = read_circuit(alloc, input)?;
-    send_faults(alloc, &circuit, out, layout, everywhere, deterministic_only)
+    let doubts = doubts_of(alloc, &circuit, everywhere)?;
+    send_faults(alloc, &circuit, out, layout, everywhere, deterministic_only)?;
+    tell_doubts(err, &circuit, doubts.as_slice());
+    Ok(())
 }

@@ -4,6 +4,7 @@
 //!
 //! - `coin_places`: the coins that decide, and the steps at which they do.
 //! - `coin_runs`: the runs that have one coin 1, as lanes.
+//! - `doubts`: the marks of a circuit that may be meant in another way.
 //! - `check`: the command that writes the numbers of a circuit, or what is wrong with it.
 //! - `deterministic`: the command that says which detectors and observables are the same for all random bits.
 //! - `coin_rows`: the rows of a table of coins.
@@ -21,12 +22,13 @@
 //!
 //! Proved: a call ends by cases. The text was refused, by its own fault or unread, and the output is
 //! untouched; or it was given whole, and the output took what is written of its circuit, and one flush;
-//! or it failed once; or memory was refused before the first byte. So `run_deterministic`, `run_faults`
+//! or it failed once; or the answer is 20 before the first byte. So `run_deterministic`, `run_faults`
 //! and `run_distance` end, over the bits that are the same for all random bits; over what each fault flips, by
 //! runs with it and without it, for all random bits (`FaultTables.antt`); and over a least set of errors
 //! that no detector sees and an observable does, by runs with them and without them
 //! (`Distances.antt`). If a bit is not the same for all coins, `run_faults` and `run_distance` name the
-//! first such, and the first coin that decides it, before they write anything.
+//! first such, and the first coin that decides it, before they write anything. These two and `run_check` report marks
+//! that may be meant in another way, after a call without a fault (`DoubtLines.antt`).
 //!
 //! The table of a circuit has a row for each coin that decides an outcome, and its bits are those in which runs
 //! with that coin flipped differ from runs without, for all random bits; other coins change nothing, and each run is the run
@@ -46,6 +48,7 @@ mod coins;
 mod deciders;
 mod deterministic;
 mod distance;
+mod doubts;
 mod faults;
 pub mod laws;
 mod reasons;

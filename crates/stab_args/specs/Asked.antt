@@ -169,7 +169,7 @@ RefusesOptions options usage =
 abbrev pub IsMistake : ErrorKind → Type 0
 IsMistake kind = (kind ≢ DisplayHelp) × (kind ≢ DisplayVersion)
 
--- the reader's own errors are reported as faults, and its help as help, unless memory was refused
+-- the reader's own errors are reported as faults, and its help as help, unless the answer is 20
 abbrev pub IsTold : ErrorKind → Usage → Type 0
 IsTold kind Memory = ⊤
 IsTold kind (Help text) = IsMistake kind → ⊥

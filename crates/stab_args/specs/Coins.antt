@@ -29,7 +29,7 @@ abbrev pub StandsForCoins : Text → List Bool → Type 0
 StandsForCoins text coins = (end : Text) × IsFileEnd end × (text ≡ coin_text coins ++ end)
 
 -- How reading a file of coins ends: the input gave a text whole, within its limit, that stands for these coins, or for none;
--- or the text was not read whole, or memory was refused.
+-- or the text was not read whole, or the answer is 20.
 abbrev pub ReadsCoins : InputView → InputView → Result (Vec Bool) CoinsFault → Type 0
 ReadsCoins old new (Ok coins) = (text : Text) × GaveText old new text × StandsForCoins text coins.items
 ReadsCoins old new (Err Wrong) = (text : Text) × GaveText old new text × ((coins : List Bool) → StandsForCoins text coins → ⊥)

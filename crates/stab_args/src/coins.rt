@@ -13,7 +13,7 @@ pub const NO_COINS: &str = "stabsim: coins are 0 and 1\n";
 /// Why a file gave no coins.
 #[derive(Clone, Copy, Debug)]
 pub enum CoinsFault {
-    /// It was not read whole, by `TooLong` or `ReadFault`, or memory was refused.
+    /// It was not read whole, by `TooLong` or `ReadFault`, or the answer is 20.
     Unread(Refusal),
     /// It has something other than characters 0 and 1 and a line end after them.
     Wrong,

@@ -16,6 +16,7 @@ mod RoundLemmas
 mod ItemTextLemmas
 mod CircuitFaultLemmas
 mod LineItemLemmas
+mod BackLemmas
 pub mod ClearLemmas
 mod SplitLineLemmas
 pub mod EachRoundLemmas

@@ -28,7 +28,7 @@ pub use Rattle.stab_lines.specs.declared.operation.Kind.{Kind}
 pub use Rattle.stab_lines.specs.declared.operation.Operation.{Operation}
 pub use lib.Dec.{eqb}
 pub use Rattle.stab_items.specs.Circuits.{Meaning, at_line, meaning_after, one_item, depth_after, ends_item, line_meanings, Joins, nothing, blank_line, operation_line, block_lines, fault_from, text_fault, StandsFor, most_bytes, contents, meanings, is_empty, item_fault, StandsForOne, limited}
-pub use Rattle.stab_items.specs.Items.{OneItem, Items, operation, repeat, done, next, block, before, listed, join, depth, entries}
+pub use Rattle.stab_items.specs.Items.{OneItem, Items, operation, repeat, done, next, block, before, listed, join, depth, entries, AreGood}
 pub use Rattle.stab_items.specs.Nothings.{IsNothing}
 pub use Rattle.stab_items.specs.Prints.{PrintedLine, printed_lines, text_of, printed}
 pub use Rattle.stab_items.specs.Steps.{named_qubits, named_observables, Step, rounds, unroll, looks_too_far, past_named, qubits_of, observables_of, most_steps, check_within}
@@ -36,7 +36,7 @@ unfoldable pub use Rattle.stab_items.specs.Steps.{check_of}
 pub use Rattle.stab_circuit.specs.declared.reader.OpenBlock.{OpenBlock as StoredBlock}
 pub use Rattle.stab_circuit.specs.declared.stretches.Run.{Run}
 pub use Rattle.stab_circuit.specs.declared.stretches.Stretch.{Stretch}
-pub use Rattle.stab_circuit.specs.inner.KnownLines.{IsOneLine, IsCut, BeginsWithItem, IsKnownLine}
+pub use Rattle.stab_circuit.specs.inner.KnownLines.{IsOneLine, IsCut, BeginsWithItem, IsKnownLine, IsMeant}
 pub use Rattle.stab_circuit.specs.inner.Readers.{Progress, is_whole, meaning_at, OpenBlock, closed, stepped, finished, read_on, is_some_items, pending, ReadsItems, IsShallowProgress, open_block_of, open_blocks_of, kept_progress, closing, progress_of, reading, before_reading}
 pub use Rattle.stab_edits.specs.Edits.{outermost, with_item, rebuilt, edited_inside, changed, edited_in, edited, taken_in, taken, list_verdict, verdict, inner, edit_path, taken_at, put_item, steps_in, steps_before, first_changed, behind_taken, behind_put}
 pub use Rattle.stab_circuit.specs.inner.Stretches.{Ran, reading_on, outside, Reads, items_of, IsStretch, KeepsStretches, IsRunOf, IsRun, IsEnded, RunsOn, AreStretches}
@@ -44,6 +44,7 @@ pub use Rattle.stab_lines.proofs.FreeLemmas.{Each, each-append, Free, free-appen
 pub use Rattle.stab_lines.proofs.GoodLineLemmas.{line_good}
 pub use Rattle.stab_line_reader.proofs.LineLaws.{blank_is_empty, refused_as_line, printed_again, good_said}
 pub use Rattle.stab_lines.specs.Laws.{IsLine, line_printed, Says}
+pub use Rattle.stab_lines.specs.Rules.{IsGoodKind, IsGoodLine, IsTag}
 pub use Rattle.std.proofs.lemmas.Option.{slice_get_within}
 pub use Rattle.stab_io.proofs.DeviceLemmas.{gave_more}
 pub use Rattle.stab_io.specs.Devices.{InputView, Gave}
@@ -52,8 +53,9 @@ pub use Rattle.stab_items.proofs.ItemLemmas.{listed-append, depth-join, join_don
 pub use Rattle.stab_items.proofs.SummaryLemmas.{past_named-join}
 pub use Rattle.stab_lines.specs.declared.operation.Line.{Line}
 pub use Rattle.stab_circuit.specs.Inputs.{GaveTooMuch, GaveFront, ReadsText}
-pub use Rattle.stab_circuit.specs.Laws.{StandsForOneOnly, AreLinesOf, AreOfLines, PutsLines}
+pub use Rattle.stab_circuit.specs.Laws.{StandsForOneOnly, AreLinesOf, AreOfLines, IsReadBack, PutsLines}
 pub use Rattle.stab_edits.specs.Paths.{Path}
+pub use Rattle.stab_edits.specs.Views.{circuit_items}
 pub use Rattle.stab_circuit.specs.Readings.{IsCircuit, IsFaultOf, IsRefused, has_line, ReadsCircuit, IsPlaced, is_of_circuit, is_of_item}
 pub use Rattle.stab_edits.specs.Rounds.{interleaved, rounds_in, round_pieces, pieces_in, pieces, HaveRounds, item_steps, steps_between, ChangesEachRound}
 pub use Rattle.stab_edits.specs.Splits.{parts_of_block, parts_of_item, with_parts, split_in, split, rounds_as_block}

@@ -37,7 +37,7 @@ pub record GaveFront (old new : InputView) : Type 0 where
   pub within : length front ≤ most_bytes
   pub gave : Gave old new front
 
--- why a text was not read whole: it is too long, or the input failed, or memory was refused
+-- why a text was not read whole: it is too long, or the input failed, or the answer is 20
 abbrev pub IsUnread : InputView → InputView → Refusal → Type 0
 IsUnread old new r = ((r ≡ TooLong) × GaveTooMuch old new) ⊎ ((r ≡ ReadFault) × GaveAndBroke old new) ⊎ ((r ≡ OutOfMemory) × GaveFront old new)
 

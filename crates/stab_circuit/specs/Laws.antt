@@ -32,9 +32,13 @@ TextsHaveOneMeaning = (text : List ℕ) → text_fault text ≡ None → (items 
 abbrev pub TextsAreLines : Type 0
 TextsAreLines = (text : List ℕ) (items : Items) → StandsFor text items → AreLinesOf (slice_split (is_byte 10) text) items
 
--- what is printed of the items of any such lines stands for these, if it is no longer than a text may be
+-- what is printed of the items stands for these and no others, if it is no longer than a text may be
+abbrev pub IsReadBack : Items → Type 0
+IsReadBack items = length (printed items) ≤ most_bytes → StandsForOnly (printed items) items
+
+-- so it is with the items of any such lines
 abbrev pub PrintedItemsAreReadBack : Type 0
-PrintedItemsAreReadBack = (lines : List (List ℕ)) (items : Items) → AreLinesOf lines items → length (printed items) ≤ most_bytes → StandsForOnly (printed items) items
+PrintedItemsAreReadBack = (lines : List (List ℕ)) (items : Items) → AreLinesOf lines items → IsReadBack items
 
 -- some lines stand for the items
 abbrev pub AreOfLines : Items → Type 0

@@ -25,7 +25,7 @@ IsRefused text fault = (items : Items) × (refusal : Refusal) × StandsFor text 
 abbrev pub IsFaultOf : List ℕ → Fault → Type 0
 IsFaultOf text fault = (text_fault text ≡ Some fault) ⊎ IsRefused text fault
 
--- the call gave the circuit that the text stands for, or the text's fault, or memory was refused
+-- the call gave the circuit that the text stands for, or the text's fault, or the answer is 20
 abbrev pub ReadsCircuit : List ℕ → Result (List OneItem) Fault → Type 0
 ReadsCircuit text (Ok circuit) = IsCircuit text (circuit_items circuit)
 ReadsCircuit text (Err fault) = (fault ≡ whole OutOfMemory) ⊎ IsFaultOf text fault
@@ -35,7 +35,7 @@ abbrev pub ReadsInput : InputView → InputView → Result (List OneItem) Fault 
 ReadsInput old new (Ok circuit) = (text : List ℕ) × GaveText old new text × IsCircuit text (circuit_items circuit)
 ReadsInput old new (Err fault) = RefusesText IsFaultOf old new fault
 
--- the call gave the one item that the text stands for, or the text's fault, or memory was refused
+-- the call gave the one item that the text stands for, or the text's fault, or the answer is 20
 abbrev pub ReadsItem : List ℕ → Result OneItem Fault → Type 0
 ReadsItem text (Ok item) = StandsForOne text item
 ReadsItem text (Err fault) = (fault ≡ whole OutOfMemory) ⊎ (item_fault text ≡ Some fault)

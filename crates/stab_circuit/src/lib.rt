@@ -22,8 +22,8 @@
 //! Proved: every text is that of one circuit or has one fault, and never both; it is read as exactly
 //! the items that it stands for, or refused with exactly its fault, and after the limit of a text
 //! only what one read brings is read; one item's text without a fault stands for one item; what is printed
-//! of the items of any lines stands for these items and no others, within the limit of a text, and
-//! edits and splits of items of lines leave such items; an edit leaves the steps before the first changed one and after the
+//! of any circuit stands for its items and no others, within the limit of a text, however it was put
+//! together; an edit leaves the steps before the first changed one and after the
 //! outermost item around its place.
 #![tactic(auto)]
 

@@ -1,3 +1,6 @@
+ghost use Rattle.std.specs.Prelude.{◌≡◌};
+ghost use Rattle.stab_lines.specs.Rules.{IsTag};
+
 use crate::front::{before_lines, first_instruction, meaning_after};
 use crate::known_lines::KnownLines;
 use stab_io::{Fault, Refusal};
@@ -14,6 +17,7 @@ pub struct OpenBlock {
     count: Count,
     tag: Sequence<u8>,
     before: Vec<Item>,
+    ghost good: { IsTag tag },
 }
 
 /// The first items of the outermost list, the open blocks, the innermost last, and the items read in
@@ -156,6 +160,7 @@ impl CircuitReader {
         self.take(line, found, bytes, known)
     }
 
+    #[tactic(auto, using(crate::proofs::KnownLineLemmas::opening_good))]
     fn take<'a>(
         &mut self,
         line: u64,
@@ -213,6 +218,7 @@ impl CircuitReader {
     }
 
     fn open(&mut self, line: u64, count: Count, tag: Sequence<u8>) -> Result<(), Refusal>
+        requires good { IsTag tag }
         ensures gives { TakesLine (progress_of self.new) result (opening line count tag (progress_of self.old)) }
         ensures outer { OnOk result (self.new.outer.items ≡ self.old.outer.items) }
     {

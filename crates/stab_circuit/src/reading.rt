@@ -5,6 +5,7 @@ ghost use Rattle.stab_io.specs.Devices.{WritesAllOrFault};
 ghost use Rattle.stab_items.specs.Prints.{printed};
 ghost use Rattle.stab_items.specs.Steps.{check_of};
 ghost use Rattle.stab_edits.specs.Views.{circuit_items};
+ghost use Rattle.stab_circuit.specs.Laws.{IsReadBack};
 ghost use Rattle.stab_circuit.specs.Readings.{ReadsCircuit, ReadsInput, ReadsItem, IsPlaced, is_of_circuit, is_of_item};
 
 use crate::input::{MOST_BYTES, read_text};
@@ -61,10 +62,14 @@ pub fn read_item(alloc: Global, text: &[u8]) -> Result<Item, Fault>
 /// spaces for each open block, a line feed after every line, nothing for the empty circuit.
 /// It does not flush.
 ///
+/// The text stands for these items and for no others, if it is no longer than a circuit text may be: it
+/// is read back, however the circuit was put together.
+///
 /// Fault `WriteFault` with line 0 if a write failed; what was written is then a prefix of the
 /// text, and nothing more is tried.
 pub fn write_circuit<O: Output>(out: &mut O, circuit: &Circuit) -> Result<(), Fault>
     ensures writes { WritesAllOrFault (O.seen out.old) (O.seen out.new) (printed (circuit_items circuit.now)) result }
+    ensures back { IsReadBack (circuit_items circuit.now) }
 {
     write_all_items(out, circuit.items()).map_err(Fault::whole)
 }

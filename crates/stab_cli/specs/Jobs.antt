@@ -12,7 +12,9 @@ use Rattle.stab_texts.specs.Deterministic.{EndsDeterministic}
 use Rattle.stab_texts.specs.FaultTables.{EndsFaults}
 use Rattle.stab_texts.specs.CoinTables.{EndsCoins}
 use Rattle.stab_texts.specs.Reasons.{EndsExplain}
-use Rattle.stab_texts.specs.Distances.{EndsDistance}
+use Rattle.stab_texts.specs.Distances.{EndsDistance, TellsDistance}
+use Rattle.stab_texts.specs.DoubtLines.{Warns}
+use Rattle.stab_distance.specs.Progress.{Heard}
 use Rattle.stab_editor.specs.ScriptEndings.{EndsEdit}
 use Rattle.stab_editor.specs.ScriptTurns.{EditsInTurn}
 use Rattle.stab_script.specs.Watchers.{Asked}
@@ -49,9 +51,14 @@ EndsCommand (Distance options) source i i' s s' o o' r random = RefusesNone (λ 
 EndsCommand (Edit framed qubits stride) source i i' s s' o o' r random = (random ≡ None) × EndsEdit framed qubits source i i' s s' o o' r
 
 -- how a command reads a script: `edit` in turn with its replies, and any other not at all
-abbrev pub CommandInTurn : Command → Source → InputView → InputView → InputView → InputView → OutputView → Option (List Asked) → Option (List Asked) → Type 0
-CommandInTurn (Edit framed qubits stride) source i i' s s' o log log' = EditsInTurn framed qubits source i i' s s' o log log'
-CommandInTurn command source i i' s s' o log log' = log' ≡ log
+abbrev pub CommandInTurn : Command → Source → InputView → InputView → InputView → InputView → OutputView → OutputView → Option (List Asked) → Option (List Asked) → Result Bool Fault → Type 0
+CommandInTurn (Edit framed qubits stride) source i i' s s' o o' log log' r = EditsInTurn framed qubits source i i' s s' o o' log log' r
+CommandInTurn command source i i' s s' o o' log log' r = log' ≡ log
+
+-- what is heard of a call: how far the search of `distance` is, and of any other command nothing
+abbrev pub CommandTells : Command → InputView → InputView → Option (List Heard) → Option (List Heard) → Result Bool Fault → Type 0
+CommandTells (Distance options) i i' old new r = RefusesNone (TellsDistance options i i' old new) r
+CommandTells command i i' old new r = new ≡ old
 
 -- the status of a run: 0 without a fault, 3 if a line of the script was refused, 1 with a fault
 abbrev pub status_of : Result Bool Fault → ℕ
@@ -59,10 +66,18 @@ status_of (Ok false) = 0
 status_of (Ok true) = 3
 status_of (Err f) = 1
 
--- a run's fault is reported, with the bit that it names, if any; and without a fault the error output is untouched
-abbrev pub Tells : {T : Type 0} → Result T Fault → Option Random → OutputView → OutputView → Type 0
-Tells (Ok x) random old new = new ≡ old
-Tells (Err f) random old new = TookOrFailed old new (told_text f random)
+-- what the call of a command leaves of the error output: `check`, `faults` and `distance` report marks that may be meant in another way,
+-- after a call without a fault; else it is untouched
+abbrev pub CommandWarns : Command → InputView → InputView → OutputView → OutputView → Result Bool Fault → Type 0
+CommandWarns Check i i' old new r = Warns false i i' old new r
+CommandWarns (Faults layout everywhere deterministic_only) i i' old new r = Warns everywhere i i' old new r
+CommandWarns (Distance options) i i' old new r = Warns options.everywhere i i' old new r
+CommandWarns command i i' old new r = new ≡ old
+
+-- a run's fault is reported, with the bit that it names, if any; and without a fault the error output is as the call of the command leaves it
+abbrev pub Tells : Command → InputView → InputView → Result Bool Fault → Option Random → OutputView → OutputView → Type 0
+Tells command i i' (Ok x) random old new = CommandWarns command i i' old new (Ok x)
+Tells command i i' (Err f) random old new = TookOrFailed old new (told_text f random)
 
 -- How a run of a job ends: as the call of its command ends, with that call's status, and its fault reported.
 pub record EndsJob (job : Job) (i i' s s' : InputView) (o o' e e' : OutputView) (status : ℕ) : Type 0 where
@@ -70,4 +85,12 @@ pub record EndsJob (job : Job) (i i' s s' : InputView) (o o' e e' : OutputView) 
   pub random : Option Random
   pub ends : EndsCommand job.command job.source i i' s s' o o' answer random
   pub status_is : status ≡ status_of answer
-  pub told : Tells answer random e e'
+  pub told : Tells job.command i i' answer random e e'
+
+-- how the run of a job with this status reads a script: as the call of its command does
+abbrev pub JobInTurn : Job → InputView → InputView → InputView → InputView → OutputView → OutputView → Option (List Asked) → Option (List Asked) → (status : ℕ) → Type 0
+JobInTurn job i i' s s' o o' log log' status = (answer : Result Bool Fault) × (status ≡ status_of answer) × CommandInTurn job.command job.source i i' s s' o o' log log' answer
+
+-- What is heard of a run of a job that ends with this status: what the call of its command reports.
+abbrev pub JobTells : Job → InputView → InputView → Option (List Heard) → Option (List Heard) → (status : ℕ) → Type 0
+JobTells job i i' old new status = (answer : Result Bool Fault) × CommandTells job.command i i' old new answer × (status ≡ status_of answer)

@@ -2,7 +2,7 @@
 ghost use Rattle.std.specs.Prelude.{◌≡◌, ◌≤◌, IfSome, None, false};
 ghost use Rattle.stab_gates.specs.Limits.{most_qubits};
 ghost use Rattle.stab_texts.specs.FaultTables.{fault_of, random_of};
-ghost use Rattle.stab_cli.specs.Jobs.{CommandInTurn, EndsCommand, EndsJob, reads_script, refusing_none};
+ghost use Rattle.stab_cli.specs.Jobs.{CommandInTurn, CommandTells, CommandWarns, EndsCommand, EndsJob, JobInTurn, JobTells, reads_script, refusing_none};
 
 use stab_analysis::{
     Progress, Unwatched, run_check, run_coins, run_deterministic, run_distance, run_explain,
@@ -58,17 +58,20 @@ fn plain_answer(answer: Result<(), Fault>) -> Result<bool, FaultsRefused>
 }
 
 /// Runs the command of a job, and says whether a line of the script was refused.
-fn run_command<I: Input, S: Input, O: Output, W: Watcher<S, O>, P: Progress>(
+fn run_command<I: Input, S: Input, O: Output, E: Output, W: Watcher<S, O>, P: Progress>(
     alloc: Global,
     job: &Job,
     input: &mut I,
     script: &mut S,
     out: &mut O,
+    err: &mut E,
     progress: &mut P,
 ) -> Result<bool, FaultsRefused>
     ensures ends { EndsCommand job.now.command job.now.source (I.seen input.old) (I.seen input.new) (S.seen script.old) (S.seen script.new) (O.seen out.old) (O.seen out.new) (fault_of result) (random_of result) }
     ensures script { reads_script job.now.command ≡ false → script.new ≡ script.old }
-    ensures turns { CommandInTurn job.now.command job.now.source (I.seen input.old) (I.seen input.new) (S.seen script.old) (S.seen script.new) (O.seen out.old) (W.log script.old) (W.log script.new) }
+    ensures turns { CommandInTurn job.now.command job.now.source (I.seen input.old) (I.seen input.new) (S.seen script.old) (S.seen script.new) (O.seen out.old) (O.seen out.new) (W.log script.old) (W.log script.new) (fault_of result) }
+    ensures told { CommandTells job.now.command (I.seen input.old) (I.seen input.new) (P.heard progress.old) (P.heard progress.new) (fault_of result) }
+    ensures warns { CommandWarns job.now.command (I.seen input.old) (I.seen input.new) (E.seen err.old) (E.seen err.new) (fault_of result) }
 {
     let source = &job.source;
     match job.command {
@@ -81,7 +84,7 @@ fn run_command<I: Input, S: Input, O: Output, W: Watcher<S, O>, P: Progress>(
             append,
         } => plain_answer(run_detect_shots(alloc, input, out, format, append, shots, source)),
         Command::Stabilisers => plain_answer(run_stabilisers(alloc, input, out, source)),
-        Command::Check => plain_answer(run_check(alloc, input, out)),
+        Command::Check => plain_answer(run_check(alloc, input, out, err)),
         Command::Deterministic { format } => {
             plain_answer(run_deterministic(alloc, input, out, format))
         }
@@ -91,9 +94,17 @@ fn run_command<I: Input, S: Input, O: Output, W: Watcher<S, O>, P: Progress>(
             layout,
             everywhere,
             deterministic_only,
-        } => refuses_none(run_faults(alloc, input, out, layout, everywhere, deterministic_only)),
+        } => refuses_none(run_faults(
+            alloc,
+            input,
+            out,
+            err,
+            layout,
+            everywhere,
+            deterministic_only,
+        )),
         Command::Distance(options) => {
-            refuses_none(run_distance(alloc, input, out, options, progress))
+            refuses_none(run_distance(alloc, input, out, err, options, progress))
         }
         Command::Edit {
             framed,
@@ -110,10 +121,11 @@ fn run_command<I: Input, S: Input, O: Output, W: Watcher<S, O>, P: Progress>(
 }
 
 /// Runs a job as `run_job` does, with each read of a script made by a watcher, which is shown the
-/// output as it then is. `progress` hears how far the search for a distance is.
+/// output as it then is. `progress` hears how far the search for a distance is, and nothing that is not so.
 ///
-/// If the script's input keeps a log, each read of it found exactly the replies written to what
-/// was handed over before, in whole lines, after what the output held at first.
+/// If the script's input keeps a log, the replies are those of one answer, of which each read found
+/// exactly the first written, to what was handed over before, in whole lines, after what the output
+/// held at first.
 pub fn run_job_watched<I: Input, S: Input, O: Output, E: Output, W: Watcher<S, O>, P: Progress>(
     alloc: Global,
     job: &Job,
@@ -125,9 +137,10 @@ pub fn run_job_watched<I: Input, S: Input, O: Output, E: Output, W: Watcher<S, O
 ) -> u8
     ensures ends { EndsJob job.now (I.seen input.old) (I.seen input.new) (S.seen script.old) (S.seen script.new) (O.seen out.old) (O.seen out.new) (E.seen err.old) (E.seen err.new) result }
     ensures script { reads_script job.now.command ≡ false → script.new ≡ script.old }
-    ensures turns { CommandInTurn job.now.command job.now.source (I.seen input.old) (I.seen input.new) (S.seen script.old) (S.seen script.new) (O.seen out.old) (W.log script.old) (W.log script.new) }
+    ensures turns { JobInTurn job.now (I.seen input.old) (I.seen input.new) (S.seen script.old) (S.seen script.new) (O.seen out.old) (O.seen out.new) (W.log script.old) (W.log script.new) result }
+    ensures told { JobTells job.now (I.seen input.old) (I.seen input.new) (P.heard progress.old) (P.heard progress.new) result }
 {
-    match run_command::<I, S, O, W, P>(alloc, job, input, script, out, progress) {
+    match run_command::<I, S, O, E, W, P>(alloc, job, input, script, out, err, progress) {
         Ok(false) => 0,
         Ok(true) => 3,
         Err(refused) => {
@@ -137,8 +150,8 @@ pub fn run_job_watched<I: Input, S: Input, O: Output, E: Output, W: Watcher<S, O
     }
 }
 
-/// Runs a job over these devices, reports its fault on `err`, and answers the status of the program:
-/// 0 without a fault, 1 with one, and 3 if the script was read to its end and a line of it was
+/// Runs a job over these devices, reports its fault on `err`, or marks that may be meant in another way, and answers the status of the
+/// program: 0 without a fault, 1 with one, and 3 if the script was read to its end and a line of it was
 /// refused, whether or not `err` fails. A fault that names a detector or observable has one more line.
 ///
 /// The paths of the job are the caller's to open. Only `edit` reads the script.

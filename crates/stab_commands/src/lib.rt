@@ -20,7 +20,7 @@
 //! Proved on `run_sample` and `run_detect`: a call ends by cases. The text was refused, by its own fault
 //! or unread, and the output is untouched; or it was given whole, and the output took what the
 //! stabiliser rules give for its circuit and the coins of each shot, in the format asked for, and one
-//! flush; or it failed once, or memory was refused, after a prefix. How many shots go at once, and in which words, changes
+//! flush; or it failed once, or the answer is 20, after a prefix. How many shots go at once, and in which words, changes
 //! nothing of that. `run_stabilisers` ends by such cases, over the reduced rows of the state after shot 0; memory is then
 //! refused before the first row. `specs/inner/` has what only private contracts cite.
 #![tactic(auto)]

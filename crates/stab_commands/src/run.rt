@@ -56,7 +56,7 @@ fn run_circuit<I: Input, O: Output>(
 /// the end. Shot s has the coins of its own stream under the seed, or the whole list of coins anew.
 /// Faults: those of the text, with their lines; 8 and 9 for the whole circuit and 14 for a text of
 /// more than 16,777,216 bytes; 15 if the input failed, with nothing written; 16 if the output
-/// failed, and 20 if memory was refused, both after a prefix of what is to be written.
+/// failed, and 20, both after a prefix of what is to be written.
 pub fn run_sample<I: Input, O: Output>(
     alloc: Global,
     input: &mut I,

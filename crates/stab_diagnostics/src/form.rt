@@ -1,4 +1,4 @@
-//! What an instruction takes, and what refuses a line, both as `stab_lines` reads them.
+//! What an instruction takes, and what refuses a line, both as `stab_line_reader` reads them.
 use stab_io::Refusal;
 use stab_line_reader::meaning;
 use stab_lines::{Kind, Line};

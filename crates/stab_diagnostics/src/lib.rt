@@ -8,7 +8,7 @@
 //! - `sentences`: what is wrong and what to do, for each kind of word.
 //! - `finding`: a part of a line with the sentences on it.
 //! - `instruction_parts`: a line cut into its name, arguments and targets, or what has no line's shape in it.
-//! - `form`: what an instruction takes, and what refuses a line, both as `stab_lines` reads them.
+//! - `form`: what an instruction takes, and what refuses a line, both as `stab_line_reader` reads them.
 //! - `named`: tables of names, each with a sentence.
 //! - `noise`, `rewritings`: names that Stim reads and stabsim doesn't.
 //! - `nearest`: the name that is nearest to a word.
@@ -23,7 +23,7 @@
 //! left out. The words are this project's own.
 //!
 //! Proved: what is written is some bytes after what was written before, all of them if the call
-//! is done, and a first part of them if the output failed; if memory is refused, nothing is
+//! is done, and a first part of them if the output failed; if the answer is 20, nothing is
 //! written. The words themselves are tested.
 #![tactic(auto)]
 

@@ -1,9 +1,9 @@
 -- Answers: each table has one, since all lists of a number of rows can be tried.
-use Rattle.stab_distance.proofs.Names.{◌≡◌, ℕ, zero, suc, ◌+◌, ◌≤◌, ◌<◌, ◌⊎◌, inl, inr, refl, sym, ◌∙◌, subst, arith, Bool, true, false, List, [], ◌∷◌, ◌++◌, length, append-nil, append_assoc, ◌^◌, Vec, null_ptr, cases_lt, false≢true, ◌⊕◌, Answer, Least, NoneWithin, ErrorTable, odd, flips, IsLogicalError, HasNoneWithin, IsAnswer, Each, IsShortest}
+use Rattle.stab_distance.proofs.Names.{◌≡◌, ℕ, zero, suc, ◌+◌, ◌≤◌, ◌<◌, ◌⊎◌, inl, inr, refl, sym, ◌∙◌, subst, arith, Bool, true, false, List, [], ◌∷◌, ◌++◌, length, append-nil, append_assoc, ◌^◌, Vec, null_ptr, cases_lt, false≢true, ◌⊕◌, Answer, Least, NoneWithin, NoneAtAll, ErrorTable, odd, flips, IsLogicalError, IsLeast, HasSome, HasNoneWithin, IsAnswer, Each, IsShortest}
 use Rattle.std.proofs.lemmas.Bool.{ne_eqb}
 use Rattle.stab_distance.proofs.FlipLemmas.{named_by, odd-named}
 use Rattle.stab_distance.proofs.ListLemmas.{by-bit, all-each, each-all, each-push}
-use Rattle.stab_distance.proofs.ShortestLemmas.{gathering, gathered-logical, none-empty}
+use Rattle.stab_distance.proofs.ShortestLemmas.{gathering, gathered-logical, none-empty, none-up_to}
 
 -- numbers below an end, each of which has a property or not: one has it, or none
 
@@ -151,18 +151,34 @@ module _ (t : ErrorTable) where
     small = few;
   }
 
+  least-set : (most : ℕ) (errors : List ℕ) → IsShortest t most errors → (set : List ℕ) × IsLeast t most set
+  least-set most errors is =
+      let set = gathering errors in (
+        set.0,
+        record {
+          ascending = set.1.ascending;
+          logical = gathered-logical t errors set.0 set.1 is.logical;
+          within = omega (arith, set.1.fewer, is.within);
+          least = λ others e. omega (arith, set.1.fewer, is.least others e);
+        },
+      )
+
+  -- if there is a logical error, there is a least one
+  pub least-of : HasSome t → (most : ℕ) × (set : List ℕ) × IsLeast t most set
+  least-of (errors, e) = by_shortest (shortest (length errors))
+    where
+      by_shortest : ((xs : List ℕ) × IsShortest t (length errors) xs) ⊎ HasNoneWithin t (length errors) → (most : ℕ) × (set : List ℕ) × IsLeast t most set
+      by_shortest (inl (xs, is)) = let set = least-set (length errors) xs is in (length errors, set.0, set.1)
+      by_shortest (inr none) = let less : length errors < length errors = none errors e in absurd (omega (arith, less))
+
   pub answer : (most : ℕ) → most < 2 ^ 63 → (a : Answer) × IsAnswer t most a
   answer most few = by_shortest (shortest most)
     where
+      by_any : HasNoneWithin t most → ((errors : List ℕ) × IsShortest t (length t.rows) errors) ⊎ HasNoneWithin t (length t.rows) → (a : Answer) × IsAnswer t most a
+      by_any none (inl (errors, is)) = (NoneWithin, (none, (errors, is.logical)))
+      by_any none (inr never) =
+          (NoneAtAll, λ errors e. let less : length errors < length errors = none-up_to t (length errors) (length t.rows) (omega arith) never errors e in omega (arith, less))
+
       by_shortest : ((errors : List ℕ) × IsShortest t most errors) ⊎ HasNoneWithin t most → (a : Answer) × IsAnswer t most a
-      by_shortest (inr none) = (NoneWithin, none)
-      by_shortest (inl (errors, is)) =
-          let set = gathering errors in (
-            Least (held set.0 (omega (arith, few, set.1.fewer, is.within))),
-            record {
-              ascending = set.1.ascending;
-              logical = gathered-logical t errors set.0 set.1 is.logical;
-              within = omega (arith, set.1.fewer, is.within);
-              least = λ others e. omega (arith, set.1.fewer, is.least others e);
-            },
-          )
+      by_shortest (inr none) = by_any none (shortest (length t.rows))
+      by_shortest (inl (errors, is)) = let set = least-set most errors is in (Least (held set.0 (omega (arith, few, set.1.within))), set.1)

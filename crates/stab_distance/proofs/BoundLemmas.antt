@@ -1,7 +1,6 @@
 -- Bounds: of logical errors by those of each observable, and of a table by its distinct rows.
-use Rattle.stab_distance.proofs.Names.{◌≡◌, ℕ, ◌+◌, ◌≤◌, ◌<◌, ◌⊎◌, inl, inr, sym, ◌∙◌, arith, false, List, length, min, cases_lt, false≢true, ErrorTable, odd, row, IsLeast, HasNoneWithin, HasAtLeast, HasBound, IsLogicalSet}
+use Rattle.stab_distance.proofs.Names.{◌≡◌, ℕ, ◌≤◌, ◌<◌, ◌⊎◌, inl, inr, sym, ◌∙◌, arith, false, List, length, cases_lt, false≢true, ErrorTable, odd, row, IsLeast, HasAtLeast, HasBound, IsLogicalSet}
 use Rattle.stab_distance.proofs.CertificateLemmas.{unnamed}
-use Rattle.stab_distance.proofs.ShortestLemmas.{none-up_to}
 
 -- each observable that a row names has the bound
 pub bound-all : (t : ErrorTable) (bound end reached : ℕ) → ((r i : ℕ) → r < length t.rows → end ≤ i → odd i (row t.rows r) ≡ false) → end ≤ reached
@@ -16,14 +15,10 @@ bound-all t bound end reached beyond le each errors logical =
         absurd (false≢true (sym (unnamed t o (λ r l. beyond r o l (omega arith)) xs inside undetected) ∙ is))
 
 -- a logical error of no more errors than the bound is a least one
-pub least-bounded : (t : ErrorTable) (most bound n : ℕ) (set : List ℕ) → n ≤ bound → bound ≤ most → HasBound t bound → IsLogicalSet t n set → IsLeast t most set
+pub least-bounded : (t : ErrorTable) (most bound n : ℕ) (set : List ℕ) → length set ≤ bound → bound ≤ most → HasBound t bound → IsLogicalSet t n set → IsLeast t most set
 least-bounded t most bound n set few le has is = record {
   ascending = is.ascending;
   logical = is.logical;
-  within = let h = is.within in omega arith;
-  least = λ others logical. let more = has others logical in let h = is.within in omega arith;
+  within = omega (arith, few, le);
+  least = λ others logical. omega (arith, few, has others logical);
 }
-
--- none has more errors than the table
-pub none-bounded : (t : ErrorTable) (most within : ℕ) → min most (length t.rows) ≤ within → HasBound t (within + 1) → HasNoneWithin t most
-none-bounded t most within le has = none-up_to t most within le (λ errors logical. let more = has errors logical in omega arith)

@@ -1,5 +1,5 @@
 -- Distinct rows: what holds of them holds of the table.
-use Rattle.stab_distance.proofs.Names.{◌≡◌, ℕ, suc, ◌<◌, refl, sym, ◌∙◌, ap, subst, arith, List, [], ◌∷◌, length, map, slice_index, ◌⊕◌, ErrorTable, odd, row, flips, IsLogicalError, IsLeast, HasNone, HasNoneWithin, Each, AreRowsOf, HasRow, HasBound, IsShortest, IsGathered}
+use Rattle.stab_distance.proofs.Names.{◌≡◌, ℕ, suc, ◌<◌, refl, sym, ◌∙◌, ap, subst, arith, List, [], ◌∷◌, length, map, slice_index, ◌⊕◌, ErrorTable, odd, row, flips, IsLogicalError, IsLeast, HasNone, HasSome, HasNoneWithin, Each, AreRowsOf, HasRow, HasBound, IsShortest, IsGathered}
 use Rattle.stab_distance.proofs.ListLemmas.{each-all, all-each}
 
 module _ (detectors : ℕ) (rows chosen : List (List ℕ)) (all : (r : ℕ) → r < length rows → HasRow chosen (row rows r)) where
@@ -71,6 +71,17 @@ module _ (detectors : ℕ) (rows chosen : List (List ℕ)) (all : (r : ℕ) → 
     numbers-length [] = refl
     numbers-length (x ∷ xs) = ap suc (numbers-length xs)
 
+    pub some-whole : HasSome part → HasSome whole
+    some-whole (errors, e) =
+        let a = each-all (λ k. k < length chosen) errors e.inside in (
+          map (slice_index numbers) errors,
+          record {
+            inside = all-each (λ r. r < length rows) (map (slice_index numbers) errors) (numbers-inside errors a);
+            undetected = λ d lt. numbers-flips errors a d ∙ e.undetected d lt;
+            observed = let o = e.observed.0 in (o, e.observed.1, numbers-flips errors a o ∙ e.observed.2);
+          },
+        )
+
     pub least-whole : (most : ℕ) (found set : List ℕ) → IsShortest part most found → IsGathered (map (slice_index numbers) found) set → IsLeast whole most set
     least-whole most found set s g =
         let a = each-all (λ k. k < length chosen) found s.logical.inside in
@@ -107,6 +118,9 @@ module _ (t part : ErrorTable) (detectors : ℕ) (chosen : List (List ℕ)) (is 
 
   pub bound-told : (bound : ℕ) → HasBound part bound → HasBound t bound
   bound-told bound has = bound-whole t.detectors t.rows chosen all bound (subst (λ p. HasBound p bound) is_part has)
+
+  pub some-told : (numbers : List ℕ) → AreRowsOf t.rows chosen numbers → HasSome part → HasSome t
+  some-told numbers are some = some-whole t.detectors t.rows chosen all numbers are (subst HasSome is_part some)
 
   pub least-told : (numbers : List ℕ) → AreRowsOf t.rows chosen numbers → (most : ℕ) (found set : List ℕ) → IsShortest part most found
       → IsGathered (map (slice_index numbers) found) set → IsLeast t most set

@@ -5,11 +5,15 @@ pub mod AscendingLemmas
 pub mod MergeLemmas
 pub mod FlipLemmas
 pub mod IndexLemmas
-pub mod ReachLemmas
+pub mod CoverLemmas
 pub mod EndLemmas
 pub mod CertificateLemmas
 pub mod DistinctLemmas
 pub mod ShortestLemmas
+pub mod PairLemmas
+pub mod FirstLemmas
+pub mod ScanLemmas
+pub mod PairListLemmas
 pub mod EqualLemmas
 pub mod EdgeLemmas
 pub mod GraphLemmas
@@ -17,3 +21,4 @@ pub mod AnswerLemmas
 pub mod BoundLemmas
 pub mod PartLemmas
 pub mod LogicalLemmas
+pub mod TellingLemmas

@@ -1,8 +1,9 @@
 -- Parts: what holds of a table's graph-like part holds of the graph-like errors of the table.
-use Rattle.stab_distance.proofs.Names.{◌≡◌, ℕ, zero, suc, ◌+◌, ◌≤◌, ◌<◌, ◌⊎◌, inl, inr, refl, sym, ◌∙◌, ap, subst, arith, true, List, [], ◌∷◌, ◌++◌, length, min, All, cases_lt, ◌⊕◌, Answer, Least, NoneWithin, NoneAtAll, ErrorTable, odd, row, flips, IsLogicalError, IsLeast, IsAnswer, IsGraphlike, IsGraphlikeError, IsLeastGraphlike, IsGraphlikeAnswer, Each, has, IsGraphlikePart}
+use Rattle.stab_distance.proofs.Names.{◌≡◌, ℕ, zero, suc, ◌+◌, ◌≤◌, ◌<◌, ◌⊎◌, inl, inr, refl, sym, ◌∙◌, ap, subst, arith, true, List, [], ◌∷◌, ◌++◌, length, min, All, cases_lt, ◌⊕◌, Answer, Least, NoneWithin, NoneAtAll, ErrorTable, odd, row, flips, IsLogicalError, HasNoneWithin, IsLeast, IsAnswer, IsGraphlike, IsGraphlikeError, IsLeastGraphlike, HasNoGraphlikeWithin, IsGraphlikeAnswer, Each, has, IsGraphlikePart}
 use Rattle.stab_distance.proofs.ListLemmas.{each-all, all-each, each-has, each-without, has-here, has-there, without, length-without}
 use Rattle.stab_distance.proofs.FlipLemmas.{flips-without}
 use Rattle.stab_distance.proofs.ShortestLemmas.{none-up_to_each}
+use Rattle.stab_distance.proofs.AnswerLemmas.{least-of}
 
 module _ (t part : ErrorTable) (is : IsGraphlikePart t part) where
   abbrev Inside : ℕ → Type 0
@@ -78,9 +79,14 @@ module _ (t part : ErrorTable) (is : IsGraphlikePart t part) where
           least = λ others e. least.least others (part-logical others e);
         }
 
+  pub part-none : (most : ℕ) → HasNoneWithin part most → HasNoGraphlikeWithin t most
+  part-none most none errors e = none errors (part-logical errors e)
+
   pub part-answer : (most : ℕ) (answer : Answer) → IsAnswer part most answer → IsGraphlikeAnswer t most answer
   part-answer most (Least errors) least = least-graphlike most errors.items least
-  part-answer most NoneWithin none = λ errors e. none errors (part-logical errors e)
+  part-answer most NoneWithin none =
+      let set = least-of part none.1 in
+      (part-none most none.0, (set.1, (least-graphlike set.0 set.1 set.2).logical))
   part-answer most NoneAtAll none = λ errors e. none errors (part-logical errors e)
 
 -- no graph-like logical error has more errors than the table

@@ -1,7 +1,7 @@
 -- Shortest logical errors: sets of a list, and the first error of a set.
-use Rattle.stab_distance.proofs.Names.{◌≡◌, ℕ, zero, suc, ◌+◌, ◌≤◌, ◌<◌, ◌⊎◌, inl, inr, refl, sym, ◌∙◌, ap, subst, arith, Bool, false, List, [], ◌∷◌, ◌++◌, length, get_or, take, drop, map, min, cases_lt, false≢true, length-append, ◌⊕◌, parity-comm, parity-twice, parity-self, parity-false, AscendsFrom, IsAscending, ErrorTable, odd, row, flips, IsLogicalError, HasNoneWithin, Each, toggle, Ends, EndsWithin, NoEnds, FlipNoObservable, IsLogicalWithin, IsShortest, IsGathered}
+use Rattle.stab_distance.proofs.Names.{◌≡◌, ℕ, zero, suc, ◌+◌, ◌≤◌, ◌<◌, refl, sym, ◌∙◌, ap, subst, arith, Bool, List, [], ◌∷◌, ◌++◌, length, get_or, take, drop, map, min, false≢true, length-append, ◌⊕◌, parity-comm, parity-self, AscendsFrom, ErrorTable, odd, row, flips, IsLogicalError, HasNoneWithin, Each, toggle, EndsWithin, IsLogicalWithin, IsShortest, IsGathered, Option, Some, None, IfSome, IfNone, is_some, Vec, Decides}
 use Rattle.stab_distance.proofs.FlipLemmas.{flips-push, flips-toggle}
-use Rattle.stab_distance.proofs.ListLemmas.{each-map, each-all, all-each, each-above, each-push, each-toggle, length-toggle, ascends-toggle, toggle-here, toggle-out, toggle-there}
+use Rattle.stab_distance.proofs.ListLemmas.{each-all, all-each, each-push, each-toggle, length-toggle, ascends-toggle, toggle-here, toggle-out, toggle-there}
 
 -- one more error of a set
 
@@ -64,53 +64,8 @@ gathered-logical t xs set g e = record {
   observed = (e.observed.0, e.observed.1, g.flips t.rows e.observed.0 ∙ e.observed.2);
 }
 
--- the first error of a set
-
--- bits that add up to nothing are the same
-parity-even : (a b : Bool) → a ⊕ b ≡ false → b ≡ a
-parity-even a b e = sym (parity-twice a b) ∙ ap (λ t. a ⊕ t) e ∙ parity-false a
-
-unobserved : (t : ErrorTable) (from o : ℕ) → FlipNoObservable t from → t.detectors ≤ o → (xs : List ℕ) → Each (λ r. from ≤ r) xs → flips t.rows xs o ≡ false
-unobserved t from o none le [] a = refl
-unobserved t from o none le (x ∷ xs) a = ap (λ b. b ⊕ flips t.rows xs o) (none x o a.0 le) ∙ unobserved t from o none le xs a.1
-
-first-ends : (t : ErrorTable) (f : ℕ) (rest : List ℕ) → IsAscending (f ∷ rest) → IsLogicalError t (f ∷ rest) → Ends t f (row t.rows f) rest
-first-ends t f rest a e = record {
-  inside = (each-all (λ r. r < length t.rows) (f ∷ rest) e.inside).1;
-  later = each-map (λ y. f + 1 ≤ y) (λ r. f < r) (λ y h. omega arith) rest (each-above (f + 1) rest a.1);
-  undetected = λ d lt. parity-even (odd d (row t.rows f)) (flips t.rows rest d) (e.undetected d lt);
-  observed = (e.observed.0, e.observed.1, parity-comm (flips t.rows rest e.observed.0) (odd e.observed.0 (row t.rows f)) ∙ e.observed.2);
-}
-
-module _ (t : ErrorTable) (observing left : ℕ) (others : FlipNoObservable t observing) (none : HasNoneWithin t left)
-    (tried : (f : ℕ) → f < observing → NoEnds t f (row t.rows f) left) where
-  no_set : (set : List ℕ) → IsAscending set → IsLogicalError t set → length set ≡ left + 1 → ⊥
-  no_set [] a e count = absurd (omega arith)
-  no_set (f ∷ rest) a e count = by_place (cases_lt f observing)
-    where
-      by_place : (f < observing) ⊎ (observing ≤ f) → ⊥
-      by_place (inl lt) = tried f lt rest (first-ends t f rest a e) (omega arith)
-      by_place (inr le) =
-          false≢true
-          (sym (unobserved t observing e.observed.0 others e.observed.1 (f ∷ rest)
-          (le, each-map (λ y. f + 1 ≤ y) (λ r. observing ≤ r) (λ y h. omega arith) rest (each-above (f + 1) rest a.1)))
-          ∙ e.observed.2)
-
-  -- none is within one more error if none begins with one that flips an observable
-  pub none-more : HasNoneWithin t (left + 1)
-  none-more errors logical = by_length (cases_lt (left + 1) (length errors))
-    where
-      by_length : (left + 1 < length errors) ⊎ (length errors ≤ left + 1) → left + 1 < length errors
-      by_length (inl lt) = lt
-      by_length (inr le) =
-          let set = gathering errors in
-          let is = gathered-logical t errors set.0 set.1 logical in
-          let more = none set.0 is in
-          let fewer = set.1.fewer in
-          absurd (no_set set.0 set.1.ascending is (omega arith))
-
 -- an error in front of those that end a search from it
-pub begun : (t : ErrorTable) (first left : ℕ) (rest : List ℕ) → first < length t.rows → EndsWithin t first (row t.rows first) left rest
+pub begun : (t : ErrorTable) (first left : ℕ) (rest : List ℕ) → first < length t.rows → EndsWithin t (row t.rows first) left rest
     → IsLogicalWithin t (left + 1) (rest ++ first ∷ [])
 begun t first left rest lt e = record {
   logical = record {
@@ -156,6 +111,13 @@ pub none-up_to : (t : ErrorTable) (most reached : ℕ) → min most (length t.ro
 none-up_to t most reached le none errors logical =
     none-up_to_each t (λ r. r < length t.rows) most reached le (λ xs is each. none xs is) errors logical
     (each-all (λ r. r < length t.rows) errors logical.inside)
+
+-- a search of all sizes decides whether there is a logical error
+pub decided : (t : ErrorTable) (n : ℕ) (a : Option (Vec ℕ)) (b : Bool) → b ≡ is_some a → length t.rows ≤ n → IfSome a (λ v. IsShortest t n v.items) → IfNone a (HasNoneWithin t n) → Decides t b
+decided t n (Some v) b e le some none = subst (Decides t) (sym e) (v.items, some.logical)
+decided t n None b e le some none =
+    subst (Decides t) (sym e)
+    (λ errors logical. let less : length errors < length errors = none-up_to t (length errors) n (omega (arith, le)) none errors logical in omega (arith, less))
 
 -- none has no error
 pub none-empty : (t : ErrorTable) → HasNoneWithin t 0

@@ -23,8 +23,12 @@ pub record IsLeastGraphlike (t : ErrorTable) (most : ℕ) (errors : List ℕ) : 
   pub within : length errors ≤ most
   pub least : (others : List ℕ) → IsGraphlikeError t others → length errors ≤ length others
 
+-- each graph-like logical error has more than `most` errors
+abbrev pub HasNoGraphlikeWithin : ErrorTable → ℕ → Type 0
+HasNoGraphlikeWithin t most = (errors : List ℕ) → IsGraphlikeError t errors → most < length errors
+
 -- what an answer says of a table, if a graph-like logical error of at most `most` errors was asked for
 abbrev pub IsGraphlikeAnswer : ErrorTable → (most : ℕ) → Answer → Type 0
 IsGraphlikeAnswer t most (Least errors) = IsLeastGraphlike t most errors.items
-IsGraphlikeAnswer t most NoneWithin = (errors : List ℕ) → IsGraphlikeError t errors → most < length errors
+IsGraphlikeAnswer t most NoneWithin = HasNoGraphlikeWithin t most × ((errors : List ℕ) × IsGraphlikeError t errors)
 IsGraphlikeAnswer t most NoneAtAll = (errors : List ℕ) → IsGraphlikeError t errors → ⊥

@@ -2,4 +2,5 @@ pub mod Ascending
 pub mod Tables
 pub mod LogicalErrors
 pub mod Graphlike
+pub mod Progress
 pub mod inner

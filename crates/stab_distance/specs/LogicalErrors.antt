@@ -27,10 +27,14 @@ HasNoneWithin t most = (errors : List ℕ) → IsLogicalError t errors → most 
 abbrev pub HasNone : ErrorTable → Type 0
 HasNone t = (errors : List ℕ) → IsLogicalError t errors → ⊥
 
--- what an answer says of a table, if a logical error of at most `most` errors was asked for
+-- there is a logical error
+abbrev pub HasSome : ErrorTable → Type 0
+HasSome t = (errors : List ℕ) × IsLogicalError t errors
+
+-- what an answer says of a table, if a logical error of at most `most` errors was asked for; of these answers one is so, and no other
 abbrev pub IsAnswer : ErrorTable → (most : ℕ) → Answer → Type 0
 IsAnswer t most (Least errors) = IsLeast t most errors.items
-IsAnswer t most NoneWithin = HasNoneWithin t most
+IsAnswer t most NoneWithin = HasNoneWithin t most × HasSome t
 IsAnswer t most NoneAtAll = HasNone t
 
 -- each table has an answer, if no more errors are asked for than a list in memory can hold

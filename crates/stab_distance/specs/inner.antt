@@ -2,9 +2,11 @@ pub mod Lists
 pub mod Errors
 pub mod Ends
 pub mod Indexes
-pub mod Reach
+pub mod Pairs
+pub mod Covers
 pub mod Certificates
 pub mod Shortest
+pub mod Tellings
 pub mod Graphs
 pub mod Labels
 pub mod Parts

@@ -3,7 +3,6 @@ ghost use Rattle.stab_distance.specs.Tables.{ErrorTable, odd, row};
 ghost use Rattle.stab_distance.specs.LogicalErrors.{HasNone};
 ghost use Rattle.stab_distance.specs.inner.Certificates.{IsCertificate, odd_members};
 
-use crate::elimination::echelon_of;
 use crate::row::{Row, end_of_rows};
 use std::alloc::{AllocError, Global};
 
@@ -11,18 +10,6 @@ use std::alloc::{AllocError, Global};
 pub trait Members {
     /// For each number whether it is the observable, or a detector that is to add up to it with the others.
     fn members(&self, alloc: Global, observable: usize) -> Result<Vec<bool>, AllocError>;
-}
-
-/// Whether elimination shows that no logical error exists: for each observable, detectors that add up to it
-/// over every row.
-pub fn has_certificates(alloc: Global, detectors: usize, rows: &[Row]) -> Result<bool, AllocError>
-    ensures none { IfOk result (λ b. b ≡ true → HasNone (record { detectors = detectors; rows = rows.now })) }
-{
-    let end = end_of_rows(rows);
-    match echelon_of(alloc, detectors.min(end), end, rows)? {
-        None => Ok(false),
-        Some(echelon) => are_certified(alloc, detectors, rows, &echelon),
-    }
 }
 
 /// Whether the members found show that no logical error exists.

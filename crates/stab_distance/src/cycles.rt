@@ -5,14 +5,25 @@ use crate::row::end_of_rows;
 use crate::sources::sources_of;
 use std::alloc::{AllocError, Global};
 
-/// The rows of a shortest cycle that flips an observable, if it has at most `most`; else no rows.
+/// The rows of a shortest cycle that flips an observable, if it has at most `most`; else those of any such cycle, if there is one.
 ///
 /// No proof rests on it: what it finds is checked.
-pub(crate) fn shortest_cycle(
+pub(crate) fn shortest_or_any(
     alloc: Global,
     graph: &Graph,
     most: usize,
 ) -> Result<Vec<usize>, AllocError> {
+    let all = graph.rows().len();
+    let found = shortest_cycle(alloc, graph, most.min(all))?;
+    if found.is_empty() {
+        shortest_cycle(alloc, graph, all)
+    } else {
+        Ok(found)
+    }
+}
+
+/// The rows of a shortest cycle that flips an observable, if it has at most `most`; else no rows.
+fn shortest_cycle(alloc: Global, graph: &Graph, most: usize) -> Result<Vec<usize>, AllocError> {
     let mut best = Vec::new(alloc);
     let mut bound = most.saturating_add(1);
     for o in graph.detectors()..end_of_rows(graph.rows()) {

@@ -1,10 +1,9 @@
 ghost use Rattle.std.specs.Prelude.{◌≡◌, length, slice_index, IfOk};
 ghost use Rattle.stab_distance.specs.inner.Errors.{key_of, AreKeys};
 
-use crate::classes::{classes_of, end_of_classes};
 use crate::index::{rows_at, rows_by_detector};
 use crate::keys::Keys;
-use crate::reach::{is_beyond, reach_of};
+use crate::pairs::pairs_of;
 use crate::row::{Row, end_of, end_of_rows};
 use std::alloc::{AllocError, Global};
 use std::marker::Model;
@@ -16,8 +15,7 @@ pub struct Errors {
     numbers: Vec<u64>,
     keys: Keys,
     index: Vec<Vec<usize>>,
-    classes: Vec<usize>,
-    reach: Vec<usize>,
+    pairs: Vec<Vec<usize>>,
 }
 
 // Written out, so that a proof sees the drop of a value as one call, and not one for each of its parts.
@@ -29,8 +27,7 @@ impl Drop for Errors {
             numbers: _,
             keys: _,
             index: _,
-            classes: _,
-            reach: _,
+            pairs: _,
         } = self;
     }
 }
@@ -40,17 +37,18 @@ impl Model for Errors {
 
     ghost Value = { Keyed };
 
-    ghost view = { λ e. record { table = record { detectors = e.detectors; rows = e.rows.items }; numbers = e.numbers.items } };
+    ghost view = { λ e. record { table = record { detectors = e.detectors; rows = e.rows.items }; numbers = e.numbers.items; pairs = e.pairs.items } };
 
-    ghost invariant = { λ e. IsReady e.detectors e.rows.items e.numbers.items e.keys e.index.items e.classes.items e.reach.items };
+    ghost invariant = { λ e. IsReady e.detectors e.rows.items e.numbers.items e.keys e.index.items e.pairs.items };
 }
 
 impl Errors {
-    ghost use Rattle.std.specs.Prelude.{◌≡◌, ◌≢◌, ℕ, ◌<◌, ◌≤◌, true, false, length, slice_index, IfOk};
+    ghost use Rattle.std.specs.Prelude.{◌≡◌, ◌≢◌, ℕ, ◌<◌, ◌≤◌, true, false, length, slice_index, IfOk, OnOk};
     ghost use Rattle.stab_distance.specs.Ascending.{IsAscending};
     ghost use Rattle.stab_distance.specs.Tables.{row, odd};
     ghost use Rattle.stab_distance.specs.inner.Lists.{Each, has};
-    ghost use Rattle.stab_distance.specs.inner.Ends.{NoEnds};
+    ghost use Rattle.stab_distance.specs.inner.Indexes.{listed};
+    ghost use Rattle.stab_distance.specs.inner.Pairs.{ArePairs};
     ghost use Rattle.stab_distance.specs.inner.Errors.{key_of, FlipNoObservable};
 
     /// The errors of these rows.
@@ -61,18 +59,13 @@ impl Errors {
         let numbers = numbers_of(alloc, flipped)?;
         let keys = Keys::new(alloc, keys_of(alloc, numbers.as_slice(), rows.as_slice())?)?;
         let index = rows_by_detector(alloc, rows.as_slice())?;
-        let mut classes = classes_of(alloc, rows.as_slice(), flipped)?;
-        classes.truncate(flipped);
-        let end = end_of_classes(classes.as_slice());
-        let reach = reach_of(alloc, rows.as_slice(), classes.as_slice(), end)?;
         Ok(Errors {
             detectors,
             rows,
             numbers,
             keys,
             index,
-            classes,
-            reach,
+            pairs: Vec::new(alloc),
         })
     }
 
@@ -88,6 +81,13 @@ impl Errors {
         ensures value { result ≡ self.now.table.detectors }
     {
         self.detectors
+    }
+
+    /// What each error flips.
+    pub fn rows(&self) -> &[Row]
+        ensures value { result.now ≡ self.now.table.rows }
+    {
+        self.rows.as_slice()
     }
 
     /// What error r flips.
@@ -132,45 +132,46 @@ impl Errors {
         rows_at(self.index.as_slice(), d as usize)
     }
 
-    /// The flipped detector that the fewest errors flip.
-    pub fn rarest(&self, flipped: &[u32]) -> u32
-        requires some { 0 < length flipped.now }
-        requires detector { slice_index flipped.now 0 < self.now.table.detectors }
-        ensures among { has result flipped.now ≡ true }
-        ensures detector { result < self.now.table.detectors }
+    /// The detectors among these numbers.
+    pub fn detectors_of<'a>(&self, flipped: &'a [u32]) -> &'a [u32]
+        requires ascending { IsAscending flipped.now }
+        ensures some { 0 < length flipped.now → slice_index flipped.now 0 < self.now.table.detectors → 0 < length result.now }
+        ensures inside { Each (λ d. d < self.now.table.detectors) result.now }
+        ensures flipped { Each (λ d. odd d flipped.now ≡ true) result.now }
     {
-        let mut best = flipped[0];
-        let mut fewest = self.flipping(best).len();
-        'each: for d in flipped {
-            if *d as usize >= self.detectors {
-                break;
-            }
-            let n = self.flipping(*d).len();
-            if n < fewest {
-                best = *d;
-                fewest = n;
-            }
+        let mut count = 0;
+        'detectors: while count < flipped.len() && (flipped[count] as usize) < self.detectors {
+            count += 1;
         }
-        best
+        flipped.split_at(count).0
     }
 
-    /// Whether more detectors are flipped than `left` errors can flip back.
-    pub fn are_beyond(&self, flipped: &[u32], left: usize) -> bool
-        requires ascending { IsAscending flipped.now }
-        ensures beyond { result ≡ true → (first : ℕ) → NoEnds self.now.table first flipped.now left }
+    /// Errors that need not be tried with error r.
+    pub fn left_out(&self, r: usize) -> &[usize]
+        ensures value { result.now ≡ listed self.now.pairs r }
     {
-        is_beyond(
-            self.classes.as_slice(),
-            self.reach.as_slice(),
-            flipped,
-            left,
-        )
+        rows_at(self.pairs.as_slice(), r)
+    }
+
+    /// Finds pairs of errors that need not be tried together. It takes memory for each two errors that flip a common detector.
+    pub fn leave_out_pairs(&mut self, alloc: Global) -> Result<(), AllocError>
+        ensures table { self.new.table ≡ self.old.table }
+        ensures numbers { self.new.numbers ≡ self.old.numbers }
+    {
+        self.pairs = pairs_of(
+            alloc,
+            self.rows.as_slice(),
+            self.index.as_slice(),
+            self.detectors,
+        )?;
+        Ok(())
     }
 
     /// The number of errors up to the last one that flips an observable.
     pub fn observing(&self) -> usize
         ensures within { result ≤ length self.now.table.rows }
         ensures others { FlipNoObservable self.now.table result }
+        ensures pairs { ArePairs self.now.table.rows self.now.pairs }
     {
         let mut n = self.rows.len();
         'unobserved: while n > 0 && end_of(self.row(n - 1)) <= self.detectors {
@@ -192,7 +193,7 @@ fn numbers_of(alloc: Global, detectors: usize) -> Result<Vec<u64>, AllocError>
 }
 
 /// The bits of a number, mixed as in splitmix64.
-fn mixed(n: u64) -> u64 {
+pub(crate) fn mixed(n: u64) -> u64 {
     let a = n.wrapping_add(1).wrapping_mul(0x9e3779b97f4a7c15);
     let b = (a ^ (a >> 30)).wrapping_mul(0xbf58476d1ce4e5b9);
     let c = (b ^ (b >> 27)).wrapping_mul(0x94d049bb133111eb);

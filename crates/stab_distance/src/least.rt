@@ -1,26 +1,29 @@
-ghost use Rattle.std.specs.Prelude.{◌≡◌, ℕ, ◌+◌, ◌<◌, ◌≤◌, length, map, slice_index, IfOk, IfErr, IfSome, IfNone, OnOk};
+ghost use Rattle.std.specs.Prelude.{◌≡◌, length, IfOk, IfErr};
 ghost use Rattle.stab_io.specs.declared.refusal.Refusal.TheVariants.{OutOfMemory};
-ghost use Rattle.stab_distance.specs.Tables.{row};
 ghost use Rattle.stab_distance.specs.LogicalErrors.{IsAnswer, HasNoneWithin};
-ghost use Rattle.stab_distance.specs.inner.Lists.{toggle};
-ghost use Rattle.stab_distance.specs.inner.Ends.{NoEnds};
-ghost use Rattle.stab_distance.specs.inner.Errors.{FlipNoObservable};
-ghost use Rattle.stab_distance.specs.inner.Shortest.{IsShortest, IsLogicalWithin, IsGathered};
+ghost use Rattle.stab_distance.specs.Progress.{TellsSearch};
+ghost use Rattle.stab_distance.specs.inner.Shortest.{IsFound};
+ghost use Rattle.stab_distance.specs.inner.Tellings.{TellsAnswer};
 
 use crate::answer::{Answer, Progress};
-use crate::certificate::has_certificates;
 use crate::distinct::distinct_rows;
 use crate::errors::Errors;
-use crate::searching::search;
+use crate::existence::has_logical_error;
+use crate::sets::set_of;
+use crate::sizes::{shortest, shortest_without_pairs};
 use crate::table::Table;
 use stab_io::Refusal;
 use std::alloc::{AllocError, Global};
+
+/// The sizes that are searched before elimination shows whether there is a logical error at all: these take less time and memory.
+const FIRST_SIZES: usize = 3;
 
 /// The least logical error of a table, if it has at most `most` errors.
 ///
 /// A logical error is a set of errors that together flip some observable and no detector. `progress` hears of
 /// the number of errors, and then of each number of them that was excluded. The time grows by a factor with each further error. The memory
-/// grows with the rows, and with the greatest number in them.
+/// grows with the rows, and with the greatest number in them; if no set of at most 3 errors is found, also with the number of detectors
+/// times that of rows that no others add up to.
 ///
 /// The only refusal is `OutOfMemory`.
 pub fn least_logical_error<P: Progress>(
@@ -31,111 +34,57 @@ pub fn least_logical_error<P: Progress>(
 ) -> Result<Answer, Refusal>
     ensures answer { IfOk result (IsAnswer table.now most) }
     ensures refusal { IfErr result (λ e. e ≡ OutOfMemory) }
+    ensures told { TellsSearch (length table.now.rows) most (HasNoneWithin table.now) (P.heard progress.old) (P.heard progress.new) result }
 {
     progress.begins(table.len());
+    least_of(alloc, table, most, progress)
+}
+
+/// The same, after `progress` heard of the number of errors.
+pub fn least_of<P: Progress>(
+    alloc: Global,
+    table: &Table,
+    most: usize,
+    progress: &mut P,
+) -> Result<Answer, Refusal>
+    ensures answer { IfOk result (IsAnswer table.now most) }
+    ensures refusal { IfErr result (λ e. e ≡ OutOfMemory) }
+    ensures told { TellsAnswer table.now most (P.heard progress.old) (P.heard progress.new) result }
+{
     let distinct = distinct_rows(alloc, table)?;
-    if has_certificates(alloc, table.detectors(), distinct.rows.as_slice())? {
-        return Ok(Answer::NoneAtAll);
-    }
-    let errors = Errors::new(alloc, table.detectors(), distinct.rows)?;
-    match shortest(alloc, &errors, most, progress)? {
-        None => Ok(Answer::NoneWithin),
-        Some(found) => {
+    let mut errors = Errors::new(alloc, table.detectors(), distinct.rows)?;
+    match find(alloc, &mut errors, most, progress)? {
+        Answer::Least(found) => {
             let set = set_of(alloc, found.as_slice(), distinct.numbers.as_slice())?;
             Ok(Answer::Least(set))
         }
+        Answer::NoneWithin => Ok(Answer::NoneWithin),
+        Answer::NoneAtAll => Ok(Answer::NoneAtAll),
     }
 }
 
-/// A shortest logical error, in any order, if it has at most `most` errors.
-fn shortest<P: Progress>(
+/// The same of distinct errors, by their own numbers, in any order.
+fn find<P: Progress>(
     alloc: Global,
-    errors: &Errors,
+    errors: &mut Errors,
     most: usize,
     progress: &mut P,
-) -> Result<Option<Vec<usize>>, AllocError>
-    ensures some { IfOk result (λ a. IfSome a (λ v. IsShortest errors.now.table most v.items)) }
-    ensures none { IfOk result (λ a. IfNone a (HasNoneWithin errors.now.table most)) }
+) -> Result<Answer, AllocError>
+    ensures found { IfOk result (IsFound errors.old.table most) }
+    ensures told { TellsAnswer errors.old.table most (P.heard progress.old) (P.heard progress.new) result }
 {
-    let observing = errors.observing();
     let end = most.min(errors.len());
-    'sizes: for left in 0..end {
-        if let Some(found) = of_one_more(alloc, errors, observing, left)? {
-            return Ok(Some(found));
-        }
-        progress.none_within(left + 1);
+    let first = end.min(FIRST_SIZES);
+    match shortest(alloc, errors, 0, first, progress)? {
+        Some(found) => return Ok(Answer::Least(found)),
+        None => {}
     }
-    Ok(None)
-}
-
-/// A logical error of `left + 1` errors, if none has fewer. No error from `observing` on flips an observable.
-fn of_one_more(
-    alloc: Global,
-    errors: &Errors,
-    observing: usize,
-    left: usize,
-) -> Result<Option<Vec<usize>>, AllocError>
-    requires within { observing ≤ length errors.now.table.rows }
-    requires others { FlipNoObservable errors.now.table observing }
-    requires none { HasNoneWithin errors.now.table left }
-    ensures some { IfOk result (λ a. IfSome a (λ v. IsLogicalWithin errors.now.table (left + 1) v.items)) }
-    ensures none { IfOk result (λ a. IfNone a (HasNoneWithin errors.now.table (left + 1))) }
-{
-    'firsts: for first in 0..observing {
-        if let Some(found) = with_first(alloc, errors, first, left)? {
-            return Ok(Some(found));
-        }
+    let exists = has_logical_error(alloc, errors)?;
+    if !exists {
+        return Ok(Answer::NoneAtAll);
     }
-    Ok(None)
-}
-
-/// A logical error of this error and `left` errors after it.
-fn with_first(
-    alloc: Global,
-    errors: &Errors,
-    first: usize,
-    left: usize,
-) -> Result<Option<Vec<usize>>, AllocError>
-    requires inside { first < length errors.now.table.rows }
-    requires none { HasNoneWithin errors.now.table left }
-    ensures some { IfOk result (λ a. IfSome a (λ v. IsLogicalWithin errors.now.table (left + 1) v.items)) }
-    ensures none { IfOk result (λ a. IfNone a (NoEnds errors.now.table first (row errors.now.table.rows first) left)) }
-{
-    let flipped = errors.row(first);
-    let key = errors.key(first);
-    match search(alloc, errors, first, flipped, key, left)? {
-        None => Ok(None),
-        Some(mut rest) => {
-            rest.push(first)?;
-            Ok(Some(rest))
-        }
+    match shortest_without_pairs(alloc, errors, first, end, progress)? {
+        Some(found) => Ok(Answer::Least(found)),
+        None => Ok(Answer::NoneWithin),
     }
-}
-
-/// The numbers in the table of the rows found, in ascending order. A row that was found twice cancels.
-pub fn set_of(alloc: Global, found: &[usize], numbers: &[usize]) -> Result<Vec<usize>, AllocError>
-    requires inside { (k : ℕ) → k < length found.now → slice_index found.now k < length numbers.now }
-    ensures gathered { IfOk result (λ v. IsGathered (map (slice_index numbers.now) found.now) v.items) }
-{
-    let mut set = Vec::new(alloc);
-    'each: for k in found {
-        toggle_row(&mut set, numbers[*k])?;
-    }
-    Ok(set)
-}
-
-/// Puts row r in its place, or takes it out if it is there.
-fn toggle_row(set: &mut Vec<usize>, r: usize) -> Result<(), AllocError>
-    ensures value { OnOk result (set.new.items ≡ toggle r set.old.items) }
-{
-    let mut place = 0;
-    'pass: while place < set.len() && set[place] < r {
-        place += 1;
-    }
-    if place < set.len() && set[place] == r {
-        set.remove(place);
-    } else {
-        set.insert(place, r)?;
-    }
-    Ok(())
 }

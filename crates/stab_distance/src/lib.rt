@@ -1,13 +1,15 @@
 //! The least number of errors that flip an observable and no detector: an exact search over a table of errors.
 //!
 //! - `row`, `table`: what each error flips. `answer`: the answers, and the trait that reports progress.
-//! - `least`: the call, which tries one error, then two, and so on. `distinct`: errors that flip the same count once.
-//! - `searching`: the search itself. `merging`: what errors flip together.
-//! - `errors`: the errors ready for a search. `index`, `keys`: which errors to try. `reach`, `classes`: when to give up a branch.
-//! - `certificate`, `elimination`: a proof that no logical error exists.
+//! - `least`: the call. `distinct`: errors that flip the same count once. `sets`: what is found, in order.
+//! - `sizes`: one error is tried, then two, and so on. `searching`: the search itself. `merging`: what errors flip together.
+//! - `errors`: the errors ready for a search. `index`, `keys`: which errors to try. `candidates`: of which each set has one. `pairs`: which are never
+//!   tried together.
+//! - `existence`: whether there is a logical error at all. `elimination` finds one, or a `certificate` that there is none; `logical`:
+//!   the check of what was found.
 //! - `graphlike`: the call for only those errors that flip at most two detectors. `parts`: these errors of a table.
 //! - `edges`, `graph`: these errors as edges. `cycles`, `sources`, `labels`: shortest paths. `bounds`: what labels
-//!   prove. `logical`: the check of what was found.
+//!   prove.
 //! - `laws`: each table has an answer.
 //!
 //! Source: C. Gidney, Stim: a fast stabilizer circuit simulator (2021), for detectors, observables and tables of
@@ -20,13 +22,14 @@
 
 mod answer;
 mod bounds;
+mod candidates;
 mod certificate;
-mod classes;
 mod cycles;
 mod distinct;
 mod edges;
 mod elimination;
 mod errors;
+mod existence;
 mod graph;
 mod graphlike;
 mod index;
@@ -36,10 +39,12 @@ pub mod laws;
 mod least;
 mod logical;
 mod merging;
+mod pairs;
 mod parts;
-mod reach;
 mod row;
 mod searching;
+mod sets;
+mod sizes;
 mod sources;
 mod table;
 

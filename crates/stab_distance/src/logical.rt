@@ -3,8 +3,9 @@ ghost use Rattle.stab_distance.specs.Ascending.{IsAscending};
 ghost use Rattle.stab_distance.specs.LogicalErrors.{IsLogicalError};
 ghost use Rattle.stab_distance.specs.inner.Shortest.{IsLogicalSet};
 
-use crate::least::set_of;
 use crate::merging::merge_into;
+use crate::row::Row;
+use crate::sets::set_of;
 use crate::table::Table;
 use std::alloc::{AllocError, Global};
 
@@ -21,7 +22,7 @@ pub fn logical_set(
         return Ok(None);
     }
     let set = set_of(alloc, found, numbers)?;
-    if !is_logical(alloc, table, set.as_slice())? {
+    if !is_logical(alloc, table.detectors(), table.rows(), set.as_slice())? {
         return Ok(None);
     }
     Ok(Some(set))
@@ -40,21 +41,27 @@ fn are_below(found: &[usize], end: usize) -> bool
 }
 
 /// Whether these rows flip an observable and no detector.
-fn is_logical(alloc: Global, table: &Table, errors: &[usize]) -> Result<bool, AllocError>
-    ensures yes { IfOk result (λ b. b ≡ true → IsLogicalError table.now errors.now) }
+pub fn is_logical(
+    alloc: Global,
+    detectors: usize,
+    rows: &[Row],
+    errors: &[usize],
+) -> Result<bool, AllocError>
+    ensures yes { IfOk result (λ b. b ≡ true → IsLogicalError (record { detectors = detectors; rows = rows.now }) errors.now) }
 {
     let mut flipped: Vec<u32> = Vec::new(alloc);
     'each: for r in errors {
-        if *r >= table.len() {
+        if *r >= rows.len() {
             return Ok(false);
         }
         let mut next = Vec::new(alloc);
-        merge_into(&mut next, flipped.as_slice(), table.row(*r))?;
+        let row = &rows[*r];
+        merge_into(&mut next, flipped.as_slice(), row.numbers())?;
         flipped = next;
     }
     let flips = flipped.as_slice();
     if flips.is_empty() {
         return Ok(false);
     }
-    Ok(flips[0] as usize >= table.detectors())
+    Ok(flips[0] as usize >= detectors)
 }

@@ -1,28 +1,34 @@
-ghost use Rattle.std.specs.Prelude.{◌≡◌, ℕ, ◌+◌, ◌<◌, true, false, length, IfOk, IfSome, IfNone};
+ghost use Rattle.std.specs.Prelude.{◌≡◌, ℕ, ◌+◌, ◌<◌, true, false, List, length, IfOk, IfSome, IfNone};
 ghost use Rattle.stab_distance.specs.Ascending.{IsAscending};
 ghost use Rattle.stab_distance.specs.LogicalErrors.{HasNoneWithin};
 ghost use Rattle.stab_distance.specs.inner.Ends.{EndsWithin, NoEnds, NoEndsBy, IsEndBy};
 ghost use Rattle.stab_distance.specs.inner.Errors.{key_of};
 
+use crate::candidates::candidates;
 use crate::errors::Errors;
 use crate::merging::merge_into;
 use std::alloc::{AllocError, Global};
 
-/// Errors after the first one, at most `left`, that end the search from what is flipped.
+/// Errors after the first one, at most `left`, that end the search from what is flipped. `path` has those chosen, and `cover` is scratch.
 #[cycle(search)]
 pub fn search(
     alloc: Global,
     errors: &Errors,
     first: usize,
+    path: &mut Vec<usize>,
     flipped: &[u32],
     key: u64,
     left: usize,
+    cover: &mut [usize],
 ) -> Result<Option<Vec<usize>>, AllocError>
     requires ascending { IsAscending flipped.now }
     requires key { key ≡ key_of errors.now.numbers flipped.now }
     requires none { HasNoneWithin errors.now.table left }
-    ensures some { IfOk result (λ a. IfSome a (λ v. EndsWithin errors.now.table first flipped.now left v.items)) }
-    ensures none { IfOk result (λ a. IfNone a (NoEnds errors.now.table first flipped.now left)) }
+    requires cover { length cover.old ≡ length errors.now.table.rows }
+    ensures some { IfOk result (λ a. IfSome a (λ v. EndsWithin errors.now.table flipped.now left v.items)) }
+    ensures none { IfOk result (λ a. IfNone a (NoEnds errors.now.table errors.now.pairs first path.old.items flipped.now left)) }
+    ensures path { IfOk result (λ a. IfNone a (path.new.items ≡ path.old.items)) }
+    ensures cover { length cover.new ≡ length cover.old }
 {
     if flipped.is_empty() {
         return Ok(None);
@@ -34,15 +40,23 @@ pub fn search(
         return Ok(None);
     }
     if left == 1 {
-        return last_error(alloc, errors, first, flipped, key);
+        return last_error(alloc, errors, first, path.as_slice(), flipped, key);
     }
-    if errors.are_beyond(flipped, left) {
-        return Ok(None);
-    }
-    let flipping = errors.flipping(errors.rarest(flipped));
-    let mut next = Vec::new(alloc);
-    'tries: for g in flipping {
-        let found = try_error(alloc, errors, first, flipped, key, left - 1, *g, &mut next)?;
+    let next = candidates(alloc, errors, first, path.as_slice(), flipped, left, cover)?;
+    let mut merged = Vec::new(alloc);
+    'tries: for g in next.as_slice() {
+        let found = try_error(
+            alloc,
+            errors,
+            first,
+            path,
+            flipped,
+            key,
+            left - 1,
+            *g,
+            &mut merged,
+            cover,
+        )?;
         if let Some(rest) = found {
             return Ok(Some(rest));
         }
@@ -56,30 +70,44 @@ fn try_error(
     alloc: Global,
     errors: &Errors,
     first: usize,
+    path: &mut Vec<usize>,
     flipped: &[u32],
     key: u64,
     left: usize,
     g: usize,
     next: &mut Vec<u32>,
+    cover: &mut [usize],
 ) -> Result<Option<Vec<usize>>, AllocError>
     requires ascending { IsAscending flipped.now }
     requires key { key ≡ key_of errors.now.numbers flipped.now }
     requires none { HasNoneWithin errors.now.table left }
     requires inside { g < length errors.now.table.rows }
-    ensures some { IfOk result (λ a. IfSome a (λ v. EndsWithin errors.now.table first flipped.now (left + 1) v.items)) }
-    ensures none { IfOk result (λ a. IfNone a (NoEndsBy errors.now.table first flipped.now (left + 1) g)) }
+    requires cover { length cover.old ≡ length errors.now.table.rows }
+    ensures some { IfOk result (λ a. IfSome a (λ v. EndsWithin errors.now.table flipped.now (left + 1) v.items)) }
+    ensures none { IfOk result (λ a. IfNone a (NoEndsBy errors.now.table errors.now.pairs first path.old.items flipped.now (left + 1) g)) }
+    ensures path { IfOk result (λ a. IfNone a (path.new.items ≡ path.old.items)) }
+    ensures cover { length cover.new ≡ length cover.old }
 {
-    if g <= first {
-        return Ok(None);
-    }
     let next_key = key ^ errors.key(g);
     if left == 1 && !errors.has_key(next_key) {
         return Ok(None);
     }
     merge_into(next, flipped, errors.row(g))?;
-    let found = search(alloc, errors, first, next.as_slice(), next_key, left)?;
-    match found {
-        None => Ok(None),
+    path.push(g)?;
+    match search(
+        alloc,
+        errors,
+        first,
+        path,
+        next.as_slice(),
+        next_key,
+        left,
+        cover,
+    )? {
+        None => {
+            path.pop();
+            Ok(None)
+        }
         Some(mut rest) => {
             rest.push(g)?;
             Ok(Some(rest))
@@ -92,13 +120,14 @@ fn last_error(
     alloc: Global,
     errors: &Errors,
     first: usize,
+    path: &[usize],
     flipped: &[u32],
     key: u64,
 ) -> Result<Option<Vec<usize>>, AllocError>
     requires ascending { IsAscending flipped.now }
     requires key { key ≡ key_of errors.now.numbers flipped.now }
-    ensures some { IfOk result (λ a. IfSome a (λ v. EndsWithin errors.now.table first flipped.now 1 v.items)) }
-    ensures none { IfOk result (λ a. IfNone a (NoEnds errors.now.table first flipped.now 1)) }
+    ensures some { IfOk result (λ a. IfSome a (λ v. EndsWithin errors.now.table flipped.now 1 v.items)) }
+    ensures none { IfOk result (λ a. IfNone a (NoEnds errors.now.table errors.now.pairs first path.now flipped.now 1)) }
 {
     let with_key = errors.with_key(key);
     'tries: for g in with_key {
@@ -121,8 +150,8 @@ fn ends_by(
 ) -> Result<bool, AllocError>
     requires ascending { IsAscending flipped.now }
     requires inside { g < length errors.now.table.rows }
-    ensures yes { IfOk result (λ b. b ≡ true → IsEndBy errors.now.table first flipped.now g) }
-    ensures not { IfOk result (λ b. b ≡ false → NoEndsBy errors.now.table first flipped.now 1 g) }
+    ensures yes { IfOk result (λ b. b ≡ true → IsEndBy errors.now.table flipped.now g) }
+    ensures not { IfOk result (λ b. b ≡ false → (path : List ℕ) → NoEndsBy errors.now.table errors.now.pairs first path flipped.now 1 g) }
 {
     if g <= first {
         return Ok(false);

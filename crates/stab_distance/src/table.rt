@@ -85,6 +85,13 @@ impl Table {
         self.detectors
     }
 
+    /// The rows.
+    pub(crate) fn rows(&self) -> &[Row]
+        ensures value { result.now ≡ self.now.rows }
+    {
+        self.rows.as_slice()
+    }
+
     /// What error r flips.
     pub fn row(&self, r: usize) -> &[u32]
         requires inside { r < length self.now.rows }

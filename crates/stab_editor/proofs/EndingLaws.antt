@@ -1,5 +1,5 @@
 -- Laws of endings: what the parts of an edit command pass on makes its end.
-use Rattle.stab_editor.proofs.Names.{◌≡◌, refl, subst, Bool, List, ℕ, Option, Result, Ok, Err, inr, InputView, OutputView, Fault, Items, GaveCircuit, Source, EndsOn, EndsEdit, setting_of, qubits_for, Setting, coins_of_shot, false, Held, Request, Answer, IsAnswer, IsPlainAnswer, IsAnswerToAll, opened, begin, put, delete, show, ask, deterministic, distance, refuse, EndsEditBy, EndsPlainEdit}
+use Rattle.stab_editor.proofs.Names.{◌≡◌, refl, subst, Bool, List, ℕ, Option, Result, Ok, Err, ap, ◌⊎◌, inl, inr, InputView, OutputView, Fault, Items, GaveCircuit, Source, Asked, TakesTurns, EditsInTurn, EndsOn, EndsEdit, setting_of, qubits_for, Setting, coins_of_shot, false, Held, Request, Answer, IsAnswer, IsPlainAnswer, IsAnswerToAll, opened, begin, put, delete, show, ask, deterministic, distance, refuse, EndsEditBy, EndsPlainEdit}
 
 -- what requests are answered on items in a setting
 abbrev answered_in : Setting → Items → List Request → Answer → Type 0
@@ -18,6 +18,20 @@ pub edit_ended : (framed : Bool) (qubits : Option ℕ) (source : Source) (i i' s
 edit_ended framed qubits source i i' s s' o o' items r n coins gave is_n is_coins ends =
     edit_ends framed qubits source i i' s s' o o' items r gave
     (subst (λ (x : Setting). EndsOn (answered_in x items) x.qubits items s s' o o' r) (λ j. record { framed = framed; qubits = is_n j; coins = is_coins j }) ends)
+
+-- And a call that read a script in turn, or left script and output as they were.
+pub edit_turned : {S O : Type 0} (script_seen : S → InputView) (out_seen : O → OutputView) (log : S → Option (List Asked)) (framed : Bool) (qubits : Option ℕ) (source : Source) (i i' : InputView) (x x' : S) (y y' : O) (items : Items) (r : Result Bool Fault)
+    (n : ℕ) (coins : ℕ → Bool) → GaveCircuit i i' items → n ≡ qubits_for qubits items → coins ≡ coins_of_shot source 0
+    → ((x' ≡ x) × (y' ≡ y)) ⊎ TakesTurns (record { framed = framed; qubits = n; coins = coins }) items (script_seen x) (script_seen x') (out_seen y) (out_seen y') (log x) (log x') r
+    → EditsInTurn framed qubits source i i' (script_seen x) (script_seen x') (out_seen y) (out_seen y') (log x) (log x') r
+edit_turned script_seen out_seen log framed qubits source i i' x x' y y' items r n coins gave is_n is_coins (inl same) = inl (ap script_seen same.0, ap out_seen same.1, ap log same.0)
+edit_turned script_seen out_seen log framed qubits source i i' x x' y y' items r n coins gave is_n is_coins (inr turns) =
+    inr (
+      items,
+      gave,
+      subst (λ (setting : Setting). TakesTurns setting items (script_seen x) (script_seen x') (out_seen y) (out_seen y') (log x) (log x') r)
+          (λ j. record { framed = framed; qubits = is_n j; coins = is_coins j }) turns,
+    )
 
 -- A script that is not framed is answered plainly.
 plain_answer : (n : ℕ) (coins : ℕ → Bool) (held : Held) (r : Request) (a : Answer)

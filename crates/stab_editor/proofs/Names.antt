@@ -69,7 +69,8 @@ pub use Rattle.stab_run.specs.ProgramStates.{StepFits}
 pub use Rattle.stab_run.specs.Runs.{State, run_of}
 pub use Rattle.stab_script.proofs.PlaceCountLaws.{place_of_session}
 pub use Rattle.stab_script.proofs.ReadingLaws.{read_append, read_none, opened_read}
-pub use Rattle.stab_script.proofs.TellingLaws.{answers_then, told_then, told_some_behind, sitting_with}
+pub use Rattle.stab_script.proofs.TellingLaws.{answers_then, both_assoc, both_nothing, sitting_with}
+unfoldable pub use Rattle.stab_script.proofs.TellingLaws.{told_then, told_some_behind}
 pub use Rattle.stab_script.specs.Editors.{Sitting, Told, ToldSome, FlushFails, Sent, Finishes, sitting}
 pub use Rattle.stab_script.specs.FramedAnswers.{GivesText}
 pub use Rattle.stab_script.specs.FramedReplies.{reply_text, greeting, session_numbers, made_text, text_found}
@@ -94,5 +95,5 @@ pub use Rattle.stab_tableau.specs.Reduced.{TracesHaveReducedRows, TracesHaveOneL
 pub use Rattle.stab_tableau.specs.Traces.{member}
 pub use Rattle.stab_editor.specs.ScriptEndings.{EndsOn, EndsEditBy, EndsPlainEdit, EndsEdit, setting_of, qubits_for, AnswersScript, BreaksOff, AnswersFront, EndsScript}
 pub use Rattle.stab_editor.specs.ScriptLaws.{CanBeEdited, asks_distance, NoneAsksDistance}
-pub use Rattle.stab_editor.specs.ScriptTurns.{all_given, InTurn, LogsInTurn, TakesTurns}
+pub use Rattle.stab_editor.specs.ScriptTurns.{all_given, InTurn, AnswersInTurn, LogsInTurn, TakesTurns, EditsInTurn}
 pub use Rattle.stab_editor.specs.inner.SessionAnswers.{answered, held_of, session_run}

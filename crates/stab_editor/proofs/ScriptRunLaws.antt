@@ -25,17 +25,28 @@ so_far_none setting items now reader s o o' told e = record {
 }
 
 -- what bytes ask for after others
-behind_requests : (bytes piece : List ℕ) → requests_in (bytes ++ piece) ≡ requests_in bytes ++ (read (read empty_reader bytes).reader piece).requests
+pub behind_requests : (bytes piece : List ℕ) → requests_in (bytes ++ piece) ≡ requests_in bytes ++ (read (read empty_reader bytes).reader piece).requests
 behind_requests bytes piece = ap (λ (r : Reading). begin ∷ r.requests) (read_append empty_reader bytes piece)
 
 -- a piece more was read and answered
-pub told_more : {setting : Setting} {items : Items} {mid new : Sitting} {reader : ScriptReader} {o o' o'' : OutputView} (bytes piece : List ℕ)
+unfoldable pub told_more : {setting : Setting} {items : Items} {mid new : Sitting} {reader : ScriptReader} {o o' o'' : OutputView} (bytes piece : List ℕ)
     → reader ≡ (read empty_reader bytes).reader → Told (before_script setting items) mid (requests_in bytes) o o' → Told mid new (read reader piece).requests o' o''
     → Told (before_script setting items) new (requests_in (bytes ++ piece)) o o''
 told_more {setting} {items} {mid} {new} {reader} {o} {o'} {o''} bytes piece e before more =
-    let here : Told mid new (read (read empty_reader bytes).reader piece).requests o' o'' = subst (λ (d : ScriptReader). Told mid new (read d piece).requests o' o'') e more in
-    subst (λ (l : List Request). Told (before_script setting items) new l o o'') (sym (behind_requests bytes piece))
-    (told_then (requests_in bytes) (read (read empty_reader bytes).reader piece).requests before here)
+    let here : Told mid new (read (read empty_reader bytes).reader piece).requests o' o'' = record {
+      answer = more.answer;
+      answers = subst (λ (d : ScriptReader). IsAnswerToAll mid.setting mid.held (read d piece).requests more.answer) e more.answers;
+      took = more.took;
+      leaves = more.leaves;
+    } in
+    let all : Told (before_script setting items) new (requests_in bytes ++ (read (read empty_reader bytes).reader piece).requests) o o'' =
+    told_then (requests_in bytes) (read (read empty_reader bytes).reader piece).requests before here in
+    record {
+      answer = all.answer;
+      answers = subst (λ (l : List Request). IsAnswerToAll setting (opened setting items) l all.answer) (sym (behind_requests bytes piece)) all.answers;
+      took = all.took;
+      leaves = all.leaves;
+    }
 
 unfoldable pub so_far_more : {setting : Setting} {items : Items} {mid new : Sitting} {reader reader' : ScriptReader} {taken : ℕ} {s s' s'' : InputView} {o o' o'' : OutputView} (piece : List ℕ) (taken' : ℕ)
     → AnsweredSoFar setting items mid reader taken s s' o o' → Gave s' s'' piece → taken' ≡ taken + length piece
@@ -49,17 +60,51 @@ so_far_more {setting} {items} {mid} {new} {reader} {reader'} {taken} piece taken
   told = told_more before.bytes piece before.reading before.told told;
 }
 
+-- what is said of requests and their answer besides
+abbrev pub Said : Setting → Items → (List Request → Answer → Type 0) → List Request → Answer → Type 0
+Said setting items P requests a = IsAnswerToAll setting (opened setting items) requests a × P requests a
+
+-- it holds of more requests, if the answer goes on
+abbrev pub Lasts : Setting → (List Request → Answer → Type 0) → Type 0
+Lasts setting P = (first rest : List Request) (a b : Answer) → P first a → IsAnswerToAll setting a.held rest b → P (first ++ rest) (both a b)
+
+-- so it holds of a piece more
+pub said_more : {setting : Setting} {items : Items} {mid new : Sitting} {reader : ScriptReader} {o o' o'' : OutputView} (P : List Request → Answer → Type 0) (bytes piece : List ℕ)
+    → Lasts setting P → (e : reader ≡ (read empty_reader bytes).reader) (before : Told (before_script setting items) mid (requests_in bytes) o o') (more : Told mid new (read reader piece).requests o' o'')
+    → P (requests_in bytes) before.answer → P (requests_in (bytes ++ piece)) (told_more bytes piece e before more).answer
+unfolding told_more told_then
+said_more {setting} {items} {mid} {new} {reader} P bytes piece lasts e before more p =
+    let at : IsAnswerToAll mid.setting mid.held (read (read empty_reader bytes).reader piece).requests more.answer =
+    subst (λ (d : ScriptReader). IsAnswerToAll mid.setting mid.held (read d piece).requests more.answer) e more.answers in
+    let here : IsAnswerToAll setting before.answer.held (read (read empty_reader bytes).reader piece).requests more.answer =
+    subst (λ (x : Sitting). IsAnswerToAll x.setting x.held (read (read empty_reader bytes).reader piece).requests more.answer) before.leaves at in
+    subst (λ (l : List Request). P l (both before.answer more.answer)) (sym (behind_requests bytes piece))
+    (lasts (requests_in bytes) (read (read empty_reader bytes).reader piece).requests before.answer more.answer p here)
+
+-- and of some of them that were told, the last perhaps in part
+said_some : {setting : Setting} {items : Items} {now : Sitting} {o o' o'' : OutputView} (P : List Request → Answer → Type 0) (xs ys : List Request) (f : Fault) → Lasts setting P
+    → (before : Told (before_script setting items) now xs o o') (some : ToldSome now ys o' o'' f) → P xs before.answer
+    → P (told_some_behind xs ys f before some).first (told_some_behind xs ys f before some).answer
+unfolding told_some_behind
+said_some {setting} {items} P xs ys f lasts before some p =
+    let here : IsAnswerToAll setting before.answer.held some.first some.answer = subst (λ (x : Sitting). IsAnswerToAll x.setting x.held some.first some.answer) before.leaves some.answers in
+    lasts xs some.first before.answer some.answer p here
+
+-- the same replies, if the requests are written otherwise
+abbrev some_same : {old : Sitting} {o o' : OutputView} {f : Fault} (xs ys : List Request) → ys ≡ xs → ToldSome old xs o o' f → ToldSome old ys o o' f
+some_same xs ys e some = record { first = some.first; rest = some.rest; split = e ∙ some.split; answer = some.answer; answers = some.answers; cut = some.cut }
+
 -- the script's input failed
-pub script_failed : {setting : Setting} {items : Items} {now : Sitting} {reader : ScriptReader} {taken : ℕ} {s s' s'' : InputView} {o o' : OutputView} (f : Fault)
-    → AnsweredSoFar setting items now reader taken s s' o o' → taken ≤ most_script → GaveAndFailed s' s'' [] → f ≡ whole ReadFault
-    → AnswersFront (IsAnswerToAll setting (opened setting items)) s s'' o o' f
-script_failed {setting} {items} {now} f before few failed e =
+pub script_failed : {setting : Setting} {items : Items} {now : Sitting} {reader : ScriptReader} {taken : ℕ} {s s' s'' : InputView} {o o' : OutputView} (P : List Request → Answer → Type 0) (f : Fault)
+    → (before : AnsweredSoFar setting items now reader taken s s' o o') → P (requests_in before.bytes) before.told.answer → taken ≤ most_script → GaveAndFailed s' s'' [] → f ≡ whole ReadFault
+    → AnswersFront (Said setting items P) s s'' o o' f
+script_failed {setting} {items} {now} P f before p few failed e =
     let same : take most_script before.bytes ≡ before.bytes = take_all most_script before.bytes (omega (arith, before.counted)) in
     record {
       bytes = before.bytes;
       within = inl (e, gave_and_failed before.bytes before.gave failed, omega (arith, before.counted));
       answer = before.told.answer;
-      answers = subst (λ (l : List ℕ). IsAnswerToAll setting (opened setting items) (requests_in l) before.told.answer) (sym same) before.told.answers;
+      answers = subst (λ (l : List ℕ). Said setting items P (requests_in l) before.told.answer) (sym same) (before.told.answers, p);
       took = before.told.took;
     }
 
@@ -74,9 +119,9 @@ front_requests front behind =
     )
 
 -- the output failed, or memory was refused, in what some first bytes of the script ask for
-pub script_broke : (setting : Setting) (items : Items) (s s' : InputView) (o o' : OutputView) (f : Fault) (front behind : List ℕ)
-    → Gave s s' (front ++ behind) → ToldSome (before_script setting items) (requests_in front) o o' f → BreaksOff (IsAnswerToAll setting (opened setting items)) s s' o o' f
-script_broke setting items s s' o o' f front behind gave some =
+pub script_broke : (setting : Setting) (items : Items) (P : List Request → Answer → Type 0) (s s' : InputView) (o o' : OutputView) (f : Fault) (front behind : List ℕ)
+    → Gave s s' (front ++ behind) → (some : ToldSome (before_script setting items) (requests_in front) o o' f) → P some.first some.answer → BreaksOff (Said setting items P) s s' o o' f
+script_broke setting items P s s' o o' f front behind gave some p =
     let more = front_requests front (behind ++ s'.unread) in
     record {
       bytes = front ++ behind;
@@ -87,40 +132,43 @@ script_broke setting items s s' o o' f front behind gave some =
       rest = some.rest ++ more.0;
       split = ap requests_of (append_assoc front behind s'.unread) ∙ more.1 ∙ ap (λ l. l ++ more.0) some.split ∙ append_assoc some.first some.rest more.0;
       answer = some.answer;
-      answers = some.answers;
+      answers = (some.answers, p);
       cut = inl some.cut;
     }
 
 -- the output failed, or memory was refused, before the script was read
-pub greeting_broke : {setting : Setting} {items : Items} {o o' : OutputView} (s : InputView) (f : Fault) → ToldSome (before_script setting items) (begin ∷ []) o o' f → BreaksOff (IsAnswerToAll setting (opened setting items)) s s o o' f
-greeting_broke {setting} {items} {o} {o'} s f some =
-    script_broke setting items s s o o' f [] [] (gave_none s) (subst (λ (r : Reading). ToldSome (before_script setting items) (begin ∷ r.requests) o o' f) (sym (read_none empty_reader)) some)
+pub greeting_broke : (setting : Setting) (items : Items) {o o' : OutputView} (P : List Request → Answer → Type 0) (s : InputView) (f : Fault) → ((requests : List Request) (a : Answer) → P requests a)
+    → ToldSome (before_script setting items) (begin ∷ []) o o' f → BreaksOff (Said setting items P) s s o o' f
+greeting_broke setting items {o} {o'} P s f always some =
+    script_broke setting items P s s o o' f [] [] (gave_none s) (some_same (begin ∷ []) (requests_in []) (ap (λ (r : Reading). begin ∷ r.requests) (read_none empty_reader)) some) (always _ _)
 
 -- the same, after what was answered so far
-pub broke_behind : {setting : Setting} {items : Items} {now : Sitting} {reader : ScriptReader} {taken : ℕ} {s s' s'' : InputView} {o o' o'' : OutputView} (f : Fault) (part behind : List ℕ)
-    → AnsweredSoFar setting items now reader taken s s' o o' → Gave s' s'' (part ++ behind) → ToldSome now (read reader part).requests o' o'' f
-    → BreaksOff (IsAnswerToAll setting (opened setting items)) s s'' o o'' f
-broke_behind {setting} {items} {now} {reader} {taken} {s} {s'} {s''} {o} {o'} {o''} f part behind before gave some =
-    let here : ToldSome now (read (read empty_reader before.bytes).reader part).requests o' o'' f = subst (λ (d : ScriptReader). ToldSome now (read d part).requests o' o'' f) before.reading some in
+pub broke_behind : {setting : Setting} {items : Items} {now : Sitting} {reader : ScriptReader} {taken : ℕ} {s s' s'' : InputView} {o o' o'' : OutputView} (P : List Request → Answer → Type 0) (f : Fault) (part behind : List ℕ)
+    → Lasts setting P → (before : AnsweredSoFar setting items now reader taken s s' o o') → P (requests_in before.bytes) before.told.answer → Gave s' s'' (part ++ behind) → ToldSome now (read reader part).requests o' o'' f
+    → BreaksOff (Said setting items P) s s'' o o'' f
+broke_behind {setting} {items} {now} {reader} {taken} {s} {s'} {s''} {o} {o'} {o''} P f part behind lasts before p gave some =
+    let later : List Request = (read (read empty_reader before.bytes).reader part).requests in
+    let here : ToldSome now later o' o'' f = some_same (read reader part).requests later (sym (ap (λ (d : ScriptReader). (read d part).requests) before.reading)) some in
+    let all : ToldSome (before_script setting items) (requests_in before.bytes ++ later) o o'' f = told_some_behind (requests_in before.bytes) later f before.told here in
     let whole_gave : Gave s s'' ((before.bytes ++ part) ++ behind) = subst (λ (l : List ℕ). Gave s s'' l) (sym (append_assoc before.bytes part behind)) (gave_more before.bytes (part ++ behind) before.gave gave) in
-    script_broke setting items s s'' o o'' f (before.bytes ++ part) behind whole_gave
-    (subst (λ (l : List Request). ToldSome (before_script setting items) l o o'' f) (sym (behind_requests before.bytes part))
-    (told_some_behind (requests_in before.bytes) (read (read empty_reader before.bytes).reader part).requests f before.told here))
+    script_broke setting items P s s'' o o'' f (before.bytes ++ part) behind whole_gave
+    (some_same (requests_in before.bytes ++ later) (requests_in (before.bytes ++ part)) (behind_requests before.bytes part) all)
+    (said_some P (requests_in before.bytes) later f lasts before.told here p)
 
 -- the script goes past its limit
-pub script_too_long : {setting : Setting} {items : Items} {now new : Sitting} {reader : ScriptReader} {taken : ℕ} {s s' s'' : InputView} {o o' o'' : OutputView} (f : Fault) (piece part : List ℕ)
-    → AnsweredSoFar setting items now reader taken s s' o o' → taken ≤ most_script → length piece ≤ 4096 → most_script - taken < length piece → part ≡ take (most_script - taken) piece
+pub script_too_long : {setting : Setting} {items : Items} {now new : Sitting} {reader : ScriptReader} {taken : ℕ} {s s' s'' : InputView} {o o' o'' : OutputView} (P : List Request → Answer → Type 0) (f : Fault) (piece part : List ℕ)
+    → Lasts setting P → (before : AnsweredSoFar setting items now reader taken s s' o o') → P (requests_in before.bytes) before.told.answer
+    → taken ≤ most_script → length piece ≤ 4096 → most_script - taken < length piece → part ≡ take (most_script - taken) piece
     → Gave s' s'' piece → Told now new (read reader part).requests o' o'' → f ≡ whole TooLong
-    → AnswersFront (IsAnswerToAll setting (opened setting items)) s s'' o o'' f
-script_too_long {setting} {items} {now} {new} {reader} {taken} {s} {s'} {s''} {o} {o'} {o''} f piece part before few size past is gave told e =
-    let told' : Told now new (read reader (take (most_script - taken) piece)).requests o' o'' = subst (λ (l : List ℕ). Told now new (read reader l).requests o' o'') is told in
-    let all = told_more before.bytes (take (most_script - taken) piece) before.reading before.told told' in
-    let cut : take most_script (before.bytes ++ piece) ≡ before.bytes ++ take (most_script - taken) piece = cut_at before.bytes piece taken before.counted few in
+    → AnswersFront (Said setting items P) s s'' o o'' f
+script_too_long {setting} {items} {now} {new} {reader} {taken} {s} {s'} {s''} {o} {o'} {o''} P f piece part lasts before p few size past is gave told e =
+    let all = told_more before.bytes part before.reading before.told told in
+    let cut : take most_script (before.bytes ++ piece) ≡ before.bytes ++ part = cut_at before.bytes piece taken before.counted few ∙ ap (λ l. before.bytes ++ l) (sym is) in
     record {
       bytes = before.bytes ++ piece;
       within = inr (e, gave_more before.bytes piece before.gave gave, omega (arith, length-append before.bytes piece, before.counted), omega (arith, length-append before.bytes piece, before.counted));
       answer = all.answer;
-      answers = subst (λ (l : List ℕ). IsAnswerToAll setting (opened setting items) (requests_in l) all.answer) (sym cut) all.answers;
+      answers = subst (λ (l : List ℕ). Said setting items P (requests_in l) all.answer) (sym cut) (all.answers, said_more P before.bytes part lasts before.reading before.told told p);
       took = all.took;
     }
   where
@@ -138,34 +186,41 @@ gave_whole {a} {b} {c} bytes before end = record {
   at_end = λ h. end.at_end (before.as_honest h);
 }
 
+-- an answer to what the end asks for, from where the script was read to
+last_answers : {setting : Setting} {items : Items} {now : Sitting} {reader : ScriptReader} {taken : ℕ} {s s' : InputView} {o o' : OutputView} (before : AnsweredSoFar setting items now reader taken s s' o o') (answer : Answer)
+    → IsAnswerToAll now.setting now.held (read_end reader).requests answer → IsAnswerToAll setting before.told.answer.held (read_end (read empty_reader before.bytes).reader).requests answer
+last_answers {setting} {items} {now} {reader} before answer answers =
+    let at : IsAnswerToAll now.setting now.held (read_end (read empty_reader before.bytes).reader).requests answer =
+    subst (λ (d : ScriptReader). IsAnswerToAll now.setting now.held (read_end d).requests answer) before.reading answers in
+    subst (λ (x : Sitting). IsAnswerToAll x.setting x.held (read_end (read empty_reader before.bytes).reader).requests answer) before.told.leaves at
+
 -- the script came to its end, and its last replies were sent
-ended_sent : {setting : Setting} {items : Items} {now : Sitting} {reader : ScriptReader} {taken : ℕ} {s s' s'' : InputView} {o o' o'' : OutputView} (refused : Bool)
-    → AnsweredSoFar setting items now reader taken s s' o o' → taken ≤ most_script → GaveAll s' s'' [] → Sent now (read_end reader).requests o' o'' refused
-    → AnswersScript (IsAnswerToAll setting (opened setting items)) s s'' o o'' refused
-ended_sent {setting} {items} {now} {reader} {taken} {s} {s'} {s''} {o} {o'} {o''} refused before few gave ends =
-    let whole_read = read empty_reader before.bytes in
-    let last = (read_end whole_read.reader).requests in
+ended_sent : {setting : Setting} {items : Items} {now : Sitting} {reader : ScriptReader} {taken : ℕ} {s s' s'' : InputView} {o o' o'' : OutputView} (P : List Request → Answer → Type 0) (refused : Bool)
+    → Lasts setting P → (before : AnsweredSoFar setting items now reader taken s s' o o') → P (requests_in before.bytes) before.told.answer
+    → taken ≤ most_script → GaveAll s' s'' [] → Sent now (read_end reader).requests o' o'' refused
+    → AnswersScript (Said setting items P) s s'' o o'' refused
+ended_sent {setting} {items} {now} {reader} {taken} {s} {s'} {s''} {o} {o'} {o''} P refused lasts before p few gave sent =
+    let last = (read_end (read empty_reader before.bytes).reader).requests in
     let a = before.told.answer in
-    let sent : Sent now last o' o'' refused = subst (λ (d : ScriptReader). Sent now (read_end d).requests o' o'' refused) before.reading ends in
-    let here : IsAnswerToAll setting a.held last sent.answer = subst (λ (x : Sitting). IsAnswerToAll x.setting x.held last sent.answer) before.told.leaves sent.answers in
+    let here = last_answers before sent.answer sent.answers in
     record {
       script = before.bytes;
       within = omega (arith, before.counted);
       gave = gave_whole before.bytes before.gave gave;
       answer = both a sent.answer;
-      answers = answers_then setting (opened setting items) (requests_in before.bytes) last a sent.answer before.told.answers here;
+      answers = (answers_then setting (opened setting items) (requests_in before.bytes) last a sent.answer before.told.answers here, lasts (requests_in before.bytes) last a sent.answer p here);
       sent = record { between = sent.sent.between; took = took_more a.reply sent.answer.reply before.told.took sent.sent.took; flushed = sent.sent.flushed };
       flag = sent.flag ∙ ap (λ (x : Sitting). x.refused || sent.answer.refused) before.told.leaves;
     }
 
 -- the script came to its end, and its last replies were cut off
-ended_cut : {setting : Setting} {items : Items} {now : Sitting} {reader : ScriptReader} {taken : ℕ} {s s' s'' : InputView} {o o' o'' : OutputView} (f : Fault)
-    → AnsweredSoFar setting items now reader taken s s' o o' → GaveAll s' s'' [] → ToldSome now (read_end reader).requests o' o'' f
-    → BreaksOff (IsAnswerToAll setting (opened setting items)) s s'' o o'' f
-ended_cut {setting} {items} {now} {reader} {taken} {s} {s'} {s''} {o} {o'} {o''} f before gave ends =
-    let whole_read = read empty_reader before.bytes in
-    let last = (read_end whole_read.reader).requests in
-    let some : ToldSome now last o' o'' f = subst (λ (d : ScriptReader). ToldSome now (read_end d).requests o' o'' f) before.reading ends in
+ended_cut : {setting : Setting} {items : Items} {now : Sitting} {reader : ScriptReader} {taken : ℕ} {s s' s'' : InputView} {o o' o'' : OutputView} (P : List Request → Answer → Type 0) (f : Fault)
+    → Lasts setting P → (before : AnsweredSoFar setting items now reader taken s s' o o') → P (requests_in before.bytes) before.told.answer
+    → GaveAll s' s'' [] → ToldSome now (read_end reader).requests o' o'' f
+    → BreaksOff (Said setting items P) s s'' o o'' f
+ended_cut {setting} {items} {now} {reader} {taken} {s} {s'} {s''} {o} {o'} {o''} P f lasts before p gave ends =
+    let last : List Request = (read_end (read empty_reader before.bytes).reader).requests in
+    let some : ToldSome now last o' o'' f = some_same (read_end reader).requests last (sym (ap (λ (d : ScriptReader). (read_end d).requests) before.reading)) ends in
     let all = told_some_behind (requests_in before.bytes) last f before.told some in
     record {
       bytes = before.bytes;
@@ -176,20 +231,19 @@ ended_cut {setting} {items} {now} {reader} {taken} {s} {s'} {s''} {o} {o'} {o''}
       rest = all.rest;
       split = ap requests_of (append-nil before.bytes) ∙ all.split;
       answer = all.answer;
-      answers = all.answers;
+      answers = (all.answers, said_some P (requests_in before.bytes) last f lasts before.told some p);
       cut = inl all.cut;
     }
 
 -- the script came to its end, and the flush failed
-ended_unflushed : {setting : Setting} {items : Items} {now : Sitting} {reader : ScriptReader} {taken : ℕ} {s s' s'' : InputView} {o o' o'' : OutputView} (f : Fault)
-    → AnsweredSoFar setting items now reader taken s s' o o' → GaveAll s' s'' [] → FlushFails now (read_end reader).requests o' o'' f
-    → BreaksOff (IsAnswerToAll setting (opened setting items)) s s'' o o'' f
-ended_unflushed {setting} {items} {now} {reader} {taken} {s} {s'} {s''} {o} {o'} {o''} f before gave ends =
-    let whole_read = read empty_reader before.bytes in
-    let last = (read_end whole_read.reader).requests in
+ended_unflushed : {setting : Setting} {items : Items} {now : Sitting} {reader : ScriptReader} {taken : ℕ} {s s' s'' : InputView} {o o' o'' : OutputView} (P : List Request → Answer → Type 0) (f : Fault)
+    → Lasts setting P → (before : AnsweredSoFar setting items now reader taken s s' o o') → P (requests_in before.bytes) before.told.answer
+    → GaveAll s' s'' [] → FlushFails now (read_end reader).requests o' o'' f
+    → BreaksOff (Said setting items P) s s'' o o'' f
+ended_unflushed {setting} {items} {now} {reader} {taken} {s} {s'} {s''} {o} {o'} {o''} P f lasts before p gave failed =
+    let last = (read_end (read empty_reader before.bytes).reader).requests in
     let a = before.told.answer in
-    let failed : FlushFails now last o' o'' f = subst (λ (d : ScriptReader). FlushFails now (read_end d).requests o' o'' f) before.reading ends in
-    let here : IsAnswerToAll setting a.held last failed.answer = subst (λ (x : Sitting). IsAnswerToAll x.setting x.held last failed.answer) before.told.leaves failed.answers in
+    let here = last_answers before failed.answer failed.answers in
     record {
       bytes = before.bytes;
       unread = [];
@@ -199,20 +253,52 @@ ended_unflushed {setting} {items} {now} {reader} {taken} {s} {s'} {s''} {o} {o'}
       rest = [];
       split = ap requests_of (append-nil before.bytes) ∙ sym (append-nil (requests_of before.bytes));
       answer = both a failed.answer;
-      answers = answers_then setting (opened setting items) (requests_in before.bytes) last a failed.answer before.told.answers here;
+      answers = (answers_then setting (opened setting items) (requests_in before.bytes) last a failed.answer before.told.answers here, lasts (requests_in before.bytes) last a failed.answer p here);
       cut = inr (failed.fault, record { between = failed.failed.between; took = took_more a.reply failed.answer.reply before.told.took failed.failed.took; failed = failed.failed.failed });
     }
 
 -- the script came to its end
-pub script_ended : {setting : Setting} {items : Items} {now : Sitting} {reader : ScriptReader} {taken : ℕ} {s s' s'' : InputView} {o o' : OutputView} (o'' : OutputView) (r : Result Bool Fault)
-    → AnsweredSoFar setting items now reader taken s s' o o' → taken ≤ most_script → GaveAll s' s'' [] → Finishes now (read_end reader).requests o' o'' r
-    → EndsScript (IsAnswerToAll setting (opened setting items)) s s'' o o'' r
-script_ended o'' (Ok refused) before few gave ends = ended_sent refused before few gave ends
-script_ended o'' (Err f) before few gave (inl some) = inl (ended_cut f before gave some)
-script_ended o'' (Err f) before few gave (inr failed) = inl (ended_unflushed f before gave failed)
+pub script_ended : {setting : Setting} {items : Items} {now : Sitting} {reader : ScriptReader} {taken : ℕ} {s s' s'' : InputView} {o o' : OutputView} (P : List Request → Answer → Type 0) (o'' : OutputView) (r : Result Bool Fault)
+    → Lasts setting P → (before : AnsweredSoFar setting items now reader taken s s' o o') → P (requests_in before.bytes) before.told.answer
+    → taken ≤ most_script → GaveAll s' s'' [] → Finishes now (read_end reader).requests o' o'' r
+    → EndsScript (Said setting items P) s s'' o o'' r
+script_ended P o'' (Ok refused) lasts before p few gave ends = ended_sent P refused lasts before p few gave ends
+script_ended P o'' (Err f) lasts before p few gave (inl some) = inl (ended_cut P f lasts before p gave some)
+script_ended P o'' (Err f) lasts before p few gave (inr failed) = inl (ended_unflushed P f lasts before p gave failed)
 
 -- a fault that is passed on
 pub script_err : {answered : List Request → Answer → Type 0} {s s' : InputView} {o o' : OutputView} (f : Fault) (r : Result Bool Fault) → IsErrAnd r (λ y. y ≡ f) → BreaksOff answered s s' o o' f
     → EndsScript answered s s' o o' r
 script_err f (Ok x) is broke = absurd is
 script_err {answered} {s} {s'} {o} {o'} f (Err y) is broke = inl (subst (λ (g : Fault). BreaksOff answered s s' o o' g) (sym is) broke)
+
+-- what is said of requests and their answer may be said in other words
+
+script_as : {A B : List Request → Answer → Type 0} {s s' : InputView} {o o' : OutputView} {refused : Bool} → ((requests : List Request) (a : Answer) → A requests a → B requests a)
+    → AnswersScript A s s' o o' refused → AnswersScript B s s' o o' refused
+script_as weaker x = record { script = x.script; within = x.within; gave = x.gave; answer = x.answer; answers = weaker (requests_of x.script) x.answer x.answers; sent = x.sent; flag = x.flag }
+
+broke_as : {A B : List Request → Answer → Type 0} {s s' : InputView} {o o' : OutputView} {f : Fault} → ((requests : List Request) (a : Answer) → A requests a → B requests a)
+    → BreaksOff A s s' o o' f → BreaksOff B s s' o o' f
+broke_as weaker x = record {
+  bytes = x.bytes;
+  unread = x.unread;
+  gave = x.gave;
+  left = x.left;
+  first = x.first;
+  rest = x.rest;
+  split = x.split;
+  answer = x.answer;
+  answers = weaker x.first x.answer x.answers;
+  cut = x.cut;
+}
+
+front_as : {A B : List Request → Answer → Type 0} {s s' : InputView} {o o' : OutputView} {f : Fault} → ((requests : List Request) (a : Answer) → A requests a → B requests a)
+    → AnswersFront A s s' o o' f → AnswersFront B s s' o o' f
+front_as weaker x = record { bytes = x.bytes; within = x.within; answer = x.answer; answers = weaker (requests_in (take most_script x.bytes)) x.answer x.answers; took = x.took }
+
+pub ends_as : {A B : List Request → Answer → Type 0} (s s' : InputView) (o o' : OutputView) (r : Result Bool Fault) → ((requests : List Request) (a : Answer) → A requests a → B requests a)
+    → EndsScript A s s' o o' r → EndsScript B s s' o o' r
+ends_as s s' o o' (Ok refused) weaker x = script_as weaker x
+ends_as s s' o o' (Err f) weaker (inl x) = inl (broke_as weaker x)
+ends_as s s' o o' (Err f) weaker (inr x) = inr (front_as weaker x)

@@ -23,7 +23,7 @@ pub record AnswersScript (answered : List Request → Answer → Type 0) (s s' :
   pub sent : TookAndFlushed o o' answer.reply
   pub flag : refused ≡ answer.refused
 
--- the output failed, or memory was refused: the replies to some first requests of the script were written, the last perhaps in part
+-- the output failed, or the answer is 20: the replies to some first requests of the script were written, the last perhaps in part
 pub record BreaksOff (answered : List Request → Answer → Type 0) (s s' : InputView) (o o' : OutputView) (f : Fault) : Type 0 where
   pub bytes : List ℕ
   pub unread : List ℕ

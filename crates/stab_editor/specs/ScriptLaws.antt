@@ -1,4 +1,4 @@
--- Laws of scripts: each has an answer; one that asks for no distance has no other, and what its first requests are answered begins it.
+-- Laws of scripts: each has an answer; one that asks for no distance has no other, and each answer begins with one to its first requests.
 -- Source: this project's own.
 use Rattle.std.specs.Prelude.{◌≡◌, ◌≤◌, List, [], ◌∷◌, ℕ, Bool, true, false, ◌++◌, None}
 use Rattle.stab_circuit.specs.Items.{Items}
@@ -6,6 +6,7 @@ use Rattle.stab_circuit.specs.Steps.{qubits_of, check_within}
 use Rattle.stab_circuit.specs.Readings.{IsCircuit}
 use Rattle.stab_circuit.specs.Laws.{AreOfLines}
 use Rattle.stab_script.specs.Scripts.{Setting, Request, distance, Held, Answer, IsAnswerToAll, IsAnswerToScript, requests_of}
+use Rattle.stab_editor.specs.ScriptTurns.{GoesOn}
 
 -- items that can be edited on n qubits: some lines stand for them, and nothing refuses them on that many
 abbrev pub CanBeEdited : ℕ → Items → Type 0
@@ -42,3 +43,8 @@ abbrev pub FirstRepliesComeFirst : Type 0
 FirstRepliesComeFirst =
     (s : Setting) (held : Held) (first rest : List Request) (a b : Answer) → CanBeEdited s.qubits held.items → NoneAsksDistance first → IsAnswerToAll s held first a → IsAnswerToAll s held (first ++ rest) b →
     (more : List ℕ) × (b.reply ≡ a.reply ++ more)
+
+-- also if they ask for a distance, each answer to all begins with some answer to the first
+abbrev pub AnswersBeginWithAnswers : Type 0
+AnswersBeginWithAnswers =
+    (s : Setting) (held : Held) (first rest : List Request) (b : Answer) → IsAnswerToAll s held (first ++ rest) b → (a : Answer) × GoesOn s held first rest a b

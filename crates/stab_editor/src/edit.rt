@@ -17,8 +17,9 @@ use std::alloc::Global;
 /// Reads a circuit, and edits it by a script, as `run_edit` does, with each read of the script made
 /// by a watcher, which is shown the output as it then is.
 ///
-/// If the script's input keeps a log, each read of it found exactly the replies written to what
-/// was handed over before, in whole lines, after what the output held at first.
+/// If the script's input keeps a log, the replies are those of one answer, of which each read found
+/// exactly the first written, to what was handed over before, in whole lines, after what the output
+/// held at first.
 ///
 /// A framed script is one that a program drives: it is greeted by a line of numbers before it is
 /// read, each reply that is no refusal says first how many lines it has, and it may ask for more.
@@ -36,7 +37,7 @@ pub fn run_edit_watched<I: Input, S: Input, O: Output, W: Watcher<S, O>>(
     requires stride_above { 1 ≤ stride }
     requires stride_within { stride ≤ most_stride }
     ensures ends { EndsEdit framed qubits source.now (I.seen circuit_input.old) (I.seen circuit_input.new) (S.seen script_input.old) (S.seen script_input.new) (O.seen out.old) (O.seen out.new) result }
-    ensures turns { EditsInTurn framed qubits source.now (I.seen circuit_input.old) (I.seen circuit_input.new) (S.seen script_input.old) (S.seen script_input.new) (O.seen out.old) (W.log script_input.old) (W.log script_input.new) }
+    ensures turns { EditsInTurn framed qubits source.now (I.seen circuit_input.old) (I.seen circuit_input.new) (S.seen script_input.old) (S.seen script_input.new) (O.seen out.old) (O.seen out.new) (W.log script_input.old) (W.log script_input.new) result }
 {
     let circuit = read_circuit(alloc, circuit_input)?;
     let n = match qubits {

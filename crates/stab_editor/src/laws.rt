@@ -1,6 +1,6 @@
 //! Laws of edit scripts and their answers. Each function does nothing: its contract is the law, and the check
 //! proves it.
-ghost use Rattle.stab_editor.specs.ScriptLaws.{CircuitsCanBeEdited, FirstRepliesComeFirst, ScriptsHaveAnAnswer, ScriptsHaveOneAnswer};
+ghost use Rattle.stab_editor.specs.ScriptLaws.{AnswersBeginWithAnswers, CircuitsCanBeEdited, FirstRepliesComeFirst, ScriptsHaveAnAnswer, ScriptsHaveOneAnswer};
 
 use stab_analysis::laws::{coins_have_rows, deterministic_has_no_decider};
 use stab_circuit::laws::{
@@ -53,9 +53,11 @@ pub fn scripts_have_one_answer()
 }
 
 /// What the first requests of a script are answered on items that can be edited, if none asks for a distance, begins what the
-/// whole script is answered. So a run that was cut off after some replies wrote a prefix.
+/// whole script is answered. So a run that was cut off after some replies wrote a prefix. If some do, each answer to the whole
+/// script begins with some answer to its first requests.
 pub fn first_replies_come_first()
     ensures law { FirstRepliesComeFirst }
+    ensures begins { AnswersBeginWithAnswers }
 {
     item_texts_have_one_meaning();
     item_texts_are_lines();

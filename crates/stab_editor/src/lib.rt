@@ -14,8 +14,9 @@
 //! Source: this project's own.
 //!
 //! Proved: `edit_circuit` writes exactly the replies that `specs/Scripts.antt` of `stab_script` gives for the script and the
-//! circuit's items, or ends by its own cases (`specs/ScriptEndings.antt`), and the reply to each line is written before more of
-//! the script is asked for (`specs/ScriptTurns.antt`). `specs/inner/` has what only private contracts cite.
+//! circuit's items, or ends by its own cases (`specs/ScriptEndings.antt`), and they are those of one answer, of which the reply to
+//! each line is written before more of the script is asked for (`specs/ScriptTurns.antt`). `specs/inner/` has what only private
+//! contracts cite.
 #![tactic(auto)]
 
 mod circuit_replies;

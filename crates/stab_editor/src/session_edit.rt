@@ -30,7 +30,7 @@ pub(crate) fn run_script<A: Answer, S: Input, O: Output, W: Watcher<S, O>>(
 ) -> Result<bool, Fault>
     requires opened { A.held answers ≡ opened (A.setting answers) (A.held answers).items }
     ensures ends { EndsScript (IsAnswerToAll (A.setting answers) (opened (A.setting answers) (A.held answers).items)) (S.seen script.old) (S.seen script.new) (O.seen out.old) (O.seen out.new) result }
-    ensures turns { TakesTurns (A.setting answers) (A.held answers).items (S.seen script.old) (S.seen script.new) (O.seen out.old) (W.log script.old) (W.log script.new) }
+    ensures turns { TakesTurns (A.setting answers) (A.held answers).items (S.seen script.old) (S.seen script.new) (O.seen out.old) (O.seen out.new) (W.log script.old) (W.log script.new) result }
 {
     let mut editor = Editor::new(alloc, answers);
     editor.tell_request(out, Request::Begin)?;
@@ -100,7 +100,7 @@ pub fn edit_circuit<C: Coins, S: Input, O: Output, W: Watcher<S, O>>(
     requires stride_above { 1 ≤ stride }
     requires stride_within { stride ≤ most_stride }
     ensures ends { EndsOn (IsAnswerToAll (record { framed = framed; qubits = n; coins = C.sequence coins }) (opened (record { framed = framed; qubits = n; coins = C.sequence coins }) (circuit_items circuit))) n (circuit_items circuit) (S.seen script.old) (S.seen script.new) (O.seen out.old) (O.seen out.new) result }
-    ensures turns { (script.new ≡ script.old) ⊎ TakesTurns (record { framed = framed; qubits = n; coins = C.sequence coins }) (circuit_items circuit) (S.seen script.old) (S.seen script.new) (O.seen out.old) (W.log script.old) (W.log script.new) }
+    ensures turns { ((script.new ≡ script.old) × (out.new ≡ out.old)) ⊎ TakesTurns (record { framed = framed; qubits = n; coins = C.sequence coins }) (circuit_items circuit) (S.seen script.old) (S.seen script.new) (O.seen out.old) (O.seen out.new) (W.log script.old) (W.log script.new) result }
 {
     let session = open_session(alloc, circuit, n, stride, coins)?;
     let answers = SessionAnswers::new(alloc, framed, session)?;

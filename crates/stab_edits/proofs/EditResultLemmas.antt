@@ -1,5 +1,5 @@
 -- What a list of items comes to by an edit.
-use Rattle.stab_edits.proofs.Names.{◌≡◌, ◌≤◌, refl, ap, sym, ◌∙◌, subst, ℕ, ◌+◌, min, List, [], ◌∷◌, ◌++◌, length, take, drop, arith, append_assoc, append-nil, nat_le, nat_lt, All, Some, Result, Ok, Err, IfOk, length-append, length-take-le, take_at, take-take, take-append-drop, All-append, slice_get, Refusal, PlaceOutOfRange, Summary, Judgement, EditResult, Edit, Insert, Replace, Delete, OneItem, listed, Step, unroll, IsApart, edited_inside, edit_path, edited_in, edited, steps_in, behind_taken, behind_put, outermost, summary_of, followed_by, IsSummary, IsSumOf, Splice, splice_at, splice_block, splice_of, spliced, IsWithin, judgement_of, BeginsWith, Stretch, numbers, AreStretches, WereStretches, steps_within, PutsApart, AreApart, edit_result_by, IsEditResult}
+use Rattle.stab_edits.proofs.Names.{◌≡◌, ◌≤◌, refl, ap, sym, ◌∙◌, subst, ℕ, ◌+◌, min, List, [], ◌∷◌, ◌++◌, length, take, drop, arith, append_assoc, append-nil, nat_le, nat_lt, All, Some, Result, Ok, Err, IfOk, length-append, length-take-le, take_at, take-take, take-append-drop, All-append, slice_get, Refusal, PlaceOutOfRange, Summary, Judgement, EditResult, Edit, Insert, Replace, Delete, OneItem, listed, Step, unroll, IsApart, edited_inside, edit_path, edited_in, edited, steps_in, behind_taken, behind_put, outermost, summary_of, followed_by, IsSummary, IsSumOf, Splice, splice_at, splice_block, splice_of, spliced, IsWithin, judgement_of, BeginsWith, Stretch, numbers, AreStretches, WereStretches, steps_within, PutsGood, IsGoodList, AreGood, listed-append, good-join, edit_result_by, IsEditResult}
 use Rattle.std.proofs.Common.{OnOk}
 use Rattle.stab_edits.proofs.EditLemmas.{if_ok, steps-append}
 use Rattle.stab_edits.proofs.SpliceLemmas.{edited_spliced, splice_within}
@@ -92,9 +92,9 @@ judged_splice : (q : Result Splice Refusal) (w : ℕ) (j : Judgement) → Ok j �
 judged_splice (Ok s) w j e = (s, refl, cc)
 judged_splice (Err r) w j e = absurd (cc)
 
--- the steps of lists that are on different qubits
-pub apart_append : (xs ys : List OneItem) → AreApart xs → AreApart ys → AreApart (xs ++ ys)
-apart_append xs ys a b = subst (All IsApart) (sym (steps-append xs ys)) (All-append IsApart (unroll (listed xs)) (unroll (listed ys)) a b)
+-- lists of items that keep the rules of lines
+pub good_append : (xs ys : List OneItem) → IsGoodList xs → IsGoodList ys → IsGoodList (xs ++ ys)
+good_append xs ys a b = subst AreGood (sym (listed-append xs ys)) (good-join (listed xs) (listed ys) a b)
 
 sum_of : (a b n m k : ℕ) → n ≡ min a 1048577 → m ≡ min b 1048577 → k ≡ min (n + m) 1048577 → k ≡ min (a + b) 1048577
 sum_of a b n m k e f g = omega (arith, e, f, g)
@@ -139,10 +139,10 @@ ends_new edit blocks xs front s n m k e f h i g =
     ∙ count_append (unroll (listed front)) (unroll (listed s.put))
     ))
 
-left_apart : (xs front back : List OneItem) (s : Splice) → front ≡ take s.first xs → back ≡ drop s.behind xs → AreApart front → PutsApart s → AreApart back → AreApart (left_by xs s)
+left_good : (xs front back : List OneItem) (s : Splice) → front ≡ take s.first xs → back ≡ drop s.behind xs → IsGoodList front → PutsGood s → IsGoodList back → IsGoodList (left_by xs s)
 unfolding left_by
-left_apart xs front back s f b h i k =
-    apart_append (take s.first xs) (s.put ++ drop s.behind xs) (subst AreApart f h) (apart_append s.put (drop s.behind xs) i (subst AreApart b k))
+left_good xs front back s f b h i k =
+    good_append (take s.first xs) (s.put ++ drop s.behind xs) (subst IsGoodList f h) (good_append s.put (drop s.behind xs) i (subst IsGoodList b k))
 
 edited_left : (edit : Edit) (blocks : List ℕ) (xs : List OneItem) (s : Splice) → splice_of edit blocks xs ≡ Ok s → edited_in edit blocks xs ≡ Ok (left_by xs s)
 unfolding left_by
@@ -153,7 +153,7 @@ pub edit_result_is : (edit : Edit) (blocks : List ℕ) (xs : List OneItem) (j : 
     → Ok j ≡ judgement_of (min (length (steps_within blocks (edit_path edit).place xs)) 1048577) (splice_of edit blocks xs)
     → IsSummary j.put
     → BeginsWith (steps_in blocks (edit_path edit).place xs) (unroll (listed xs))
-    → IfOk (splice_of edit blocks xs) PutsApart
+    → IfOk (splice_of edit blocks xs) PutsGood
     → IsSumOf (listed (take j.first xs)) before
     → IsSumOf (listed (drop j.first (take j.behind xs))) of
     → IsSumOf (listed (drop j.behind xs)) behind
@@ -186,7 +186,7 @@ edit_result_is edit blocks xs j before of behind o e small begins puts f g b put
       new_end =
           subst (λ r. IfOk r (λ new. o.new_end ≡ min (length (unroll (listed (take (outermost (behind_put edit) blocks) new)))) 1048577)) (sym left)
           (ends_new edit blocks xs front s before.steps j.put.steps o.new_end found.1 first (ap (λ v. v.steps) f.value) (ap (λ v. v.put.steps) same) (ap (λ v. v.new_end) is));
-      apart = subst (λ r. IfOk r AreApart) (sym left) (left_apart xs front back s first rest f.apart (subst (λ r. IfOk r PutsApart) found.1 puts) b.apart);
+      good = subst (λ r. IfOk r IsGoodList) (sym left) (left_good xs front back s first rest f.good (subst (λ r. IfOk r PutsGood) found.1 puts) b.good);
       old_order = omega (arith, at_first, ap (λ v. v.old_end) is, ap (λ v. v.steps) g.value, gone_long, ap (λ v. v.within) same);
       new_order = omega (arith, at_first, ap (λ v. v.new_end) is, put_long);
       order = omega (arith, at_first, ap (λ v. v.total.steps) is, put_long);

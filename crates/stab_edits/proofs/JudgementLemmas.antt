@@ -1,5 +1,5 @@
 -- What an edit comes to, by kept summaries.
-use Rattle.stab_edits.proofs.Names.{◌≡◌, ◌≤◌, ◌<◌, refl, ap, sym, ◌∙◌, subst, ℕ, ◌+◌, ◌*◌, suc, zero, min, List, [], ◌∷◌, ◌++◌, length, take, drop, arith, Option, Some, None, Result, Ok, Err, IfOk, length-append, slice_get, Refusal, Summary, Judgement, Edit, OneItem, operation, repeat, listed, Step, unroll, rounds, rebuilt, edited_inside, edit_path, edited_in, inner, steps_in, summary_of, followed_by, repeated, window, IsSummary, Splice, splice_block, splice_of, spliced, IsWithin, summed, judgement_of, block_refusal, BeginsWith, steps_within, PutsApart, AreApart, listed-append, summary-join, block_summary, block_apart}
+use Rattle.stab_edits.proofs.Names.{◌≡◌, ◌≤◌, ◌<◌, refl, ap, sym, ◌∙◌, subst, ℕ, ◌+◌, ◌*◌, suc, zero, min, List, [], ◌∷◌, ◌++◌, length, take, drop, arith, Option, Some, None, Result, Ok, Err, IfOk, length-append, slice_get, Refusal, Summary, Judgement, Edit, OneItem, operation, repeat, listed, Step, unroll, rounds, rebuilt, edited_inside, edit_path, edited_in, inner, steps_in, summary_of, followed_by, repeated, window, IsSummary, Splice, splice_block, splice_of, spliced, IsWithin, summed, judgement_of, block_refusal, BeginsWith, steps_within, PutsGood, IsGoodList, IsCount, IsTag, listed-append, summary-join, block_summary, block_good}
 use Rattle.stab_edits.proofs.EditLemmas.{entries-listed, got_split, steps-append, steps_split, begins_before, begins_behind}
 use Rattle.stab_edits.proofs.SpliceLemmas.{edited_spliced, splice_within}
 
@@ -41,15 +41,15 @@ judged_ok edit b n w bs blocks tag xs body s e f pos h v =
     ∙ ok_rebuilt n b w tag (edited_in edit bs body) s pos (sym h)
     )
 
--- what is put in, if its steps are on different qubits
-rebuilt_apart : (n b : ℕ) (tag : List ℕ) (q : Result (List OneItem) Refusal) → IfOk q AreApart → IfOk (splice_block b (rebuilt n tag q)) PutsApart
-rebuilt_apart n b tag (Ok ys) a = block_apart (repeat n tag (listed ys)) n tag (listed ys) refl a
-rebuilt_apart n b tag (Err r) a = a
+-- what is put in, if it keeps the rules of lines
+rebuilt_good : (n b : ℕ) (tag : List ℕ) (q : Result (List OneItem) Refusal) → IsCount n → IsTag tag → IfOk q IsGoodList → IfOk (splice_block b (rebuilt n tag q)) PutsGood
+rebuilt_good n b tag (Ok ys) c t g = block_good (repeat n tag (listed ys)) n tag (listed ys) refl c t g
+rebuilt_good n b tag (Err r) c t g = g
 
-pub judged_apart : (edit : Edit) (b n : ℕ) (bs blocks tag : List ℕ) (xs body : List OneItem) → blocks ≡ b ∷ bs → slice_get xs b ≡ Some (repeat n tag (listed body)) → IfOk (edited_in edit bs body) AreApart
-    → IfOk (splice_of edit blocks xs) PutsApart
-judged_apart edit b n bs blocks tag xs body e f a =
-    subst (λ q. IfOk q PutsApart) (sym (splice_inside edit b n bs blocks tag xs body e f)) (rebuilt_apart n b tag (edited_in edit bs body) a)
+pub judged_good : (edit : Edit) (b n : ℕ) (bs blocks tag : List ℕ) (xs body : List OneItem) → blocks ≡ b ∷ bs → slice_get xs b ≡ Some (repeat n tag (listed body)) → IsCount n → IsTag tag
+    → IfOk (edited_in edit bs body) IsGoodList → IfOk (splice_of edit blocks xs) PutsGood
+judged_good edit b n bs blocks tag xs body e f c t g =
+    subst (λ q. IfOk q PutsGood) (sym (splice_inside edit b n bs blocks tag xs body e f)) (rebuilt_good n b tag (edited_in edit bs body) c t g)
 
 -- where a judgement lies in the list
 within_by : (q : Result Splice Refusal) (w : ℕ) (j : Judgement) (xs : List OneItem) → ((s : Splice) → q ≡ Ok s → IsWithin s xs) → Ok j ≡ judgement_of w q → (j.first ≤ j.behind) × (j.behind ≤ length xs)

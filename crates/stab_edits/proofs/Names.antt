@@ -12,6 +12,7 @@ pub use Rattle.stab_io.specs.declared.refusal.Fault.{Fault}
 pub use Rattle.stab_io.specs.declared.refusal.Refusal.{Refusal}
 pub use Rattle.stab_io.specs.declared.refusal.Refusal.TheVariants.{TooDeep, OutOfMemory, PlaceOutOfRange, QubitOutOfRange}
 pub use Rattle.stab_lines.proofs.WriteLemmas.{writes_failed, writes_then, written_more, written_failed, HasWritten}
+pub use Rattle.stab_lines.specs.Rules.{IsTag, IsCount}
 pub use Rattle.stab_lines.specs.Axes.{letter_of}
 pub use Rattle.stab_lines.specs.declared.axis.Axis.{Axis}
 pub use Rattle.stab_lines.specs.declared.control.ControlledPair.{ControlledPair}
@@ -20,7 +21,7 @@ pub use Rattle.stab_lines.specs.declared.operation.Measurement.{Measurement}
 pub use Rattle.stab_lines.specs.declared.operation.Operation.{Operation}
 pub use Rattle.stab_lines.specs.declared.product.Factor.{Factor}
 pub use Rattle.stab_lines.specs.declared.range.MeasureTarget.{MeasureTarget}
-pub use Rattle.stab_items.specs.Items.{OneItem, Items, operation, repeat, done, next, block, before, listed, depth, depth_of, entries}
+pub use Rattle.stab_items.specs.Items.{OneItem, Items, operation, repeat, done, next, block, before, listed, join, depth, depth_of, entries, AreGood}
 pub use Rattle.stab_items.specs.Steps.{steps_of, Step, one, two, collapse, detector, measured, controlled_step, rounds, unroll, detector_of, looks_too_far, past_named, qubits_of, most_steps, check_within}
 pub use Rattle.stab_edits.specs.Cursors.{IsApart, step_shown, lookbacks_of}
 pub use Rattle.stab_edits.specs.declared.circuit.stretches.Stretch.{Stretch}
@@ -40,7 +41,7 @@ pub use Rattle.std.specs.Result.{OnOk, OnErr}
 pub use Rattle.stab_io.proofs.DeviceLemmas.{took_none}
 pub use Rattle.stab_io.specs.Refusals.{whole, IsCallFault}
 pub use Rattle.stab_items.proofs.ItemLemmas.{listed-append, depth-join, before-join, depth_at}
-pub use Rattle.stab_items.proofs.StepApartLemmas.{block_apart}
+pub use Rattle.stab_items.proofs.GoodItemLemmas.{good-join, block_good}
 pub use Rattle.stab_items.proofs.StepLemmas.{detector_step, unroll-join, length-rounds, looks_too_far_window}
 pub use Rattle.stab_items.proofs.SummaryLemmas.{past_named-join, check_judged, summary-join, block_summary, few_steps}
 pub use Rattle.stab_items.specs.inner.Blocks.{with_body}
@@ -62,7 +63,7 @@ pub use Rattle.stab_edits.specs.declared.judge.Judgement.{Judgement}
 pub use Rattle.stab_edits.specs.declared.walk.Level.{Level}
 pub use Rattle.stab_edits.specs.declared.walk.Walk.{Walk}
 pub use Rattle.stab_edits.specs.inner.Changes.{ListChange, changed_in, parts_at, with_parts_at, AreAsDeep, AreBefore}
-pub use Rattle.stab_edits.specs.inner.EditResults.{steps_within, PutsApart, AreApart, edit_result_by, IsEditResult}
+pub use Rattle.stab_edits.specs.inner.EditResults.{steps_within, PutsGood, IsGoodList, edit_result_by, IsEditResult}
 pub use Rattle.stab_edits.specs.inner.Gaps.{block_pieces, with_more, copies, round_gaps, AreGapsIn, AreGapsInside}
 pub use Rattle.stab_edits.specs.inner.Judgements.{IsShallow, IsShallowItem, BeginsWith, judgement_of, summed, block_refusal, shown_item}
 pub use Rattle.stab_edits.specs.inner.Repeats.{first_with_steps, finer_by, finer, repeat_as, repeats_in}

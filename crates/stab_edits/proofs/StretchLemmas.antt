@@ -1,18 +1,18 @@
 -- Stretches of a list.
-use Rattle.stab_edits.proofs.Names.{◌≡◌, ◌≤◌, ◌<◌, refl, ap, sym, ◌∙◌, subst, ℕ, ◌+◌, ◌-◌, zero, suc, min, max, List, [], ◌∷◌, ◌++◌, length, take, drop, set, get_or, arith, drop-cons, append_assoc, drop-drop, drop-take, length-append, length-drop, length-take, length-take-le, take-append-drop, take-append-le, take-take, take_all, drop-append-add, drop-nil, Stretch, Summary, OneItem, listed, unroll, summary_of, followed_by, IsSummary, IsSumOf, AreApart, AreStretches, items_in, WereStretches, listed-append, summary-join}
+use Rattle.stab_edits.proofs.Names.{◌≡◌, ◌≤◌, ◌<◌, refl, ap, sym, ◌∙◌, subst, ℕ, ◌+◌, ◌-◌, zero, suc, min, max, List, [], ◌∷◌, ◌++◌, length, take, drop, set, get_or, arith, drop-cons, append_assoc, drop-drop, drop-take, length-append, length-drop, length-take, length-take-le, take-append-drop, take-append-le, take-take, take_all, drop-append-add, drop-nil, Stretch, Summary, OneItem, listed, unroll, summary_of, followed_by, IsSummary, IsSumOf, IsGoodList, AreStretches, items_in, WereStretches, listed-append, summary-join}
 use Rattle.stab_edits.proofs.EditLemmas.{steps-append, steps_split}
-use Rattle.stab_edits.proofs.EditResultLemmas.{apart_append}
+use Rattle.stab_edits.proofs.EditResultLemmas.{good_append}
 
 -- sums of items
-pub sum_is : (xs ys : List OneItem) (s : Summary) → xs ≡ ys → s ≡ summary_of (listed xs) → IsSummary s → AreApart xs → IsSumOf (listed ys) s
-sum_is xs ys s e value small apart = subst (λ l. IsSumOf (listed l) s) e (record { value = value; small = small; apart = apart })
+pub sum_is : (xs ys : List OneItem) (s : Summary) → xs ≡ ys → s ≡ summary_of (listed xs) → IsSummary s → IsGoodList xs → IsSumOf (listed ys) s
+sum_is xs ys s e value small good = subst (λ l. IsSumOf (listed l) s) e (record { value = value; small = small; good = good })
 
 pub sum_joined : (all xs ys : List OneItem) (s t r : Summary) → all ≡ xs ++ ys → IsSumOf (listed xs) s → IsSumOf (listed ys) t → r ≡ followed_by s t → IsSummary r → IsSumOf (listed all) r
 sum_joined all xs ys s t r e a b f small =
     let near : (summary_of (listed ys)).window ≤ 16777215 = omega (arith, b.small.window, ap (λ q. q.window) b.value) in
     let joined : followed_by s t ≡ summary_of (listed (xs ++ ys)) =
     ap (λ q. followed_by q t) a.value ∙ ap (followed_by (summary_of (listed xs))) b.value ∙ sym (summary-join (listed xs) (listed ys) near) ∙ ap summary_of (sym (listed-append xs ys)) in
-    sum_is (xs ++ ys) all r (sym e) (f ∙ joined) small (apart_append xs ys a.apart b.apart)
+    sum_is (xs ++ ys) all r (sym e) (f ∙ joined) small (good_append xs ys a.good b.good)
 
 -- the items from a place on, those before another place first
 pub from_joined : (first place : ℕ) (xs : List OneItem) → drop first xs ≡ drop first (take place xs) ++ drop (max first place) xs

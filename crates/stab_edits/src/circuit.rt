@@ -36,10 +36,8 @@ impl Drop for Circuit {
 }
 
 impl Model for Circuit {
-    ghost use Rattle.std.specs.Prelude.{◌≡◌, ◌≤◌, List, All};
-    ghost use Rattle.stab_items.specs.Items.{OneItem, listed};
-    ghost use Rattle.stab_items.specs.Steps.{unroll};
-    ghost use Rattle.stab_edits.specs.Cursors.{IsApart};
+    ghost use Rattle.std.specs.Prelude.{◌≡◌, ◌≤◌, List};
+    ghost use Rattle.stab_items.specs.Items.{OneItem, listed, AreGood};
     ghost use Rattle.stab_items.specs.inner.StoredItems.{entries_code};
 
     ghost Value = { List OneItem };
@@ -51,12 +49,12 @@ impl Model for Circuit {
 
     ghost view = { λ c. c.items.items };
 
-    ghost invariant = { λ c. (c.total ≡ summary_of (listed c.items.items)) × IsSummary c.total × (c.total.depth ≤ 16) × All IsApart (unroll (listed c.items.items)) × AreStretches c.stretches.items c.items.items };
+    ghost invariant = { λ c. (c.total ≡ summary_of (listed c.items.items)) × IsSummary c.total × (c.total.depth ≤ 16) × AreGood (listed c.items.items) × AreStretches c.stretches.items c.items.items };
 }
 
 impl Circuit {
     ghost use Rattle.std.specs.Prelude.{◌≡◌, ◌≤◌, [], All, min, length, IfOk};
-    ghost use Rattle.stab_items.specs.Items.{listed, depth};
+    ghost use Rattle.stab_items.specs.Items.{listed, depth, AreGood};
     ghost use Rattle.stab_gates.specs.Limits.{most_qubits};
     ghost use Rattle.stab_items.specs.Steps.{unroll, records_of, detectors_of, qubits_of, observables_of, most_steps, steps_cap, check_of, check_within, Checks};
     ghost use Rattle.stab_io.specs.Refusals.{Refuses};
@@ -65,7 +63,6 @@ impl Circuit {
     ghost use Rattle.stab_edits.specs.inner.Stretches.{AreStretches};
 
     /// The empty circuit, which takes no memory.
-    #[tactic(auto, using(stab_items::proofs::StepApartLemmas::nothing_apart))]
     pub fn new(alloc: Global) -> Circuit
         ensures empty { result ≡ [] }
     {
@@ -98,9 +95,11 @@ impl Circuit {
     }
 
     /// The items of the outermost list. It takes no memory.
+    #[tactic(auto, using(stab_items::proofs::LineApartLemmas::good_apart))]
     pub fn items(&self) -> &[Item]
         ensures value { result.now ≡ self.now }
         ensures shallow { depth (circuit_items self.now) ≤ 16 }
+        ensures good { AreGood (circuit_items self.now) }
         ensures apart { All IsApart (unroll (circuit_items self.now)) }
     {
         let _ = &self.total;

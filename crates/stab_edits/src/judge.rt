@@ -6,7 +6,7 @@ ghost use Rattle.stab_items.specs.inner.Summaries.{IsSummary};
 ghost use Rattle.stab_edits.specs.inner.Splices.{splice_of, splice_at};
 ghost use Rattle.stab_edits.specs.inner.Judgements.{judgement_of, shown_item, IsBlockAt, BeginsWith};
 ghost use Rattle.stab_edits.specs.inner.Stretches.{AreStretches};
-ghost use Rattle.stab_edits.specs.inner.EditResults.{steps_within, PutsApart, edit_result_by, IsEditResult};
+ghost use Rattle.stab_edits.specs.inner.EditResults.{steps_within, PutsGood, edit_result_by, IsEditResult};
 
 use crate::circuit::stretches::{Stretch, summary_between};
 use crate::edit::Edit;
@@ -66,11 +66,10 @@ pub(crate) fn block_of(found: Option<&Item>) -> Result<Block<'_>, Refusal>
 }
 
 /// What an edit comes to in the innermost list around its place, of this many items.
-#[tactic(auto, using(stab_items::proofs::StepApartLemmas::nothing_apart))]
 fn judge_at(len: usize, edit: &Edit) -> Result<Judgement, Refusal>
     ensures value { result ≡ judgement_of 0 (splice_at edit.now len) }
     ensures small { IfOk result (λ j. IsSummary j.put) }
-    ensures apart { OnOk result (IfOk (splice_at edit.now len) PutsApart) }
+    ensures good { OnOk result (IfOk (splice_at edit.now len) PutsGood) }
     ensures nothing_within { IfOk result (λ j. j.within ≡ 0) }
 {
     let place = edit.path().place();
@@ -107,7 +106,7 @@ fn judge(items: &[Item], blocks: &[usize], edit: &Edit) -> Result<Judgement, Ref
     ensures small { IfOk result (λ j. IsSummary j.put) }
     ensures within { IfOk result (λ j. (j.first ≤ j.behind) × (j.behind ≤ length items.now) × (j.within ≤ steps_cap)) }
     ensures front { OnOk result (BeginsWith (steps_of_place blocks.now (edit_path edit.now).place items.now) (unroll (listed items.now))) }
-    ensures apart { OnOk result (IfOk (splice_of edit.now blocks.now items.now) PutsApart) }
+    ensures good { OnOk result (IfOk (splice_of edit.now blocks.now items.now) PutsGood) }
     ensures within_put { IfOk result (λ j. j.within ≤ j.put.steps) }
     ensures within_gone { IfOk result (λ j. j.within ≤ length (unroll (listed (drop j.first (take j.behind items.now))))) }
 {

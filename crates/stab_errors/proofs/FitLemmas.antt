@@ -1,7 +1,7 @@
 -- Errors that fit a circuit: what they flip adds, and they have a table.
 use Rattle.stab_errors.proofs.Names.{◌≡◌, ℕ, ◌<◌, refl, sym, ap, ◌∙◌, Bool, true, false, List, [], ◌∷◌, ◌++◌, map, arith, All, Contains, ◌&&◌, slice_index_or, flat_map, All-nil, All-head, All-tail, All-append, All-contains, ◌⊕◌, parity-assoc, Items, unroll, detectors_of, StepFits, FaultPlace, bits_in, IsDeterministic, AreDeterministic, flips, FaultFits, flips_together, FaultsAdd, DeterministicParities, PlacesFlipDeterministicParities, where-same, Error, faults_in, ErrorTableState, IsErrorTable, flip_together, flipped_by, flip_each, ErrorsAdd, observables_of, deterministic-found}
 
-together-append : (g : FaultPlace → Bool) (xs ys : List FaultPlace) → flips_together g (xs ++ ys) ≡ flips_together g xs ⊕ flips_together g ys
+pub together-append : (g : FaultPlace → Bool) (xs ys : List FaultPlace) → flips_together g (xs ++ ys) ≡ flips_together g xs ⊕ flips_together g ys
 together-append g [] ys = refl
 together-append g (x ∷ xs) ys = ap (λ b. g x ⊕ b) (together-append g xs ys) ∙ sym (parity-assoc (g x) (flips_together g xs) (flips_together g ys))
 

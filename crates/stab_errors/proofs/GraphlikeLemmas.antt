@@ -1,8 +1,8 @@
 -- Graph-like errors: those of a table are those that flip at most two detectors by runs, and their least sets.
-use Rattle.stab_errors.proofs.Names.{◌≡◌, ℕ, ◌<◌, ◌⊎◌, refl, sym, ◌∙◌, subst, Bool, true, false, List, [], ◌∷◌, length, arith, Option, Some, All, unwrap_or, length-map, All-nil, All-cons, All-head, All-tail, All-weaker, parity-false, Items, bits_in, IsDeterministic, Answer, Least, NoneWithin, NoneAtAll, odd, IsGraphlike, IsGraphlikeError, IsLeastGraphlike, IsGraphlikeAnswer, graphlike-up_to, Error, faults_in, ErrorTableState, IsErrorTable, flip_together, AreUnseen, FlipsTwo, AreUnseenOf, AreLeastUnseen, IsDistance, error_at, errors_at_numbers}
+use Rattle.stab_errors.proofs.Names.{◌≡◌, ℕ, ◌<◌, ◌⊎◌, refl, sym, ◌∙◌, subst, Bool, true, false, List, [], ◌∷◌, length, arith, Option, Some, All, unwrap_or, length-map, All-nil, All-cons, All-head, All-tail, All-weaker, parity-false, Items, bits_in, IsDeterministic, Answer, Least, NoneWithin, NoneAtAll, odd, IsGraphlike, IsGraphlikeError, IsLeastGraphlike, HasNoGraphlikeWithin, IsGraphlikeAnswer, graphlike-up_to, Error, faults_in, ErrorTableState, IsErrorTable, flip_together, AreUnseen, FlipsTwo, AreUnseenOf, NoneUnseenWithin, IsLeastSet, IsDistance, error_at, errors_at_numbers}
 use Rattle.std.proofs.Common.{None}
 use Rattle.stab_distance.specs.Tables.{row}
-use Rattle.stab_errors.proofs.UnseenLemmas.{as-many, row-names, deterministic-number, numbers-at, logical-unseen, logical-of}
+use Rattle.stab_errors.proofs.UnseenLemmas.{as-many, within-asked, row-names, deterministic-number, numbers-at, logical-unseen, logical-of}
 
 module _ (n : ℕ) (items : Items) (t : ErrorTableState) (table : IsErrorTable n items t) where
   abbrev rows : List (List ℕ)
@@ -71,24 +71,29 @@ module _ (n : ℕ) (items : Items) (t : ErrorTableState) (table : IsErrorTable n
 
   -- answers
 
-  least-graphlike : (most : ℕ) (ks : List ℕ) → IsLeastGraphlike t.table most ks → All (λ k. k < length t.errors) ks × AreLeastUnseen true n items t.errors (errors_at_numbers t.errors ks)
-  least-graphlike most ks least = (
-    All-weaker Inside (λ k. k < length t.errors) (λ k less. omega (arith, less, as-many n items t table)) ks least.logical.logical.inside,
-    record {
+  least-graphlike : (most : Option ℕ) (bound : ℕ) (ks : List ℕ) → bound ≡ unwrap_or most (length rows) → IsLeastGraphlike t.table bound ks
+      → IsLeastSet true n items t.errors most ks
+  least-graphlike most bound ks e least = record {
+    ascending = least.ascending;
+    within = within-asked n items t table most bound (length ks) e least.within;
+    inside = All-weaker Inside (λ k. k < length t.errors) (λ k less. omega (arith, less, as-many n items t table)) ks least.logical.logical.inside;
+    least = record {
       unseen = graphlike-unseen ks least.logical;
       least = λ others are.
           let numbers = unseen-graphlike others are in
           omega (arith, least.least numbers.0 numbers.1, numbers.2, length-map ks (error_at t.errors));
-    },
-  )
+    };
+  }
+
+  pub none-graphlike-within : (most : ℕ) → HasNoGraphlikeWithin t.table most → NoneUnseenWithin true n items t.errors most
+  none-graphlike-within most none others are = let numbers = unseen-graphlike others are in omega (arith, none numbers.0 numbers.1, numbers.2)
 
   pub graphlike-answer : (most : Option ℕ) (bound : ℕ) (a : Answer) → bound ≡ unwrap_or most (length rows) → IsGraphlikeAnswer t.table bound a → IsDistance true n items t.errors most a
-  graphlike-answer most bound (Least ks) e is = least-graphlike bound ks.items is
+  graphlike-answer most bound (Least ks) e is = least-graphlike most bound ks.items e is
   graphlike-answer most bound NoneAtAll e none = λ others are. let numbers = unseen-graphlike others are in none numbers.0 numbers.1
-  graphlike-answer (Some w) bound NoneWithin e none = λ others are.
-      let numbers = unseen-graphlike others are in
-      omega (arith, none numbers.0 numbers.1, numbers.2, e)
-  graphlike-answer None bound NoneWithin e none = λ others are.
-      let numbers = unseen-graphlike others are in
-      let more : length numbers.0 < length numbers.0 = graphlike-up_to t.table (length numbers.0) bound (omega (arith, e)) none numbers.0 numbers.1 in
-      absurd (omega (arith, more))
+  graphlike-answer (Some w) bound NoneWithin e is =
+      (none-graphlike-within w (subst (HasNoGraphlikeWithin t.table) e is.0), (errors_at_numbers t.errors is.1.0, graphlike-unseen is.1.0 is.1.1))
+  graphlike-answer None bound NoneWithin e is =
+      let errors = is.1.0 in
+      let less : length errors < length errors = graphlike-up_to t.table (length errors) bound (omega (arith, e)) is.0 errors is.1.1 in
+      absurd (omega (arith, less))

@@ -2,10 +2,14 @@ mod Names
 mod AddingLemmas
 mod MarkLemmas
 mod MarkedLemmas
+mod DoubtLemmas
 mod EverywhereLemmas
 mod RowLemmas
 mod FitLemmas
 mod PlaceFitLemmas
+mod WrongRecordLemmas
+mod LandingLemmas
+mod ListedLemmas
 mod FlipLemmas
 mod UnseenLemmas
 mod AnswerLemmas

@@ -1,5 +1,5 @@
 -- Unseen sets: logical errors of a table of errors are sets of errors that are unseen together, and the other way round.
-use Rattle.stab_errors.proofs.Names.{◌≡◌, ℕ, ◌+◌, ◌-◌, ◌<◌, ◌≤◌, ◌⊎◌, inl, inr, refl, sym, ap, ◌∙◌, subst, Bool, true, false, List, [], ◌∷◌, length, arith, Some, All, Contains, ◌&&◌, slice_index_or, flat_map, cases_lt, get_or-map, get_or_default, length-map, All-nil, All-cons, All-head, All-tail, All-map, All-weaker, Contains-get_or, ◌⊕◌, Items, unroll, detectors_of, I, bits_in, IsDeterministic, fault_on, in_front, odd-where, IsLogicalError, IsLeast, HasNoneWithin, HasNone, NoneWithin, Error, letter, faults_in, ErrorTableState, IsErrorTable, flip_together, flipped_by, flip_each, AreUnseen, FlipsTwo, AreUnseenOf, AreLeastUnseen, NoneUnseen, IsDistance, error_at, errors_at_numbers}
+use Rattle.stab_errors.proofs.Names.{◌≡◌, ℕ, ◌+◌, ◌-◌, ◌<◌, ◌≤◌, ◌⊎◌, inl, inr, refl, sym, ap, ◌∙◌, subst, Bool, true, false, List, [], ◌∷◌, length, arith, Option, Some, None, Result, IfOk, unwrap_or, All, Contains, ◌&&◌, slice_index_or, flat_map, cases_lt, get_or-map, get_or_default, length-map, All-nil, All-cons, All-head, All-tail, All-map, All-weaker, Contains-get_or, ◌⊕◌, Items, unroll, detectors_of, I, bits_in, IsDeterministic, fault_on, in_front, odd-where, IsLogicalError, IsLeast, HasNoneWithin, HasNone, HasSome, Answer, Heard, begins, Hears, up_to, IsExcludedBy, TellsSearch, Error, letter, faults_in, ErrorTableState, IsErrorTable, flip_together, flipped_by, flip_each, AreUnseen, FlipsTwo, AreUnseenOf, AreLeastUnseen, NoneUnseen, NoneUnseenWithin, SomeUnseen, IsWithin, IsLeastSet, TellsUnseen, error_at, errors_at_numbers}
 use Rattle.stab_regions.specs.Rows.{odd}
 use Rattle.stab_distance.specs.Tables.{row, flips}
 use Rattle.stab_errors.proofs.FlipLemmas.{odd-without, set, unset}
@@ -155,19 +155,41 @@ module _ (n : ℕ) (items : Items) (t : ErrorTableState) (table : IsErrorTable n
 
   -- answers
 
-  pub least-unseen : (most : ℕ) (ks : List ℕ) → IsLeast t.table most ks → All (λ k. k < length t.errors) ks × AreLeastUnseen false n items t.errors (errors_at_numbers t.errors ks)
-  least-unseen most ks least = (
-    All-weaker Inside (λ k. k < length t.errors) (λ k less. omega (arith, less, as-many)) ks least.logical.inside,
-    record {
+  pub within-asked : (most : Option ℕ) (bound k : ℕ) → bound ≡ unwrap_or most (length rows) → k ≤ bound → IsWithin most k
+  within-asked (Some w) bound k e le = omega (arith, e, le)
+  within-asked None bound k e le = tt
+
+  pub least-unseen : (most : Option ℕ) (bound : ℕ) (ks : List ℕ) → bound ≡ unwrap_or most (length rows) → IsLeast t.table bound ks → IsLeastSet false n items t.errors most ks
+  least-unseen most bound ks e least = record {
+    ascending = least.ascending;
+    within = within-asked most bound (length ks) e least.within;
+    inside = All-weaker Inside (λ k. k < length t.errors) (λ k less. omega (arith, less, as-many)) ks least.logical.inside;
+    least = record {
       unseen = logical-unseen false ks least.logical (λ asked. absurd (cc));
       least = λ others are.
           let numbers = unseen-logical others are in
           omega (arith, least.least numbers.0 numbers.1, numbers.2, length-map ks (error_at t.errors));
-    },
-  )
+    };
+  }
 
-  pub none-unseen-within : (most : ℕ) → HasNoneWithin t.table most → IsDistance false n items t.errors (Some most) NoneWithin
+  pub some-unseen : HasSome t.table → SomeUnseen false n items t.errors
+  some-unseen (ks, logical) = (errors_at_numbers t.errors ks, logical-unseen false ks logical (λ asked. absurd (cc)))
+
+  pub none-unseen-within : (most : ℕ) → HasNoneWithin t.table most → NoneUnseenWithin false n items t.errors most
   none-unseen-within most none others are = let numbers = unseen-logical others are in omega (arith, none numbers.0 numbers.1, numbers.2)
 
   pub none-unseen : HasNone t.table → NoneUnseen false n items t.errors
   none-unseen none others are = let numbers = unseen-logical others are in none numbers.0 numbers.1
+
+  -- what is heard
+
+  pub heard-unseen : {E : Type 0} (graphlike : Bool) (has_none : ℕ → Type 0) → ((k : ℕ) → has_none k → NoneUnseenWithin graphlike n items t.errors k)
+      → (most : Option ℕ) (bound : ℕ) (old new : Option (List Heard)) (r : Result Answer E) → bound ≡ unwrap_or most (length rows)
+      → TellsSearch (length rows) bound has_none old new r → TellsUnseen graphlike n items t.errors most old new r
+  heard-unseen graphlike has_none none most bound old new r e tells =
+      let same : bound ≡ unwrap_or most (length t.errors) = e ∙ ap (λ k. unwrap_or most k) as-many in record {
+        last = tells.last;
+        none = none tells.last tells.none;
+        heard = subst (λ k. Hears old new (begins k ∷ up_to tells.last)) as-many tells.heard;
+        all = subst (λ k. IfOk r (λ a. IsExcludedBy k a tells.last)) same tells.all;
+      }

@@ -1,7 +1,9 @@
 pub mod Errors
+pub mod Doubts
 pub mod Placed
 pub mod Unseen
 pub mod Parts
 pub mod ErrorTables
 pub mod Laws
+pub mod EverywhereLaws
 pub mod inner

@@ -1,13 +1,16 @@
 -- Unseen sets: errors that flip an observable and no detector, and the least number of them, by runs; of all errors, or of graph-like ones alone.
 -- Source: this project's own.
-use Rattle.std.specs.Prelude.{◌≡◌, ℕ, ◌+◌, ◌<◌, ◌≤◌, ◌⊎◌, Bool, true, false, List, length, map, slice_index_or, All, Contains, Option, Some, None}
+use Rattle.std.specs.Prelude.{◌≡◌, ℕ, ◌+◌, ◌<◌, ◌≤◌, ◌⊎◌, Bool, true, false, List, length, map, slice_index_or, All, Contains, Option, Some, None, Result}
+use Rattle.std.specs.Option.{unwrap_or}
 use Rattle.std.specs.List.{flat_map}
 use Rattle.stab_gates.specs.declared.letter.Letter.TheVariants.{I}
 use Rattle.stab_circuit.specs.Items.{Items}
 use Rattle.stab_circuit.specs.Steps.{unroll, observables_of, detectors_of}
 use Rattle.stab_regions.specs.Faults.{IsDeterministic, fault_on, in_front}
+use Rattle.stab_distance.specs.Ascending.{IsAscending}
 use Rattle.stab_distance.specs.declared.answer.Answer.{Answer}
 use Rattle.stab_distance.specs.declared.answer.Answer.TheVariants.{Least, NoneWithin, NoneAtAll}
+use Rattle.stab_distance.specs.Progress.{Heard, TellsSearch}
 use Rattle.stab_errors.specs.Errors.{Error, letter, faults_in}
 use Rattle.stab_errors.specs.ErrorTables.{flip_together}
 
@@ -35,6 +38,14 @@ pub record AreLeastUnseen (graphlike : Bool) (n : ℕ) (items : Items) (all erro
   pub unseen : AreUnseenOf graphlike n items all errors
   pub least : (others : List Error) → AreUnseenOf graphlike n items all others → length errors ≤ length others
 
+-- each unseen list of these errors has more than this many
+abbrev pub NoneUnseenWithin : (graphlike : Bool) → (n : ℕ) → Items → (all : List Error) → ℕ → Type 0
+NoneUnseenWithin graphlike n items all most = (others : List Error) → AreUnseenOf graphlike n items all others → most < length others
+
+-- some list of them is unseen
+abbrev pub SomeUnseen : (graphlike : Bool) → (n : ℕ) → Items → (all : List Error) → Type 0
+SomeUnseen graphlike n items all = (others : List Error) × AreUnseenOf graphlike n items all others
+
 -- no list of these errors is unseen
 abbrev pub NoneUnseen : (graphlike : Bool) → (n : ℕ) → Items → (all : List Error) → Type 0
 NoneUnseen graphlike n items all = (others : List Error) → AreUnseenOf graphlike n items all others → ⊥
@@ -46,10 +57,26 @@ error_at all k = slice_index_or all k (letter (fault_on 0 (in_front 0) I))
 abbrev pub errors_at_numbers : List Error → List ℕ → List Error
 errors_at_numbers all numbers = map (error_at all) numbers
 
--- what an answer says of a circuit's errors: a least unseen set, by its numbers; or that there is none, or none of at most as many as were asked for
+-- at most as many as were asked for, if a number was
+abbrev pub IsWithin : (most : Option ℕ) → ℕ → Type 0
+IsWithin None k = Unit {0}
+IsWithin (Some most) k = k ≤ most
+
+-- a least unseen set by its numbers: each once, in ascending order, and at most as many as were asked for
+pub record IsLeastSet (graphlike : Bool) (n : ℕ) (items : Items) (all : List Error) (most : Option ℕ) (numbers : List ℕ) : Type 0 where
+  pub ascending : IsAscending numbers
+  pub within : IsWithin most (length numbers)
+  pub inside : All (λ k. k < length all) numbers
+  pub least : AreLeastUnseen graphlike n items all (errors_at_numbers all numbers)
+
+-- what an answer says of a circuit's errors: a least unseen set, by its numbers; or that there is none; or that there is one, but none of
+-- at most as many as were asked for
 abbrev pub IsDistance : (graphlike : Bool) → (n : ℕ) → Items → (all : List Error) → (most : Option ℕ) → Answer → Type 0
-IsDistance graphlike n items all most (Least numbers) =
-    All (λ k. k < length all) numbers.items × AreLeastUnseen graphlike n items all (errors_at_numbers all numbers.items)
+IsDistance graphlike n items all most (Least numbers) = IsLeastSet graphlike n items all most numbers.items
 IsDistance graphlike n items all most NoneAtAll = NoneUnseen graphlike n items all
-IsDistance graphlike n items all (Some most) NoneWithin = (others : List Error) → AreUnseenOf graphlike n items all others → most < length others
-IsDistance graphlike n items all None NoneWithin = NoneUnseen graphlike n items all
+IsDistance graphlike n items all (Some most) NoneWithin = NoneUnseenWithin graphlike n items all most × SomeUnseen graphlike n items all
+IsDistance graphlike n items all None NoneWithin = ⊥
+
+-- what is heard of a search among a circuit's errors
+abbrev pub TellsUnseen : {E : Type 0} → (graphlike : Bool) → (n : ℕ) → Items → (all : List Error) → (most : Option ℕ) → Option (List Heard) → Option (List Heard) → Result Answer E → Type 0
+TellsUnseen graphlike n items all most old new result = TellsSearch (length all) (unwrap_or most (length all)) (NoneUnseenWithin graphlike n items all) old new result

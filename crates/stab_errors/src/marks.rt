@@ -20,7 +20,7 @@ pub(crate) struct Marks<'a> {
 }
 
 /// Whether a gate does nothing.
-fn is_idle(gate: Gate) -> bool
+pub(crate) fn is_idle(gate: Gate) -> bool
     ensures value { result ≡ is_idle gate }
 {
     match gate {

@@ -3,7 +3,7 @@ ghost use Rattle.std.specs.Prelude.{◌≡◌, ℕ, true, false, IfOk, IfErr};
 ghost use Rattle.stab_io.specs.declared.refusal.Refusal.TheVariants.{OutOfMemory};
 ghost use Rattle.stab_circuit.specs.Items.{Items};
 ghost use Rattle.stab_errors.specs.ErrorTables.{IsErrorTable};
-ghost use Rattle.stab_errors.specs.Unseen.{IsDistance};
+ghost use Rattle.stab_errors.specs.Unseen.{IsDistance, TellsUnseen};
 
 use crate::error_table::ErrorTable;
 use stab_distance::{Answer, Progress, least_graphlike_error, least_logical_error};
@@ -25,6 +25,7 @@ pub fn distance<P: Progress>(
 ) -> Result<Answer, Refusal>
     ensures distance { IfOk result (λ a. (n : ℕ) (items : Items) → IsErrorTable n items errors.now → IsDistance false n items errors.now.errors most a) }
     ensures err { IfErr result (λ r. r ≡ OutOfMemory) }
+    ensures told { (n : ℕ) (items : Items) → IsErrorTable n items errors.now → TellsUnseen false n items errors.now.errors most (P.heard progress.old) (P.heard progress.new) result }
 {
     let table = errors.table();
     let bound = most.unwrap_or(table.len());
@@ -32,7 +33,7 @@ pub fn distance<P: Progress>(
 }
 
 /// The same of those errors alone that flip at most two deterministic detectors, by shortest paths in the graph whose edges
-/// they are: fast on large circuits. `progress` hears of the number of errors.
+/// they are: fast on large circuits. `progress` hears of the number of errors, and, once the answer is found, of each number that it excludes.
 ///
 /// The only refusal is `OutOfMemory`.
 pub fn graphlike_distance<P: Progress>(
@@ -43,6 +44,7 @@ pub fn graphlike_distance<P: Progress>(
 ) -> Result<Answer, Refusal>
     ensures distance { IfOk result (λ a. (n : ℕ) (items : Items) → IsErrorTable n items errors.now → IsDistance true n items errors.now.errors most a) }
     ensures err { IfErr result (λ r. r ≡ OutOfMemory) }
+    ensures told { (n : ℕ) (items : Items) → IsErrorTable n items errors.now → TellsUnseen true n items errors.now.errors most (P.heard progress.old) (P.heard progress.new) result }
 {
     let table = errors.table();
     let bound = most.unwrap_or(table.len());

@@ -31,18 +31,21 @@ const PART: usize = 32;
 const FEW: usize = 4;
 
 /// Propagates a frame over steps to a run with these coins, and says over how many it
-/// did: not over one whose string is missing, at which it stops.
+/// did: not over one whose string is missing, at which it stops. All of them are counted, also those after it.
 pub fn propagate_instruction<D: Draw, C: Coins>(
     propagation: &mut Propagation,
     known: Known<D>,
     coins: &mut C,
     steps: Steps,
+    framed: &mut u64,
 ) -> Result<usize, AllocError>
     requires same_length { known.strings.now.qubits ≡ length propagation.old.letters }
     requires fits { All (StepFits (length propagation.old.letters)) (steps_shown steps) }
     requires apart { IsApartAlone steps }
     requires placed { IsPlaced known.free.now propagation.old }
     requires few { D.ahead known.draw.now + (propagation.old.coin + length (steps_shown steps)) < 2 ^ 63 }
+    requires few_framed { framed.old + length (steps_shown steps) < 2 ^ 63 }
+    ensures counted { framed.new ≡ framed.old + length (steps_shown steps.entry) }
     ensures length { length propagation.new.letters ≡ length propagation.old.letters }
     ensures same_coins { C.sequence coins.new ≡ C.sequence coins.old }
     ensures asks { AsksFree known.entry.free.now propagation.old.coin (propagation.old.coin + all_coins_of (steps_shown steps.entry)) (C.asks coins.old) (C.asks coins.new) }
@@ -52,33 +55,36 @@ pub fn propagate_instruction<D: Draw, C: Coins>(
 {
     match steps {
         Steps::Gates(gate, qubits) => {
-            propagate_gates(propagation, gate, qubits);
+            propagate_gates(propagation, gate, qubits, framed);
             Ok(qubits.len())
         }
         Steps::Pairs(axis, pairs) => {
-            propagate_pairs(propagation, axis, pairs);
+            propagate_pairs(propagation, axis, pairs, framed);
             Ok(pairs.len())
         }
         Steps::Measurements(measurement, targets) => {
-            propagate_measurements(propagation, known, coins, measurement, targets)
+            propagate_measurements(propagation, known, coins, measurement, targets, framed)
         }
         Steps::Detectors(detectors) => {
-            propagate_detectors(propagation, detectors)?;
+            propagate_detectors(propagation, detectors, framed)?;
             Ok(detectors.len())
         }
         Steps::Single(step) => {
-            let went = propagate_step(propagation, known, coins, step)?;
+            let went = propagate_step(propagation, known, coins, step, framed)?;
             Ok(usize::from(went))
         }
     }
 }
 
-/// Propagates a frame over a gate on each of some qubits.
-fn propagate_gates(propagation: &mut Propagation, gate: Gate, qubits: &[Qubit])
+/// Propagates a frame over a gate on each of some qubits, and counts them.
+fn propagate_gates(propagation: &mut Propagation, gate: Gate, qubits: &[Qubit], framed: &mut u64)
     requires fits { All (StepFits (length propagation.old.letters)) (map (one gate) qubits.now) }
+    requires few { framed.old + length qubits.now < 2 ^ 63 }
+    ensures counted { framed.new ≡ framed.old + length qubits.now }
     ensures length { length propagation.new.letters ≡ length propagation.old.letters }
     ensures goes { GoesFreely (length propagation.old.letters) (map (one gate) qubits.now) propagation.old propagation.new }
 {
+    *framed += qubits.len() as u64;
     for qubit in qubits {
         propagate_gate(propagation, gate, qubit.number());
     }
@@ -161,12 +167,20 @@ fn propagate_few_pairs(propagation: &mut Propagation, axis: Axis, pairs: &[Contr
     propagate_each_pair(propagation, axis, pairs);
 }
 
-/// Propagates a frame over pairs of a controlled gate.
-fn propagate_pairs(propagation: &mut Propagation, axis: Axis, pairs: &[ControlledPair])
+/// Propagates a frame over pairs of a controlled gate, and counts them.
+fn propagate_pairs(
+    propagation: &mut Propagation,
+    axis: Axis,
+    pairs: &[ControlledPair],
+    framed: &mut u64,
+)
     requires fits { All (StepFits (length propagation.old.letters)) (map (controlled_step axis) pairs.now) }
+    requires few { framed.old + length pairs.now < 2 ^ 63 }
+    ensures counted { framed.new ≡ framed.old + length pairs.now }
     ensures length { length propagation.new.letters ≡ length propagation.old.letters }
     ensures goes { GoesFreely (length propagation.old.letters) (map (controlled_step axis) pairs.now) propagation.old propagation.new }
 {
+    *framed += pairs.len() as u64;
     if pairs.len() < FEW {
         propagate_each_pair(propagation, axis, pairs);
         return;
@@ -250,18 +264,21 @@ fn propagate_few_measurements<D: Draw, C: Coins>(
     Ok(targets.len())
 }
 
-/// Propagates a frame over a measurement of each of some targets, and says over how many it did.
+/// Propagates a frame over a measurement of each of some targets, and says over how many it did. All are counted.
 fn propagate_measurements<D: Draw, C: Coins>(
     propagation: &mut Propagation,
     known: Known<D>,
     coins: &mut C,
     measurement: Measurement,
     targets: &[MeasureTarget],
+    framed: &mut u64,
 ) -> Result<usize, AllocError>
     requires same_length { known.strings.now.qubits ≡ length propagation.old.letters }
     requires fits { All (StepFits (length propagation.old.letters)) (map (measured measurement) targets.now) }
     requires placed { IsPlaced known.free.now propagation.old }
     requires few { D.ahead known.draw.now + (propagation.old.coin + length targets.now) < 2 ^ 63 }
+    requires few_framed { framed.old + length targets.now < 2 ^ 63 }
+    ensures counted { framed.new ≡ framed.old + length targets.now }
     ensures length { length propagation.new.letters ≡ length propagation.old.letters }
     ensures same_coins { C.sequence coins.new ≡ C.sequence coins.old }
     ensures asks { AsksFree known.entry.free.now propagation.old.coin (propagation.old.coin + length targets.now) (C.asks coins.old) (C.asks coins.new) }
@@ -269,6 +286,7 @@ fn propagate_measurements<D: Draw, C: Coins>(
     ensures goes { IfOk result (λ count. GoesOver (length propagation.old.letters) known.entry.strings.now.strings known.entry.free.now (D.changes known.entry.draw.now (C.sequence coins.old)) (take count (map (measured measurement) targets.now)) propagation.old propagation.new) }
     ensures missing { IfOk result (λ count. count < length targets.now → IsMissing known.entry.strings.now.strings known.entry.free.now (propagation.old.coin + length targets.now)) }
 {
+    *framed += targets.len() as u64;
     if targets.len() < FEW {
         return propagate_each_measurement(propagation, known, coins, measurement, targets);
     }
@@ -285,14 +303,18 @@ fn propagate_measurements<D: Draw, C: Coins>(
     Ok(done)
 }
 
-/// Propagates a frame over detectors.
+/// Propagates a frame over detectors, and counts them.
 fn propagate_detectors(
     propagation: &mut Propagation,
     detectors: Detectors,
+    framed: &mut u64,
 ) -> Result<(), AllocError>
+    requires few { framed.old + length (lookbacks_of detectors) < 2 ^ 63 }
+    ensures counted { framed.new ≡ framed.old + length (lookbacks_of detectors.entry) }
     ensures length { length propagation.new.letters ≡ length propagation.old.letters }
     ensures goes { OnOk result (GoesFreely (length propagation.old.letters) (map detector (lookbacks_of detectors.entry)) propagation.old propagation.new) }
 {
+    *framed += detectors.len() as u64;
     for place in 0..detectors.len() {
         propagate_detector(propagation, detectors.get(place))?;
     }

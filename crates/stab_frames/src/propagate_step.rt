@@ -37,23 +37,27 @@ pub struct Known<'a, D> {
 }
 
 /// Propagates a frame over a step to a run with these coins, and says whether it did:
-/// not if the string of a free outcome is missing, and then the frame is as before.
+/// not if the string of a free outcome is missing, and then the frame is as before. The step is counted either way.
 pub fn propagate_step<D: Draw, C: Coins>(
     propagation: &mut Propagation,
     known: Known<D>,
     coins: &mut C,
     step: Step,
+    framed: &mut u64,
 ) -> Result<bool, AllocError>
     requires same_length { known.strings.now.qubits ≡ length propagation.old.letters }
     requires fits { StepFits (length propagation.old.letters) (step_shown step) }
     requires apart { IsApart (step_shown step) }
     requires placed { IsPlaced known.free.now propagation.old }
     requires few { D.ahead known.draw.now + propagation.old.coin < 2 ^ 63 }
+    requires few_framed { framed.old < 2 ^ 63 }
+    ensures counted { framed.new ≡ framed.old + 1 }
     ensures length { length propagation.new.letters ≡ length propagation.old.letters }
     ensures same_coins { C.sequence coins.new ≡ C.sequence coins.old }
     ensures asks { AsksFree known.entry.free.now propagation.old.coin (propagation.old.coin + coins_of (step_shown step.entry)) (C.asks coins.old) (C.asks coins.new) }
     ensures goes { IfOk result (Goes (length propagation.old.letters) known.entry.strings.now.strings known.entry.free.now (D.changes known.entry.draw.now (C.sequence coins.old)) (step_shown step.entry) propagation.old propagation.new) }
 {
+    *framed += 1;
     match step {
         Step::One(gate, qubit) => propagate_gate(propagation, gate, qubit),
         Step::Two(gate, first, second) => propagate_pair(propagation, gate, first, second),

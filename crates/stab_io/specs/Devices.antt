@@ -74,7 +74,7 @@ pub record TookSome (old new : OutputView) (bytes : List ℕ) : Type 0 where
   pub split : bytes ≡ front ++ rest
   pub took : Took old new front
 
--- the bytes were cut off after a prefix: the output failed, or memory was refused
+-- the bytes were cut off after a prefix: the output failed, or the answer is 20
 abbrev pub CutOff : OutputView → OutputView → List ℕ → Fault → Type 0
 CutOff old new bytes f = ((f ≡ whole WriteFault) × TookAndFailed old new bytes) ⊎ ((f ≡ whole OutOfMemory) × TookSome old new bytes)
 

@@ -53,7 +53,7 @@ name_of OutOfMemory = codes "OutOfMemory"
 abbrev pub whole : Refusal → Fault
 whole r = record { refusal = r; line = 0 }
 
--- the fault of a call with this verdict: what the verdict names; if it refuses nothing, memory was refused
+-- the fault of a call with this verdict: what the verdict names; if it refuses nothing, 20
 abbrev pub IsCallFault : Option Refusal → Fault → Type 0
 IsCallFault (Some refusal) fault = fault ≡ whole refusal
 IsCallFault None fault = fault ≡ whole OutOfMemory

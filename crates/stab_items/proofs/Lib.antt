@@ -3,7 +3,7 @@ pub mod ItemLemmas
 mod CopyLemmas
 mod PrintLemmas
 pub mod StepLemmas
-pub mod StepApartLemmas
+pub mod GoodItemLemmas
 pub mod SummaryLemmas
 pub mod StepPartLemmas
 pub mod LookLemmas

@@ -1,5 +1,5 @@
--- Items that lines stand for: the two qubits of each pair differ, and so do those of each product.
-use Rattle.stab_items.proofs.Names.{◌≡◌, refl, sym, ℕ, zero, suc, List, [], ◌∷◌, ◌++◌, map, All, Ok, Err, All-nil, All-cons, All-append, All-head, All-tail, Axis, ControlledPair, Kind, Close, content_of, meaning_of, IsLine, Each, IsQubit, IsMeasured, IsPair, IsControlled, IsProduct, IsGoodKind, IsGoodLine, line_good, Items, Meaning, Joins, nothing, blank_line, operation_line, block_lines, line_meanings, Step, controlled_step, steps_of, rounds, unroll, IsApart}
+-- Items that lines stand for keep the rules of lines. So the two qubits of each pair differ in their steps, and so do those of each product.
+use Rattle.stab_items.proofs.Names.{◌≡◌, refl, sym, ℕ, zero, suc, List, [], ◌∷◌, ◌++◌, map, All, Ok, Err, All-nil, All-cons, All-append, All-head, All-tail, Axis, ControlledPair, Kind, Close, content_of, meaning_of, IsLine, Each, IsQubit, IsMeasured, IsPair, IsControlled, IsProduct, IsGoodKind, IsGoodLine, line_good, Items, AreGood, done, next, block, Meaning, Joins, nothing, blank_line, operation_line, block_lines, line_meanings, Step, controlled_step, steps_of, rounds, unroll, IsApart}
 use Rattle.stab_lines.specs.declared.control.ControlledPair.TheVariants as pair
 use Rattle.stab_lines.specs.declared.operation.Kind.TheVariants as kind
 
@@ -39,6 +39,13 @@ apart_rounds : (n : ℕ) (ss : List Step) → All IsApart ss → All IsApart (ro
 apart_rounds zero ss a = All-nil IsApart
 apart_rounds (suc n) ss a = All-append IsApart ss (rounds n ss) a (apart_rounds n ss a)
 
+-- the steps of items that keep the rules
+pub good_apart : (xs : Items) → AreGood xs → All IsApart (unroll xs)
+good_apart done g = All-nil IsApart
+good_apart (next op rest) g = All-append IsApart (steps_of op.kind) (unroll rest) (apart_kind op.kind g.0.0) (good_apart rest g.1)
+good_apart (block count tag body rest) g =
+    All-append IsApart (rounds count (unroll body)) (unroll rest) (apart_rounds count (unroll body) (good_apart body g.1)) (good_apart rest g.2)
+
 -- what is known of a line that is not refused
 abbrev IsGood : Meaning → Type 0
 IsGood (Ok m) = IsGoodLine m
@@ -52,15 +59,13 @@ all_good : (lines : List (List ℕ)) → All IsLine lines → Each IsGood (line_
 all_good [] a = tt
 all_good (l ∷ ls) a = (good_of (meaning_of (content_of l)) l (All-head IsLine l ls a) refl, all_good ls (All-tail IsLine l ls a))
 
-apart_items : {ms : List Meaning} {xs : Items} → Joins ms xs → Each IsGood ms → All IsApart (unroll xs)
-apart_items nothing e = All-nil IsApart
-apart_items (blank_line j) e = apart_items j e.1
-apart_items (operation_line {op} {ms} {xs} j) e = All-append IsApart (steps_of op.kind) (unroll xs) (apart_kind op.kind e.0.0) (apart_items j e.1)
-apart_items (block_lines {count} {tag} {inner} {after} {body} {rest} j k) e =
-    All-append IsApart (rounds count (unroll body)) (unroll rest)
-    (apart_rounds count (unroll body) (apart_items j (each_left IsGood inner (Ok Close ∷ after) e.1)))
-    (apart_items k (each_right IsGood inner (Ok Close ∷ after) e.1).1)
+good_items : {ms : List Meaning} {xs : Items} → Joins ms xs → Each IsGood ms → AreGood xs
+good_items nothing e = tt
+good_items (blank_line j) e = good_items j e.1
+good_items (operation_line j) e = (e.0, good_items j e.1)
+good_items (block_lines {count} {tag} {inner} {after} j k) e =
+    (e.0, good_items j (each_left IsGood inner (Ok Close ∷ after) e.1), good_items k (each_right IsGood inner (Ok Close ∷ after) e.1).1)
 
 -- the steps of items that lines stand for
 pub joined_apart : (lines : List (List ℕ)) (items : Items) → All IsLine lines → Joins (line_meanings lines) items → All IsApart (unroll items)
-joined_apart lines items a j = apart_items j (all_good lines a)
+joined_apart lines items a j = good_apart items (good_items j (all_good lines a))

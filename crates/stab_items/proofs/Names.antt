@@ -29,7 +29,7 @@ pub use Rattle.stab_lines.specs.declared.operation.Operation.{Operation}
 pub use Rattle.stab_lines.specs.declared.product.Factor.{Factor}
 pub use Rattle.stab_lines.specs.declared.range.MeasureTarget.{MeasureTarget}
 pub use Rattle.stab_items.specs.Circuits.{Meaning, line_meanings, Joins, nothing, blank_line, operation_line, block_lines}
-pub use Rattle.stab_items.specs.Items.{OneItem, Items, operation, repeat, done, next, block, before, listed, join, depth, depth_of, depth_of as nested_in}
+pub use Rattle.stab_items.specs.Items.{OneItem, Items, operation, repeat, done, next, block, before, listed, join, depth, depth_of, depth_of as nested_in, AreGood}
 pub use Rattle.stab_items.specs.Nothings.{IsNothing}
 pub use Rattle.stab_items.specs.Prints.{PrintedLine, printed_lines, line_text, text_of, printed_in}
 pub use Rattle.stab_items.specs.Steps.{steps_of, past, named_qubits, named_observables, Step, one, two, collapse, detector, observable, measured, measured_product, controlled_step, rounds, unroll, IsApart, detector_in, detector_of, makes, records_of, is_detector, detectors_of, lookbacks, looks_too_far, target_qubits, factor_qubits, product_qubits, controlled_qubits, past_named, qubits_of, observables_of, is_inverted, LooksWithin}
@@ -37,11 +37,10 @@ unfoldable pub use Rattle.stab_items.specs.Steps.{check_of}
 pub use Rattle.stab_items.specs.declared.summary.Summary.{Summary}
 pub use Rattle.stab_items.specs.inner.Kept.{shown, IsKept}
 pub use Rattle.stab_items.specs.inner.Margins.{margin_depth}
-pub use Rattle.stab_items.specs.inner.Summaries.{IsPairApart, IsSwapApart, IsProductApart, greatest, window, looks_back, furthest, steps_summary, kind_summary_of, summary_of, followed_by, repeated, judged, IsSummary, IsSumOf}
+pub use Rattle.stab_items.specs.inner.Summaries.{greatest, window, looks_back, furthest, steps_summary, kind_summary_of, summary_of, followed_by, repeated, judged, IsSummary, IsSumOf}
 pub use Rattle.stab_gates.specs.Letters.{◌⊕◌}
-pub use Rattle.stab_lines.proofs.FreeLemmas.{Each}
 pub use Rattle.stab_lines.proofs.GoodLineLemmas.{line_good}
-pub use Rattle.stab_lines.proofs.SureLemmas.{IsQubit, IsMeasured, IsPair, IsControlled, IsProduct, IsGoodKind, IsGoodLine}
+pub use Rattle.stab_lines.specs.Rules.{Each, IsTag, IsQubit, IsMeasured, IsCount, IsPair, IsControlled, IsProduct, IsGoodKind, IsGoodLine}
 pub use Rattle.stab_lines.specs.Laws.{IsLine}
 pub use Rattle.stab_items.specs.Detectors.{detects}
 pub use Rattle.stab_items.specs.StepValues.{step_shown, steps_shown, lookbacks_of}

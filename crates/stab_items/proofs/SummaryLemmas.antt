@@ -1,8 +1,9 @@
 -- The summaries of items.
-use Rattle.stab_items.proofs.Names.{◌≡◌, ◌≤◌, ◌<◌, refl, ap, sym, ◌∙◌, subst, ℕ, ◌+◌, suc, max, min, Bool, true, false, List, [], ◌∷◌, ◌++◌, length, map, take, drop, get_or, All, arith, drop-cons, append-nil, nat_lt, Some, None, if◌then◌else◌, length-append, length-map, take_more, All-head, All-tail, All-nil, nat_tests, LookbackTooFar, TooManySteps, Gate, Axis, Factor, ControlledPair, letter_of, MeasureTarget, Measurement, Kind, Operation, Summary, IsLookback, Items, OneItem, done, next, block, join, before, operation, repeat, listed, depth, pair_qubits, Step, IsApart, one, two, collapse, measured, measured_product, controlled_step, steps_of, rounds, unroll, makes, records_of, is_detector, detectors_of, lookbacks, target_qubits, factor_qubits, product_qubits, controlled_qubits, past, past_named, qubits_of, observables_of, named_qubits, named_observables, looks_too_far, check_of, greatest, looks_back, furthest, window, steps_summary, kind_summary_of, summary_of, followed_by, repeated, judged, IsSummary, IsSumOf}
+use Rattle.stab_items.proofs.Names.{◌≡◌, ◌≤◌, ◌<◌, refl, ap, sym, ◌∙◌, subst, ℕ, ◌+◌, suc, max, min, Bool, true, false, List, [], ◌∷◌, ◌++◌, length, map, take, drop, get_or, All, arith, drop-cons, append-nil, nat_lt, Some, None, if◌then◌else◌, length-append, length-map, take_more, All-head, All-tail, nat_tests, LookbackTooFar, TooManySteps, Gate, Axis, Factor, ControlledPair, letter_of, MeasureTarget, Measurement, Kind, Operation, Summary, IsLookback, Items, OneItem, done, next, block, join, before, operation, repeat, listed, depth, pair_qubits, Step, one, two, collapse, measured, measured_product, controlled_step, steps_of, rounds, unroll, makes, records_of, is_detector, detectors_of, lookbacks, target_qubits, factor_qubits, product_qubits, controlled_qubits, past, past_named, qubits_of, observables_of, named_qubits, named_observables, looks_too_far, check_of, greatest, looks_back, furthest, window, steps_summary, kind_summary_of, summary_of, followed_by, repeated, judged, IsSummary, IsSumOf, IsGoodLine}
 use Rattle.stab_gates.specs.declared.gate.PairGate.TheVariants as gate
 use Rattle.stab_lines.specs.declared.control.ControlledPair.TheVariants as pair
 use Rattle.stab_lines.specs.declared.operation.Kind.TheVariants as kind
+use Rattle.stab_lines.specs.declared.operation.Line.TheVariants as line
 use Rattle.stab_items.proofs.ItemLemmas.{listed-append, depth-join}
 use Rattle.stab_items.proofs.StepLemmas.{length-rounds, records_of-append, records_of-rounds, detectors_of-append, detectors_of-rounds, window-append, window-rounds, unroll-join, capped_sum, capped_left, capped_times, looks_too_far_window}
 
@@ -168,12 +169,8 @@ operation_summary o =
     ∙ same_summary _ _ _ _ _ _ _ _ _ _ _ _ _ _ refl refl refl refl (omega arith) (omega arith) refl
 
 -- so an instruction and its numbers are kept together
-pub operation_sum : (o : Operation) (s : Summary) → s ≡ kind_summary_of o.kind → IsSummary s → All IsApart (steps_of o.kind) → IsSumOf (next o done) s
-operation_sum o s e small apart = record {
-  value = e ∙ sym (operation_summary o);
-  small = small;
-  apart = subst (All IsApart) (sym (append-nil (steps_of o.kind))) apart;
-}
+pub operation_sum : (o : Operation) (s : Summary) → s ≡ kind_summary_of o.kind → IsSummary s → IsGoodLine (line.Operation o) → IsSumOf (next o done) s
+operation_sum o s e small good = record { value = e ∙ sym (operation_summary o); small = small; good = (good, tt) }
 
 -- the same of the item that it is
 pub instruction_sum : (x : OneItem) (o : Operation) (s : Summary) → operation o ≡ x → IsSumOf (next o done) s → IsSumOf (before x done) s
@@ -183,7 +180,7 @@ pub tick_sum : (x : OneItem) → operation (record { kind = kind.Tick; tag = [] 
 tick_sum x is =
     let s : Summary = record { steps = 0; records = 0; detectors = 0; window = 0; qubits = 0; observables = 0; depth = 0 } in
     let o : Operation = record { kind = kind.Tick; tag = [] } in
-    instruction_sum x o s is (operation_sum o s refl (record { steps = omega arith; records = omega arith; detectors = omega arith; window = omega arith; qubits = omega arith; depth = omega arith }) (All-nil IsApart))
+    instruction_sum x o s is (operation_sum o s refl (record { steps = omega arith; records = omega arith; detectors = omega arith; window = omega arith; qubits = omega arith; depth = omega arith }) (tt, refl))
 
 pub block_summary : (count : ℕ) (tag : List ℕ) (xs : Items) → 0 < count → summary_of (block count tag xs done) ≡ repeated count (summary_of xs)
 block_summary count tag xs h =

@@ -3,6 +3,9 @@
 use Rattle.std.specs.Prelude.{ℕ, ◌+◌, max, List, [], ◌∷◌}
 use Rattle.stab_lines.specs.declared.operation.Operation.{Operation}
 use Rattle.stab_lines.specs.declared.operation.Kind.{Kind}
+use Rattle.stab_lines.specs.declared.operation.Line.TheVariants.{Open}
+use Rattle.stab_lines.specs.declared.operation.Line.TheVariants as line
+use Rattle.stab_lines.specs.Rules.{IsGoodLine}
 
 -- a list of items
 pub data Items : Type 0 where
@@ -51,3 +54,9 @@ depth (block count tag body rest) = max (depth body + 1) (depth rest)
 abbrev pub depth_of : OneItem → ℕ
 depth_of (operation op) = 0
 depth_of (repeat count tag body) = depth body + 1
+
+-- each instruction, and each opening of a block, keeps the rules of lines
+abbrev pub AreGood : Items → Type 0
+AreGood done = Unit {0}
+AreGood (next op rest) = IsGoodLine (line.Operation op) × AreGood rest
+AreGood (block count tag body rest) = IsGoodLine (Open count tag) × AreGood body × AreGood rest

@@ -3,7 +3,7 @@ use stab_lines::{Kind, Operation, Sequence};
 use std::marker::Model;
 
 /// An instruction and its summary, so that items are added up without a look at targets. Contracts see
-/// the instruction.
+/// the instruction, which keeps the rules of lines.
 pub struct Instruction {
     kind: Kind,
     tag: Option<Sequence<u8>>,
@@ -37,6 +37,8 @@ impl Model for Instruction {
 
 impl Instruction {
     ghost use Rattle.std.specs.Prelude.{◌≡◌};
+    ghost use Rattle.stab_lines.specs.Rules.{IsGoodKind, IsGoodLine};
+    ghost use Rattle.stab_lines.specs.declared.operation.Line.TheVariants as line;
     ghost use Rattle.stab_items.specs.Items.{next, done};
     ghost use Rattle.stab_items.specs.inner.Summaries.{IsSumOf};
     ghost use Rattle.stab_items.specs.Items.{without_tag};
@@ -44,6 +46,7 @@ impl Instruction {
     /// The instruction of a line.
     #[tactic(auto, using(crate::proofs::SummaryLemmas::operation_sum))]
     pub fn new(operation: Operation) -> Instruction
+        requires good { IsGoodLine (line.Operation operation) }
         ensures value { result ≡ operation }
     {
         let Operation { kind, tag } = operation;
@@ -58,6 +61,7 @@ impl Instruction {
     /// An instruction without a tag.
     #[tactic(auto, using(crate::proofs::SummaryLemmas::operation_sum))]
     pub fn plain(kind: Kind) -> Instruction
+        requires good { IsGoodKind kind }
         ensures value { result ≡ without_tag kind }
     {
         let sum = kind_summary(&kind);

@@ -98,10 +98,11 @@ pub enum Part<'a> {
 }
 
 impl Item {
-    ghost use Rattle.std.specs.Prelude.{◌≡◌, ◌≤◌, [], Some, None, All, IfOk, IfSome, IfNone};
-    ghost use Rattle.stab_items.specs.Steps.{unroll, IsApart, detector_of};
+    ghost use Rattle.std.specs.Prelude.{◌≡◌, ◌≤◌, [], Some, None, IfOk, IfSome, IfNone};
+    ghost use Rattle.stab_lines.specs.Rules.{IsTag};
+    ghost use Rattle.stab_items.specs.Steps.{detector_of};
     ghost use Rattle.stab_items.specs.Nothings.{IsNothing};
-    ghost use Rattle.stab_items.specs.Items.{operation as single, repeat as repeated, listed, before, done, depth};
+    ghost use Rattle.stab_items.specs.Items.{operation as single, repeat as repeated, listed, before, done, depth, AreGood};
     ghost use Rattle.stab_items.specs.inner.Summaries.{summary_of, IsSummary, IsSumOf};
     ghost use Rattle.stab_items.specs.inner.Parts.{part_of, IsPart};
     ghost use Rattle.stab_items.specs.inner.Blocks.{with_rounds, with_body, IsInstruction};
@@ -142,6 +143,7 @@ impl Item {
         body: Vec<Item>,
         kept: Summary,
     ) -> Result<Item, AllocError>
+        requires tag { IsTag tag }
         requires shallow { depth (listed body.items) ≤ 15 }
         requires sum { IsSumOf (listed body.items) kept }
         ensures ok { IfOk result (λ i. i ≡ repeated count tag (listed body.items)) }
@@ -199,7 +201,6 @@ impl Item {
 
     /// Takes the items out of a block, which is then empty, or gives `None` for an instruction, which
     /// stays as it is. It takes no memory.
-    #[tactic(auto, using(crate::proofs::StepApartLemmas::nothing_apart))]
     pub fn take_body(&mut self) -> Option<Vec<Item>>
         ensures some { IfSome result (λ v. self.old ≡ with_body v.items self.old) }
         ensures shallow { IfSome result (λ v. depth (listed v.items) ≤ 15) }
@@ -237,7 +238,7 @@ impl Item {
     pub fn summary(&self) -> Summary
         ensures value { result ≡ summary_of (before self.now done) }
         ensures small { IsSummary result }
-        ensures apart { All IsApart (unroll (before self.now done)) }
+        ensures good { AreGood (before self.now done) }
     {
         match &self.node {
             Node::Tick => Summary::NONE,
@@ -247,17 +248,16 @@ impl Item {
     }
 }
 
-ghost use Rattle.std.specs.Prelude.{◌≡◌, All};
-ghost use Rattle.stab_items.specs.Items.{listed};
-ghost use Rattle.stab_items.specs.Steps.{unroll, IsApart};
+ghost use Rattle.std.specs.Prelude.{◌≡◌};
+ghost use Rattle.stab_items.specs.Items.{listed, AreGood};
 ghost use Rattle.stab_items.specs.inner.Summaries.{summary_of, IsSummary};
 
 /// The summary of the items, by what each keeps.
-#[tactic(auto, using(crate::proofs::SummaryLemmas::summary_taken, crate::proofs::StepApartLemmas::items_apart, crate::proofs::StepApartLemmas::nothing_apart))]
+#[tactic(auto, using(crate::proofs::SummaryLemmas::summary_taken, crate::proofs::GoodItemLemmas::items_good))]
 pub fn items_summary(items: &[Item]) -> Summary
     ensures value { result ≡ summary_of (listed items.now) }
     ensures small { IsSummary result }
-    ensures apart { All IsApart (unroll (listed items.now)) }
+    ensures good { AreGood (listed items.now) }
 {
     let mut all = Summary::NONE;
     for item in items {

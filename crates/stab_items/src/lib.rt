@@ -20,8 +20,9 @@
 //! `doc/file_format_stim_circuit.md`. `docs/use/circuit-text.md` says where this differs.
 //!
 //! Proved: qubits, observables, steps, records and detectors of items, and the lookbacks before them, are those of their
-//! unrolled steps, counted up to a limit, whatever a block keeps; what is printed of items is their one text; a copy is the
-//! same item; the steps of an instruction are given as they are unrolled, and look back no further than is reported.
+//! unrolled steps, counted up to a limit, whatever a block keeps; each item keeps the rules of lines, whoever made it; what is
+//! printed of items is their one text; a copy is the same item; the steps of an instruction are given as they are unrolled,
+//! and look back no further than is reported.
 #![tactic(auto)]
 
 mod copy;

@@ -3,8 +3,8 @@ ghost use Rattle.stab_gates.specs.Limits.{most_qubits};
 ghost use Rattle.stab_lines.specs.Limits.{most_lookback};
 ghost use Rattle.stab_lines.specs.Lookbacks.{IsLookback};
 ghost use Rattle.stab_lines.specs.Targets.{pair_qubits};
-ghost use Rattle.stab_items.specs.Steps.{steps_of, past as past_of, target_qubits, factor_qubits, product_qubits, controlled_qubits, steps_cap, IsApart};
-ghost use Rattle.stab_items.specs.inner.Summaries.{greatest as greatest_of, looks_back, furthest as furthest_of, kind_summary_of, IsPairApart, IsSwapApart, IsProductApart, IsSummary};
+ghost use Rattle.stab_items.specs.Steps.{past as past_of, target_qubits, factor_qubits, product_qubits, controlled_qubits, steps_cap};
+ghost use Rattle.stab_items.specs.inner.Summaries.{greatest as greatest_of, looks_back, furthest as furthest_of, kind_summary_of, IsSummary};
 
 use stab_io::Refusal;
 use stab_lines::{ControlledPair, Factor, Kind, MeasureTarget, Pair, Product, Qubit};
@@ -136,11 +136,10 @@ fn past(qubits: &[Qubit]) -> u32
     past
 }
 
-#[tactic(auto, using(crate::proofs::SummaryLemmas::past_pairs_dropped, crate::proofs::StepApartLemmas::All_taken, crate::proofs::StepApartLemmas::All_whole))]
+#[tactic(auto, using(crate::proofs::SummaryLemmas::past_pairs_dropped))]
 fn past_pairs(pairs: &[Pair]) -> u32
     ensures value { result ≡ past_of (pair_qubits pairs.now) }
     ensures small { result ≤ most_qubits }
-    ensures apart { All IsSwapApart pairs.now }
 {
     let mut past = 0;
     for pair in pairs {
@@ -174,11 +173,10 @@ fn past_factors(factors: &[Factor]) -> u32
     past
 }
 
-#[tactic(auto, using(crate::proofs::SummaryLemmas::past_products_dropped, crate::proofs::StepApartLemmas::All_taken, crate::proofs::StepApartLemmas::All_whole))]
+#[tactic(auto, using(crate::proofs::SummaryLemmas::past_products_dropped))]
 fn past_products(products: &[Product]) -> u32
     ensures value { result ≡ past_of (product_qubits products.now) }
     ensures small { result ≤ most_qubits }
-    ensures apart { All IsProductApart products.now }
 {
     let mut past = 0;
     for product in products {
@@ -191,7 +189,6 @@ fn past_products(products: &[Product]) -> u32
 fn past_pair(pair: &ControlledPair) -> u32
     ensures value { result ≡ past_of (controlled_qubits (pair.now ∷ [])) }
     ensures small { result ≤ most_qubits }
-    ensures apart { IsPairApart pair.now }
 {
     match pair {
         ControlledPair::Qubits(pair) => {
@@ -214,13 +211,12 @@ fn window_of_pair(pair: &ControlledPair) -> u32
 }
 
 /// How many qubits the pairs of a controlled gate name, up to the greatest, and how far back they look.
-#[tactic(auto, using(crate::proofs::SummaryLemmas::past_controlled_dropped, crate::proofs::SummaryLemmas::furthest_dropped, crate::proofs::StepApartLemmas::All_taken, crate::proofs::StepApartLemmas::All_whole))]
+#[tactic(auto, using(crate::proofs::SummaryLemmas::past_controlled_dropped, crate::proofs::SummaryLemmas::furthest_dropped))]
 fn past_and_window(pairs: &[ControlledPair]) -> (u32, u32)
     ensures past { result.0 ≡ past_of (controlled_qubits pairs.now) }
     ensures few { result.0 ≤ most_qubits }
     ensures window { result.1 ≡ furthest_of pairs.now }
     ensures near { result.1 ≤ most_lookback }
-    ensures apart { All IsPairApart pairs.now }
 {
     let mut past = 0;
     let mut furthest = 0;
@@ -264,7 +260,6 @@ fn look(records: &[u32], detectors: u32, observables: u32) -> Summary
 /// The summary of the pairs of a controlled gate.
 fn controlled(pairs: &[ControlledPair]) -> Summary
     ensures value { result ≡ record { steps = min (length pairs.now) steps_cap; records = 0; detectors = 0; window = furthest_of pairs.now; qubits = past_of (controlled_qubits pairs.now); observables = 0; depth = 0 } }
-    ensures apart { All IsPairApart pairs.now }
     ensures small { IsSummary result }
 {
     let (past, window) = past_and_window(pairs);
@@ -287,10 +282,9 @@ fn measurement(steps: usize, qubits: u32) -> Summary
 }
 
 /// The summary of an instruction.
-#[tactic(auto, using(crate::proofs::SummaryLemmas::gate_summary, crate::proofs::SummaryLemmas::swap_summary, crate::proofs::SummaryLemmas::product_summary, crate::proofs::SummaryLemmas::measure_summary, crate::proofs::SummaryLemmas::reset_summary, crate::proofs::SummaryLemmas::detector_summary, crate::proofs::SummaryLemmas::observable_summary, crate::proofs::StepApartLemmas::gate_apart, crate::proofs::StepApartLemmas::measure_apart, crate::proofs::StepApartLemmas::reset_apart, crate::proofs::StepApartLemmas::swap_apart, crate::proofs::StepApartLemmas::product_apart, crate::proofs::StepApartLemmas::controlled_apart, crate::proofs::StepApartLemmas::detector_apart, crate::proofs::StepApartLemmas::observable_apart, crate::proofs::StepApartLemmas::nothing_apart))]
+#[tactic(auto, using(crate::proofs::SummaryLemmas::gate_summary, crate::proofs::SummaryLemmas::swap_summary, crate::proofs::SummaryLemmas::product_summary, crate::proofs::SummaryLemmas::measure_summary, crate::proofs::SummaryLemmas::reset_summary, crate::proofs::SummaryLemmas::detector_summary, crate::proofs::SummaryLemmas::observable_summary))]
 pub fn kind_summary(kind: &Kind) -> Summary
     ensures value { result ≡ kind_summary_of kind.now }
-    ensures apart { All IsApart (steps_of kind.now) }
     ensures small { IsSummary result }
 {
     match kind {

@@ -7,7 +7,7 @@ use Rattle.stab_lines.specs.declared.name.Name.TheVariants as name
 use Rattle.stab_lines.specs.declared.operation.Kind.TheVariants as kind
 use Rattle.stab_lines.specs.declared.operation.Line.TheVariants as line
 use Rattle.stab_lines.proofs.BoolLemmas.{chosen, passed}
-use Rattle.stab_lines.proofs.FreeLemmas.{Each, Free, free-append, digits_free, split_free}
+use Rattle.stab_lines.proofs.FreeLemmas.{Each, Free, free-append, digits_free, split_free, tag_free}
 use Rattle.stab_lines.proofs.SureLemmas.{IsCount, IsCoordinate, IsGoodKind, IsTag}
 use Rattle.stab_line_reader.proofs.AgainLemmas.{decimal_digits, decimal_number, decimal_some, decimal_word, arguments_again, qubits_again, targets_again, lookbacks_again, pairs_again, pairs_spaced, pair_qubits_good, coordinate_again, count_again, observable_again, each_again, same_map}
 use Rattle.stab_line_reader.proofs.FactorLemmas.{products_again}
@@ -164,7 +164,7 @@ operation_again op g t =
     let s = shape_for op.tag k in
     let targets = kind_targets k g in
     headed_means (kind_name k) op.tag _ (kind_is k)
-    ∙ ap (λ r. r >>= shape_meaning) (shape_again (kind_name k) op.tag (kind_arguments k) (targets_text k) (kind_is k) t.2 (kind_coordinates k g) targets.apart (targets.free is_brace no_braces))
+    ∙ ap (λ r. r >>= shape_meaning) (shape_again (kind_name k) op.tag (kind_arguments k) (targets_text k) (kind_is k) (tag_free op.tag t).2 (kind_coordinates k g) targets.apart (targets.free is_brace no_braces))
     ∙ ap (λ r. r >>= named_line s) (kind_name_again k)
     ∙ ap (λ r. r >>= λ kind. without_open s (Ok (line.Operation (record { kind = kind; tag = op.tag })))) (kind_again op.tag k g)
 
@@ -186,7 +186,7 @@ open_again n tag c t =
     let free : Free is_brace front = (refl, free-append is_brace (decimal n) (codes " ") (digits_free is_brace (decimal n) no_braces.digits (decimal_digits n wide)) (refl, tt)) in
     headed_means (codes "REPEAT") tag _ repeat_is
     ∙ ap (λ l. shape_of (head_text (codes "REPEAT") tag ++ l) >>= shape_meaning) flat
-    ∙ ap (λ r. r >>= shape_meaning) (open_shape_again (codes "REPEAT") tag front repeat_is t.2 refl free)
+    ∙ ap (λ r. r >>= shape_meaning) (open_shape_again (codes "REPEAT") tag front repeat_is (tag_free tag t).2 refl free)
     ∙ ap (λ r. r >>= named_line s) repeat_again
     ∙ ap (λ ws. each count_of ws >>= λ counts. opened s (only_count counts)) (count_word n wide)
     ∙ ap (λ r. (r >>= λ first. Ok (first ∷ [])) >>= λ counts. opened s (only_count counts)) (count_again n c)

@@ -1,6 +1,6 @@
 -- Printed contents hold no line end and no comment, and begin and end without spacing.
 use Rattle.stab_line_reader.proofs.Names.{◌≡◌, refl, ap, ◌∙◌, ℕ, ◌<◌, ◌≤◌, ◌==◌, List, [], ◌∷◌, ◌++◌, Bool, true, false, arith, codes, inl, inr, decimal, nat_tests, Operation, is_byte, is_digit, is_spacing, is_letter, is_name_byte, is_some_word, is_coordinate_byte, kind_name, tag_text, arguments_text, kind_arguments, targets_text, head_text, operation_text, open_text}
-use Rattle.stab_lines.proofs.FreeLemmas.{Each, Free, free-append, each_weaker, digits_free}
+use Rattle.stab_lines.proofs.FreeLemmas.{Each, Free, free-append, each_weaker, digits_free, tag_free}
 use Rattle.stab_lines.proofs.SureLemmas.{IsCount, IsCoordinate, IsGoodKind, IsTag}
 use Rattle.stab_line_reader.proofs.NeatLemmas.{Ends, IsSolid, IsNeat, ends-append, ends_one, solid_word}
 use Rattle.stab_line_reader.proofs.AgainLemmas.{decimal_digits, coordinate_free, further}
@@ -51,9 +51,9 @@ line_ends_outer = outer 10 (omega arith) (refl, (refl, (refl, (refl, (refl, (ref
 pub comments_outer : IsOuter (is_byte 35)
 comments_outer = outer 35 (omega arith) (refl, (refl, (refl, (refl, (refl, (refl, (refl, (refl, (refl, (refl, (refl, tt))))))))))) refl
 
-tag_free : (p : ℕ → Bool) → IsOuter p → (tag : List ℕ) → Free p tag → Free p (tag_text tag)
-tag_free p o [] f = tt
-tag_free p o (b ∷ bs) f = (o.open_tag, free-append p (b ∷ bs) (codes "]") f (o.close_tag, tt))
+tag_text_free : (p : ℕ → Bool) → IsOuter p → (tag : List ℕ) → Free p tag → Free p (tag_text tag)
+tag_text_free p o [] f = tt
+tag_text_free p o (b ∷ bs) f = (o.open_tag, free-append p (b ∷ bs) (codes "]") f (o.close_tag, tt))
 
 arguments_free : (p : ℕ → Bool) → IsOuter p → (arguments : List (List ℕ)) → Each IsCoordinate arguments → Free p (arguments_text arguments)
 arguments_free p o [] c = tt
@@ -64,7 +64,7 @@ arguments_free p o (a ∷ more) c = (
 )
 
 pub head_free : (p : ℕ → Bool) → IsOuter p → (name tag : List ℕ) → IsName name → Free p tag → Free p (head_text name tag)
-head_free p o name tag n f = free-append p name (tag_text tag) (each_weaker (λ b. is_name_byte b ≡ true) (λ b. p b ≡ false) name o.names n.bytes) (tag_free p o tag f)
+head_free p o name tag n f = free-append p name (tag_text tag) (each_weaker (λ b. is_name_byte b ≡ true) (λ b. p b ≡ false) name o.names n.bytes) (tag_text_free p o tag f)
 
 operation_free : (p : ℕ → Bool) → IsOuter p → (op : Operation) → IsGoodKind op.kind → Free p op.tag → Free p (operation_text op)
 operation_free p o op g f =
@@ -121,10 +121,14 @@ open_solid count tag =
 
 -- what is printed of an operation, and of a block's opening and end
 pub operation_neat : (op : Operation) → IsGoodKind op.kind → IsTag op.tag → IsNeat (operation_text op)
-operation_neat op g t = record { lines = operation_free (is_byte 10) line_ends_outer op g t.0; comments = operation_free (is_byte 35) comments_outer op g t.1; solid = operation_solid op g }
+operation_neat op g t =
+    let free = tag_free op.tag t in
+    record { lines = operation_free (is_byte 10) line_ends_outer op g free.0; comments = operation_free (is_byte 35) comments_outer op g free.1; solid = operation_solid op g }
 
 pub open_neat : (count : ℕ) (tag : List ℕ) → IsCount count → IsTag tag → IsNeat (open_text count tag)
-open_neat count tag c t = record { lines = open_free (is_byte 10) line_ends_outer count tag c t.0; comments = open_free (is_byte 35) comments_outer count tag c t.1; solid = open_solid count tag }
+open_neat count tag c t =
+    let free = tag_free tag t in
+    record { lines = open_free (is_byte 10) line_ends_outer count tag c free.0; comments = open_free (is_byte 35) comments_outer count tag c free.1; solid = open_solid count tag }
 
 pub close_neat : IsNeat (codes "}")
 close_neat = record { lines = (refl, tt); comments = (refl, tt); solid = record { first = 125; rest = []; front = refl; solid = refl; ends = ends_one [] 125 refl } }

@@ -1,11 +1,8 @@
 -- Bytes that are free of others, and where such bytes end.
 use Rattle.stab_lines.proofs.Names.{◌≡◌, ◌<◌, refl, ap, sym, ◌∙◌, subst, ℕ, ◌+◌, ◌==◌, nat_lt, zero, suc, List, [], ◌∷◌, ◌++◌, Bool, true, false, not, ◌||◌, length, take, drop, take_all, reverse, arith, if◌then◌else◌, replicate, slice_split, onto_first, prefix_len, position_or_len, before_first, after_first, list_any, list_all, length-append, reverse-append, slice_split-cons_yes, slice_split-cons_no, is_byte, is_digit, has_byte, starts_with_byte, ends_with_byte, or_parts}
 use Rattle.stab_lines.proofs.BoolLemmas.{and_left, and_right}
-
--- each element has P
-abbrev pub Each : {A : Type 0} → (A → Type 0) → List A → Type 0
-Each P [] = Unit {0}
-Each P (x ∷ xs) = P x × Each P xs
+pub use Rattle.stab_lines.specs.Rules.{Each}
+use Rattle.stab_lines.specs.Rules.{ends_tag, IsTag}
 
 -- each byte fails the test
 abbrev pub Free : (ℕ → Bool) → List ℕ → Type 0
@@ -148,3 +145,34 @@ digits_free p (d ∷ ds) f h = (f d (and_left (is_digit d) (list_all is_digit ds
 pub free_spaces : (b n : ℕ) → (32 == b) ≡ false → Free (is_byte b) (replicate n 32)
 free_spaces b zero e = tt
 free_spaces b (suc n) e = (e, free_spaces b n e)
+
+-- a tag is free of each byte that ends one
+three_parts : (x y z : Bool) → (x || y || z) ≡ false → (x ≡ false) × (y ≡ false) × (z ≡ false)
+three_parts false false false e = (refl, refl, refl)
+three_parts true y z e = cc
+three_parts false true z e = cc
+three_parts false false true e = cc
+
+three_from : (x y z : Bool) → x ≡ false → y ≡ false → z ≡ false → (x || y || z) ≡ false
+three_from false false false e f g = refl
+three_from true y z e f g = e
+three_from false true z e f g = f
+three_from false false true e f g = g
+
+ends_parts : (b : ℕ) → ends_tag b ≡ false → (is_byte 10 b ≡ false) × (is_byte 35 b ≡ false) × (is_byte 93 b ≡ false)
+ends_parts b e = three_parts (b == 10) (b == 35) (b == 93) e
+
+pub tag_free : (tag : List ℕ) → IsTag tag → Free (is_byte 10) tag × Free (is_byte 35) tag × Free (is_byte 93) tag
+tag_free tag t =
+    let f : Free ends_tag tag = free_any ends_tag tag t in (
+      each_weaker (λ b. ends_tag b ≡ false) (λ b. is_byte 10 b ≡ false) tag (λ b e. (ends_parts b e).0) f,
+      each_weaker (λ b. ends_tag b ≡ false) (λ b. is_byte 35 b ≡ false) tag (λ b e. (ends_parts b e).1) f,
+      each_weaker (λ b. ends_tag b ≡ false) (λ b. is_byte 93 b ≡ false) tag (λ b e. (ends_parts b e).2) f,
+    )
+
+pub free_tag : (tag : List ℕ) → Free (is_byte 10) tag → Free (is_byte 35) tag → Free (is_byte 93) tag → IsTag tag
+free_tag tag f g h = any_free ends_tag tag (none tag f g h)
+  where
+    none : (tag : List ℕ) → Free (is_byte 10) tag → Free (is_byte 35) tag → Free (is_byte 93) tag → Free ends_tag tag
+    none [] f g h = tt
+    none (b ∷ bs) f g h = (three_from (b == 10) (b == 35) (b == 93) f.0 g.0 h.0, none bs f.1 g.1 h.1)

@@ -1,5 +1,5 @@
 -- What is known of all that a line is read as.
-use Rattle.stab_lines.proofs.Names.{◌≡◌, ◌≢◌, ◌<◌, ◌≤◌, ◌^◌, refl, sym, subst, ℕ, List, [], ◌∷◌, Bool, true, false, not, nat_lt, ◌==◌, ◌&&◌, ◌||◌, length, drop, take, Option, None, Some, Result, Ok, Err, if◌then◌else◌, arith, list_all, list_any, prefix_len, slice_split, take_while, nat_tests, Refusal, BadArguments, BadTarget, BadLine, most_qubits, most_observables, MeasureTarget, Axis, Factor, Control, ControlTarget, ControlledPair, Instruction, Name, Kind, Line, Blank, Close, Open, ◌>>=◌, each, Shape, is_byte, bracketed, behind_tag, shaped, shape_of, starts_with_byte, ends_with_byte, has_byte, is_name_byte, is_letter, is_brace, is_apart, without_brace, words, is_blank, arguments_of, is_some_word, is_number, value, IsLookback, name_of, first_axis, unmarked, is_factor, factor_on, factor_of, names_twice, on_different, product_of, control_of, by_turns, pair_of, paired, controlled_of, qubit_of, measure_target_of, lookback_of, is_lookback, count_of, pairs_of, is_coordinate_byte, coordinate_of, number_of, observable_of, targets_alone, coordinates_of, kind_of, observable_include_of, only_count, opened, block_of, named_line, shape_meaning, is_close, meaning_of}
+use Rattle.stab_lines.proofs.Names.{◌≡◌, ◌≢◌, ◌<◌, ◌≤◌, refl, sym, subst, ℕ, List, [], ◌∷◌, Bool, true, false, not, nat_lt, ◌==◌, ◌&&◌, ◌||◌, length, drop, take, Option, None, Some, Result, Ok, Err, if◌then◌else◌, arith, list_all, list_any, prefix_len, slice_split, take_while, nat_tests, Refusal, BadArguments, BadTarget, BadLine, most_qubits, most_observables, Axis, Factor, Control, ControlTarget, Instruction, Name, Blank, Close, Open, ◌>>=◌, each, Shape, is_byte, bracketed, behind_tag, shaped, shape_of, starts_with_byte, ends_with_byte, has_byte, is_name_byte, is_letter, is_brace, is_apart, without_brace, words, is_blank, arguments_of, is_some_word, is_number, value, IsLookback, name_of, first_axis, unmarked, is_factor, factor_on, factor_of, names_twice, on_different, product_of, control_of, by_turns, pair_of, paired, controlled_of, qubit_of, measure_target_of, lookback_of, is_lookback, count_of, pairs_of, is_coordinate_byte, coordinate_of, number_of, observable_of, targets_alone, coordinates_of, kind_of, observable_include_of, only_count, opened, block_of, named_line, shape_meaning, is_close, meaning_of}
 use Rattle.stab_lines.specs.declared.control.Control.TheVariants as control
 use Rattle.stab_lines.specs.declared.control.ControlledPair.TheVariants as pair
 use Rattle.stab_lines.specs.declared.name.Instruction.TheVariants as instruction
@@ -9,7 +9,8 @@ use Rattle.stab_lines.specs.declared.operation.Line.TheVariants as line
 use Rattle.stab_lines.proofs.BoolLemmas.{and_left, and_right}
 use Rattle.stab_lines.proofs.WordLemmas.{eighteen_digits}
 use Rattle.stab_lines.proofs.TargetLemmas.{lookback_in_range, split_some}
-use Rattle.stab_lines.proofs.FreeLemmas.{Each, Free, free_take, free_drop, free_before}
+pub use Rattle.stab_lines.specs.Rules.{IsQubit, IsMeasured, IsCount, IsPair, IsFactor, IsFilled, IsProduct, IsControlled, IsCoordinate, IsObservable, IsGoodKind, IsTag, IsGoodLine}
+use Rattle.stab_lines.proofs.FreeLemmas.{Each, Free, free_take, free_drop, free_before, free_tag}
 
 -- if there is a result, it has P
 abbrev OnOk' : {A : Type 0} → (A → Type 0) → Result A Refusal → Type 0
@@ -51,18 +52,11 @@ sure_each P f s (a ∷ more) =
 lt_of : (a b : ℕ) → nat_lt a b ≡ true → a < b
 lt_of a b h = grind (arith, nat_tests)
 
--- ranges
-abbrev pub IsQubit : ℕ → Type 0
-IsQubit q = q < most_qubits
-
 qubit_sure : (word : List ℕ) → IsSure IsQubit (qubit_of word)
 unfolding qubit_of
 qubit_sure word =
     sure_if IsQubit (not (is_number word)) _ _ (λ e. sure_err IsQubit _)
     (λ e. sure_if IsQubit (nat_lt (value word) most_qubits) _ _ (λ h. sure_ok IsQubit (value word) (lt_of (value word) most_qubits h)) (λ h. sure_err IsQubit _))
-
-abbrev pub IsMeasured : MeasureTarget → Type 0
-IsMeasured t = t.qubit < most_qubits
 
 measure_sure : (word : List ℕ) → IsSure IsMeasured (measure_target_of word)
 unfolding measure_target_of
@@ -77,9 +71,6 @@ lookback_sure word = sure_case (lookback_of word) (lookback_in_range word)
     sure_case : (r : Result ℕ Refusal) → ((k : ℕ) → r ≡ Ok k → IsLookback k) → IsSure IsLookback r
     sure_case (Ok k) h = sure_ok IsLookback k (h k refl)
     sure_case (Err r) h = sure_err IsLookback r
-
-abbrev pub IsCount : ℕ → Type 0
-IsCount n = (0 < n) × (n < 10 ^ 18)
 
 abbrev IsSomeCount : Option ℕ → Type 0
 IsSomeCount None = Unit {0}
@@ -100,9 +91,6 @@ count_sure word =
     count_range true true d n l z e h = cc
     count_range true false true n l z e h = cc
 
-abbrev pub IsPair : ℕ × ℕ → Type 0
-IsPair p = (p.0 < most_qubits) × (p.1 < most_qubits) × (p.0 ≢ p.1)
-
 differ : (a b : ℕ) → (a == b) ≡ false → a ≢ b
 differ a b e = grind (arith, nat_tests)
 
@@ -113,10 +101,6 @@ pairs_sure (a ∷ b ∷ rest) f =
     sure_if (Each IsPair) (a == b) _ _ (λ e. sure_err (Each IsPair) _)
     (λ e. sure_bind (Each IsPair) (Each IsPair) (pairs_of rest) _ (pairs_sure rest f.1.1) (λ more p. sure_ok (Each IsPair) ((a, b) ∷ more) ((f.0, f.1.0, differ a b e), p)))
 
--- factors on qubits in range
-abbrev pub IsFactor : Factor → Type 0
-IsFactor f = f.qubit < most_qubits
-
 factor_on_sure : (inverted : Bool) (digits : List ℕ) (axis : Option Axis) → IsSure IsFactor (factor_on inverted digits axis)
 factor_on_sure inverted digits None = sure_err IsFactor _
 factor_on_sure inverted digits (Some axis) = sure_bind IsQubit IsFactor (qubit_of digits) _ (qubit_sure digits) (λ q p. sure_ok IsFactor _ p)
@@ -124,15 +108,6 @@ factor_on_sure inverted digits (Some axis) = sure_bind IsQubit IsFactor (qubit_o
 factor_sure : (word : List ℕ) → IsSure IsFactor (factor_of word)
 unfolding factor_of
 factor_sure word = factor_on_sure (starts_with_byte word 33) (drop 1 (unmarked word)) (first_axis (unmarked word))
-
--- there is one
-abbrev pub IsFilled : List Factor → Type 0
-IsFilled [] = ⊥
-IsFilled (f ∷ fs) = Unit {0}
-
--- a product has factors, on different qubits in range
-abbrev pub IsProduct : List Factor → Type 0
-IsProduct fs = Each IsFactor fs × (names_twice fs ≡ false) × IsFilled fs
 
 abbrev AreFactors : List Factor → Type 0
 AreFactors fs = Each IsFactor fs × IsFilled fs
@@ -176,10 +151,6 @@ turns_sure (a ∷ b ∷ rest) =
     (λ c p. sure_bind IsQubit (Each IsTurn) (qubit_of b) _ (qubit_sure b)
     (λ q r. sure_bind (Each IsTurn) (Each IsTurn) (by_turns rest) _ (turns_sure rest) (λ more s. sure_ok (Each IsTurn) (record { control = c; qubit = q } ∷ more) ((p, r), s))))
 
-abbrev pub IsControlled : ControlledPair → Type 0
-IsControlled (pair.Qubits p) = IsPair p
-IsControlled (pair.Record q k) = IsLookback k × IsQubit q
-
 pair_sure : (c : Control) (q : ℕ) → IsControl c → IsQubit q → IsSure IsControlled (pair_of c q)
 pair_sure (control.Qubit a) q p r = sure_if IsControlled (a == q) _ _ (λ e. sure_err IsControlled _) (λ e. sure_ok IsControlled (pair.Qubits (a, q)) (p, r, differ a q e))
 pair_sure (control.Record k) q p r = sure_ok IsControlled (pair.Record q k) (p, r)
@@ -195,9 +166,6 @@ controlled_sure ws =
     sure_bind (Each IsTurn) (Each IsControlled) (by_turns ws) (each paired) (turns_sure ws)
     (λ ts p. sure_each_of IsTurn IsControlled paired (λ t q. pair_sure t.control t.qubit q.0 q.1) ts p)
 
-abbrev pub IsCoordinate : List ℕ → Type 0
-IsCoordinate c = (is_some_word c ≡ true) × (list_all is_coordinate_byte c ≡ true)
-
 coordinate_sure : (argument : List ℕ) → IsSure IsCoordinate (coordinate_of argument)
 unfolding coordinate_of
 coordinate_sure argument =
@@ -205,26 +173,9 @@ coordinate_sure argument =
     (λ e. sure_ok IsCoordinate argument (and_left (is_some_word argument) (list_all is_coordinate_byte argument) e, and_right (is_some_word argument) (list_all is_coordinate_byte argument) e))
     (λ e. sure_err IsCoordinate _)
 
-abbrev pub IsObservable : ℕ → Type 0
-IsObservable j = j < most_observables
-
 observable_sure : (digits : List ℕ) → IsSure IsObservable (observable_of digits)
 unfolding observable_of
 observable_sure digits = sure_if IsObservable (nat_lt (value digits) most_observables) _ _ (λ e. sure_ok IsObservable (value digits) (lt_of (value digits) most_observables e)) (λ e. sure_err IsObservable _)
-
--- an instruction's numbers are in range, and its coordinates made of the bytes that they may have
-abbrev pub IsGoodKind : Kind → Type 0
-IsGoodKind (kind.Gate g qubits) = Each IsQubit qubits
-IsGoodKind (kind.Controlled axis pairs) = Each IsControlled pairs
-IsGoodKind (kind.Swap pairs) = Each IsPair pairs
-IsGoodKind (kind.Measure m targets) = Each IsMeasured targets
-IsGoodKind (kind.Reset axis qubits) = Each IsQubit qubits
-IsGoodKind (kind.MeasureProducts products) = Each IsProduct products
-IsGoodKind (kind.Detector located) = Each IsCoordinate located.0 × Each IsLookback located.1
-IsGoodKind (kind.ObservableInclude j ks) = IsObservable j × Each IsLookback ks
-IsGoodKind kind.Tick = Unit {0}
-IsGoodKind (kind.QubitCoords located) = Each IsCoordinate located.0 × Each IsQubit located.1
-IsGoodKind (kind.ShiftCoords coordinates) = Each IsCoordinate coordinates
 
 abbrev Anything : {A : Type 0} → A → Type 0
 Anything x = Unit {0}
@@ -287,10 +238,6 @@ bracketed_sure opening closing bs =
     (λ f. sure_err (IsCutAt closing bs) _))
     (λ e. sure_ok (IsCutAt closing bs) ([], bs) (tt, λ q h. (tt, h)))
 
--- a tag has no line feed, no # and no closing bracket
-abbrev pub IsTag : List ℕ → Type 0
-IsTag tag = Free (is_byte 10) tag × Free (is_byte 35) tag × Free (is_byte 93) tag
-
 abbrev HasTag : Shape → Type 0
 HasTag s = IsTag s.tag
 
@@ -306,14 +253,7 @@ shape_sure content f g =
     let rest = drop (prefix_len is_name_byte content) content in
     sure_bind (IsCutAt 93 rest) HasTag (bracketed 91 93 rest) (behind_tag content) (bracketed_sure 91 93 rest)
     (λ tag p. sure_bind (IsCutAt 41 tag.1) HasTag (bracketed 40 41 tag.1) (shaped content tag.0) (bracketed_sure 40 41 tag.1)
-    (λ arguments q. shaped_sure content tag.0 arguments ((p.1 (is_byte 10) (free_drop (is_byte 10) _ content f)).0, (p.1 (is_byte 35) (free_drop (is_byte 35) _ content g)).0, p.0)))
-
--- a line's operation or opening can be printed
-abbrev pub IsGoodLine : Line → Type 0
-IsGoodLine Blank = Unit {0}
-IsGoodLine Close = Unit {0}
-IsGoodLine (Open n tag) = IsCount n × IsTag tag
-IsGoodLine (line.Operation op) = IsGoodKind op.kind × IsTag op.tag
+    (λ arguments q. shaped_sure content tag.0 arguments (free_tag tag.0 (p.1 (is_byte 10) (free_drop (is_byte 10) _ content f)).0 (p.1 (is_byte 35) (free_drop (is_byte 35) _ content g)).0 p.0)))
 
 only_sure : (counts : List (Option ℕ)) → Each IsSomeCount counts → IsSomeCount (only_count counts)
 only_sure [] f = tt

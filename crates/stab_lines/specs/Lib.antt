@@ -8,6 +8,7 @@ pub mod Targets
 pub mod Axes
 pub mod Products
 pub mod Controls
+pub mod Rules
 pub mod Meanings
 pub mod Prints
 pub mod Laws

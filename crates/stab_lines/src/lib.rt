@@ -16,8 +16,8 @@
 //! - `table`, `name`: the names of all instructions, and what each stands for.
 //! - `print`: the one text of an instruction, and of the opening of a block.
 //!
-//! `specs/` says what a content means (`meaning_of`) and what is printed of it; `specs/inner` has
-//! what only private contracts use.
+//! `specs/` says what a content means (`meaning_of`), which rules that keeps, and what is printed of it;
+//! `specs/inner` has what only private contracts use.
 //!
 //! Proved: what is printed of an instruction or an opening is its one text, and the targets of a
 //! line that is not refused are as they must be: qubits of a pair or a product differ.

@@ -1,5 +1,5 @@
 -- Frames over the rest: a frame propagated over some of the steps, then some more, and the next copy.
-use Rattle.stab_recording.proofs.Names.{◌≡◌, ◌≢◌, ℕ, suc, ◌+◌, ◌-◌, ◌^◌, ◌<◌, ◌≤◌, refl, sym, ◌∙◌, ap, subst, Bool, true, false, List, [], ◌∷◌, ◌++◌, append-nil, length, replicate, take, drop, slice_get, get_or, All, Option, Some, ◌⊎◌, inl, inr, arith, take-add, take-suc, drop-cons, drop-append_seam, take-append-drop, length-take, length-drop, length-append, drop-drop, slice_get_read, All-nil, All-cons, All-get_or, Letter, I, Signed, TableauState, stabilises, IsConjugated, Step, looked_up, ones, Point, RunOutput, all_coins_of, given, next_point, point_after, outputs, outputs-append, coins-steps, coins-are, flags-given, same_coins, frame_over, AreEnough, pivot_at, AreTrue, Stop, Gone, NoString, IsStop, PropagationState, frame_at, IsPlaced, IsGone, PropagatesOver, enough-append, true-rest, over-append, Checkpoint, AreEnoughBy, AreInOrder, IsFramedBehind, AreFramedCheckpoints, Stabilise, FramesSome, Ending, IsLastApart, IsRestFrame}
+use Rattle.stab_recording.proofs.Names.{◌≡◌, ◌≢◌, ℕ, suc, ◌+◌, ◌-◌, ◌^◌, ◌<◌, ◌≤◌, refl, sym, ◌∙◌, ap, subst, Bool, true, false, List, [], ◌∷◌, ◌++◌, append-nil, length, replicate, take, drop, slice_get, get_or, All, Option, Some, ◌⊎◌, inl, inr, arith, take-add, take-suc, drop-cons, drop-append_seam, take-append-drop, length-take, length-drop, length-append, drop-drop, slice_get_read, All-nil, All-cons, All-get_or, Letter, I, Signed, TableauState, stabilises, IsConjugated, Step, looked_up, ones, Point, RunOutput, all_coins_of, given, next_point, point_after, outputs, outputs-append, coins-steps, coins-append, coins-are, IsMissing, flags-given, same_coins, frame_over, AreEnough, pivot_at, AreTrue, Stop, Gone, NoString, IsStop, PropagationState, frame_at, IsPlaced, IsGone, PropagatesOver, enough-append, true-rest, over-append, Checkpoint, AreEnoughBy, AreInOrder, IsFramedBehind, AreFramedCheckpoints, Stabilise, FramesSome, Ending, IsLastApart, IsRestFrame}
 use Rattle.stab_recording.specs.declared.propagate.Stop.TheVariants.{Behind}
 use Rattle.stab_recording.proofs.LetterStateLemmas.{conjugated-apart}
 use Rattle.stab_recording.proofs.QuietLemmas.{quiet-gone, flips-more}
@@ -203,6 +203,28 @@ module _ {n : ℕ} {strings : List (List Letter)} {free : List Bool} {back : Lis
   pub few-left : old.coin + length back < 2 ^ 63 → now.coin + length left < 2 ^ 63
   few-left few =
       omega (arith, few, past.propagated.coin, coins-steps (take k back), length-take k back, ap length rest, length-drop k back, past.within)
+
+  -- and the count of them
+
+  pub few-counted : (first framed : ℕ) → framed ≤ first + k → first + length back < 2 ^ 63 → framed + length left < 2 ^ 63
+  few-counted first framed so few = omega (arith, so, few, ap length rest, length-drop k back, past.within)
+
+  pub most-counted : (first framed after most : ℕ) → framed ≤ first + k → after ≤ framed + length (take most left) → after ≤ first + length back
+  most-counted first framed after most so le = omega (arith, so, le, length-take most left, ap length rest, length-drop k back, past.within)
+
+  -- a string that is missing after more of them
+  pub missing-more : (first framed after : ℕ) → framed ≤ first + k → first + k ≤ framed → framed ≤ after → IsMissing strings free (now.coin + all_coins_of (take (after - framed) left))
+      → IsMissing strings free (old.coin + all_coins_of (take (after - first) back))
+  missing-more first framed after most least le missing =
+      subst (λ c. IsMissing strings free c)
+      (omega (
+        arith,
+        past.propagated.coin,
+        ap all_coins_of (take-add k (after - framed) back),
+        coins-append (take k back) (take (after - framed) (drop k back)),
+        ap (λ xs. all_coins_of (take (after - framed) xs)) rest,
+        ap (λ j. all_coins_of (take j back)) {x = k + (after - framed)} {y = after - first} (omega (arith, most, least, le)),
+      )) missing
 
   module _ (m most : ℕ) (new : PropagationState) (few : m ≤ length (take most left)) (size : length new.letters ≡ length now.letters) (placed : IsPlaced free new)
       (propagated : PropagatesOver (length now.letters) (pivot_at strings free) (take m left) now new)

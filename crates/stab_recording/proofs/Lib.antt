@@ -33,3 +33,4 @@ mod FoldedReplayLemmas
 mod RunLemmas
 pub mod RecordedReplayLemmas
 mod StopLemmas
+mod TriedLemmas

@@ -77,6 +77,17 @@ pub fn propagate_with_coins<C: Coins>(
         free,
         draw: &draw,
     };
-    propagate(propagation, known, coins, cursor, most, 0, false)?;
+    // The caller has counted these steps: as carried out those whose coin is asked for.
+    let mut framed = 0;
+    propagate(
+        propagation,
+        known,
+        coins,
+        cursor,
+        most,
+        0,
+        false,
+        &mut framed,
+    )?;
     Ok(())
 }

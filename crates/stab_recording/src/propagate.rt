@@ -1,6 +1,6 @@
 //! Steps on the way of a frame, until all are past, the frame is gone, or a string is missing.
 
-ghost use Rattle.std.specs.Prelude.{◌≡◌, ◌≢◌, ℕ, ◌+◌, ◌^◌, ◌<◌, ◌≤◌, Bool, true, All, length, take, drop, OnOk, IfOk};
+ghost use Rattle.std.specs.Prelude.{◌≡◌, ◌≢◌, ℕ, ◌+◌, ◌-◌, ◌^◌, ◌<◌, ◌≤◌, Bool, true, All, length, take, drop, OnOk, IfOk};
 ghost use Rattle.stab_items.specs.Steps.{Step};
 ghost use Rattle.stab_run.specs.Points.{Point, outputs, all_coins_of};
 ghost use Rattle.stab_run.specs.ProgramStates.{StepFits};
@@ -38,7 +38,8 @@ pub struct Propagated {
 }
 
 /// Propagates a frame over the steps that a cursor has left, up to this many, to a run with these coins, none of the steps looking back
-/// further than `window` records. It ends if the frame is gone, if it may, and else goes on without one.
+/// further than `window` records. It ends if the frame is gone, if it may, and else goes on without one. The steps that it passes are
+/// counted, and all of an instruction in which a string is missing.
 pub fn propagate<D: Draw, C: Coins>(
     propagation: &mut Propagation,
     known: Known<D>,
@@ -47,11 +48,15 @@ pub fn propagate<D: Draw, C: Coins>(
     most: usize,
     window: u32,
     may_end: bool,
+    framed: &mut u64,
 ) -> Result<Propagated, AllocError>
     requires same_length { known.strings.now.qubits ≡ length propagation.old.letters }
     requires fits { All (StepFits (length propagation.old.letters)) cursor.old.left }
     requires placed { IsPlaced known.free.now propagation.old }
     requires few { D.ahead known.draw.now + (propagation.old.coin + length cursor.old.left) < 2 ^ 63 }
+    requires few_framed { framed.old + length cursor.old.left < 2 ^ 63 }
+    ensures most { framed.new ≤ framed.old + length (take most cursor.old.left) }
+    ensures counted { IfOk result (λ w. framed.old + w.steps ≤ framed.new) }
     ensures all { cursor.new.all ≡ cursor.old.all }
     ensures length { length propagation.new.letters ≡ length propagation.old.letters }
     ensures same_coins { C.sequence coins.new ≡ C.sequence coins.old }
@@ -61,7 +66,7 @@ pub fn propagate<D: Draw, C: Coins>(
     ensures goes { IfOk result (λ w. GoesOver (length propagation.old.letters) known.entry.strings.now.strings known.entry.free.now (D.changes known.entry.draw.now (C.sequence coins.old)) (take w.steps cursor.old.left) propagation.old propagation.new) }
     ensures stop { IfOk result (λ w. IsStop (length propagation.old.letters) window w.steps (length (take most cursor.old.left)) propagation.new w.stop) }
     ensures gone { IfOk result (λ w. w.stop ≡ Gone → may_end ≡ true) }
-    ensures missing { IfOk result (λ w. w.stop ≡ NoString → IsMissing known.entry.strings.now.strings known.entry.free.now (propagation.old.coin + all_coins_of (take most cursor.old.left))) }
+    ensures missing { IfOk result (λ w. w.stop ≡ NoString → IsMissing known.entry.strings.now.strings known.entry.free.now (propagation.old.coin + all_coins_of (take (framed.new - framed.old) cursor.old.left))) }
 {
     let window = window as usize;
     let mut steps = 0;
@@ -78,7 +83,7 @@ pub fn propagate<D: Draw, C: Coins>(
                 steps,
             });
         };
-        let went = propagate_instruction(propagation, known, coins, next)?;
+        let went = propagate_instruction(propagation, known, coins, next, framed)?;
         steps += went;
         if went < next.len() {
             return Ok(Propagated {
@@ -95,7 +100,7 @@ pub fn propagate<D: Draw, C: Coins>(
 
 /// Propagates a frame over the steps that a cursor has left, up to this many, of a run with these kept
 /// strings and flags, none of whose steps looks back further than `window` records. It ends if the frame is gone,
-/// if it may, and else goes on without one.
+/// if it may, and else goes on without one. The steps are counted as `propagate` counts them.
 pub fn propagate_steps(
     propagation: &mut Propagation,
     strings: &Pivots,
@@ -104,11 +109,16 @@ pub fn propagate_steps(
     most: usize,
     window: u32,
     may_end: bool,
+    framed: &mut u64,
 ) -> Result<Propagated, AllocError>
     requires same_length { strings.now.qubits ≡ length propagation.old.letters }
     requires fits { All (StepFits (length propagation.old.letters)) cursor.old.left }
     requires placed { IsPlaced free.now propagation.old }
     requires few { propagation.old.coin + length cursor.old.left < 2 ^ 63 }
+    requires few_framed { framed.old + length cursor.old.left < 2 ^ 63 }
+    ensures most { framed.new ≤ framed.old + length (take most cursor.old.left) }
+    ensures counted { IfOk result (λ w. framed.old + w.steps ≤ framed.new) }
+    ensures missing { IfOk result (λ w. w.stop ≡ NoString → IsMissing strings.now.strings free.now (propagation.old.coin + all_coins_of (take (framed.new - framed.old) cursor.old.left))) }
     ensures all { cursor.new.all ≡ cursor.old.all }
     ensures length { length propagation.new.letters ≡ length propagation.old.letters }
     ensures placed { OnOk result (IsPlaced free.now propagation.new) }
@@ -124,5 +134,14 @@ pub fn propagate_steps(
         draw: &SameCoins,
     };
     let mut none = ListCoins::new(&[]);
-    propagate(propagation, known, &mut none, cursor, most, window, may_end)
+    propagate(
+        propagation,
+        known,
+        &mut none,
+        cursor,
+        most,
+        window,
+        may_end,
+        framed,
+    )
 }

@@ -264,7 +264,8 @@ impl<'a> Replay<'a> {
 
     /// Carries out steps until the replay meets an old copy, or a frame goes from one over the rest of the old run, or it is after the
     /// last step, and lays copies on the way: one for each spacing, and one for each old copy that it passes, at most. In repeats of the
-    /// circuit's steps it gives again what it gave if it is as it was rounds before.
+    /// circuit's steps it gives again what it gave if it is as it was rounds before. The steps of a frame that went over the rest in vain
+    /// are counted.
     pub fn follow<C: Coins>(
         &mut self,
         alloc: Global,
@@ -275,6 +276,7 @@ impl<'a> Replay<'a> {
         strings: &Pivots,
         plan: Plan,
         coins: &mut C,
+        tried: &mut u64,
     ) -> Result<End, Refusal>
         requires begun { IsReplay self.old.tableau.qubits (C.sequence coins.old) plan.stride self.old.step self.old.cursor.all self.old }
         requires nothing_laid { self.old.laid.items ≡ [] }
@@ -293,6 +295,8 @@ impl<'a> Replay<'a> {
         requires same_qubits { All (λ c. c.tableau.qubits ≡ self.old.tableau.qubits) copies.now }
         requires base { plan.base ≤ length self.old.outputs.records.items }
         requires same_records { take plan.base self.old.outputs.records.items ≡ take plan.base old.now.records.items }
+        requires few_tried { tried.old ≤ 2 * most_steps }
+        ensures tried { OnOk result (tried.new ≤ tried.old + (plan.total - plan.new_end)) }
         ensures same_coins { C.sequence coins.new ≡ C.sequence coins.old }
         ensures all { self.new.cursor.all ≡ self.old.cursor.all }
         ensures qubits { self.new.tableau.qubits ≡ self.old.tableau.qubits }
@@ -322,7 +326,7 @@ impl<'a> Replay<'a> {
                 Arrival::Between(later) => next = later,
             }
             let framed = self.frame_rest(
-                alloc, circuit, copies, old, strings, plan, reached, &mut spare, &mut leads,
+                alloc, circuit, copies, old, strings, plan, reached, &mut spare, &mut leads, tried,
             )?;
             if let Some(framed) = framed {
                 return Ok(End::Framed(framed));

@@ -1,9 +1,11 @@
-ghost use Rattle.std.specs.Prelude.{◌≡◌, ℕ, ◌≤◌, Bool, None, All, length, take, slice_get, IsSomeAnd, IfOk, IfErr, IfSome};
+ghost use Rattle.std.specs.Prelude.{◌≡◌, ◌≢◌, ℕ, ◌+◌, ◌-◌, ◌^◌, ◌≤◌, Bool, true, false, None, All, length, take, drop, slice_get, IsSomeAnd, OnOk, IfOk, IfErr, IfSome};
 ghost use Rattle.stab_io.specs.declared.refusal.Refusal.TheVariants.{OutOfMemory};
 ghost use Rattle.stab_items.specs.Steps.{most_steps, unroll, check_of};
 ghost use Rattle.stab_edits.specs.Views.{circuit_items};
+ghost use Rattle.stab_run.specs.Points.{all_coins_of};
 ghost use Rattle.stab_run.specs.ProgramStates.{StepFits, output_of};
 ghost use Rattle.stab_frames.specs.Pivots.{PivotsState};
+ghost use Rattle.stab_frames.specs.inner.Propagates.{IsMissing};
 ghost use Rattle.stab_recording.specs.FramedReplays.{IsOldRun};
 ghost use Rattle.stab_recording.specs.Replays.{BeginsAt, IsFramed};
 
@@ -77,7 +79,8 @@ impl<'a> Replay<'a> {
     }
 
     /// Propagates a frame that begins at the old copy with a number, at whose place the replay is, over the rest of the old run. `None` if a
-    /// string is missing. Copies are looked at in the memory of a spare tableau if there is one.
+    /// string is missing; the steps that it passed in vain are then counted. Copies are looked at in the memory of a spare tableau if there
+    /// is one.
     ///
     /// Refusal `OutOfMemory` alone.
     fn lead(
@@ -91,6 +94,7 @@ impl<'a> Replay<'a> {
         number: usize,
         propagation: Propagation,
         spare: &mut Option<Tableau>,
+        tried: &mut u64,
     ) -> Result<Option<RestFrame>, Refusal>
         requires old { (coins : ℕ → Bool) × IsOldRun self.now.tableau.qubits coins plan self.now.cursor.all copies.now (output_of old.now) strings.now }
         requires same_circuit { unroll (circuit_items circuit.now) ≡ self.now.cursor.all }
@@ -99,6 +103,10 @@ impl<'a> Replay<'a> {
         requires within { self.now.step ≤ length self.now.cursor.all }
         requires few { length self.now.cursor.all ≤ most_steps }
         requires begins { IsSomeAnd (slice_get copies.now number) (BeginsAt plan self.now (output_of old.now) propagation) }
+        requires few_tried { tried.old ≤ 2 ^ 32 }
+        ensures most { tried.new ≤ tried.old + (length self.now.cursor.all - plan.new_end) }
+        ensures untried { IfOk result (λ found. found ≢ None → tried.new ≡ tried.old) }
+        ensures missing { IfOk result (λ found. found ≡ None → IsMissing strings.now.strings old.now.free.items (propagation.coin + all_coins_of (take (tried.new - tried.old) (drop self.now.step self.now.cursor.all)))) }
         ensures framed { IfOk result (λ found. IfSome found (λ f. (f.number ≡ number) × IsSomeAnd (slice_get copies.now number) (IsFramed plan self.now copies.now (output_of old.now) strings.now f))) }
         ensures err { IfErr result (λ r. r ≡ OutOfMemory) }
     {
@@ -107,6 +115,7 @@ impl<'a> Replay<'a> {
         let mut cursor = Cursor::at(alloc, circuit, self.step)?;
         let (_, behind) = copies.split_at(number);
         let mut conjugated = Vec::new(alloc);
+        let mut passed = 0;
         let advanced = propagate_rest(
             alloc,
             behind,
@@ -118,8 +127,10 @@ impl<'a> Replay<'a> {
             &mut propagation,
             &mut conjugated,
             spare,
+            &mut passed,
         )?;
         if !advanced {
+            *tried += passed;
             return Ok(None);
         }
         Ok(Some(RestFrame {
@@ -131,7 +142,7 @@ impl<'a> Replay<'a> {
     }
 
     /// The frame that is propagated over the rest of the old run from the copy with a number on, if the replay is at its place and there is one.
-    /// If a string is missing for it, no other one is to be propagated.
+    /// If a string is missing for it, the steps that it passed are counted, and no other one is to be propagated.
     ///
     /// Refusal `OutOfMemory` alone.
     pub(crate) fn frame_rest(
@@ -145,6 +156,7 @@ impl<'a> Replay<'a> {
         number: usize,
         spare: &mut Option<Tableau>,
         leads: &mut bool,
+        tried: &mut u64,
     ) -> Result<Option<RestFrame>, Refusal>
         requires old { (coins : ℕ → Bool) × IsOldRun self.now.tableau.qubits coins plan self.now.cursor.all copies.now (output_of old.now) strings.now }
         requires same_circuit { unroll (circuit_items circuit.now) ≡ self.now.cursor.all }
@@ -154,6 +166,10 @@ impl<'a> Replay<'a> {
         requires few { length self.now.cursor.all ≤ most_steps }
         requires base { plan.base ≤ length self.now.outputs.records.items }
         requires same_records { take plan.base self.now.outputs.records.items ≡ take plan.base old.now.records.items }
+        requires few_tried { tried.old ≤ 2 ^ 32 }
+        ensures most { tried.new ≤ tried.old + (length self.now.cursor.all - plan.new_end) }
+        ensures untried { OnOk result (leads.new ≡ true → tried.new ≡ tried.old) }
+        ensures once { leads.old ≡ false → (leads.new ≡ false) × (tried.new ≡ tried.old) }
         ensures framed { IfOk result (λ found. IfSome found (λ f. (f.number ≡ number) × IsSomeAnd (slice_get copies.now number) (IsFramed plan self.now copies.now (output_of old.now) strings.now f))) }
         ensures err { IfErr result (λ r. r ≡ OutOfMemory) }
     {
@@ -173,6 +189,7 @@ impl<'a> Replay<'a> {
             number,
             propagation,
             spare,
+            tried,
         )?;
         *leads = framed.is_some();
         Ok(framed)

@@ -1,9 +1,11 @@
-ghost use Rattle.std.specs.Prelude.{◌≡◌, ◌⊎◌, ℕ, ◌+◌, ◌<◌, ◌≤◌, ◌^◌, [], true, false, All, length, replicate, IfOk, IfErr};
+ghost use Rattle.std.specs.Prelude.{◌≡◌, ◌⊎◌, ℕ, ◌+◌, ◌-◌, ◌<◌, ◌≤◌, ◌^◌, [], true, false, All, length, take, replicate, IfOk, IfErr};
 ghost use Rattle.stab_io.specs.declared.refusal.Refusal.TheVariants.{OutOfMemory};
 ghost use Rattle.stab_gates.specs.declared.letter.Letter.TheVariants.{I};
 ghost use Rattle.stab_run.specs.Records.{looked_up, ones};
+ghost use Rattle.stab_run.specs.Points.{all_coins_of};
 ghost use Rattle.stab_run.specs.ProgramStates.{StepFits};
 ghost use Rattle.stab_frames.specs.Propagations.{IsPlaced};
+ghost use Rattle.stab_frames.specs.inner.Propagates.{IsMissing};
 ghost use Rattle.stab_recording.specs.RestFrames.{AreInOrder, Stabilise, FramesSome, IsRestFrame};
 
 use crate::checkpoint::Checkpoint;
@@ -26,7 +28,7 @@ const MOST_TOGETHER: usize = usize::MAX;
 /// back to, and its letters stabilise the copy with one of their signs, it flips no sign from there on,
 /// and ends; the copy is looked at in the memory of a spare tableau if there is one.
 ///
-/// False if a string is missing. What it made so far is then irrelevant.
+/// False if a string is missing. What it made so far is then irrelevant; the steps that it passed are counted like all others.
 ///
 /// Refusal `OutOfMemory` alone.
 pub fn propagate_rest(
@@ -40,6 +42,7 @@ pub fn propagate_rest(
     propagation: &mut Propagation,
     conjugated: &mut Vec<CompactTableau>,
     spare: &mut Option<Tableau>,
+    framed: &mut u64,
 ) -> Result<bool, Refusal>
     requires same_length { strings.now.qubits ≡ length propagation.old.letters }
     requires fits { All (StepFits (length propagation.old.letters)) cursor.old.left }
@@ -48,6 +51,9 @@ pub fn propagate_rest(
     requires same_qubits { All (λ c. c.tableau.qubits ≡ length propagation.old.letters) copies.now }
     requires order { AreInOrder from (from + length cursor.old.left) copies.now }
     requires nothing_conjugated { conjugated.old.items ≡ [] }
+    requires few_framed { framed.old + length cursor.old.left < 2 ^ 63 }
+    ensures most { framed.new ≤ framed.old + length cursor.old.left }
+    ensures missing { IfOk result (λ advanced. advanced ≡ false → IsMissing strings.now.strings free.now (propagation.old.coin + all_coins_of (take (framed.new - framed.old) cursor.old.left))) }
     ensures length { length propagation.new.letters ≡ length propagation.old.letters }
     ensures advanced { IfOk result (λ advanced. advanced ≡ true → IsRestFrame (length propagation.old.letters) strings.now.strings free.now window cursor.old.left from copies.now conjugated.new.items propagation.old propagation.new) }
     ensures err { IfErr result (λ r. r ≡ OutOfMemory) }
@@ -62,6 +68,7 @@ pub fn propagate_rest(
             copy.step - at,
             window,
             true,
+            framed,
         )?;
         match propagated.stop {
             Stop::NoString => return Ok(false),
@@ -82,6 +89,7 @@ pub fn propagate_rest(
         MOST_TOGETHER,
         window,
         true,
+        framed,
     )?;
     Ok(propagated.stop != Stop::NoString)
 }

@@ -13,7 +13,7 @@ mod DeterministicLemmas
 mod MovedLemmas
 mod TouchLemmas
 mod RandomLemmas
-mod DetectorLemmas
+pub mod DetectorLemmas
 mod ParityLemmas
 pub mod MoveLemmas
 mod PlaceLemmas
@@ -31,4 +31,6 @@ mod BitLemmas
 mod FaultBitLemmas
 mod TwoFaultLemmas
 mod ManyFaultLemmas
+pub mod TurnedLemmas
+pub mod PassLemmas
 pub mod FaultSumLemmas

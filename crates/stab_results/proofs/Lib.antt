@@ -4,3 +4,4 @@ pub mod NumberLemmas
 pub mod GroupLemmas
 pub mod OneLemmas
 pub mod HitLemmas
+pub mod ZeroLemmas

@@ -5,7 +5,7 @@ ghost use Rattle.stab_results.specs.Formats.{digit, f01_bytes, number, b8_bytes,
 
 use crate::byte_buffer::ByteBuffer;
 use crate::format::{Format, Kinds};
-use crate::one_places::OnePlaces;
+use crate::one_places::{BLOCK, OnePlaces, are_zeros};
 use stab_io::{Output, Refusal};
 
 /// The character of a bit.
@@ -82,6 +82,26 @@ impl ByteBuffer {
     }
 
     fn put_b8<O: Output>(&mut self, out: &mut O, bits: &[bool]) -> Result<(), Refusal>
+        ensures puts { Puts (O.seen out.old) (O.seen out.new) self.old self.new (b8_bytes bits.now) result }
+    {
+        for block in bits.chunks(BLOCK) {
+            self.put_block(out, block)?;
+        }
+        Ok(())
+    }
+
+    /// Puts the bits of a block, in b8.
+    fn put_block<O: Output>(&mut self, out: &mut O, bits: &[bool]) -> Result<(), Refusal>
+        ensures puts { Puts (O.seen out.old) (O.seen out.new) self.old self.new (b8_bytes bits.now) result }
+    {
+        if bits.len() == BLOCK && are_zeros(bits) {
+            self.put(out, &[0; BLOCK / 8])
+        } else {
+            self.put_groups(out, bits)
+        }
+    }
+
+    fn put_groups<O: Output>(&mut self, out: &mut O, bits: &[bool]) -> Result<(), Refusal>
         ensures puts { Puts (O.seen out.old) (O.seen out.new) self.old self.new (b8_bytes bits.now) result }
     {
         for group in bits.chunks(8) {

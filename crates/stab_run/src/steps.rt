@@ -31,6 +31,8 @@ pub fn apply_steps<C: Coins>(
     requires fits { All (StepFits tableau.old.qubits) (steps_shown steps) }
     requires few { applied.old + length (steps_shown steps) < 2 ^ 63 }
     ensures counted { OnOk result (applied.new ≡ applied.old + length (steps_shown steps.entry)) }
+    ensures asks_counted { applied.old + C.asks coins.new ≤ applied.new + C.asks coins.old }
+    ensures most { applied.new ≤ applied.old + length (steps_shown steps.entry) }
     ensures qubits { tableau.new.qubits ≡ tableau.old.qubits }
     ensures string { length string.new.letters ≡ length string.old.letters }
     ensures same_coins { C.sequence coins.new ≡ C.sequence coins.old }
@@ -40,13 +42,11 @@ pub fn apply_steps<C: Coins>(
 {
     match steps {
         Steps::Gates(gate, qubits) => {
-            apply_gates(tableau, gate, qubits);
-            *applied += qubits.len() as u64;
+            apply_gates(tableau, gate, qubits, applied);
             Ok(())
         }
         Steps::Pairs(axis, pairs) => {
-            apply_pairs(tableau, outputs.records.as_slice(), axis, pairs);
-            *applied += pairs.len() as u64;
+            apply_pairs(tableau, outputs.records.as_slice(), axis, pairs, applied);
             Ok(())
         }
         Steps::Measurements(measurement, targets) => {
@@ -61,20 +61,22 @@ pub fn apply_steps<C: Coins>(
             )
         }
         Steps::Detectors(detectors) => {
-            take_parities(outputs, detectors)?;
-            *applied += detectors.len() as u64;
+            take_parities(outputs, detectors, applied)?;
             Ok(())
         }
         Steps::Single(step) => apply_step(tableau, string, coins, outputs, step, applied),
     }
 }
 
-/// Applies a gate to each of some qubits.
-fn apply_gates(tableau: &mut Tableau, gate: Gate, qubits: &[Qubit])
+/// Applies a gate to each of some qubits, and counts them.
+fn apply_gates(tableau: &mut Tableau, gate: Gate, qubits: &[Qubit], applied: &mut u64)
     requires fits { All (StepFits tableau.old.qubits) (map (one gate) qubits.now) }
+    requires few { applied.old + length qubits.now < 2 ^ 63 }
+    ensures counted { applied.new ≡ applied.old + length qubits.now }
     ensures qubits { tableau.new.qubits ≡ tableau.old.qubits }
     ensures run { (coins : ℕ → Bool) (output : RunOutput) → IsRun tableau.old.qubits coins (map (one gate) qubits.now) (program_state tableau.old output) (program_state tableau.new output) }
 {
+    *applied += qubits.len() as u64;
     for qubit in qubits {
         tableau.apply(gate, qubit.number());
     }
@@ -98,12 +100,21 @@ fn apply_pair(tableau: &mut Tableau, records: &[bool], axis: Axis, pair: Control
     }
 }
 
-/// Applies X, Y or Z in this way for each of some pairs.
-fn apply_pairs(tableau: &mut Tableau, records: &[bool], axis: Axis, pairs: &[ControlledPair])
+/// Applies X, Y or Z in this way for each of some pairs, and counts them.
+fn apply_pairs(
+    tableau: &mut Tableau,
+    records: &[bool],
+    axis: Axis,
+    pairs: &[ControlledPair],
+    applied: &mut u64,
+)
     requires fits { All (StepFits tableau.old.qubits) (map (controlled_step axis) pairs.now) }
+    requires few { applied.old + length pairs.now < 2 ^ 63 }
+    ensures counted { applied.new ≡ applied.old + length pairs.now }
     ensures qubits { tableau.new.qubits ≡ tableau.old.qubits }
     ensures run { (coins : ℕ → Bool) (output : RunOutput) → output.records ≡ records.now → IsRun tableau.old.qubits coins (map (controlled_step axis) pairs.now) (program_state tableau.old output) (program_state tableau.new output) }
 {
+    *applied += pairs.len() as u64;
     for pair in pairs {
         apply_pair(tableau, records, axis, *pair);
     }
@@ -123,6 +134,8 @@ fn measure_targets<C: Coins>(
     requires fits { All (StepFits tableau.old.qubits) (map (measured measurement) targets.now) }
     requires few { applied.old + length targets.now < 2 ^ 63 }
     ensures counted { OnOk result (applied.new ≡ applied.old + length targets.now) }
+    ensures asks_counted { applied.old + C.asks coins.new ≤ applied.new + C.asks coins.old }
+    ensures most { applied.new ≤ applied.old + length targets.now }
     ensures qubits { tableau.new.qubits ≡ tableau.old.qubits }
     ensures string { length string.new.letters ≡ length string.old.letters }
     ensures same_coins { C.sequence coins.new ≡ C.sequence coins.old }
@@ -137,11 +150,18 @@ fn measure_targets<C: Coins>(
     Ok(())
 }
 
-/// Gathers the parities of the records that detectors name.
-fn take_parities(outputs: &mut Outputs, detectors: Detectors) -> Result<(), AllocError>
+/// Gathers the parities of the records that detectors name, and counts them.
+fn take_parities(
+    outputs: &mut Outputs,
+    detectors: Detectors,
+    applied: &mut u64,
+) -> Result<(), AllocError>
+    requires few { applied.old + length (lookbacks_of detectors) < 2 ^ 63 }
+    ensures counted { applied.new ≡ applied.old + length (lookbacks_of detectors.entry) }
     ensures free { outputs.new.free ≡ outputs.old.free }
     ensures run { OnOk result ((tableau : TableauState) (coins : ℕ → Bool) → IsRun tableau.qubits coins (map detector (lookbacks_of detectors.entry)) (program_state tableau (output_of outputs.old)) (program_state tableau (output_of outputs.new))) }
 {
+    *applied += detectors.len() as u64;
     for place in 0..detectors.len() {
         let bit = parity(outputs.records.as_slice(), detectors.get(place));
         outputs.detectors.push(bit)?;

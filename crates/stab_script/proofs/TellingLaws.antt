@@ -1,7 +1,7 @@
 -- Laws of telling: requests that calls answer one after another.
 use Rattle.stab_script.proofs.Names.{◌≡◌, ℕ, Bool, true, false, ◌||◌, List, [], ◌∷◌, ◌++◌, refl, sym, ap, ◌∙◌, subst, append_assoc, Result, Ok, Err, inl, inr, append-nil, IsErrAnd, OutputView, Took, TookAndFailed, CutOff, WriteFault, Refusal, Fault, whole, took_none, took_more, took_and_failed, Setting, Request, Held, Answer, IsAnswer, IsAnswerToAll, both, replying, Sitting, after_answer, Told, ToldSome, AnswersRequests}
 
-or_assoc : (a b c : Bool) → (a || b) || c ≡ a || (b || c)
+pub or_assoc : (a b c : Bool) → (a || b) || c ≡ a || (b || c)
 or_assoc true b c = refl
 or_assoc false b c = refl
 
@@ -13,13 +13,13 @@ abbrev answer_with : Held → List ℕ → Bool → Answer
 answer_with held reply refused = record { held = held; reply = reply; refused = refused }
 
 -- answers one after another, in either grouping
-both_assoc : (a b c : Answer) → both (both a b) c ≡ both a (both b c)
+pub both_assoc : (a b c : Answer) → both (both a b) c ≡ both a (both b c)
 both_assoc a b c =
     ap (λ l. answer_with c.held l ((a.refused || b.refused) || c.refused)) (append_assoc a.reply b.reply c.reply)
     ∙ ap (λ r. answer_with c.held (a.reply ++ (b.reply ++ c.reply)) r) (or_assoc a.refused b.refused c.refused)
 
 -- an answer and then none
-both_nothing : (a : Answer) → both a (replying a.held []) ≡ a
+pub both_nothing : (a : Answer) → both a (replying a.held []) ≡ a
 both_nothing a =
     ap (λ l. answer_with a.held l (a.refused || false)) (append-nil a.reply)
     ∙ ap (λ r. answer_with a.held a.reply r) (or_false a.refused)
@@ -73,7 +73,7 @@ told_none old o = record {
 }
 
 -- first some, then others
-pub told_then : {a b c : Sitting} {o p q : OutputView} (xs ys : List Request) → Told a b xs o p → Told b c ys p q → Told a c (xs ++ ys) o q
+unfoldable pub told_then : {a b c : Sitting} {o p q : OutputView} (xs ys : List Request) → Told a b xs o p → Told b c ys p q → Told a c (xs ++ ys) o q
 told_then {a} {b} {c} {o} {p} {q} xs ys first next =
     let here : IsAnswerToAll a.setting first.answer.held ys next.answer = subst (λ (x : Sitting). IsAnswerToAll x.setting x.held ys next.answer) first.leaves next.answers in
     record {
@@ -84,14 +84,14 @@ told_then {a} {b} {c} {o} {p} {q} xs ys first next =
     }
 
 -- what is cut off after some replies
-cut_behind : {o p q : OutputView} (xs ys : List ℕ) (f : Fault) → Took o p xs → CutOff p q ys f → CutOff o q (xs ++ ys) f
+pub cut_behind : {o p q : OutputView} (xs ys : List ℕ) (f : Fault) → Took o p xs → CutOff p q ys f → CutOff o q (xs ++ ys) f
 cut_behind xs ys f before (inl failed) = inl (failed.0, took_and_failed xs ys before failed.1)
 cut_behind xs ys f before (inr some) =
     let part = some.1 in
     inr (some.0, record { front = xs ++ part.front; rest = part.rest; split = ap (λ l. xs ++ l) part.split ∙ sym (append_assoc xs part.front part.rest); took = took_more xs part.front before part.took })
 
 -- first some, and then the others are cut off
-pub told_some_behind : {a b : Sitting} {o p q : OutputView} (xs ys : List Request) (f : Fault) → Told a b xs o p → ToldSome b ys p q f → ToldSome a (xs ++ ys) o q f
+unfoldable pub told_some_behind : {a b : Sitting} {o p q : OutputView} (xs ys : List Request) (f : Fault) → Told a b xs o p → ToldSome b ys p q f → ToldSome a (xs ++ ys) o q f
 told_some_behind {a} {b} xs ys f before some =
     let here : IsAnswerToAll a.setting before.answer.held some.first some.answer = subst (λ (x : Sitting). IsAnswerToAll x.setting x.held some.first some.answer) before.leaves some.answers in
     record {

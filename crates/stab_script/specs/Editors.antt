@@ -30,7 +30,7 @@ pub record Told (old new : Sitting) (requests : List Request) (o o' : OutputView
   pub took : Took o o' answer.reply
   pub leaves : new ≡ after_answer old answer
 
--- the replies to some first requests were written, or cut off: the output failed, or memory was refused
+-- the replies to some first requests were written, or cut off: the output failed, or the answer is 20
 pub record ToldSome (old : Sitting) (requests : List Request) (o o' : OutputView) (f : Fault) : Type 0 where
   pub first : List Request
   pub rest : List Request

@@ -22,7 +22,7 @@
 //!
 //! Proved: the bytes that an `Editor` takes ask for the requests that `specs/Scripts.antt` gives, and when
 //! the call returns exactly the replies to them are written, each as `IsAnswer` there says; if the output
-//! failed or memory was refused, a first part of these (`specs/Editors.antt`). Replies have the texts
+//! failed or the answer is 20, a first part of these (`specs/Editors.antt`). Replies have the texts
 //! that `FramedReplies`, `Changes`, `PlaceCounts` and `Signs` of `specs/` give. `specs/inner/` has what only
 //! private contracts cite.
 #![tactic(auto)]

@@ -1,5 +1,5 @@
 -- Edited sessions: from an edit that was begun and run to the statement of the session, and to what the edit cost.
-use Rattle.stab_session.proofs.Names.{◌≡◌, ◌≤◌, ℕ, ◌+◌, ◌-◌, ◌*◌, sym, ◌∙◌, ap, subst, arith, Bool, List, [], ◌∷◌, length, take, drop, All, None, Result, Ok, slice_get, Refusal, OutOfMemory, Fault, whole, IsCallFault, OneItem, listed, entries, Step, unroll, observables_of, check_within, IsApart, edit_path, edited, verdict, put_item, first_changed, old_end, new_end, entries-listed, Recording, Span, Edit, Pending, run, start, origin, point_after, point_of, AgreeAt, SessionState, IsEditedBy, steps_of_item, steps_from_change, steps_behind, unless_refused, most_refused_asks, steps_put, steps_near_change, IsCountOf, AgreeBehind, AgreeBackBehind, IsCounted, AgreeAsFarAsLooked, session_of, IsRecorded, finished, IsBegun, IsRecording, AgreeBehindSpan, AgreeBackBehindSpan, run-state}
+use Rattle.stab_session.proofs.Names.{◌≡◌, ◌≤◌, ℕ, ◌+◌, ◌-◌, ◌*◌, sym, ◌∙◌, ap, subst, arith, Bool, List, [], ◌∷◌, length, take, drop, All, None, Result, Ok, slice_get, Refusal, OutOfMemory, Fault, whole, IsCallFault, OneItem, listed, entries, Step, unroll, observables_of, check_within, IsApart, edit_path, edited, verdict, put_item, first_changed, old_end, new_end, entries-listed, Recording, Span, Edit, Pending, run, start, origin, point_after, point_of, AgreeAt, SessionState, IsEditedBy, steps_of_item, steps_from_change, steps_behind, unless_refused, most_refused_asks, steps_put, steps_near_change, most_tried, check-steps, check-whole, IsCountOf, AgreeBehind, AgreeBackBehind, IsCounted, AgreeAsFarAsLooked, session_of, IsRecorded, finished, IsBegun, IsRecording, AgreeBehindSpan, AgreeBackBehindSpan, run-state}
 use Rattle.stab_session.proofs.SessionLemmas.{session-recorded}
 use Rattle.stab_session.proofs.PendingLemmas.{verdict-checked}
 use Rattle.stab_session.proofs.SpanLemmas.{put-within}
@@ -59,6 +59,9 @@ module _ {C : Type 0} (sequence : C → ℕ → Bool) (e : Edit) (s : SessionSta
   pub run-fault : (f : Fault) → f ≡ whole OutOfMemory → IsCallFault (verdict s.qubits e (entries s.items)) f
   run-fault f h = subst (λ v. IsCallFault v f) (sym accepted) h
 
+  pub few-steps : length (unroll (listed mid)) ≤ 1048576
+  few-steps = check-steps (listed mid) (check-whole n (listed mid) b.checked)
+
   old_items : entries s.items ≡ old
   old_items = ap entries items ∙ entries-listed old
 
@@ -115,6 +118,10 @@ module _ {C : Type 0} (sequence : C → ℕ → Bool) (e : Edit) (s : SessionSta
     pub edited-applied : (applied : ℕ) → applied ≤ (length (unroll (listed mid)) - span.first) + stride → applied ≤ steps_from_change e s (session_of (listed new) stride coins run)
     edited-applied applied h = omega (arith, h, first_is, ap length new_steps)
 
+    -- and frames went in vain over no more than three times those after the changed place
+    pub edited-tried : (tried : ℕ) → tried ≤ 3 * (length (unroll (listed mid)) - span.first) → tried ≤ most_tried e s (session_of (listed new) stride coins run)
+    edited-tried tried h = omega (arith, h, first_is, ap length new_steps)
+
     old_end_is : span.old_end ≡ old_end e (entries s.items)
     old_end_is = b.span.old_end ∙ sym (ap (old_end e) old_items)
 
@@ -142,12 +149,12 @@ module _ {C : Type 0} (sequence : C → ℕ → Bool) (e : Edit) (s : SessionSta
         (sym new_steps) (ap (λ k. k + far) (sym old_end_is)) (ap (λ k. k + far) (sym new_end_is))
 
     -- so it cost just this many
-    pub edited-counted : (applied : ℕ) (copies : List ℕ) → copies ≡ s.checkpoints
+    pub edited-counted : (applied passed : ℕ) (copies : List ℕ) → applied ≡ passed → copies ≡ s.checkpoints
         → IsCounted (AgreeBehindSpan n (sequence s.coins) (unroll (listed old)) (unroll (listed mid)) span)
         (AgreeBackBehindSpan n (sequence s.coins) (unroll (listed old)) (unroll (listed mid)) span) copies span.first span.old_end span.new_end (length (unroll (listed mid))) applied
-        → IsCountOf sequence e s (session_of (listed new) stride coins run) applied
-    edited-counted applied copies same h =
-        subst (λ t. t) (λ i. IsCounted (λ far. sym (agreement far) i) (λ far. sym (agreement-back far) i) (same i) (first_is i) (old_end_is i) (new_end_is i) (length (new_steps i)) applied) h
+        → IsCountOf sequence e s (session_of (listed new) stride coins run) passed
+    edited-counted applied passed copies count same h =
+        subst (λ t. t) (λ i. IsCounted (λ far. sym (agreement far) i) (λ far. sym (agreement-back far) i) (same i) (first_is i) (old_end_is i) (new_end_is i) (length (new_steps i)) (count i)) h
 
     -- if the runs agree this many steps after what was changed, it cost no more than what was put in, two strides, and as many
 

@@ -57,7 +57,7 @@ pub use Rattle.stab_tableau.specs.Groups.{SameGroup}
 pub use Rattle.stab_tableau.specs.Reduced.{AreReduced}
 pub use Rattle.stab_tableau.specs.Tableaus.{stabilises}
 pub use Rattle.stab_tableau.specs.Traces.{member}
-pub use Rattle.stab_session.specs.Bounds.{steps_of_item, steps_from_change, steps_behind, unless_refused, most_refused_asks, steps_put, steps_near_change, IsCountOf, AgreeBehind, AgreeBackBehind, most_checkpoints}
+pub use Rattle.stab_session.specs.Bounds.{steps_of_item, steps_from_change, steps_behind, unless_refused, most_refused_asks, steps_put, steps_near_change, most_tried, IsCountOf, AgreeBehind, AgreeBackBehind, most_checkpoints}
 pub use Rattle.stab_session.specs.Headline.{IsRunOfItems}
 pub use Rattle.stab_session.specs.SessionEdits.{IsEditedBy, IsSplit}
 pub use Rattle.stab_session.specs.Sessions.{SessionState, IsSignIn}

@@ -20,9 +20,13 @@ number_of_steps s = length (unroll s.items)
 abbrev pub most_checkpoints : {C : Type 0} → SessionState C → ℕ
 most_checkpoints s = 2 * (number_of_steps s / s.stride) + 2
 
--- the steps after the changed place, and a stride before it: an edit goes past no more of them
+-- the steps after the changed place, and a stride before it: on its way an edit goes past no more of them
 abbrev pub steps_from_change : {C : Type 0} → Edit → SessionState C → SessionState C → ℕ
 steps_from_change e old new = (number_of_steps new - first_changed e (entries old.items)) + new.stride
+
+-- besides, frames go in vain over no more than three times the steps after the changed place
+abbrev pub most_tried : {C : Type 0} → Edit → SessionState C → SessionState C → ℕ
+most_tried e old new = 3 * (number_of_steps new - first_changed e (entries old.items))
 
 -- the steps of an edited list after its first ones, as many as this, and a stride; none if there is no such list
 abbrev pub steps_behind : ℕ → ℕ → Result (List OneItem) Refusal → ℕ

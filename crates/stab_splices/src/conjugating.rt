@@ -1,6 +1,6 @@
 ghost use Rattle.std.specs.Prelude.{◌≡◌, ℕ, ◌+◌, ◌-◌, ◌*◌, ◌^◌, ◌<◌, ◌≤◌, [], ◌∷◌, None, Some, true, Bool, List, All, length, take, drop, slice_get, vec_capacity, IfSome, IfOk, IfErr, OnOk, OnErr, ◌++◌};
 ghost use Rattle.stab_io.specs.declared.refusal.Refusal.TheVariants.{OutOfMemory};
-ghost use Rattle.stab_items.specs.Steps.{Step, unroll, observables_of, check_of, check_within};
+ghost use Rattle.stab_items.specs.Steps.{Step, most_steps, unroll, observables_of, check_of, check_within};
 ghost use Rattle.stab_edits.specs.Views.{circuit_items};
 ghost use Rattle.stab_edits.specs.Cursors.{IsApart};
 ghost use Rattle.stab_edits.specs.Repeats.{AreRepeats};
@@ -131,11 +131,13 @@ fn meeting_behind(span: Span) -> Meeting
 fn framed_between(begin: usize, end: usize) -> Followed
     requires order { begin ≤ end }
     ensures applied { result.applied ≡ 0 }
+    ensures tried { result.tried ≡ 0 }
     ensures counted { (result.applied + result.framed) + begin ≡ end }
 {
     Followed {
         applied: 0,
         framed: (end - begin) as u64,
+        tried: 0,
     }
 }
 
@@ -159,7 +161,7 @@ fn rounds_of(alloc: Global, circuit: &Circuit, span: Span) -> Result<Vec<Repeat>
 impl Recording {
     /// Propagates a frame past the places of a change of Pauli gates within a span, from the copy before it on,
     /// which has the number one less than the one count of copies; those up to the other count are within
-    /// the span. `None` if it can't give the run there.
+    /// the span. `None` if it can't give the run there. The steps that it passes are counted either way.
     ///
     /// Refusal `OutOfMemory` alone.
     fn past_places(
@@ -170,6 +172,7 @@ impl Recording {
         before: usize,
         inside: usize,
         change: &PauliChange,
+        framed: &mut u64,
     ) -> Result<Option<PastPlaces>, Refusal>
         requires checked { check_within self.now.tableau.qubits (circuit_items circuit.now) ≡ None }
         requires same_length { length change.now.string.letters ≡ self.now.tableau.qubits }
@@ -177,6 +180,8 @@ impl Recording {
         requires before { IsCount (span.first + 1) self.now.checkpoints.items before }
         requires order { before ≤ inside }
         requires inside { inside ≤ length self.now.checkpoints.items }
+        requires none_framed { framed.old ≡ 0 }
+        ensures most { framed.new ≤ length (unroll (circuit_items circuit.now)) - span.first }
         ensures passed { IfOk result (λ found. IfSome found (λ p. IsPastPlaces (unroll (circuit_items circuit.now)) span before inside change.now self.now p.from p.propagation p.copies.items)) }
         ensures apart { OnOk result (All IsApart (unroll (circuit_items circuit.now))) }
         ensures err { IfErr result (λ r. r ≡ OutOfMemory) }
@@ -199,6 +204,7 @@ impl Recording {
             &mut cursor,
             &mut propagation,
             &mut passed,
+            framed,
         )?;
         if !went {
             return Ok(None);
@@ -212,7 +218,7 @@ impl Recording {
 
     /// Propagates a frame that went past the places of a change on over the steps after its span, past the
     /// copies from a number on. `None` if it can't give the run after it. Copies are looked at in the
-    /// memory of a spare tableau if there is one.
+    /// memory of a spare tableau if there is one. The steps that it passes are counted either way.
     ///
     /// Refusal `OutOfMemory` alone.
     fn conjugating(
@@ -223,6 +229,7 @@ impl Recording {
         inside: usize,
         passed: PastPlaces,
         spare: &mut Option<Tableau>,
+        framed: &mut u64,
     ) -> Result<Option<Conjugating>, Refusal>
         requires checked { check_within self.now.tableau.qubits (circuit_items circuit.now) ≡ None }
         requires follows { (coins : ℕ → Bool) × (K : ℕ) × (change : PauliChange) × Follows self.now.tableau.qubits coins K (unroll (circuit_items circuit.now)) span (Some change) self.now }
@@ -232,6 +239,8 @@ impl Recording {
         requires few { passed.propagation.coin + length (drop span.new_end (unroll (circuit_items circuit.now))) < 2 ^ 63 }
         requires inside { inside ≤ length self.now.checkpoints.items }
         requires behind { IfSome (slice_get self.now.checkpoints.items inside) (λ c. span.old_end ≤ c.step) }
+        requires few_framed { framed.old ≤ 2 * most_steps }
+        ensures most { framed.new ≤ framed.old + (length (unroll (circuit_items circuit.now)) - span.new_end) }
         ensures conjugating { IfOk result (λ found. IfSome found (IsConjugating (unroll (circuit_items circuit.now)) span inside passed self.now)) }
         ensures err { IfErr result (λ r. r ≡ OutOfMemory) }
     {
@@ -254,6 +263,7 @@ impl Recording {
             &mut propagation,
             &mut conjugated,
             spare,
+            framed,
         )?;
         if !advanced {
             return Ok(None);
@@ -290,8 +300,8 @@ impl Recording {
 
     /// Makes this the run of an edited circuit, whose steps differ within the span by Pauli gates alone,
     /// as a change says, by conjugating it where it lies. `None`, and nothing has changed, where a frame
-    /// can't give the new run, or a copy must be laid. Copies are looked at in the memory of a spare tableau
-    /// if there is one.
+    /// can't give the new run, or a copy must be laid; the steps that it passed are then counted. Copies are looked at
+    /// in the memory of a spare tableau if there is one.
     ///
     /// Refusal `OutOfMemory` alone; then nothing has changed either.
     fn conjugate(
@@ -302,11 +312,15 @@ impl Recording {
         change: &PauliChange,
         stride: usize,
         spare: &mut Option<Tableau>,
+        tried: &mut u64,
     ) -> Result<Option<Followed>, Refusal>
         requires checked { check_within self.old.tableau.qubits (circuit_items circuit.now) ≡ None }
         requires same_length { length change.now.string.letters ≡ self.old.tableau.qubits }
         requires follows { (coins : ℕ → Bool) × Follows self.old.tableau.qubits coins stride (unroll (circuit_items circuit.now)) span (Some change.now) self.old }
+        requires none_tried { tried.old ≡ 0 }
+        ensures tried { OnOk result (tried.new ≤ 2 * (length (unroll (circuit_items circuit.now)) - span.first)) }
         ensures conjugated { IfOk result (λ found. IfSome found (λ f. (coins : ℕ → Bool) → Follows self.old.tableau.qubits coins stride (unroll (circuit_items circuit.now)) span (Some change.now) self.old → HasConjugated self.old.tableau.qubits coins stride (unroll (circuit_items circuit.now)) (observables_of (circuit_items circuit.now)) span self.old f self.new)) }
+        ensures none_in_vain { IfOk result (λ found. IfSome found (λ f. f.tried ≡ 0)) }
         ensures apart { IfOk result (λ found. IfSome found (λ _. All IsApart (unroll (circuit_items circuit.now)))) }
         ensures none { IfOk result (λ found. found ≡ None → self.new ≡ self.old) }
         ensures unchanged { OnErr result (self.new ≡ self.old) }
@@ -320,7 +334,8 @@ impl Recording {
         let before = count_before(copies, span.first + 1);
         let inside = count_within(copies, before, span.old_end);
         let begin = copies[before - 1].step;
-        let Some(passed) = self.past_places(alloc, circuit, span, before, inside, change)? else {
+        let Some(passed) = self.past_places(alloc, circuit, span, before, inside, change, tried)?
+        else {
             return Ok(None);
         };
         let Some(last) = last_near(begin, passed.copies.as_slice(), stride) else {
@@ -329,7 +344,9 @@ impl Recording {
         if !stays_near(last, copies, inside, span, total, stride) {
             return Ok(None);
         }
-        let Some(conjugating) = self.conjugating(alloc, circuit, span, inside, passed, spare)?
+        let Some(conjugating) = self.conjugating(
+            alloc, circuit, span, inside, passed, spare, tried,
+        )?
         else {
             return Ok(None);
         };
@@ -345,8 +362,8 @@ impl Recording {
     }
 
     /// Makes this the run of an edited circuit, whose steps differ within the span, and says how
-    /// many steps were carried out for it, and how many a frame was propagated over. The run is as before if
-    /// memory is refused.
+    /// many steps were carried out for it, how many others it passed, and how many frames went over in vain. The run is
+    /// as before if memory is refused.
     ///
     /// If old and new steps differ by Pauli gates alone, they differ as the given change says. A frame then conjugates
     /// the run in place, and no step is carried out. Else, and if that can't be, steps are carried out anew, in
@@ -375,12 +392,16 @@ impl Recording {
         ensures asked { C.asks coins.new ≤ C.asks coins.old + all_coins_of (unroll (circuit_items circuit.now)) }
         ensures asked_behind { C.asks coins.new ≤ C.asks coins.old + ((length (unroll (circuit_items circuit.now)) - span.first) + stride) }
         ensures applied { IfOk result (λ f. f.applied + f.framed ≤ (length (unroll (circuit_items circuit.now)) - span.first) + stride) }
+        ensures tried { IfOk result (λ f. f.tried ≤ 3 * (length (unroll (circuit_items circuit.now)) - span.first)) }
         ensures few { IfOk result (λ f. (xs : List Step) (count far : ℕ) → IsRecording self.old.tableau.qubits (C.sequence coins.old) stride xs count self.old → IsSpan xs (unroll (circuit_items circuit.now)) span → AgreeBehindSpan self.old.tableau.qubits (C.sequence coins.old) xs (unroll (circuit_items circuit.now)) span far → f.applied + f.framed ≤ ((span.new_end - span.first) + 2 * stride) + far) }
         ensures counted { IfOk result (λ f. (xs : List Step) (count : ℕ) → IsRecording self.old.tableau.qubits (C.sequence coins.old) stride xs count self.old → IsSpan xs (unroll (circuit_items circuit.now)) span → IsCounted (AgreeBehindSpan self.old.tableau.qubits (C.sequence coins.old) xs (unroll (circuit_items circuit.now)) span) (AgreeBackBehindSpan self.old.tableau.qubits (C.sequence coins.old) xs (unroll (circuit_items circuit.now)) span) (checkpoint_steps self.old.checkpoints.items) span.first span.old_end span.new_end (length (unroll (circuit_items circuit.now))) (f.applied + f.framed)) }
         ensures err { IfErr result (λ r. r ≡ OutOfMemory) }
     {
+        let mut tried = 0;
         if let Some(change) = paulis {
-            if let Some(followed) = self.conjugate(alloc, circuit, span, &change, stride, spare)? {
+            if let Some(followed) = self.conjugate(
+                alloc, circuit, span, &change, stride, spare, &mut tried,
+            )? {
                 return Ok(followed);
             }
         }
@@ -393,6 +414,7 @@ impl Recording {
             stride,
             coins,
             spare,
+            tried,
         )
     }
 }

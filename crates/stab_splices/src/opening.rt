@@ -72,6 +72,7 @@ fn run_checked<C: Coins>(
         stride,
         coins,
         &mut None,
+        0,
     )?;
     Ok(kept)
 }

@@ -47,7 +47,7 @@ fn skip_steps(cursor: &mut Cursor, count: usize) -> bool
     true
 }
 
-/// Propagates a frame over exactly this many steps of a cursor. False if fewer are left, or a string
+/// Propagates a frame over exactly this many steps of a cursor, and counts them. False if fewer are left, or a string
 /// is missing.
 ///
 /// Refusal of memory alone.
@@ -57,11 +57,15 @@ fn propagate_exactly(
     free: &[bool],
     cursor: &mut Cursor,
     count: usize,
+    framed: &mut u64,
 ) -> Result<bool, AllocError>
     requires same_length { strings.now.qubits ≡ length propagation.old.letters }
     requires fits { All (StepFits (length propagation.old.letters)) cursor.old.left }
     requires placed { IsPlaced free.now propagation.old }
     requires few { propagation.old.coin + length cursor.old.left < 2 ^ 63 }
+    requires few_framed { framed.old + length cursor.old.left < 2 ^ 63 }
+    ensures most { framed.new ≤ framed.old + length cursor.old.left }
+    ensures counted { IfOk result (λ went. went ≡ true → framed.new + length cursor.new.left ≤ framed.old + length cursor.old.left) }
     ensures all { cursor.new.all ≡ cursor.old.all }
     ensures length { length propagation.new.letters ≡ length propagation.old.letters }
     ensures placed { OnOk result (IsPlaced free.now propagation.new) }
@@ -70,7 +74,7 @@ fn propagate_exactly(
     ensures propagated { IfOk result (λ went. went ≡ true → PropagatesOver (length propagation.old.letters) (pivot_at strings.now.strings free.now) (take count cursor.old.left) propagation.old propagation.new) }
     ensures enough { IfOk result (λ went. went ≡ true → AreEnoughBy (length propagation.old.letters) (pivot_at strings.now.strings free.now) free.now cursor.old.left count propagation.old) }
 {
-    let propagated = propagate_steps(propagation, strings, free, cursor, count, 0, false)?;
+    let propagated = propagate_steps(propagation, strings, free, cursor, count, 0, false, framed)?;
     Ok(propagated.stop != Stop::NoString && propagated.steps == count)
 }
 
@@ -89,7 +93,7 @@ fn behind_place(step: usize, place: usize, least: usize, most: usize) -> Option<
 /// Propagates a frame over the steps of a gap, which a cursor has next. They come after `old` steps of the old run
 /// and `new` steps of the new one, and are the same in both. It goes past copies of the old run that are among them. It
 /// makes each such copy one of the new run, after others. False if a string is missing, or a copy
-/// is elsewhere.
+/// is elsewhere. The steps that it passes are counted either way.
 ///
 /// Refusal `OutOfMemory` alone.
 fn propagate_piece(
@@ -103,12 +107,16 @@ fn propagate_piece(
     cursor: &mut Cursor,
     propagation: &mut Propagation,
     passed: &mut Vec<Checkpoint>,
+    framed: &mut u64,
 ) -> Result<bool, Refusal>
     requires same_length { strings.now.qubits ≡ length propagation.old.letters }
     requires fits { All (StepFits (length propagation.old.letters)) cursor.old.left }
     requires placed { IsPlaced free.now propagation.old }
     requires few { propagation.old.coin + length cursor.old.left < 2 ^ 63 }
     requires same_qubits { All (λ c. c.tableau.qubits ≡ length propagation.old.letters) copies.now }
+    requires few_framed { framed.old + length cursor.old.left < 2 ^ 63 }
+    ensures most { framed.new ≤ framed.old + length cursor.old.left }
+    ensures counted { IfOk result (λ went. went ≡ true → framed.new + length cursor.new.left ≤ framed.old + length cursor.old.left) }
     ensures all { cursor.new.all ≡ cursor.old.all }
     ensures length { length propagation.new.letters ≡ length propagation.old.letters }
     ensures placed { OnOk result (IsPlaced free.now propagation.new) }
@@ -124,7 +132,7 @@ fn propagate_piece(
         let Some(behind) = behind_place(copy.step, old, gone, gap) else {
             return Ok(false);
         };
-        if !propagate_exactly(propagation, strings, free, cursor, behind - gone)? {
+        if !propagate_exactly(propagation, strings, free, cursor, behind - gone, framed)? {
             return Ok(false);
         }
         passed.push(Checkpoint {
@@ -134,7 +142,7 @@ fn propagate_piece(
         })?;
         gone = behind;
     }
-    Ok(propagate_exactly(propagation, strings, free, cursor, gap - gone)?)
+    Ok(propagate_exactly(propagation, strings, free, cursor, gap - gone, framed)?)
 }
 
 /// The first copies of some, after this many, that are before a step or at it.
@@ -154,7 +162,7 @@ fn copies_until(copies: &[Checkpoint], from: usize, step: usize) -> &[Checkpoint
 /// of the change. Copies of the old run that are there are made copies of the new one, in order.
 ///
 /// False if a string is missing, or a copy is among the gates of a place, or after all. What it
-/// made so far is then irrelevant.
+/// made so far is then irrelevant. The steps that it passes are counted either way.
 ///
 /// Refusal `OutOfMemory` alone.
 pub fn propagate_places(
@@ -167,6 +175,7 @@ pub fn propagate_places(
     cursor: &mut Cursor,
     propagation: &mut Propagation,
     passed: &mut Vec<Checkpoint>,
+    framed: &mut u64,
 ) -> Result<bool, Refusal>
     requires same_length { strings.now.qubits ≡ length propagation.old.letters }
     requires string { length change.now.string.letters ≡ length propagation.old.letters }
@@ -175,6 +184,8 @@ pub fn propagate_places(
     requires few { propagation.old.coin + length cursor.old.left < 2 ^ 63 }
     requires same_qubits { All (λ c. c.tableau.qubits ≡ length propagation.old.letters) copies.now }
     requires nothing { passed.old.items ≡ [] }
+    requires few_framed { framed.old + length cursor.old.left < 2 ^ 63 }
+    ensures most { framed.new ≤ framed.old + length cursor.old.left }
     ensures length { length propagation.new.letters ≡ length propagation.old.letters }
     ensures placed { OnOk result (IsPlaced free.now propagation.new) }
     ensures coin { IfOk result (λ went. went ≡ true → propagation.new.coin ≤ propagation.old.coin + length cursor.old.left) }
@@ -204,6 +215,7 @@ pub fn propagate_places(
             cursor,
             propagation,
             passed,
+            framed,
         )? {
             return Ok(false);
         }

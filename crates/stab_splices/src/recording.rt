@@ -40,11 +40,13 @@ pub struct Recording {
     pub window: u32,
 }
 
-/// How an edit was followed: how many steps were carried out for it, and how many a frame was propagated over.
+/// How an edit was followed: how many steps were carried out for it, how many others it passed, and how many frames went over
+/// that came to no end.
 #[derive(Clone, Copy)]
 pub struct Followed {
     pub applied: u64,
     pub framed: u64,
+    pub tried: u64,
 }
 
 /// What a replay leaves, in memory of its own.
@@ -145,8 +147,9 @@ impl Recording {
     }
 
     /// Makes this the run of an edited circuit, whose steps differ within the span, by carrying out
-    /// steps anew, and says how many were, and how many a frame was propagated over. In repeats of the circuit's steps
-    /// what rounds gave is given again, if they come again. The run is as before if memory is refused.
+    /// steps anew, and says how many were, how many others it passed, and how many frames went over in vain, with those of an attempt
+    /// before. In repeats of the circuit's steps what rounds gave is given again, if they come again. The run is as before if memory is
+    /// refused.
     ///
     /// The replay goes on in the memory of a spare tableau if there is one, and one of the two
     /// that are then at hand is the next spare.
@@ -159,11 +162,13 @@ impl Recording {
         stride: usize,
         coins: &mut C,
         spare: &mut Option<Tableau>,
+        tried: u64,
     ) -> Result<Followed, Refusal>
         requires checked { check_within self.old.tableau.qubits (circuit_items circuit.now) ≡ None }
         requires repeats { AreRepeats 0 (unroll (circuit_items circuit.now)) repeats.now }
         requires stride { 1 ≤ stride }
         requires follows { Follows self.old.tableau.qubits (C.sequence coins.old) stride (unroll (circuit_items circuit.now)) span None self.old }
+        requires tried { tried ≤ 2 * (length (unroll (circuit_items circuit.now)) - span.first) }
         ensures kept { OnOk result (IsRecording self.old.tableau.qubits (C.sequence coins.old) stride (unroll (circuit_items circuit.now)) (observables_of (circuit_items circuit.now)) self.new) }
         ensures apart { OnOk result (All IsApart (unroll (circuit_items circuit.now))) }
         ensures qubits { self.new.tableau.qubits ≡ self.old.tableau.qubits }
@@ -174,12 +179,14 @@ impl Recording {
         ensures asked { C.asks coins.new ≤ C.asks coins.old + all_coins_of (unroll (circuit_items circuit.now)) }
         ensures asked_behind { C.asks coins.new ≤ C.asks coins.old + ((length (unroll (circuit_items circuit.now)) - span.first) + stride) }
         ensures applied { IfOk result (λ f. f.applied + f.framed ≤ (length (unroll (circuit_items circuit.now)) - span.first) + stride) }
+        ensures tried { IfOk result (λ f. f.tried ≤ 3 * (length (unroll (circuit_items circuit.now)) - span.first)) }
         ensures few { IfOk result (λ f. (xs : List Step) (count far : ℕ) → IsRecording self.old.tableau.qubits (C.sequence coins.old) stride xs count self.old → IsSpan xs (unroll (circuit_items circuit.now)) span → AgreeBehindSpan self.old.tableau.qubits (C.sequence coins.old) xs (unroll (circuit_items circuit.now)) span far → f.applied + f.framed ≤ ((span.new_end - span.first) + 2 * stride) + far) }
         ensures counted { IfOk result (λ f. (xs : List Step) (count : ℕ) → IsRecording self.old.tableau.qubits (C.sequence coins.old) stride xs count self.old → IsSpan xs (unroll (circuit_items circuit.now)) span → IsCounted (AgreeBehindSpan self.old.tableau.qubits (C.sequence coins.old) xs (unroll (circuit_items circuit.now)) span) (AgreeBackBehindSpan self.old.tableau.qubits (C.sequence coins.old) xs (unroll (circuit_items circuit.now)) span) (checkpoint_steps self.old.checkpoints.items) span.first span.old_end span.new_end (length (unroll (circuit_items circuit.now))) (f.applied + f.framed)) }
         ensures err { IfErr result (λ r. r ≡ OutOfMemory) }
     {
         let before = count_before(self.checkpoints.as_slice(), span.first + 1);
         let mut replay = self.resume(alloc, circuit, before - 1, spare.take())?;
+        let mut tried = tried;
         let plan = Plan {
             total: circuit.steps(),
             stride,
@@ -198,11 +205,13 @@ impl Recording {
             &self.strings,
             plan,
             coins,
+            &mut tried,
         )?;
         let place = self.place_of(&end, replay.step, span, plan.total);
         let followed = Followed {
             applied: replay.applied,
             framed: replay.framed + (place - replay.step) as u64,
+            tried,
         };
         let prepared = self.prepare(alloc, replay, end, circuit.observables(), spare)?;
         self.commit(prepared, before, stride, spare);

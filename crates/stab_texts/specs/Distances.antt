@@ -1,8 +1,9 @@
 -- Distances: what `distance` writes of the errors of a circuit, and how a call of it ends.
 -- Source: this project's own.
-use Rattle.std.specs.Prelude.{◌≡◌, ℕ, ◌<◌, Bool, true, false, List, [], ◌++◌, length, codes, decimal, Option, Some, None, Result}
+use Rattle.std.specs.Prelude.{◌≡◌, ℕ, ◌<◌, Bool, true, false, List, [], ◌++◌, length, codes, decimal, Option, Some, None, Result, Ok, Err, IfOk, ◌⊎◌}
 use Rattle.std.specs.List.{flat_map}
 use Rattle.stab_io.specs.Devices.{InputView, OutputView}
+use Rattle.stab_io.specs.declared.refusal.Refusal.{Refusal}
 use Rattle.stab_io.specs.declared.refusal.Refusal.TheVariants.{OutOfMemory, NotDeterministic}
 use Rattle.stab_io.specs.declared.refusal.Fault.{Fault}
 use Rattle.stab_io.specs.Refusals.{whole}
@@ -16,13 +17,15 @@ use Rattle.stab_regions.specs.Faults.{FaultPlace, bits_in, IsDeterministic}
 use Rattle.stab_distance.specs.declared.answer.Answer.{Answer}
 use Rattle.stab_distance.specs.declared.answer.Answer.TheVariants.{Least, NoneWithin, NoneAtAll}
 use Rattle.stab_distance.specs.Tables.{row}
+use Rattle.stab_distance.specs.Progress.{Heard}
 use Rattle.stab_jobs.specs.declared.job.DistanceOptions.{DistanceOptions}
 use Rattle.stab_errors.specs.Errors.{Error, letter, letters, wrong_record, first_fault, errors_of}
 use Rattle.stab_errors.specs.Parts.{AreSearched}
 use Rattle.stab_errors.specs.ErrorTables.{ErrorTableState, IsErrorTable}
-use Rattle.stab_errors.specs.Unseen.{IsDistance, error_at}
+use Rattle.stab_errors.specs.Unseen.{IsDistance, TellsUnseen, error_at}
 use Rattle.stab_texts.specs.declared.random.Random.{Random}
 use Rattle.stab_texts.specs.Deterministic.{kinds_of}
+use Rattle.stab_texts.specs.Endings.{Ends}
 use Rattle.stab_texts.specs.FaultTables.{IsFirstRandom, EndsOrNames}
 use Rattle.stab_texts.specs.Places.{path_at}
 
@@ -53,13 +56,14 @@ abbrev pub numbered_line : Items → ErrorTableState → ℕ → List ℕ
 numbered_line items t k = error_line (kinds_of items) (path_at items (first_fault (error_at t.errors k)).step) (error_at t.errors k) (row t.table.rows k)
 
 -- of which errors a distance is
-abbrev pub of_errors : (graphlike : Bool) → List ℕ
-of_errors false = codes " of all errors"
-of_errors true = codes " of graph-like errors"
+abbrev pub of_errors : (graphlike everywhere : Bool) → List ℕ
+of_errors true everywhere = codes " of graph-like errors"
+of_errors false false = codes " of all marked errors"
+of_errors false true = codes " of all errors everywhere"
 
 -- the line of this number of errors
-abbrev pub distance_line : (count : ℕ) → (graphlike : Bool) → List ℕ
-distance_line count graphlike = codes "distance " ++ (decimal count ++ (of_errors graphlike ++ codes "\n"))
+abbrev pub distance_line : (count : ℕ) → (graphlike everywhere : Bool) → List ℕ
+distance_line count graphlike everywhere = codes "distance " ++ (decimal count ++ (of_errors graphlike everywhere ++ codes "\n"))
 
 -- the number of errors up to which no set was found, and of which errors
 abbrev pub up_to : (most : Option ℕ) → List ℕ
@@ -68,14 +72,14 @@ up_to (Some most) = codes " up to " ++ decimal most
 
 abbrev pub if_graphlike : (graphlike : Bool) → List ℕ
 if_graphlike false = []
-if_graphlike true = of_errors true
+if_graphlike true = of_errors true true
 
 abbrev pub none_line : (most : Option ℕ) → (graphlike : Bool) → List ℕ
 none_line most graphlike = codes "none" ++ (up_to most ++ (if_graphlike graphlike ++ codes "\n"))
 
 -- what is written of an answer: the number of errors and a line for each, or that there is no such set
 abbrev pub answer_text : DistanceOptions → Items → ErrorTableState → Answer → List ℕ
-answer_text options items t (Least numbers) = distance_line (length numbers.items) options.graphlike ++ flat_map (numbered_line items t) numbers.items
+answer_text options items t (Least numbers) = distance_line (length numbers.items) options.graphlike options.everywhere ++ flat_map (numbered_line items t) numbers.items
 answer_text options items t NoneWithin = none_line options.most options.graphlike
 answer_text options items t NoneAtAll = none_line None options.graphlike
 
@@ -99,3 +103,20 @@ IsRefusedFor deterministic_only items None fault = fault ≡ whole OutOfMemory
 -- How a call of `distance` ends, over an input and an output, with a bit that it names or none.
 abbrev pub EndsDistance : {T : Type 0} → DistanceOptions → InputView → InputView → OutputView → OutputView → Result T Fault → Option Random → Type 0
 EndsDistance options i i' o o' r random = EndsOrNames (IsDistanceText options) options.deterministic_only i i' o o' r random
+
+-- what is heard of a search among the errors of a circuit that are asked for, and what it found
+pub record HearsSearch (options : DistanceOptions) (items : Items) (old new : Option (List Heard)) (result : Result Answer Refusal) : Type 0 where
+  pub t : ErrorTableState
+  pub errors : AreSearched options.graphlike (qubits_of items) items (errors_of options.everywhere options.letters items) t.errors
+  pub table : IsErrorTable (qubits_of items) items t
+  pub found : IfOk result (IsDistance options.graphlike (qubits_of items) items t.errors options.most)
+  pub told : TellsUnseen options.graphlike (qubits_of items) items t.errors options.most old new result
+
+-- what is heard of a call with the items of a circuit: nothing, if it ended before its search, or what its search reports
+abbrev pub HearsDistance : {T : Type 0} → DistanceOptions → Items → Option (List Heard) → Option (List Heard) → Result T Fault → Type 0
+HearsDistance options items old new (Ok x) = (answer : Answer) × HearsSearch options items old new (Ok answer)
+HearsDistance options items old new (Err f) = (new ≡ old) ⊎ ((answer : Result Answer Refusal) × HearsSearch options items old new answer)
+
+-- What is heard of a call of `distance`, over an input.
+abbrev pub TellsDistance : {T : Type 0} → DistanceOptions → InputView → InputView → Option (List Heard) → Option (List Heard) → Result T Fault → Type 0
+TellsDistance options i i' old new r = Ends (λ _. new ≡ old) (λ items. HearsDistance options items old new) i i' r

@@ -30,7 +30,7 @@ FlushesOrFault old new (Err f) = (f ≡ whole WriteFault) × FlushFailed old new
 abbrev pub FailsToSend : OutputView → OutputView → List ℕ → Type 0
 FailsToSend old new bytes = TookAndFailed old new bytes ⊎ TookAndFlushFailed old new bytes
 
--- These bytes were sent: all of them were written, and flushed once; or the output failed; or memory was refused after some first bytes.
+-- These bytes were sent: all of them were written, and flushed once; or the output failed; or the answer is 20 after some first bytes.
 abbrev pub Sends : {T : Type 0} → List ℕ → OutputView → OutputView → Result T Fault → Type 0
 Sends bytes old new (Ok x) = TookAndFlushed old new bytes
 Sends bytes old new (Err f) = ((f ≡ whole WriteFault) × FailsToSend old new bytes) ⊎ ((f ≡ whole OutOfMemory) × TookSome old new bytes)
@@ -40,7 +40,7 @@ abbrev pub SendsUnflushed : {T : Type 0} → List ℕ → OutputView → OutputV
 SendsUnflushed bytes old new (Ok x) = Took old new bytes
 SendsUnflushed bytes old new (Err f) = CutOff old new bytes f
 
--- Bytes like these were sent, which were gathered first: all were written, and flushed once; or the output failed; or memory was refused
+-- Bytes like these were sent, which were gathered first: all were written, and flushed once; or the output failed; or the answer is 20
 -- before the first.
 abbrev pub SendsFound : {T : Type 0} → (List ℕ → Type 0) → OutputView → OutputView → Result T Fault → Type 0
 SendsFound are old new (Ok x) = (bytes : List ℕ) × are bytes × TookAndFlushed old new bytes

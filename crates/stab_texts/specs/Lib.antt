@@ -9,6 +9,7 @@ pub mod Deciders
 pub mod Places
 pub mod FaultTables
 pub mod Distances
+pub mod DoubtLines
 pub mod CoinTables
 pub mod Reasons
 pub mod inner

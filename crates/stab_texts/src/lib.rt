@@ -8,16 +8,18 @@
 //! - `fault_sites`: the places for faults at a step.
 //! - `fault_lines`, `fault_bits`: a table of faults as lines, and as shots.
 //! - `error_lines`: errors as lines.
+//! - `doubt_lines`: marks that may be meant in another way, as lines.
 //!
 //! `specs/` says what each reply is, for `stab_analysis`, which finds it, and for `stab_script`, which asks for it: how a
 //! call ends (`Endings`), rows of a group (`Rows`), which bits are the same for all random bits (`Deterministic`), what
-//! faults flip (`FaultTables`), distances (`Distances`), coins that decide (`Deciders`, `CoinTables`, `Reasons`).
+//! faults flip (`FaultTables`), distances (`Distances`), marks that may be meant in another way (`DoubtLines`), coins that decide (`Deciders`, `CoinTables`, `Reasons`).
 //!
 //! Source: this project's own.
 //!
 //! Proved: what is written is the text that is asked for, or a first part of it if the output failed.
 #![tactic(auto)]
 
+mod doubt_lines;
 mod error_lines;
 mod fault_bits;
 mod fault_line;
@@ -26,6 +28,7 @@ mod fault_sites;
 mod random;
 mod writing;
 
+pub use doubt_lines::tell_doubts;
 pub use error_lines::write_errors;
 pub use fault_bits::{write_row, write_shots};
 pub use fault_line::{write_decider, write_fault, write_refused};

@@ -17,8 +17,8 @@ mod progress;
 use files::{FirstLine, NotedWriter, Reader, Replaced, STANDARD_INPUT, Sink, Writer, are_one_file};
 use progress::SearchProgress;
 use stab_cli::{
-    CoinsFault, Command, FaultLayout, Job, NO_COINS, NoWatcher, Source, Usage, parse_words,
-    read_coins, run_job_watched, write_fault, write_usage,
+    CoinsFault, Command, ErrorLetters, FaultLayout, Job, NO_COINS, NoWatcher, Source, Usage,
+    parse_words, read_coins, run_job_watched, write_fault, write_usage,
 };
 use stab_pauli::{Device, Fault, Output, Refusal, write_all};
 use stab_results::Format;
@@ -37,6 +37,9 @@ const ONE_COIN_FILE: &str = "stabsim: --coins_in and --out are one file\n";
 const ONE_INPUT: &str = "stabsim: standard input and --out are one file\n";
 
 const NO_MARKS: &str = "stabsim: no place is marked by I; --everywhere asks for all places\n";
+
+const NO_LETTERS: &str =
+    "stabsim: no place is marked by I with X or Z; --everywhere asks for all places\n";
 
 // What a terminal is shown after the line of a circuit that was refused.
 const HINT: &str = "stabsim: what is wrong and where: give the same circuit to `stabsim check`\n";
@@ -220,7 +223,7 @@ fn run_on<E: Output>(
         name_file(rt, path.as_str(), Some(error), err);
     }
     if status == 0 && is_on_no_marks(job.command, progress.is_over_nothing(), writer.is_empty()) {
-        let _ = write_all(err, NO_MARKS.as_bytes());
+        let _ = write_all(err, no_marks(job.command).as_bytes());
     }
     status
 }
@@ -244,6 +247,14 @@ fn is_on_no_marks(command: Command, is_over_nothing: bool, is_empty: bool) -> bo
         } => is_empty && !everywhere && layout != FaultLayout::Shots(Format::B8),
         Command::Distance(options) => is_over_nothing && !options.everywhere,
         _ => false,
+    }
+}
+
+/// What is said if there are none: a mark may have Y alone, which some letters leave out.
+fn no_marks(command: Command) -> &'static str {
+    match command {
+        Command::Distance(options) if matches!(options.letters, ErrorLetters::XAndZ) => NO_LETTERS,
+        _ => NO_MARKS,
     }
 }
 

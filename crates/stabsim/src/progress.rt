@@ -1,4 +1,6 @@
 //! How far a search for a distance is.
+ghost use Rattle.std.specs.Prelude.{None};
+
 use stab_cli::Progress;
 use std::io::Write;
 
@@ -28,6 +30,8 @@ impl<W> SearchProgress<W> {
 }
 
 impl<W: Write> Progress for SearchProgress<W> {
+    ghost heard = { λ _. None };
+
     fn begins(&mut self, errors: usize) {
         self.is_over_nothing = errors == 0;
     }

@@ -1,5 +1,6 @@
 //! Texts of circuits and of items.
 use crate::answers::assert_same;
+use crate::made_items::tagged_tick;
 use stab_circuit::{
     Circuit, Path, Refused, read_circuit, read_item, write_circuit, write_one_item,
 };
@@ -84,6 +85,19 @@ fn items_are_lent_in_order(rt: HostRuntime) -> Result<(), Fail> {
     let texts = items_text(rt.alloc(), &circuit)?;
     let expected = "X 0\n--\nTICK[a]\n--\nREPEAT 2 {\n    M 0\n}\n--\nX 0\n--\n";
     assert!(rt; texts.bytes() == expected.as_bytes());
+    Ok(())
+}
+
+#[test]
+fn a_made_item_is_read_back(rt: HostRuntime) -> Result<(), Fail> {
+    let mut circuit = read(rt.alloc(), "X 0\n")?;
+    let made = tagged_tick(rt.alloc())?;
+    let put = circuit.insert(Path::new(&[0]), made);
+    let text = "TICK[by hand]\nX 0\n";
+    let again = read(rt.alloc(), text)?;
+    assert!(rt;
+        put.is_ok() && prints(rt.alloc(), &circuit, text)? && prints(rt.alloc(), &again, text)?
+    );
     Ok(())
 }
 

@@ -3,7 +3,7 @@
 //! They are proved, and never run: if a clause came to say less than it does, the proof of its
 //! caller here would fail.
 
-ghost use Rattle.std.specs.Prelude.{◌≡◌, ◌↔◌, ℕ, ◌+◌, ◌*◌, ◌<◌, ◌≤◌, nat_le, [], length, take, min, slice_get, is_some, Some, None, Ok, true, IfOk, IfSome, IfErr, OnOk, OnErr};
+ghost use Rattle.std.specs.Prelude.{◌≡◌, ◌↔◌, ℕ, ◌+◌, ◌-◌, ◌*◌, ◌<◌, ◌≤◌, nat_le, [], length, take, min, slice_get, is_some, Some, None, Ok, true, IfOk, IfSome, IfErr, OnOk, OnErr};
 ghost use Rattle.stab_gates.specs.Letters.{letter_phase};
 ghost use Rattle.stab_pauli.specs.Paulis.{commute};
 ghost use Rattle.stab_io.specs.MemoryDevices.{GivesWhatFits, GivesAPiece, TakesWhatFits, FlushesAsSet};
@@ -29,7 +29,7 @@ ghost use Rattle.stab_shots.specs.Shots.{AreShots};
 ghost use Rattle.stab_shots.specs.References.{most_pivots, IsReference};
 ghost use Rattle.stab_run.specs.Coins.{zero_coins};
 ghost use Rattle.stab_session.specs.Sessions.{IsSignIn};
-ghost use Rattle.stab_session.specs.Bounds.{steps_from_change, steps_near_change, most_refused_asks, most_checkpoints, AgreeBehind, IsCountOf};
+ghost use Rattle.stab_session.specs.Bounds.{steps_from_change, steps_near_change, most_tried, most_refused_asks, most_checkpoints, AgreeBehind, IsCountOf};
 
 use stab_circuit::{Circuit, Item, Path, Refused, Repeat};
 use stab_pauli::{
@@ -267,12 +267,13 @@ fn edited_or_given_back<C: Coins>(session: &mut Session<C>, edit: Edit) -> Resul
     session.apply(edit)
 }
 
-/// A report bounds and counts the steps that an edit carried out and those that it went past in another way. An edit asks for no more coins
+/// A report bounds and counts the steps that an edit carried out and those that it went past in another way, or in vain. An edit asks for no more coins
 /// than it carried out steps, and a refused one for few. The report says how many copies of the state are kept, and these are few.
 fn edited_with_counts<C: Coins>(session: &mut Session<C>, edit: Edit) -> Result<Report, Refused>
-    ensures framed { IfOk result (λ r. r.applied + r.framed ≤ steps_from_change edit session.old session.new) }
-    ensures early { IfOk result (λ r. (far : ℕ) → AgreeBehind C.sequence edit session.old session.new far → r.applied + r.framed ≤ steps_near_change edit session.new + far) }
-    ensures counted { IfOk result (λ r. IsCountOf C.sequence edit session.old session.new (r.applied + r.framed)) }
+    ensures framed { IfOk result (λ r. r.applied + r.framed ≤ steps_from_change edit session.old session.new + r.tried) }
+    ensures tried { IfOk result (λ r. r.tried ≤ most_tried edit session.old session.new) }
+    ensures early { IfOk result (λ r. (far : ℕ) → AgreeBehind C.sequence edit session.old session.new far → r.applied + (r.framed - r.tried) ≤ steps_near_change edit session.new + far) }
+    ensures counted { IfOk result (λ r. IsCountOf C.sequence edit session.old session.new (r.applied + (r.framed - r.tried))) }
     ensures asks { IfOk result (λ r. C.asks session.new.coins ≤ C.asks session.old.coins + r.applied) }
     ensures refused_asks { OnErr result (C.asks session.new.coins ≤ C.asks session.old.coins + most_refused_asks edit session.old) }
     ensures checkpoints { IfOk result (λ r. r.checkpoints ≡ length session.new.checkpoints) }

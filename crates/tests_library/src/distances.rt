@@ -1,5 +1,5 @@
 //! The search for a least logical error in a table of errors: worked examples, and tables at random beside all sets of their errors.
-ghost use Rattle.std.specs.Prelude.{IfOk};
+ghost use Rattle.std.specs.Prelude.{IfOk, None};
 ghost use Rattle.stab_distance.specs.Ascending.{IsAscending};
 
 use stab_distance::{
@@ -260,6 +260,8 @@ struct Told {
 }
 
 impl Progress for Told {
+    ghost heard = { λ _. None };
+
     fn begins(&mut self, _errors: usize) {}
 
     fn none_within(&mut self, errors: usize) {
@@ -269,17 +271,24 @@ impl Progress for Told {
 }
 
 /// What a search of a repetition code of distance 5 reports.
-fn reports(alloc: Global) -> Result<Told, Refusal> {
+fn reports(alloc: Global, search: Search, most: usize) -> Result<Told, Refusal> {
     let table = table_of(alloc, 4, LINE_OF_4)?;
     let mut told = Told { last: 0, times: 0 };
-    least_logical_error(alloc, &table, 9, &mut told)?;
+    match search {
+        Search::All => least_logical_error(alloc, &table, most, &mut told)?,
+        Search::Graphlike => least_graphlike_error(alloc, &table, most, &mut told)?,
+    };
     Ok(told)
 }
 
 #[test]
 fn each_number_of_errors_that_is_excluded_is_told(rt: HostRuntime) -> Result<(), Fail> {
-    let told = reports(rt.alloc())?;
-    assert!(rt; told.last == 4 && told.times == 4);
+    for search in [Search::All, Search::Graphlike] {
+        for (most, last) in [(9, 4), (4, 4), (2, 2), (0, 0)] {
+            let told = reports(rt.alloc(), search, most)?;
+            assert!(rt; told.last == last && told.times == last);
+        }
+    }
     Ok(())
 }
 

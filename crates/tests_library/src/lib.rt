@@ -6,6 +6,7 @@
 //!
 //! - `letters`, `paulis`, `texts`, `rows`: Pauli letters and strings, their texts, and rows of them.
 //! - `states`: stabiliser states. `devices`: inputs and outputs that fail.
+//! - `made_items`: an item that is made and not read.
 //! - `circuits`, `circuit_edits`, `cursors`, `gaps`, `step_items`: circuits, their edits and their steps.
 //! - `coins`, `samplers`: coins, and runs by them. `results`: entries of results.
 //! - `rounds`: where rounds are that come again, in blocks and written out, and that their pivots count once.
@@ -37,6 +38,7 @@ mod distances;
 mod gaps;
 #[cfg(test)]
 mod letters;
+pub mod made_items;
 #[cfg(test)]
 mod paulis;
 #[cfg(test)]

@@ -175,8 +175,9 @@ const FREE: &str = "REPEAT 1000 {\nMX 0\nM 0\n}";
 //
 // An I changes nothing: from the copy before it on its frame, which has no letter, goes past the steps up to the next copy, or to the
 // end. Copies are nine steps apart. In the first block of two that is not so: with an I in each of its ten rounds its copies would
-// be too far apart. So the rounds are carried out; after the 18th step the state is that after the 9th, three rounds before, so the
-// next nine steps are given again, and ten more lead to the old copy after step 27, which has become step 37.
+// be too far apart: its frame goes in vain over the 19 old steps from the first I to the block's end. So the rounds are carried out;
+// after the 18th step the state is that after the 9th, three rounds before, so the next nine steps are given again, and ten more
+// lead to the old copy after step 27, which has become step 37.
 const COSTS: &[(&str, Item, [usize; 2], usize, (u64, u64))] = &[
     (STILL, (None, 1, "I 0"), [0, 2], 22, (0, 0)),
     (
@@ -186,7 +187,7 @@ const COSTS: &[(&str, Item, [usize; 2], usize, (u64, u64))] = &[
         202,
         (0, 0),
     ),
-    (TWO_BLOCKS, (Some(0), 1, "I 0"), [28, 9], 208, (0, 0)),
+    (TWO_BLOCKS, (Some(0), 1, "I 0"), [28, 9 + 19], 208, (0, 0)),
     (FREE, (None, 0, "I 0"), [0, 10], 402, (2000, 0)),
     (DIES, (None, 0, "X 0"), [0, 10], 10, (0, 0)),
     (DIES_NEAR, (None, 0, "X 0"), [0, 19], 10, (0, 0)),

@@ -6,7 +6,7 @@
 ghost use Rattle.std.specs.Prelude.{◌≡◌, true};
 ghost use Rattle.stab_cli.specs.Jobs.{EndsJob, reads_script};
 ghost use Rattle.stab_cli.specs.Outputs.{EndsRun, detect_of, sample_of};
-ghost use Rattle.stab_cli.specs.Jobs.{CommandInTurn};
+ghost use Rattle.stab_cli.specs.Jobs.{JobInTurn};
 
 use stab_cli::{Job, Progress, Source, Watcher, run_detect, run_job, run_job_watched, run_sample};
 use stab_pauli::{Fault, Input, Output};
@@ -70,7 +70,7 @@ fn run_in_turn<I: Input, S: Input, O: Output, E: Output, W: Watcher<S, O>, P: Pr
     err: &mut E,
     progress: &mut P,
 ) -> u8
-    ensures turns { CommandInTurn job.now.command job.now.source (I.seen input.old) (I.seen input.new) (S.seen script.old) (S.seen script.new) (O.seen out.old) (W.log script.old) (W.log script.new) }
+    ensures turns { JobInTurn job.now (I.seen input.old) (I.seen input.new) (S.seen script.old) (S.seen script.new) (O.seen out.old) (O.seen out.new) (W.log script.old) (W.log script.new) result }
 {
     run_job_watched::<I, S, O, E, W, P>(alloc, job, input, script, out, err, progress)
 }

@@ -17,8 +17,8 @@ The time of a detector is its third coordinate, or of the repetition code, which
 - `toric_code(distance, rounds, basis="Z")`: the toric code, with two logical qubits, of distance 2 to 16.
 - `css_code(hx, hz, rounds, basis="Z")`: any code with checks of X and checks of Z apart, by its matrices; `CssCode` has its numbers
   and logical operators.
-- `bivariate_bicycle_code(l, m, a, b, rounds, basis="Z")`: a bivariate bicycle code by its polynomials, and `bicycle_matrices` its
-  matrices.
+- `bivariate_bicycle_code(l, m, a, b, rounds, basis="Z")`: a bivariate bicycle code by its polynomials, of three terms each, and
+  `bicycle_matrices` the matrices of any.
 - `dense_circuit(qubits, steps, seed)`: no code, but layers of random Clifford gates, measurements and detectors.
 
 `noise` is a `Noise`, or None. `NOISE_MODELS` names what `Noise.uniform` is for each code: circuit-level, if a qubit for each check
@@ -32,9 +32,10 @@ from its description: Stim was not at hand to compare with. `python3 -m stabsim.
 numpy.
 """
 
+from stabsim import checking
 from stabsim.codes import bacon_shor, colour, lattices, repetition, surface
 from stabsim.codes.bacon_shor import bacon_shor_memory
-from stabsim.codes.bicycle import Polynomial, bicycle_matrices
+from stabsim.codes.bicycle import Polynomial, bicycle_layers, bicycle_matrices, terms_of
 from stabsim.codes.colour import colour_memory
 from stabsim.codes.css import CssCode, Matrix, css_memory
 from stabsim.codes.dense import dense_circuit
@@ -83,12 +84,14 @@ MEMORIES = {
 
 def memory(name: str, distance: int, basis: str = "Z", noise: Noise | None = None, bad_schedule: bool = False) -> Memory:
     """The parts of a memory experiment of a code that is named as its function is; the Steane code has distance 3."""
+    checking.one_of("name", name, NOISE_MODELS)
+    distance = checking.whole("distance", distance)
     if basis not in ("X", "Z") or basis == "X" and name not in BOTH_BASES:
         raise ValueError(f"{name} is kept in the basis Z" + (" or X" if name in BOTH_BASES else ""))
     if name == "steane_code":
         return steane_memory(noise)
     if not 2 <= distance <= MOST_DISTANCES[name]:
-        raise ValueError(f"distance {distance} is not in 2..={MOST_DISTANCES[name]}")
+        raise ValueError(f"distance is {distance}: give a whole number from 2 to {MOST_DISTANCES[name]}")
     if name == "surface_code":
         return surface_memory(distance, basis, noise, bad_schedule)
     if name in BOTH_BASES:
@@ -162,16 +165,19 @@ def bivariate_bicycle_code(l: int, m: int, a: Polynomial, b: Polynomial, rounds:
                            written_out: bool = False) -> str:
     """A bivariate bicycle code as a memory of all of its logical qubits in the letter `basis`, an observable for each.
 
-    l, m: x to the power of l is 1, and y to the power of m; a, b: the exponents (i, j) of the terms x^i y^j of its polynomials. Here
-    they are x^3 + y + y^2 and y^3 + x + x^2:
+    l, m: x to the power of l is 1, and y to the power of m; a, b: the exponents (i, j) of the three terms x^i y^j of its polynomials. In
+    a round checks of X and of Z meet their qubits side by side in the seven layers of Bravyi and others (2024), so the order of the
+    terms counts. Here the polynomials are x^3 + y + y^2 and y^3 + x + x^2, and the circuit has distance 6, as the code:
 
     >>> from stabsim import codes
     >>> text = codes.bivariate_bicycle_code(6, 6, [(3, 0), (0, 1), (0, 2)], [(0, 3), (1, 0), (2, 0)], rounds=6)
     >>> text.splitlines()[0]
     '# Bivariate bicycle code [[72, 12]], 6 rounds: 4116 steps, 504 records'
     """
+    a, b = terms_of("a", a), terms_of("b", b)
     code = CssCode(*bicycle_matrices(l, m, a, b))
-    return css_memory(code, f"Bivariate bicycle code [[{code.n}, {code.k}]]", basis, noise).text(rounds, written_out)
+    title = f"Bivariate bicycle code [[{code.n}, {code.k}]]"
+    return css_memory(code, title, basis, noise, layers=bicycle_layers(l, m, a, b)).text(rounds, written_out)
 
 
 def deepest(name: str, distance: int) -> int:

@@ -2,11 +2,13 @@
 
 from collections.abc import Iterable, Sequence
 
+from stabsim import checking
+
 
 def vectors_of(matrix: Iterable[Iterable[object]], name: str) -> tuple[list[int], int]:
     """The rows of a matrix of 0 and 1, and how many columns it has: of lists, an array of numpy, or a sparse matrix of scipy."""
     dense = getattr(matrix, "toarray", lambda: matrix)()
-    rows = [list(row) for row in dense]
+    rows = [checking.several(f"a row of {name}", row, "[1, 0, 1]") for row in checking.several(name, dense, "[[1, 0, 1], [0, 1, 1]]")]
     width = len(rows[0]) if rows else 0
     if any(len(row) != width for row in rows) or any(entry not in (0, 1) for row in rows for entry in row):
         raise ValueError(f"{name} is a matrix of 0 and 1, with rows of one length")

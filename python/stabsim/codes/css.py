@@ -10,6 +10,8 @@ from stabsim.codes.text import Memory, Text
 
 Matrix = Iterable[Iterable[object]]
 Place = tuple[float, ...]
+# One layer after another: the letter of a check, its number, and the qubit that it meets.
+Layers = list[list[tuple[str, int, int]]]
 
 
 class CssCode:
@@ -83,26 +85,33 @@ class Layout:
             text.add(f"QUBIT_COORDS({', '.join(map(str, place))}) {qubit}")
 
 
-class Rounds:
-    """The rounds of a code with a qubit for each check."""
+def x_before_z(code: CssCode) -> Layers:
+    """All checks of X meet their qubits, then all of Z: so no order within them disturbs another check."""
+    sides = (("X", code.x_checks), ("Z", code.z_checks))
+    return [[(letter, check, qubit) for check, qubit in layer] for letter, checks in sides for layer in layers_of(checks)]
 
-    def __init__(self, code: CssCode) -> None:
+
+class Rounds:
+    """The rounds of a code with a qubit for each check, which meet theirs in these layers."""
+
+    def __init__(self, code: CssCode, layers: Layers) -> None:
         self.data = list(range(code.n))
         self.x_ancillas = list(range(code.n, code.n + len(code.x_checks)))
         self.z_ancillas = list(range(code.n + len(code.x_checks), code.n + len(code.x_checks) + len(code.z_checks)))
-        self.x_layers, self.z_layers = layers_of(code.x_checks), layers_of(code.z_checks)
+        self.layers = [[self.pair(*meeting) for meeting in layer] for layer in layers]
+
+    def pair(self, letter: str, check: int, qubit: int) -> tuple[int, int]:
+        """The qubits of a CX by which a check meets a qubit."""
+        return (self.x_ancillas[check], qubit) if letter == "X" else (qubit, self.z_ancillas[check])
 
     def measure_checks(self, text: Text) -> None:
-        """All checks of X meet their qubits, then all of Z: so no order within them disturbs another check."""
+        """All checks are measured."""
         text.round_begins(self.data)
         text.add("TICK")
         text.gate("H", self.x_ancillas)
-        for layer in self.x_layers:
+        for layer in self.layers:
             text.add("TICK")
-            text.pairs("CX", [(self.x_ancillas[check], qubit) for check, qubit in layer])
-        for layer in self.z_layers:
-            text.add("TICK")
-            text.pairs("CX", [(qubit, self.z_ancillas[check]) for check, qubit in layer])
+            text.pairs("CX", layer)
         text.add("TICK")
         text.gate("H", self.x_ancillas)
         text.add("TICK")
@@ -113,11 +122,12 @@ class Rounds:
         return len(self.z_ancillas) - check + (len(self.x_ancillas) if letter == "X" else 0)
 
 
-def css_memory(code: CssCode, title: str, basis: str, noise: Noise | None, layout: Layout | None = None) -> Memory:
-    """A code as a memory of all of its logical qubits in the letter `basis`, an observable for each."""
+def css_memory(code: CssCode, title: str, basis: str, noise: Noise | None, layout: Layout | None = None,
+               layers: Layers | None = None) -> Memory:
+    """A code as a memory of all of its logical qubits in the letter `basis`, an observable for each. Without layers X is before Z."""
     if basis not in ("X", "Z"):
         raise ValueError("a code is kept in the basis X or Z")
-    rounds, layout = Rounds(code), layout or Layout()
+    rounds, layout = Rounds(code, layers or x_before_z(code)), layout or Layout()
     qubits = rounds.data + rounds.x_ancillas + rounds.z_ancillas
     if len(qubits) > MOST_QUBITS:
         raise ValueError(f"with a qubit for each check this code has {len(qubits)} qubits, and {MOST_QUBITS} are the most")

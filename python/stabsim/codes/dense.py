@@ -3,6 +3,8 @@
 from collections.abc import Iterable, Sequence
 from typing import TypeVar
 
+from stabsim import checking
+from stabsim.codes.limits import MOST_QUBITS, MOST_STEPS
 from stabsim.codes.text import Text, titled
 
 Item = TypeVar("Item")
@@ -35,8 +37,10 @@ class Numbers:
 def dense_circuit(qubits: int, steps: int, seed: int = 0) -> str:
     """Random layers on this many qubits, cut off after exactly this many steps: gates on all qubits, each layer followed by
     some random measurements and resets, and by detectors over random earlier records."""
+    checking.whole("qubits", qubits, 1, MOST_QUBITS + 1)
+    checking.whole("steps", steps, 0, MOST_STEPS + 1)
     circuit = Text()
-    numbers = Numbers(seed)
+    numbers = Numbers(checking.seed("seed", seed))
     while circuit.steps < steps:
         add_layer(circuit, numbers, qubits, steps)
     return titled(f"Dense random Clifford circuit on {qubits} qubits, seed {seed}", circuit)

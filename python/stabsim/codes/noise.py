@@ -1,11 +1,14 @@
 """The standard noise of a memory experiment."""
 
-from dataclasses import dataclass
+from dataclasses import dataclass, fields
+
+from stabsim import checking
 
 
 @dataclass(frozen=True)
 class Noise:
-    """The chances of four kinds of error, each a float from 0 to 1; those that are 0 are left out of the text.
+    """The chances of four kinds of error, each a float from 0 to 1, else TypeError or ValueError; those that are 0 are left out of the
+    text.
 
     before_round: DEPOLARIZE1 on each data qubit in front of each round.
     after_gate: DEPOLARIZE1 or DEPOLARIZE2 after each gate, and DEPOLARIZE1 on each qubit of a product after its measurement.
@@ -18,6 +21,11 @@ class Noise:
     after_gate: float = 0.0
     after_reset: float = 0.0
     before_measurement: float = 0.0
+
+    def __post_init__(self) -> None:
+        for field in fields(self):
+            # A chance of numpy's is written as Python's.
+            object.__setattr__(self, field.name, checking.chance(field.name, getattr(self, field.name)))
 
     @classmethod
     def uniform(cls, chance: float) -> "Noise":

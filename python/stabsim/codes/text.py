@@ -2,6 +2,7 @@
 
 from collections.abc import Iterable, Sequence
 
+from stabsim import checking
 from stabsim.codes.limits import MOST_STEPS
 from stabsim.codes.noise import Noise
 
@@ -16,7 +17,7 @@ class Text:
         self.lines: list[str] = []
         self.steps = 0
         self.records = 0
-        self.noise = noise or Noise()
+        self.noise = Noise() if noise is None else checking.of_kind("noise", noise, Noise, "a codes.Noise, as codes.Noise.uniform(0.01)")
 
     def add(self, line: str, steps: int = 0, records: int = 0) -> None:
         self.lines.append(line)
@@ -111,8 +112,9 @@ class Memory:
 
     def text(self, rounds: int, written_out: bool = False) -> str:
         """The circuit of this many rounds; raises ValueError if there are none, or over the limit on steps."""
+        rounds = checking.whole("rounds", rounds)
         if not 1 <= rounds <= self.deepest():
-            raise ValueError(f"{rounds} rounds are not in 1..={self.deepest()}, which fit {MOST_STEPS} steps")
+            raise ValueError(f"rounds is {rounds}: give a whole number from 1 to {self.deepest()}, since a circuit has up to {MOST_STEPS} steps")
         circuit = Text()
         circuit.join(self.head)
         circuit.repeat(rounds - 1, self.body, written_out)

@@ -5,8 +5,9 @@ import pathlib
 from collections.abc import Iterable, Sequence
 from dataclasses import dataclass, field
 from os import PathLike
-from typing import TYPE_CHECKING, Literal
+from typing import TYPE_CHECKING, Literal, get_args
 
+from stabsim import checking
 from stabsim.diagrams.elements import Element
 from stabsim.diagrams.matchgraph import Graph, drawn_graph, graph_of, rows_of_faults
 from stabsim.diagrams.places import places_of
@@ -15,6 +16,7 @@ from stabsim.diagrams.slices import Panel, layer_elements, regions_elements, sid
 from stabsim.diagrams.svg import Theme, svg_of
 from stabsim.diagrams.ticks import Placed, layers_of, numbers_of, placed
 from stabsim.diagrams.timeline import drawn_timeline, qubits_of
+from stabsim.reading import Item
 
 if TYPE_CHECKING:
     from stabsim.circuit import Circuit
@@ -48,7 +50,7 @@ class Diagram:
         return svg_of(self.elements, self.width, self.height, theme, f"{self.kind} of a circuit")
 
     def save(self, path: str | PathLike[str], theme: Theme = "auto") -> None:
-        """Writes the SVG to a file, in the place of what it has.
+        """Writes the SVG to a file, in the place of what it has. ValueError if the file's name does not end in .svg.
 
         >>> import os, tempfile
         >>> import stabsim
@@ -57,7 +59,10 @@ class Diagram:
         ...     os.listdir(folder)
         ['h.svg']
         """
-        pathlib.Path(path).write_text(self.svg(theme), encoding="utf-8")
+        file = pathlib.Path(path)
+        if file.suffix.lower() != ".svg":
+            raise ValueError(f"a picture is written as SVG, to a file that ends in .svg: {file.with_suffix('.svg')} in place of {file}")
+        file.write_text(self.svg(theme), encoding="utf-8")
 
     def _repr_svg_(self) -> str:
         return self.svg()
@@ -69,21 +74,22 @@ class Diagram:
         return f"<stabsim.Diagram: {self.kind}, {self.width:.0f} by {self.height:.0f} pixels>"
 
 
-def diagram_of(circuit: "Circuit", kind: Kind, tick: Ticks | None, detectors: Iterable[int | str] | None) -> Diagram:
-    """A picture of a circuit; the program judges that first."""
+def diagram_of(circuit: "Circuit", kind: Kind, tick: Ticks | None, detectors: Iterable[int | str] | None,
+               noisy: tuple[Item, ...] | None = None) -> Diagram:
+    """A picture of a circuit, which the program judges first; noisy: its items with noise, which a timeline shows."""
+    checking.one_of("kind", kind, get_args(Kind))
+    some = None if detectors is None else checking.several("detectors", detectors, "[3, 'D4', 'L0']")
     circuit.numbers()
     if kind in ("timeslice", "detslice") and tick is None:
         raise ValueError(f"a {kind} is of a tick: tick=3")
     if kind in ("timeline", "matchgraph") and tick is not None or kind != "detslice" and detectors is not None:
         raise ValueError(f"a {kind} is of the whole circuit" if tick is not None else f"a {kind} is not of some detectors")
     if kind == "timeline":
-        return made(kind, drawn_timeline(circuit.items))
+        return made(kind, drawn_timeline(circuit.items if noisy is None else noisy))
     if kind == "matchgraph":
         return made(kind, drawn_graph(faults_graph(circuit), circuit.detector_coordinates(), ticks_of_detectors(circuit)))
-    if kind not in ("timeslice", "detslice"):
-        raise ValueError(f"a picture is a timeline, timeslice, detslice or matchgraph, and not a {kind}")
     ticks = numbers_of(0 if tick is None else tick, circuit.num_ticks)
-    panels = time_panels(circuit, ticks) if kind == "timeslice" else region_panels(circuit, ticks, detectors)
+    panels = time_panels(circuit, ticks) if kind == "timeslice" else region_panels(circuit, ticks, some)
     places = places_of(circuit.qubit_coordinates(), qubits_of(circuit.items))
     return made(kind, side_by_side(panels, places))
 
@@ -130,13 +136,13 @@ def bit_of(name: int | str, detectors: int, observables: int) -> int:
 def faults_graph(circuit: "Circuit") -> Graph:
     """What single faults of X and Z flip, anywhere in a circuit."""
     table = circuit.faults(everywhere=True, sure_only=True)
-    return graph_of(rows_of_faults(table), table.detectors)
+    return graph_of(rows_of_faults(table), table.num_detectors)
 
 
 def model_diagram(model: "ErrorModel", ticks: list[int]) -> Diagram:
     """The matching graph of an error model."""
     rows = [("", model.flipped(mechanism)) for mechanism in range(len(model))]
-    return made("matchgraph", drawn_graph(graph_of(rows, model.detectors), model.coordinates, ticks))
+    return made("matchgraph", drawn_graph(graph_of(rows, model.num_detectors), model.coordinates, ticks))
 
 
 def ticks_of_detectors(circuit: "Circuit") -> list[int]:

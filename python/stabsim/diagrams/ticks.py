@@ -3,6 +3,7 @@
 from collections.abc import Iterable, Iterator, Sequence
 from dataclasses import dataclass
 
+from stabsim import checking
 from stabsim.diagrams.targets import PAULIS, Action, actions_of
 from stabsim.reading import Block, Instruction, Item
 from stabsim.sizes import Sizes, sizes_of
@@ -85,10 +86,12 @@ def record_of(action: Action, before: int) -> int:
 
 def numbers_of(tick: int | range | Sequence[int], count: int) -> list[int]:
     """The ticks that are asked for; IndexError at one that a circuit of this many lacks."""
-    wanted = [tick] if isinstance(tick, int) else list(tick)
+    wanted = [checking.whole("tick", it) for it in (tick if isinstance(tick, Iterable) else [tick])]
+    if not wanted:
+        raise ValueError(f"tick is {checking.shown(tick)}: give one tick, as 3, or several, as range(3, 6)")
     for it in wanted:
         if not 0 <= it <= count:
-            raise IndexError(f"tick {it} is not in 0..={count}: tick 0 is the beginning, and tick k the k-th TICK")
+            raise IndexError(f"tick {it} is not from 0 to {count}: tick 0 is the beginning, and tick k the k-th TICK")
     return wanted
 
 

@@ -1,10 +1,12 @@
 """What all tabs see: one session, the edits made so far, and what they changed."""
 
 import dataclasses
+import itertools
 import os
 import pathlib
 import tempfile
 import time
+from collections.abc import Iterator, Sequence
 from typing import Any
 
 import numpy as np
@@ -14,7 +16,9 @@ import stabsim
 from stabsim.coordinates import coordinates_of, detector_rows, qubit_rows
 from stabsim.page.edits import Edit, name_of, undoing
 from stabsim.page.explaining import explained
-from stabsim.page.opening import Opened, opened
+from stabsim.page.following import following
+from stabsim.page.lines import LineEdits, between
+from stabsim.page.opening import Opened
 from stabsim.page.room import qubits_named, room_for
 
 Message = dict[str, Any]
@@ -44,17 +48,23 @@ class Board:
     """A session with its history. All calls are made from one thread, since a session is for one thread."""
 
     def __init__(self, source: Opened, seed: int = 0, save: pathlib.Path | None = None) -> None:
-        self.name = source.name
-        self.left_out = source.left_out
+        # What was opened last, with its name, and what became of its lines.
+        self.source = source
         self.save_to = save
         self.seed = seed
         self.session = stabsim.Circuit(source.text).edit(seed=seed)
+        # Of how many qubits tabs have heard: an edit that was refused may have made room for more.
+        self.qubits_told = self.session.numbers().qubits
         self.entries: list[Entry] = []
         self.position = 0
         # How often the circuit was changed: by it a tab knows whether it has heard of all changes.
         self.age = 0
-        self.marked_at = 0
+        # The positions of the mark, and of what was saved last, or -1 if that is no longer in the history.
+        self.marked_at = self.saved_at = 0
         self.flipped: list[str] = []
+        # What lost a record by the last edits, and the paths of blocks off which a round was split, since records had to follow.
+        self.lost: tuple[str, ...] = ()
+        self.split_off: tuple[str, ...] = ()
         self.marked: set[str] = set()
         self.deterministic: str | None = None
         # The circuit with its bits and coordinates, until the next edit: tabs ask for them when they open.
@@ -66,8 +76,9 @@ class Board:
     def opened(self) -> Message:
         """All that a tab has to know when it opens."""
         return {
-            "event": "opened", "name": self.name, "left_out": self.left_out, "deterministic": self.deterministic,
-            "entries": [entry.message() for entry in self.entries], "marked_at": self.marked_at,
+            "event": "opened", "name": self.source.name, "notice": self.source.notice,
+            "notes": [*self.source.rewritten, *self.source.left_out], "deterministic": self.deterministic,
+            "entries": [entry.message() for entry in self.entries],
             "marked": sorted(self.marked, key=place_of), "saves": self.save_to is not None, **self._now(), **self.whole(),
         }
 
@@ -78,25 +89,37 @@ class Board:
             self.kept = {"circuit": circuit, **self._bits(circuit)}
         return self.kept
 
-    def edit(self, edits: list[Edit], name: str = "") -> Message:
+    def edit(self, edits: list[Edit], name: str = "", keep: bool = False) -> Message:
         """Makes edits as one entry, with a name of its own if one is given, and says what they changed. Raises stabsim.Refused if one is
-        refused; nothing has changed then."""
-        return self._enter(name or name_of(edits), edits)
+        refused; nothing has changed then. keep: whether lookbacks go on naming the records that they named."""
+        return self._enter(name or name_of(edits), edits, keep)
 
-    def edit_in_round(self, edits: list[Edit], place: str, number: int) -> Message:
+    def edit_in_round(self, edits: list[Edit], place: str, number: int, keep: bool = False) -> Message:
         """Makes edits in one round of a block that is first split off it."""
-        return self._enter(f"{name_of(edits)}, in round {number} of {place} alone", [self._splitting(place, number), *edits])
+        return self._enter(f"{name_of(edits)}, in round {number} of {place} alone", edits, keep, [self._splitting(place, number)])
+
+    def edit_lines(self, made: LineEdits) -> Message:
+        """Makes what is done with whole lines one entry."""
+        return self._enter(made.name, list(made.then), True, list(made.first))
+
+    def edit_text(self, source: Opened) -> Message:
+        """Makes the circuit another text, by the edits of the items that differ. ValueError if none does."""
+        edits = between(self.session.circuit(), source.text)
+        if not edits:
+            raise ValueError("nothing is changed")
+        return self._enter(f"edit the text: {name_of(edits)}", edits)
 
     def split(self, place: str, number: int) -> Message:
         """Splits one round off a block."""
         return self._enter(f"round {number} of {place} by itself", [self._splitting(place, number)])
 
-    def open(self, given: str, name: str) -> Message:
-        """Opens another circuit by its text, as an entry that can be taken back. The same circuit again is no entry."""
-        source = opened(given, name)
-        if source.text == self.session.circuit():
-            return self.opened()
-        return self.edit([Edit("open", source.name, source.text, left_out=source.left_out)])
+    def open(self, source: Opened, is_saved: bool = True) -> Message:
+        """Opens another circuit, as an entry that can be taken back. The same circuit again is no entry. is_saved: whether it is saved
+        elsewhere, as what was never saved before is not."""
+        if source.text != self.session.circuit():
+            self.edit([Edit("open", source.name, source.text, source=source)])
+            self.saved_at = self.position if is_saved else -1
+        return self.opened()
 
     def go(self, position: int) -> Message:
         """Undoes or redoes edits until this many are made: all of them, or none if one is refused."""
@@ -113,6 +136,11 @@ class Board:
         self.marked = set()
         self.marked_at = self.position
         return {"event": "marked", "position": self.position}
+
+    def saved(self) -> Message:
+        """The circuit as it is was saved, by the server or by a tab."""
+        self.saved_at = self.position
+        return {"event": "saved", "position": self.position}
 
     def text(self) -> str:
         """The circuit as it is now."""
@@ -152,24 +180,35 @@ class Board:
     def _splitting(self, place: str, number: int) -> Edit:
         return Edit("split", place, str(number), self.session.item(place))
 
-    def _enter(self, name: str, edits: list[Edit]) -> Message:
-        """Makes edits as one entry."""
-        entry = self._carry_out(name, edits)
+    def _enter(self, name: str, edits: list[Edit], keep: bool = False, first: list[Edit] | None = None) -> Message:
+        """Makes edits as one entry; those that are made first are of what is there, and leave each record as it is."""
+        entry = self._carry_out(name, edits, keep, first or [])
+        self._leave_positions()
         del self.entries[self.position:]
         self.entries.append(entry)
         self.position += 1
         return self._edited(entry, [entry], entry.moves_bits)
 
-    def _carry_out(self, name: str, edits: list[Edit]) -> Entry:
-        """Makes edits in their order. If one fails, in whatever way, those before it are taken back, and nothing has changed."""
+    def _leave_positions(self) -> None:
+        """The mark, if what was marked goes from the history, is where the history goes on; and what was saved is there no more."""
+        if self.marked_at > self.position:
+            self.marked, self.marked_at = set(), self.position
+        if self.saved_at > self.position:
+            self.saved_at = -1
+
+    def _carry_out(self, name: str, edits: list[Edit], keep: bool = False, first: Sequence[Edit] = ()) -> Entry:
+        """Makes edits in their order, after some others. If one fails, in whatever way, those before it are taken back, and nothing has changed."""
+        forth: list[Edit] = []
         back: list[Edit] = []
-        moves_bits = False
+        self.lost, self.split_off = (), ()
         self._make_room(edits)
         self.session.mark()
+        moves_bits = False
         begun = time.perf_counter()
         try:
-            for edit in edits:
+            for edit in itertools.chain(first, self._followed(edits) if keep else edits):
                 undone = self._make(edit)
+                forth.append(edit)
                 back[:0] = undone
                 # A split moves no bits, nor does what takes it back.
                 moves_bits |= edit.kind != "split" and any(it.may_move_bits() for it in [edit, *undone])
@@ -178,11 +217,18 @@ class Board:
                 self._apply(edit)
             raise
         seconds = time.perf_counter() - begun
-        return Entry(name, edits, back, names_of(self.session.changed()), seconds, moves_bits)
+        return Entry(name, forth, back, names_of(self.session.changed()), seconds, moves_bits)
+
+    def _followed(self, edits: list[Edit]) -> Iterator[Edit]:
+        """The edits that make some so that lookbacks follow their records, of the circuit as it is once they are asked for."""
+        made = following(self.session, edits)
+        self.lost, self.split_off = made.lost, made.split_off
+        for edit in made.edits:
+            yield dataclasses.replace(edit, block=self.session.item(edit.place)) if edit.kind == "split" else edit
 
     def _make_room(self, edits: list[Edit]) -> None:
-        """Opens the session anew on more qubits, if edits name some that it lacks. The history stays, and each bit: a coin
-        is known by its place in the circuit and not by the qubits that there are."""
+        """Opens the session anew on more qubits, if edits name some that it lacks. The history stays, and each bit: a coin is known by
+        its place in the circuit and not by the qubits that there are."""
         now = room = self.session.numbers().qubits
         for edit in edits:
             if edit.kind in ("insert", "replace"):
@@ -199,10 +245,10 @@ class Board:
     def _make(self, edit: Edit) -> list[Edit]:
         """Makes one edit, and answers with those that take it back."""
         if edit.kind == "open":
-            before = Edit("open", self.name, self.session.circuit(), left_out=self.left_out)
+            before = Edit("open", self.source.name, self.session.circuit(), source=self.source)
             self._apply(edit)
             return [before]
-        old = "" if edit.kind == "insert" else self.session.item(edit.place)
+        old = "" if edit.kind == "insert" else edit.block or self.session.item(edit.place)
         try:
             self._apply(edit)
         except stabsim.Refused as refused:
@@ -217,8 +263,9 @@ class Board:
         elif edit.kind == "split":
             self.session.split(edit.place, int(edit.item))
         elif edit.kind == "open":
+            assert edit.source
             self._take(stabsim.Circuit(edit.item).edit(seed=self.seed))
-            self.name, self.left_out = edit.place, edit.left_out
+            self.source = edit.source
         else:
             self.session.delete(edit.place)
 
@@ -228,6 +275,9 @@ class Board:
         self.age += 1
         self.deterministic = self.kept = None
         self.flipped = made.changed
+        # Qubits that are new have no coordinates yet.
+        before, self.qubits_told = self.qubits_told, self.session.numbers().qubits
+        moves_bits |= self.qubits_told != before
         if made.opens():
             # Marks are of bits, and those of another circuit are others.
             self.marked, self.marked_at = set(), self.position
@@ -238,7 +288,7 @@ class Board:
 
     def _now(self) -> Message:
         numbers = dataclasses.asdict(self.session.numbers())
-        return {"age": self.age, "numbers": numbers, "position": self.position, "flipped": self.flipped}
+        return {"age": self.age, "numbers": numbers, "position": self.position, "flipped": self.flipped, "marked_at": self.marked_at, "saved_at": self.saved_at}
 
     def _bits(self, text: str) -> Message:
         places = coordinates_of(text)

@@ -58,7 +58,7 @@ class DistanceSearch:
         """Ends the search, if one goes on."""
         if self.task is not None and not self.task.done():
             self.task.cancel()
-            self.say("none", self.told["age"], said="the search was ended")
+            self.say("none", self.told["age"], said="the search was stopped")
 
     def changed(self, age: int) -> None:
         """The circuit was changed: what is known is of the circuit before."""
@@ -119,7 +119,7 @@ class DistanceSearch:
 
 def message_of(state: str, age: int, *, is_marked: bool = False, first: str = "", errors: list[Message] | None = None, said: str = "",
                before: str = "") -> Message:
-    """What tabs hear: `state` is none, running, refused or found. first: the first line of the answer, as `distance 3 of all errors`;
+    """What tabs hear: `state` is none, running, refused or found. first: the first line of the answer, as `distance 3 of all marked errors`;
     errors: those of the set; said: what is said else; before: the first line of the answer before the last edits."""
     return {"event": "distance", "state": state, "age": age, "is_marked": is_marked, "first": first, "errors": errors or [], "said": said,
             "before": before}

@@ -3,6 +3,7 @@
 import dataclasses
 from typing import Any, Literal
 
+from stabsim.page.opening import Opened
 from stabsim.rounds import longest_part, parts_of_block, place_behind
 
 Kind = Literal["insert", "replace", "delete", "split", "open"]
@@ -16,13 +17,13 @@ MOVING = ("DETECTOR", "OBSERVABLE", "COORDS", "REPEAT")
 class Edit:
     """An edit at a place, the path of an item as `edit` counts them, with the text of the item that it puts in. For a split that
     is the number of the round, and `block` the text of the block, which tabs have. That which opens another circuit has its name as
-    the place, and its text as the item; `left_out` says what was left out of it."""
+    the place, and its text as the item; `source` is that circuit."""
 
     kind: Kind
     place: str
     item: str = ""
     block: str = ""
-    left_out: str = ""
+    source: Opened | None = None
 
     @classmethod
     def of_message(cls, message: dict[str, Any]) -> "Edit":

@@ -11,6 +11,7 @@ GUARDS = {
     "Cache-Control": "no-store",
     "Referrer-Policy": "no-referrer",
     "X-Content-Type-Options": "nosniff",
+    "Cross-Origin-Resource-Policy": "same-origin",
     "X-Frame-Options": "DENY",
 }
 TYPES = {"html": "text/html", "css": "text/css", "js": "text/javascript", "json": "application/json"}

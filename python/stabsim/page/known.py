@@ -13,7 +13,7 @@ from stabsim.page.board import Message
 # Why there is no table of faults, once an edit was made.
 NOT_YET = "the table of faults is being made"
 # What is asked of the table.
-QUESTIONS = ("faults", "way", "region", "slice")
+QUESTIONS = ("faults", "region", "slice")
 # The longest answer, in bytes.
 MOST_BYTES = 1 << 28
 
@@ -31,8 +31,7 @@ class Known:
         return str(json.loads(await self.ask({"ask": "table"}, program.bytes_of(text)))["why"])
 
     async def answer_to(self, question: Message) -> str:
-        """What Paulis flip, the way of one, the region of a bit, or all regions at the end of a moment, as the tab is told it; or why that
-        is not known."""
+        """What Paulis flip, the region of a bit, or all regions at the end of a moment, as the tab is told it; or why that is not known."""
         with contextlib.suppress(ConnectionError):
             if not self.why:
                 return await self.ask(question)

@@ -1,7 +1,6 @@
 """What a Pauli on each qubit at the end of each moment would flip."""
 
 import dataclasses
-import functools
 import re
 
 import numpy as np
@@ -10,7 +9,7 @@ from numpy.typing import NDArray
 import stabsim
 from stabsim import program
 from stabsim.page import moments
-from stabsim.reading import Instruction, Line, lines_of
+from stabsim.reading import Line, lines_of
 from stabsim.table_lines import flips_of
 
 # Letters X, Y and Z on qubits.
@@ -18,6 +17,8 @@ Letters = dict[int, str]
 
 # What takes the place of a mark until the circuit's own are taken away: a comment that no circuit of a session has.
 PLACE = "# mark"
+# What leaves the table of faults as it is.
+WITHOUT_TRACE = frozenset((*moments.PAULIS, "QUBIT_COORDS", "SHIFT_COORDS"))
 
 
 @dataclasses.dataclass(frozen=True)
@@ -29,22 +30,16 @@ class MomentFaults:
     detectors: int
     indptr: NDArray[np.int64]
     indices: NDArray[np.int64]
-    text: str = ""
 
     @classmethod
     def of_circuit(cls, text: str) -> "MomentFaults":
         """The table of a circuit; raises stabsim.Refused if its marks would be too many steps."""
         numbers = stabsim.Circuit(text).numbers()
         if not numbers.qubits:
-            return cls(0, numbers.detectors, np.zeros(1, dtype=np.int64), np.zeros(0, dtype=np.int64), text)
+            return cls(0, numbers.detectors, np.zeros(1, dtype=np.int64), np.zeros(0, dtype=np.int64))
         mark = "I " + " ".join(map(str, range(numbers.qubits)))
         lines = program.run(["faults", "--deterministic_only"], marked_text(text, mark))
-        return cls(numbers.qubits, numbers.detectors, *flips_of(lines, {"D": 0, "L": numbers.detectors}), text)
-
-    @functools.cached_property
-    def acting(self) -> list[list[Instruction]]:
-        """What acts in each moment."""
-        return moments.acting(self.text)
+        return cls(numbers.qubits, numbers.detectors, *flips_of(lines, {"D": 0, "L": numbers.detectors}))
 
     def flips(self, moment: int, qubit: int) -> dict[str, list[str]]:
         """What X, Y and Z on a qubit at the end of a moment flip, as `D3` and `L0`."""
@@ -105,6 +100,17 @@ def marked_text(text: str, mark: str) -> str:
     cuts moments all the same, as each gate does."""
     lines = lines_of(moments.marked(text, PLACE))
     return "\n".join(line.text for line in lines if not is_idle(line)).replace(PLACE, mark)
+
+
+def key_of(text: str) -> str:
+    """What the table of a circuit depends on: its text with the marks of moments, without Paulis, which change no fault, and without
+    coordinates."""
+    marked = marked_text(text, PLACE)
+    return "\n".join(line.text for line in lines_of(marked) if line.parts is None or line.parts.name not in WITHOUT_TRACE) + f"\n{qubits_of(text)}"
+
+
+def qubits_of(text: str) -> int:
+    return stabsim.Circuit(text).num_qubits
 
 
 def is_idle(line: Line) -> bool:

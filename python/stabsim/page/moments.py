@@ -105,25 +105,6 @@ def cut_items(text: str) -> tuple[tuple[Item, ...], frozenset[int]]:
     return items, frozenset(body_of(items).cuts)
 
 
-def acting(text: str) -> list[list[Instruction]]:
-    """What acts in each moment, with the rounds of blocks written out."""
-    items, cuts = cut_items(text)
-    found: list[list[Instruction]] = [[]]
-
-    def take(items: Iterable[Item]) -> None:
-        for item in items:
-            if item.line in cuts or (isinstance(item, Instruction) and item.name == "TICK"):
-                found.append([])
-            if isinstance(item, Block):
-                for _ in range(item.repeat):
-                    take(item.items)
-            elif item.name in ACTING:
-                found[-1].append(item)
-
-    take(items)
-    return found
-
-
 def marked(text: str, mark: str) -> str:
     """A text with a line put in at the end of each moment. It has a line for each item, as a session writes it."""
     lines = text.rstrip("\n").split("\n")

@@ -3,8 +3,11 @@
 import base64
 import binascii
 import contextlib
+import itertools
+import operator
 import pathlib
 import zlib
+from collections.abc import Iterator
 from dataclasses import dataclass
 
 import stabsim
@@ -24,11 +27,29 @@ class BadLink(ValueError):
 
 @dataclass(frozen=True)
 class Opened:
-    """A circuit's text that the program reads, its name, and what was left out of what was given, or nothing."""
+    """A circuit's text that the program reads, its name, and what became of lines that were given, if they are others now.
+
+    rewritten, left_out: notes, one for each line that became others, and that lost noise.
+    """
 
     text: str
     name: str = UNNAMED
-    left_out: str = ""
+    rewritten: tuple[str, ...] = ()
+    left_out: tuple[str, ...] = ()
+
+    @property
+    def notice(self) -> str:
+        """What became of them all, in one line, or nothing."""
+        said = []
+        if self.rewritten:
+            said.append(f"{lines_said(self.rewritten)} {'is' if len(self.rewritten) == 1 else 'are'} rewritten.")
+        if self.left_out:
+            said.append(f"The noise of {lines_said(self.left_out)} is left out: what is shown and saved is the circuit without it.")
+        return " ".join(said)
+
+
+def lines_said(notes: tuple[str, ...]) -> str:
+    return "1 line" if len(notes) == 1 else f"{len(notes):,} lines"
 
 
 def opened(given: str, name: str = UNNAMED) -> Opened:
@@ -39,10 +60,16 @@ def opened(given: str, name: str = UNNAMED) -> Opened:
         stabsim.Circuit(given).numbers()
         return Opened(given, name)
     read = stabsim.from_stim(given)
-    if not read.left_out:
-        return Opened(read.circuit.text, name)
-    count = "1 line" if len(read.left_out) == 1 else f"{len(read.left_out)} lines"
-    return Opened(read.circuit.text, name, f"The noise of {count} is left out: what is shown and saved is the circuit without it.")
+    return Opened(read.circuit.text, name, tuple(rewritten_of(read)), tuple(read.left_out))
+
+
+def rewritten_of(read: stabsim.StimCircuit) -> Iterator[str]:
+    """What lines without noise became that the program reads otherwise."""
+    copy, given = read.profile.circuit, read.text.split("\n")
+    for origin, lines in itertools.groupby(zip(copy.origins, copy.lines), key=operator.itemgetter(0)):
+        before, after = given[origin - 1].strip(), [line.strip() for _, line in lines]
+        if after != [before] and origin not in read.profile.left_out:
+            yield f"line {origin}: {before} is {'; '.join(after)}"
 
 
 def opened_of(source: str | None) -> Opened:

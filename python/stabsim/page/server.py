@@ -4,8 +4,9 @@ import asyncio
 import concurrent.futures
 import contextlib
 import json
+import re
 import secrets
-from collections.abc import AsyncIterator, Coroutine
+from collections.abc import AsyncIterator, Callable, Coroutine
 from typing import Any
 
 from aiohttp import WSMsgType, web
@@ -17,13 +18,16 @@ from stabsim.page.distances import DistanceSearch
 from stabsim.page.edits import Edit
 from stabsim.page.files import file_response, guard, page_response
 from stabsim.page.known import NOT_YET, QUESTIONS, Known
+from stabsim.page.lines import repeated, reversed_, taken_out
+from stabsim.page.opening import opened
 from stabsim.page.tabs import Tab
 
 HOST = "127.0.0.1"
-# The greatest message that a tab may send: a circuit, an item's text, or a question.
-MOST_BYTES = 1 << 25
-# The longest name that a tab may give its edits.
+# The greatest message that a tab may send: a circuit of up to half as many bytes, an item's text, or a question.
+MOST_BYTES = 1 << 26
+# The longest name that a tab may give its edits, and how many detectors are named at most that lost a record.
 MOST_LETTERS = 80
+MOST_NAMES = 8
 # How long tabs may take to end when the server does.
 LAST_SECONDS = 1.0
 
@@ -58,14 +62,15 @@ class Server:
 
     @web.middleware
     async def refuse_strangers(self, request: web.Request, handler: Handler) -> web.StreamResponse:
-        """Only this address, from its own pages, and all but the pictures of the page with the token."""
+        """Only this address, from its own pages, and the session with the token alone: the page itself says nothing of it, and keeps the
+        token out of its address once it has it."""
         names = {f"{host}:{port}" for host in (HOST, "localhost") for port in (self.port, self.public_port)}
         origin = request.headers.get("Origin")
         if request.headers.get("Host") not in names or (origin is not None and origin not in {f"http://{name}" for name in names}):
             raise web.HTTPForbidden(text="this server answers to its own address alone\n")
         if request.path == "/favicon.ico":
             raise web.HTTPNotFound(text="there is no picture\n")
-        if not request.path.startswith("/static/"):
+        if request.path == "/session" or "token" in request.query:
             token = request.query.get("token", "")
             if not secrets.compare_digest(token.encode(), self.token.encode()):
                 raise web.HTTPForbidden(text="the address lacks the token that the server printed\n")
@@ -137,8 +142,8 @@ class Server:
                 return
             answer = await self.answer_to(tab, question)
         except stabsim.Refused as refused:
-            answer = {"refused": f"refused {refused.number} {refused.name}", "explanation": refused.explanation}
-        except (ValueError, KeyError, TypeError, stabsim.StabsimError, OSError) as fault:
+            answer = {"refused": "refused" if refused.explanation else f"refused: {plain(refused.name)}", "explanation": refused.explanation}
+        except (ValueError, KeyError, TypeError, RecursionError, stabsim.StabsimError, OSError) as fault:
             answer = {"refused": str(fault)}
         if isinstance(question, dict) and "id" in question:
             tab.tell({**answer, "id": question["id"]})
@@ -150,11 +155,12 @@ class Server:
 
     async def answer_to(self, tab: Tab, question: Message) -> Message:
         asked = question["ask"]
-        if asked in ("edit", "split", "open", "go"):
+        if asked in ("edit", "split", "open", "go", "lines", "text"):
             return await self.changed_by(question)
         if asked == "mark":
-            async with self.telling:
-                self.tell(await self.call(self.board.mark))
+            await self.tell_of(self.board.mark)
+        elif asked == "saved":
+            await self.tell_of(self.board.saved)
         elif asked == "all":
             await self.tell_all_to(tab)
         elif asked == "sign":
@@ -165,10 +171,12 @@ class Server:
             await self.distances.ask(self.call, self.board)
         elif asked == "end distance":
             self.distances.end()
-        elif asked == "export":
-            return {"text": await self.call(self.board.script if question["what"] == "script" else self.board.text)}
+        elif asked == "script":
+            return {"text": await self.call(self.board.script)}
         elif asked == "save":
-            return {"said": f"written to {await self.call(self.board.save)}"}
+            name = await self.call(self.board.save)
+            await self.tell_of(self.board.saved)
+            return {"said": f"written to {name}"}
         else:
             raise ValueError(f"nothing is known of {asked}")
         return {}
@@ -179,24 +187,50 @@ class Server:
         if asked == "split":
             return await self.change(self.board.split, str(question["place"]), int(question["round"]))
         if asked == "open":
-            return await self.change(self.board.open, str(question["text"]), str(question["name"]))
+            # Other tabs are answered while it is read.
+            source = await asyncio.to_thread(opened, str(question["text"]), str(question["name"]))
+            return await self.change(self.board.open, source, not question.get("unsaved"))
         if asked == "go":
             return await self.change(self.board.go, int(question["position"]))
+        if asked == "text":
+            source = await asyncio.to_thread(opened, str(question["text"]))
+            return {**await self.change(self.board.edit_text, source), "said": source.notice}
+        if asked == "lines":
+            return await self.change(self.edit_lines, question)
         edits, inside = [Edit.of_message(it) for it in question["edits"]], question.get("round")
         if not edits:
             raise ValueError("no edit")
+        keep = bool(question.get("keep"))
         if inside:
-            return await self.change(self.board.edit_in_round, edits, str(inside["place"]), int(inside["number"]))
-        return await self.change(self.board.edit, edits, str(question.get("name", ""))[:MOST_LETTERS])
+            return await self.change(self.board.edit_in_round, edits, str(inside["place"]), int(inside["number"]), keep)
+        return await self.change(self.board.edit, edits, str(question.get("name", ""))[:MOST_LETTERS], keep)
+
+    def edit_lines(self, question: Message) -> Message:
+        """Does something with whole lines, in the board's thread."""
+        circuit, place, act = self.board.text(), str(question["place"]), question["act"]
+        if act == "repeat":
+            return self.board.edit_lines(repeated(circuit, place, int(question["count"]), int(question["rounds"])))
+        if act == "take out":
+            return self.board.edit_lines(taken_out(circuit, place))
+        if act == "reverse":
+            return self.board.edit_lines(reversed_(circuit, place, int(question["count"])))
+        raise ValueError(f"nothing is known of {act} with lines")
 
     async def change(self, function: Any, *values: Any) -> Message:
+        """Has the board change the circuit, and says it to all tabs. Answers what lost a record, and which rounds were split off."""
         async with self.telling:
             event = await self.call(function, *values)
+            lost, split_off = self.board.lost, self.board.split_off
             self.known.why = NOT_YET
             self.tell(event)
             self.distances.changed(self.board.age)
         self.later()
-        return {}
+        return {"split_off": split_off, **({"said": said_of_lost(lost)} if lost else {})}
+
+    async def tell_of(self, function: Callable[[], Message]) -> None:
+        """Has the board do something that changes no circuit, and says it to all tabs."""
+        async with self.telling:
+            self.tell(await self.call(function))
 
     def tell(self, event: Message) -> None:
         """Says something to all tabs."""
@@ -238,6 +272,17 @@ class Server:
 
     async def in_background(self, function: Any, value: Any) -> Any:
         return await asyncio.get_running_loop().run_in_executor(self.background, function, value)
+
+
+def said_of_lost(names: tuple[str, ...]) -> str:
+    """That detectors or observables have lost a record."""
+    more = f" and {len(names) - MOST_NAMES} more" if len(names) > MOST_NAMES else ""
+    return f"{' '.join(names[:MOST_NAMES])}{more} lost a record that is gone"
+
+
+def plain(name: str) -> str:
+    """The name of a refusal as words, as `too many steps`."""
+    return re.sub("(?<!^)(?=[A-Z])", " ", name).lower()
 
 
 @contextlib.asynccontextmanager

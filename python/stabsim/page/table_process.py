@@ -7,31 +7,45 @@ import sys
 import stabsim
 from stabsim import program
 from stabsim.page.board import Message
-from stabsim.page.moment_faults import MomentFaults
-from stabsim.page.ways import way_of
+from stabsim.page.moment_faults import MomentFaults, key_of
 
 
 def main() -> None:
     """Answers questions until there are no more. Ctrl-C ends the server, and by that this."""
     signal.signal(signal.SIGINT, signal.SIG_IGN)
-    faults: MomentFaults | None = None
+    table = Table()
     for line in sys.stdin.buffer:
         question = json.loads(line)
         text = sys.stdin.buffer.read(question["bytes"])
         if question["ask"] == "table":
-            faults, answer = made(program.text_of(text))
+            answer = {"why": table.take(program.text_of(text))}
         else:
-            answer = {**answer_to(question, faults), "id": question["id"]}
+            answer = {**answer_to(question, table.faults), "id": question["id"]}
         sys.stdout.write(json.dumps(answer, separators=(",", ":")) + "\n")
         sys.stdout.flush()
 
 
-def made(text: str) -> tuple[MomentFaults | None, Message]:
-    """The table of a circuit, and why there is none, or an empty text."""
+class Table:
+    """The table of the circuit that was taken last, and why there is none, or an empty text."""
+
+    def __init__(self) -> None:
+        self.key = ""
+        self.faults: MomentFaults | None = None
+        self.why = ""
+
+    def take(self, text: str) -> str:
+        """Takes a circuit, and answers why there is no table of it. One that an edit has left as it was is not made anew."""
+        key = key_of(text)
+        if key != self.key:
+            self.key, self.faults, self.why = key, *made(text)
+        return self.why
+
+
+def made(text: str) -> tuple[MomentFaults | None, str]:
     try:
-        return MomentFaults.of_circuit(text), {"why": ""}
+        return MomentFaults.of_circuit(text), ""
     except stabsim.Refused as refused:
-        return None, {"why": f"there is no table of faults: it was refused as {refused.number} {refused.name}"}
+        return None, f"there is no table of faults: it was refused as {refused.name}"
 
 
 def answer_to(question: Message, faults: MomentFaults | None) -> Message:
@@ -51,13 +65,7 @@ def said_of(question: Message, faults: MomentFaults) -> Message:
     moment = int(question["moment"])
     if asked == "slice":
         return {"slice": {bit: (list(letters), "".join(letters.values())) for bit, letters in faults.slice(moment).items()}}
-    qubit = int(question["qubit"])
-    if asked == "faults":
-        return {"flips": faults.flips(moment, qubit)}
-    letter = str(question["letter"])
-    if letter not in ("X", "Y", "Z") or not 0 <= qubit < faults.qubits or not 0 <= moment < faults.moments:
-        raise ValueError("there is no such place for a Pauli")
-    return {"way": way_of(faults, moment, qubit, letter)}
+    return {"flips": faults.flips(moment, int(question["qubit"]))}
 
 
 if __name__ == "__main__":

@@ -11,7 +11,7 @@ from stabsim.page.board import Message
 
 Start = Callable[[Coroutine[Any, Any, None]], "asyncio.Task[None]"]
 
-# How many characters may wait for a tab that does not read.
+# How many characters may wait for a tab that does not read, beside the text that is sent next, of any length.
 MOST_WAITING = 1 << 24
 # The code and the reason by which such a tab is closed; the page shows the reason.
 BEHIND = 4000
@@ -28,8 +28,9 @@ class Tab:
         self.socket = socket
         self.transport = transport
         self.start = start
-        self.texts: asyncio.Queue[str] = asyncio.Queue()
-        # How many characters the texts have that wait.
+        # Each text with how many characters are counted of it.
+        self.texts: asyncio.Queue[tuple[str, int]] = asyncio.Queue()
+        # How many characters are counted that wait.
         self.waiting = 0
         self.is_behind = False
         self.sending = start(self.send())
@@ -47,14 +48,15 @@ class Tab:
             self.texts = asyncio.Queue()
             self.end()
             return
-        self.waiting += len(text)
-        self.texts.put_nowait(text)
+        counted = 0 if self.texts.empty() else len(text)
+        self.waiting += counted
+        self.texts.put_nowait((text, counted))
 
     async def send(self) -> None:
         """Sends what waits, and what comes, until the tab is gone."""
         while True:
-            text = await self.texts.get()
-            self.waiting -= len(text)
+            text, counted = await self.texts.get()
+            self.waiting -= counted
             try:
                 await self.socket.send_str(text)
             except ConnectionError:

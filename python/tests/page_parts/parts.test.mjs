@@ -15,6 +15,8 @@ import { neighbourOf, placesOf } from "../../stabsim/page/static/places.js";
 import { lookbacksOf, nameOfRecord, putDetector } from "../../stabsim/page/static/records.js";
 import { countRows, numberOfRow, rowsBetween } from "../../stabsim/page/static/rows.js";
 import { svgOf } from "../../stabsim/page/static/svg_pen.js";
+import { areApart } from "../../stabsim/page/static/faces.js";
+import { pathAfter, pathThere } from "../../stabsim/page/static/keeping.js";
 
 const VIEW = { scale: 60, x: 50, y: 50, width: 400, height: 300, near: 1 };
 
@@ -155,7 +157,28 @@ test("a detector compares the last records of qubits, over rounds too", () => {
 
 test("faces have the kind of their letters on data qubits, and are grey where both kinds are checked", () => {
   const slices = [{ D0: new Map([[1, "X"], [2, "X"], [9, "Z"]]), D1: new Map([[3, "Z"], [4, "Z"]]), L0: new Map([[1, "Z"], [3, "Z"]]) }, { D2: new Map([[3, "X"], [4, "X"]]) }];
-  assert.deepEqual(facesOf(slices, new Set([9])), [{ qubits: [1, 2], kind: "x" }, { qubits: [3, 4], kind: "op" }]);
+  assert.deepEqual(facesOf(slices, new Set([9])), [{ qubits: [1, 2], kind: "x", bit: "D0" }, { qubits: [3, 4], kind: "op", bit: "D1" }]);
+});
+
+test("faces that share an edge are apart, and those that lie across each other are not", () => {
+  const places = new Map([[0, [0, 0]], [1, [2, 0]], [2, [0, 2]], [3, [2, 2]], [4, [4, 0]], [5, [4, 2]], [6, [1, 1]]]);
+  const apart = (...faces) => areApart(faces.map((qubits) => ({ qubits })), places, 1.4);
+  assert.equal(apart([0, 1, 2, 3], [1, 3, 4, 5], [0, 1]), true);
+  assert.equal(apart([0, 1, 2, 3], [6, 4, 5]), false);
+  assert.equal(apart([0, 3], [1, 2]), false);
+});
+
+test("the path of an item goes with it through edits, and as far as it leads to something", () => {
+  const items = parseCircuit("H 0\nREPEAT 2 {\n    H 1\n    TICK\n}\nM 0\n");
+  const after = (path, kind, at, more) => pathAfter(path, { kind, at, more });
+  assert.deepEqual(after([1, 1], "insert", [0], 1), [2, 1]);
+  assert.deepEqual(after([1, 1], "insert", [1, 1], 1), [1, 2]);
+  assert.deepEqual(after([1, 1], "delete", [1, 0], -1), [1, 0]);
+  assert.deepEqual(after([1, 1], "delete", [1], -1), [1, 1]);
+  assert.deepEqual(after([2], "split", [1], 2), [4]);
+  assert.deepEqual(pathThere(items, [1, 5]), [1, 1]);
+  assert.deepEqual(pathThere(items, [2, 1]), [2]);
+  assert.deepEqual(pathThere(items, [9]), [3]);
 });
 
 test("regions that one Pauli flips together are neighbours", () => {

@@ -15,7 +15,7 @@ abbrev pub PassesStep : Bit → Step → Option Bit → Type 0
 PassesStep b x None = (xs : List Step) → steps_before_bit b (x ∷ xs) ≡ []
 PassesStep b x (Some rest) = (xs : List Step) → steps_before_bit b (x ∷ xs) ≡ x ∷ steps_before_bit rest xs
 
--- these bytes were sent: all were written, and flushed once; or the output failed; or memory was refused before the first
+-- these bytes were sent: all were written, and flushed once; or the output failed; or the answer is 20 before the first
 abbrev pub SendsAtOnce : {T : Type 0} → List ℕ → OutputView → OutputView → Result T Fault → Type 0
 SendsAtOnce bytes old new (Ok x) = TookAndFlushed old new bytes
 SendsAtOnce bytes old new (Err f) = ((f ≡ whole WriteFault) × FailsToSend old new bytes) ⊎ ((f ≡ whole OutOfMemory) × (new ≡ old))

@@ -180,8 +180,8 @@ I[Z] mark that letter, I[XZ] marks X and Z, and I[pairs] the fifteen products of
 targets. With --everywhere errors are those of circuit-level noise: after each gate and reset, before each
 measured qubit, and each record wrong by itself.
 
-The answer is exact, for any code: `distance W of all errors` and then W errors, each on a line such as
-`faults` writes, if no fewer errors flip an observable and no detector; or `none up to W`, with --most W; or
+The answer is exact, for any code: `distance W of all marked errors` and then W errors, each on a line such
+as `faults` writes, if no fewer errors flip an observable and no detector; or `none up to W`, with --most W; or
 `none`, if no set of errors does. The time grows by a factor with each further error. With --graphlike the
 answer is for those errors alone that flip at most two detectors, and its first line says so. The X and the Z
 at each of its qubits take the place of an error that flips more.

@@ -23,12 +23,12 @@ IsCut text first (Some after) = text ≡ first ++ 10 ∷ after
 abbrev pub Means : List ℕ → Operation → Type 0
 Means bytes op = meaning_of (content_of bytes) ≡ Ok (line.Operation op)
 
--- the line means the instruction, if it is one
+-- the line means the instruction or the opening of a block, if it is one
 abbrev pub IsMeant : Line → List ℕ → Type 0
 IsMeant (line.Operation op) bytes = Means bytes op
 IsMeant line.Blank bytes = Unit {0}
 IsMeant line.Close bytes = Unit {0}
-IsMeant (line.Open count tag) bytes = Unit {0}
+IsMeant (line.Open count tag) bytes = meaning_of (content_of bytes) ≡ Ok (line.Open count tag)
 
 -- the first line means the instruction that is this item, and these lines follow it
 abbrev pub BeginsWithItem : List ℕ → OneItem → Option (List ℕ) → Type 0

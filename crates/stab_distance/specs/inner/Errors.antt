@@ -3,12 +3,13 @@ use Rattle.std.specs.Prelude.{◌≡◌, ℕ, ◌<◌, ◌≤◌, List, [], ◌�
 use Rattle.std.specs.Global.{Vec}
 use Rattle.stab_distance.specs.Tables.{ErrorTable, odd, row}
 use Rattle.stab_distance.specs.inner.Indexes.{ListsDetectors}
-use Rattle.stab_distance.specs.inner.Reach.{IsReach}
+use Rattle.stab_distance.specs.inner.Pairs.{ArePairs}
 
--- a table, and a number for each of its detectors
+-- a table, a number for each of its detectors, and for each error those that need not be tried with it
 pub record Keyed : Type 0 where
   pub table : ErrorTable
   pub numbers : List ℕ
+  pub pairs : List (Vec ℕ)
 
 -- the key of a row: the exclusive or of its detectors' numbers
 abbrev pub key_of : List ℕ → List ℕ → ℕ
@@ -19,13 +20,12 @@ key_of numbers (d ∷ ds) = bit_xor (slice_index numbers d) (key_of numbers ds)
 abbrev pub AreKeys : List ℕ → List (List ℕ) → List ℕ → Type 0
 AreKeys numbers rows keys = (length keys ≡ length rows) × ((r : ℕ) → r < length rows → slice_index keys r ≡ key_of numbers (row rows r))
 
--- only detectors have numbers and classes; the keys, the index and the reach are those of the rows
-pub record IsReady (detectors : ℕ) (rows : List (List ℕ)) (numbers keys : List ℕ) (index : List (Vec ℕ)) (classes reach : List ℕ) : Type 0 where
+-- only detectors have numbers; the keys, the index and the pairs are those of the rows
+pub record IsReady (detectors : ℕ) (rows : List (List ℕ)) (numbers keys : List ℕ) (index pairs : List (Vec ℕ)) : Type 0 where
   pub numbered : length numbers ≤ detectors
   pub keyed : AreKeys numbers rows keys
   pub listed : ListsDetectors rows index
-  pub classed : length classes ≤ detectors
-  pub reached : IsReach rows classes reach
+  pub paired : ArePairs rows pairs
 
 -- rows from a number on flip no observable
 abbrev pub FlipNoObservable : ErrorTable → ℕ → Type 0

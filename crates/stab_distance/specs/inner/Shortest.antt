@@ -1,8 +1,10 @@
 -- Shortest logical errors, in any order, and the set of a list of errors.
-use Rattle.std.specs.Prelude.{◌≡◌, ℕ, ◌<◌, ◌≤◌, List, length}
+use Rattle.std.specs.Prelude.{◌≡◌, ℕ, ◌<◌, ◌≤◌, Bool, true, false, List, length}
+use Rattle.stab_distance.specs.declared.answer.Answer.{Answer}
+use Rattle.stab_distance.specs.declared.answer.Answer.TheVariants.{Least, NoneWithin, NoneAtAll}
 use Rattle.stab_distance.specs.Ascending.{IsAscending}
 use Rattle.stab_distance.specs.Tables.{ErrorTable, flips}
-use Rattle.stab_distance.specs.LogicalErrors.{IsLogicalError}
+use Rattle.stab_distance.specs.LogicalErrors.{IsLogicalError, HasNoneWithin, HasNone, HasSome}
 use Rattle.stab_distance.specs.inner.Lists.{Each}
 
 -- a logical error of at most `most` errors
@@ -28,3 +30,14 @@ pub record IsLogicalSet (t : ErrorTable) (most : ℕ) (set : List ℕ) : Type 0 
   pub ascending : IsAscending set
   pub logical : IsLogicalError t set
   pub within : length set ≤ most
+
+-- an answer whose errors are in any order
+abbrev pub IsFound : ErrorTable → (most : ℕ) → Answer → Type 0
+IsFound t most (Least errors) = IsShortest t most errors.items
+IsFound t most NoneWithin = HasNoneWithin t most × HasSome t
+IsFound t most NoneAtAll = HasNone t
+
+-- whether there is a logical error
+abbrev pub Decides : ErrorTable → Bool → Type 0
+Decides t true = HasSome t
+Decides t false = HasNone t

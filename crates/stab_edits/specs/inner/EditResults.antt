@@ -1,13 +1,12 @@
 -- Edit results: what a list of items comes to by an edit.
 -- Source: this project's own.
-use Rattle.std.specs.Prelude.{◌≡◌, ◌≤◌, ℕ, ◌+◌, min, List, [], ◌∷◌, length, take, slice_get, Ok, IfOk, All}
+use Rattle.std.specs.Prelude.{◌≡◌, ◌≤◌, ℕ, ◌+◌, min, List, [], ◌∷◌, length, take, slice_get, Ok, IfOk}
 use Rattle.stab_edits.specs.declared.edit.Edit.{Edit}
 use Rattle.stab_items.specs.declared.summary.Summary.{Summary}
 use Rattle.stab_edits.specs.declared.judge.Judgement.{Judgement}
 use Rattle.stab_edits.specs.declared.judge.EditResult.{EditResult}
-use Rattle.stab_items.specs.Items.{OneItem, listed}
+use Rattle.stab_items.specs.Items.{OneItem, listed, AreGood}
 use Rattle.stab_items.specs.Steps.{Step, unroll, steps_cap}
-use Rattle.stab_edits.specs.Cursors.{IsApart}
 use Rattle.stab_edits.specs.Edits.{edited_in, edit_path, inner, steps_in, behind_taken, behind_put, outermost}
 use Rattle.stab_items.specs.inner.Summaries.{followed_by, IsSummary}
 use Rattle.stab_edits.specs.inner.Splices.{Splice}
@@ -18,13 +17,13 @@ abbrev pub steps_within : List ℕ → ℕ → List OneItem → List Step
 steps_within [] p xs = []
 steps_within (b ∷ bs) p xs = steps_in bs p (inner (slice_get xs b))
 
--- the steps of what is put in are on different qubits
-abbrev pub PutsApart : Splice → Type 0
-PutsApart s = All IsApart (unroll (listed s.put))
+-- what is put in keeps the rules of lines
+abbrev pub PutsGood : Splice → Type 0
+PutsGood s = AreGood (listed s.put)
 
--- the steps of the items are on different qubits
-abbrev pub AreApart : List OneItem → Type 0
-AreApart xs = All IsApart (unroll (listed xs))
+-- the items keep the rules of lines
+abbrev pub IsGoodList : List OneItem → Type 0
+IsGoodList xs = AreGood (listed xs)
 
 -- what a list comes to, by the summaries of the items before those that leave it, of these, and of those after them
 abbrev pub edit_result_by : Judgement → Summary → Summary → Summary → EditResult
@@ -43,7 +42,7 @@ pub record IsEditResult (edit : Edit) (blocks : List ℕ) (xs : List OneItem) (o
   pub front : BeginsWith (steps_in blocks (edit_path edit).place xs) (unroll (listed xs))
   pub old_end : o.old_end ≡ min (length (unroll (listed (take (outermost (behind_taken edit) blocks) xs)))) steps_cap
   pub new_end : IfOk (edited_in edit blocks xs) (λ new. o.new_end ≡ min (length (unroll (listed (take (outermost (behind_put edit) blocks) new)))) steps_cap)
-  pub apart : IfOk (edited_in edit blocks xs) AreApart
+  pub good : IfOk (edited_in edit blocks xs) IsGoodList
   pub old_order : o.first ≤ o.old_end
   pub new_order : o.first ≤ o.new_end
   pub order : o.first ≤ o.total.steps

@@ -7,6 +7,7 @@ use Rattle.stab_io.specs.declared.refusal.Refusal.TheVariants.{PlaceOutOfRange, 
 use Rattle.stab_items.specs.declared.summary.Summary.{Summary}
 use Rattle.stab_edits.specs.declared.judge.Judgement.{Judgement}
 use Rattle.stab_edits.specs.declared.judge.Block.{Block}
+use Rattle.stab_lines.specs.Rules.{IsTag}
 use Rattle.stab_items.specs.Items.{OneItem, operation, repeat, listed, depth, depth_of}
 use Rattle.stab_items.specs.Steps.{Step}
 use Rattle.stab_items.specs.inner.Summaries.{summary_of}
@@ -33,9 +34,9 @@ block_refusal None = Some PlaceOutOfRange
 block_refusal (Some (operation op)) = Some NotABlock
 block_refusal (Some (repeat count tag body)) = None
 
--- the call gave the block's count and items, or said why there is no block
+-- the call gave the block's count and items, and its tag keeps the rules of one, or said why there is no block
 abbrev pub IsBlockAt : Option OneItem → Result Block Refusal → Type 0
-IsBlockAt x (Ok found) = (tag : List ℕ) × (x ≡ Some (repeat found.count tag (listed found.body.now)))
+IsBlockAt x (Ok found) = (tag : List ℕ) × (x ≡ Some (repeat found.count tag (listed found.body.now))) × IsTag tag
 IsBlockAt x (Err r) = block_refusal x ≡ Some r
 
 -- the edit leaves items that are not nested too deep

@@ -1,11 +1,11 @@
 -- Kept summaries: what an item's node stands for, and what is kept in it.
 -- Source: this project's own.
-use Rattle.std.specs.Prelude.{◌≡◌, ◌≤◌, [], All}
+use Rattle.std.specs.Prelude.{◌≡◌, ◌≤◌, []}
 use Rattle.stab_items.specs.declared.item.Node.{Node}
 use Rattle.stab_items.specs.declared.item.Node.TheVariants as node
 use Rattle.stab_lines.specs.declared.operation.Kind.TheVariants as kind
-use Rattle.stab_items.specs.Items.{OneItem, operation, repeat, listed}
-use Rattle.stab_items.specs.Steps.{unroll, IsApart}
+use Rattle.stab_lines.specs.Rules.{IsTag}
+use Rattle.stab_items.specs.Items.{OneItem, operation, repeat, listed, AreGood}
 use Rattle.stab_items.specs.inner.Summaries.{summary_of, IsSummary}
 
 -- the item that a node stands for
@@ -14,10 +14,10 @@ shown node.Tick = operation (record { kind = kind.Tick; tag = [] })
 shown (node.Instruction op) = operation op.value
 shown (node.Block b) = repeat b.value.head.count b.value.head.tag (listed b.value.body.items)
 
--- a block keeps the summary of one round, has blocks nested at most 15 deep in it, and steps on different qubits
+-- a block keeps the summary of one round, has blocks nested at most 15 deep in it, and a tag and items that keep the rules of lines
 abbrev pub IsKept : Node → Type 0
 IsKept node.Tick = Unit {0}
 IsKept (node.Instruction op) = Unit {0}
 IsKept (node.Block b) =
     (b.value.head.kept ≡ summary_of (listed b.value.body.items)) × IsSummary b.value.head.kept × (b.value.head.kept.depth ≤ 15)
-    × All IsApart (unroll (listed b.value.body.items))
+    × IsTag b.value.head.tag × AreGood (listed b.value.body.items)

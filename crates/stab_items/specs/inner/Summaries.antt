@@ -1,18 +1,16 @@
 -- Summaries: what checks need to know of items, in numbers that stop growing.
 -- Source: this project's own.
-use Rattle.std.specs.Prelude.{◌≡◌, ◌≢◌, false, ℕ, ◌+◌, ◌*◌, ◌-◌, ◌≤◌, max, min, nat_lt, List, [], ◌∷◌, All, length, if◌then◌else◌, Option, Some, None}
+use Rattle.std.specs.Prelude.{◌≡◌, ℕ, ◌+◌, ◌*◌, ◌-◌, ◌≤◌, max, min, nat_lt, List, [], ◌∷◌, length, if◌then◌else◌, Option, Some, None}
 use Rattle.stab_io.specs.declared.refusal.Refusal.{Refusal}
 use Rattle.stab_io.specs.declared.refusal.Refusal.TheVariants.{LookbackTooFar, TooManySteps}
 use Rattle.stab_gates.specs.Limits.{most_qubits}
 use Rattle.stab_items.specs.declared.summary.Summary.{Summary}
 use Rattle.stab_lines.specs.declared.control.ControlledPair.{ControlledPair}
 use Rattle.stab_lines.specs.declared.control.ControlledPair.TheVariants as pair
-use Rattle.stab_lines.specs.declared.product.Factor.{Factor}
 use Rattle.stab_lines.specs.Limits.{most_lookback}
-use Rattle.stab_lines.specs.Products.{names_twice}
 use Rattle.stab_lines.specs.declared.operation.Kind.{Kind}
-use Rattle.stab_items.specs.Items.{Items, depth}
-use Rattle.stab_items.specs.Steps.{Step, IsApart, makes, records_of, detectors_of, lookbacks, steps_of, unroll, past, named_qubits, named_observables, qubits_of, observables_of, most_steps, steps_cap}
+use Rattle.stab_items.specs.Items.{Items, depth, AreGood}
+use Rattle.stab_items.specs.Steps.{Step, makes, records_of, detectors_of, lookbacks, steps_of, unroll, past, named_qubits, named_observables, qubits_of, observables_of, most_steps, steps_cap}
 
 -- the greatest number, or 0
 abbrev pub greatest : List ℕ → ℕ
@@ -55,19 +53,6 @@ kind_summary_of kind = steps_summary (steps_of kind) (past (named_qubits kind)) 
 abbrev pub summary_of : Items → Summary
 summary_of items = steps_summary (unroll items) (qubits_of items) (observables_of items) (depth items)
 
--- the qubits of a pair of a controlled gate are different ones
-abbrev pub IsPairApart : ControlledPair → Type 0
-IsPairApart (pair.Qubits p) = p.1 ≢ p.0
-IsPairApart (pair.Record q k) = Unit {0}
-
--- the qubits of an exchanged pair are different ones
-abbrev pub IsSwapApart : ℕ × ℕ → Type 0
-IsSwapApart p = p.1 ≢ p.0
-
--- the qubits of a product are different ones
-abbrev pub IsProductApart : List Factor → Type 0
-IsProductApart factors = names_twice factors ≡ false
-
 -- a summary's numbers are within their bounds
 pub record IsSummary (s : Summary) : Type 0 where
   pub steps : s.steps ≤ steps_cap
@@ -77,11 +62,11 @@ pub record IsSummary (s : Summary) : Type 0 where
   pub qubits : s.qubits ≤ most_qubits
   pub depth : s.depth ≤ 17
 
--- the summary of these items, whose steps are on different qubits
+-- the summary of these items, which keep the rules of lines
 pub record IsSumOf (items : Items) (s : Summary) : Type 0 where
   pub value : s ≡ summary_of items
   pub small : IsSummary s
-  pub apart : All IsApart (unroll items)
+  pub good : AreGood items
 
 -- the summary of items with others after them
 abbrev pub followed_by : Summary → Summary → Summary

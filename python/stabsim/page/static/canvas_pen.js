@@ -127,14 +127,14 @@ export class CanvasPen {
     return picture;
   }
 
+  // Whether a spot is within a path.
+  isWithin(path, [x, y]) {
+    trace(this.#pen, path);
+    return this.#pen.isPointInPath(x * this.#ratio, y * this.#ratio);
+  }
+
   #path(pen, { path, fill, stroke, width = 1, dash, alpha = 1, hatch: letter }) {
-    pen.beginPath();
-    for (const [op, ...numbers] of path) {
-      if (op === "M") pen.moveTo(...numbers);
-      else if (op === "L") pen.lineTo(...numbers);
-      else if (op === "A") pen.arc(...numbers);
-      else pen.closePath();
-    }
+    trace(pen, path);
     pen.globalAlpha = alpha;
     if (fill) {
       pen.fillStyle = colourOf(fill);
@@ -171,6 +171,16 @@ export class CanvasPen {
   #hatch(letter) {
     if (!this.#hatches.has(letter)) this.#hatches.set(letter, this.#pen.createPattern(tileOf(letter), "repeat"));
     return this.#hatches.get(letter);
+  }
+}
+
+function trace(pen, path) {
+  pen.beginPath();
+  for (const [op, ...numbers] of path) {
+    if (op === "M") pen.moveTo(...numbers);
+    else if (op === "L") pen.lineTo(...numbers);
+    else if (op === "A") pen.arc(...numbers);
+    else pen.closePath();
   }
 }
 

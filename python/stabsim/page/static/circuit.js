@@ -112,12 +112,13 @@ export function itemAt(items, path) {
 
 export const pathOf = (text) => text.split("/").map(Number);
 
-// Makes an edit that the session has accepted.
+// Makes an edit that the session has accepted. Answers {kind, at, more, before, after}: at which path, how many items its list has more, and
+// the items that were and are there.
 export function applyEdit(items, edit) {
   const path = pathOf(edit.place);
   const list = listAt(items, path);
   const place = path.at(-1);
-  const count = items.length;
+  const [count, length, item] = [items.length, list.length, list[place]];
   if (edit.kind === "insert") list.splice(place, 0, itemOf(edit.item));
   else if (edit.kind === "replace") list.splice(place, 1, itemOf(edit.item));
   else if (edit.kind === "delete") list.splice(place, 1);
@@ -126,6 +127,7 @@ export function applyEdit(items, edit) {
   // What cuts a block depends on what is before it, so all is cut anew from the outermost list on.
   const [first, end] = cutList(items, path[0], path[0] + (edit.kind === "split" ? 3 : 1));
   recountPart(items, first, end, items.length - count);
+  return { kind: edit.kind, at: path, more: list.length - length, before: item, after: list[place] };
 }
 
 // The blocks that a block becomes if a round is split off: the rounds before it, that round, and the rounds after it.

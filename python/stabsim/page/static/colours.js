@@ -17,16 +17,22 @@ function take(name) {
   known.clear();
 }
 
-// Takes the theme that the system has, until another is chosen; `changed` is called after each change.
-export function followSystem(changed) {
-  const follow = () => {
-    take(dark.matches ? "dark" : "light");
+// Where the browser keeps the theme that was chosen.
+const KEY = "stabsim theme";
+
+// Takes the theme that was chosen, or else that of the system, whenever it changes; `changed` is called then.
+export function takeTheme(changed) {
+  const now = () => localStorage.getItem(KEY) ?? (dark.matches ? "dark" : "light");
+  dark.addEventListener("change", () => {
+    if (now() === theme()) return;
+    take(now());
     changed();
-  };
-  dark.addEventListener("change", follow);
-  take(dark.matches ? "dark" : "light");
+  });
+  take(now());
 }
 
+// Chooses the other theme.
 export function exchangeThemes() {
   take(theme() === "dark" ? "light" : "dark");
+  localStorage.setItem(KEY, theme());
 }

@@ -35,15 +35,13 @@ export class DistanceView {
     const number = /^distance (\d+)/.exec(first ?? "")?.[1];
     const where = ["running", "found"].includes(state) ? `of errors ${MARKED[isMarked]}` : "";
     const isRunning = state === "running";
-    fillOnce(this.#head, [number, where, isRunning], () => [title(`Distance${number ? ` ${number}` : ""}`, where), this.#button(isRunning)]);
+    fillOnce(this.#head, [number, where, isRunning, this.#set.length > 0], () => [title(`Distance${number ? ` ${number}` : ""}`, where), this.#buttons(isRunning)]);
     fill(this.#body, ...this.#said());
   }
 
-  #button(isRunning) {
-    const button = element("button", "ask", isRunning ? "End" : "Ask");
-    button.title = isRunning ? "end the search" : "ask for the distance of the circuit as it is";
-    button.addEventListener("click", isRunning ? this.#act.end : this.#act.ask);
-    return button;
+  #buttons(isRunning) {
+    const compute = isRunning ? button("Stop", "stop the search", this.#act.end) : button("Compute", ABOUT, this.#act.ask);
+    return element("span", "", ...(this.#set.length ? [button("Clear", "take the errors off the picture", () => this.#act.show([])), " "] : []), compute);
   }
 
   #said() {
@@ -51,7 +49,7 @@ export class DistanceView {
     const earlier = before ? [quiet(`before the last edits: ${before}`)] : [];
     if (state === "running") return [status(said || "it is looked for"), ...earlier];
     if (state === "refused") return [status(said, "bad"), ...earlier];
-    if (state !== "found") return [quiet(said || ABOUT), ...earlier];
+    if (state !== "found") return [...(said ? [quiet(said)] : []), ...earlier];
     return [this.#set.length ? this.#errors() : status(first.startsWith("none up to") ? first : "no set of errors flips an observable unseen"), ...earlier];
   }
 
@@ -71,6 +69,13 @@ export class DistanceView {
     made.append(mark, error.name);
     return made;
   }
+}
+
+function button(words, title, act) {
+  const made = element("button", "ask", words);
+  made.title = title;
+  made.addEventListener("click", act);
+  return made;
 }
 
 function status(words, className = "") {

@@ -1,17 +1,19 @@
 // The drawing of a moment, as elements (glyphs.js): what is measured where, gates, and over them what is known of detectors.
 //
-// A scene (scene.js) is {places, ancillas, box, hasCoordinates, instructions, recordName, faces, region, coins, way, set, neighbours,
+// A scene (scene.js) is {places, ancillas, box, hasCoordinates, instructions, recordName, faces, region, coins, set, neighbours,
 // chosen}, with what is drawn for the pointer: {pending, spots, frame}; a view says where a place is seen: {scale, x, y, width, height,
 // near}. A drawing follows from both, wherever it is written. What gates look like says the table of shapes alone (marks.js).
 
-import { PITCH, gates, table } from "./glyphs.js";
-import { groundElements } from "./ground_drawing.js";
+import { PITCH, circle, gates, table } from "./glyphs.js";
+import { groundElements, gutterElements } from "./ground_drawing.js";
 import { PAULIS, actionsOf, isControlled, qubitsOf } from "./instructions.js";
 import { marksOf } from "./marks.js";
 import { coinElements, errorElements, faceElements, letterElements, neighbourElements, regionElements } from "./region_drawing.js";
 
 // How far out of sight, in sides of a glyph, something is still drawn, since its wire may be seen.
 const MARGIN = 2;
+// How large the ring of what is chosen is, in sides of a glyph: its corners touch it.
+const RING = 0.74;
 
 export const drawingOf = (scene, view) => layersOf(scene, view, new Kept()).flat();
 
@@ -62,6 +64,7 @@ export function layersOf(scene, view, kept) {
     letterElements(sheet, operations.busy),
     operations.errors,
     errorElements(sheet),
+    kept.of("gutter", () => gutterElements(sheet)),
   ];
 }
 
@@ -141,14 +144,14 @@ function numberElements(sheet, busy) {
     .flatMap((qubit) => marksOf(busy.has(qubit) ? "number beside" : "number", { number: String(qubit) }, [at(qubit)], side).over);
 }
 
-// Corners, so that what is chosen is not taken for a ring; and what the next click would do.
+// A ring tight at the glyph of what is chosen; and what the next click would do.
 function choiceElements({ at, side, scene: { chosen, pending = [], spots = [], frame } }) {
-  const radius = Math.max(9, side * 1.08);
+  const radius = Math.max(8, side * RING);
   const elements = [];
   for (const qubit of chosen) {
     const place = at(qubit);
     if (!place) continue;
-    const path = cornersOf(place, radius);
+    const path = circle(...place, radius);
     elements.push({ path, stroke: "sheet", width: 4 }, { path, stroke: "accent", width: 2.5 });
   }
   for (const [from, to] of pending) elements.push({ path: [["M", ...from], ["L", ...to]], stroke: "accent", width: 2, dash: [5, 4] });
@@ -159,11 +162,4 @@ function choiceElements({ at, side, scene: { chosen, pending = [], spots = [], f
   }
   for (const [x, y] of spots) elements.push({ glyph: "data", x, y, side: side * 0.78, role: "accent" });
   return elements;
-}
-
-function cornersOf([x, y], radius) {
-  const arm = radius * 0.5;
-  return [[-1, -1], [1, -1], [1, 1], [-1, 1]].flatMap(([across, down]) => [
-    ["M", x + across * radius, y + down * arm], ["L", x + across * radius, y + down * radius], ["L", x + across * arm, y + down * radius],
-  ]);
 }

@@ -2,10 +2,12 @@
 
 import * as editing from "./editing.js";
 import { PAULIS, isPair, isSingle } from "./instructions.js";
+import { afterSplits } from "./keeping.js";
 import { nameOf } from "./moments.js";
 import { titleOf, toolOf } from "./palette.js";
 import { partnersOf } from "./pairing.js";
 import { putDetector, putObservable } from "./records.js";
+import { mirrored, replaceQubits, shiftBy, turned } from "./replacing.js";
 import { moveTick, putTick, stepTick, takeTick } from "./ticks.js";
 
 export class Editor {
@@ -13,27 +15,29 @@ export class Editor {
   #act;
   #last = Promise.resolve();
 
-  // `act` has send(edits, round, name), which answers whether they were made; say(words, isBad); and menu(qubit, offers).
+  // `act` has send(edits, round, name), which answers what was made of them, or null if they were refused; say(words, isBad); menu(qubit, offers); isAlone(isError), which says in
+  // which rounds an edit is made; and number(words, offered), which asks for one.
   constructor(shown, act) {
     this.#shown = shown;
     this.#act = act;
   }
 
   // Makes the edits that `edits(state, moment)` answers as editing.js does, and shows what was put in, unless a person went to another
-  // moment meanwhile: answers whether it is shown, as {isShown}, or null if they were not made. They are worked out once those before them
-  // are made, since each edit moves what comes after it: keys may be quicker than the program.
+  // moment meanwhile: answers whether they were made. They are worked out once those before them are made, since each edit moves what
+  // comes after it: keys may be quicker than the program.
   make(edits) {
     const inTurn = async () => {
       const { edits: wanted, round, shown, name, why } = edits(this.#shown.state, this.#shown.moment);
       if (why) return void this.#act.say(why, true);
       const { moves } = this.#shown;
-      if (!await this.#act.send(wanted, round, name)) return null;
-      const isShown = this.#shown.moves === moves;
-      if (shown && isShown) {
-        this.#shown.goToPath(shown.path, shown.rounds);
-        this.#shown.select(shown.path, false);
+      const made = await this.#act.send(wanted, round, name);
+      if (!made) return false;
+      if (shown && this.#shown.moves === moves) {
+        const { path, rounds } = afterSplits(shown, made.split_off);
+        this.#shown.goToPath(path, rounds);
+        this.#shown.select(path, false);
       }
-      return { isShown };
+      return true;
     };
     this.#last = this.#last.then(inTurn, inTurn);
     return this.#last;
@@ -104,20 +108,16 @@ export class Editor {
     return isDone;
   }
 
-  // Puts a gate, measurement or reset on qubits at the end of the moment. What an error flips is then chosen, with its region, and its way is shown.
+  // Puts a gate, measurement or reset on qubits at the end of the moment. What an error flips is then chosen, with its region.
   async put(name, qubits, alone = this.#isAlone(name)) {
     const made = await this.make(({ items }, moment) => editing.putIn(items, moment, name, qubits, alone));
-    if (made && PAULIS.includes(name)) {
-      this.#shown.chooseBit([...this.#shown.state.flipped][0] ?? null);
-      if (qubits.length === 1 && made.isShown) this.#shown.follow(qubits[0], name);
-    }
+    if (made && PAULIS.includes(name)) this.#shown.chooseBit([...this.#shown.state.flipped][0] ?? null);
     return made;
   }
 
   // Whether an edit in a block is made in the round that is seen alone.
   #isAlone(name) {
-    const which = document.getElementById("alone").value;
-    return which === "alone" || (which === "errors" && PAULIS.includes(name));
+    return this.#act.isAlone(PAULIS.includes(name));
   }
 
   // Puts qubits on places, and chooses them.
@@ -129,6 +129,16 @@ export class Editor {
       return qubits.length ? made : { why: "no place is free there" };
     });
     if (isDone) this.#shown.chooseAll(qubits);
+  }
+
+  // Puts qubits on other places: `way` makes of their places what moves each of them.
+  replace(qubits, way) {
+    return this.make(({ items, placement }) => replaceQubits(items, qubits, placement, way(qubits.map((it) => placement.places.get(it)).filter(Boolean))));
+  }
+
+  // Shifts a qubit by a step, with all that are chosen if it is one of them.
+  shift(qubit, step) {
+    return this.replace(this.#chosenWith(qubit), () => shiftBy(step));
   }
 
   // Puts in what was copied.
@@ -159,7 +169,7 @@ export class Editor {
       Backspace: () => this.#remove(),
       T: () => this.make(({ items }, moment) => takeTick(items, moment)),
       D: () => this.#detector(true),
-      o: () => chosen.length && this.make(({ items }, moment) => putObservable(items, moment, chosen, 0)),
+      o: () => chosen.length && this.#observable(chosen),
       "<": () => chosen.length && this.moveTo(chosen, this.#shown.moment - 1),
       ">": () => chosen.length && this.moveTo(chosen, this.#shown.moment + 1),
     };
@@ -171,7 +181,12 @@ export class Editor {
   #remove() {
     const { chosen } = this.#shown;
     if (!chosen.length) return undefined;
-    return this.make(({ items, used }, moment) => editing.takeOut(items, moment, chosen, this.#isAlone(""), (qubit) => used.has(qubit)));
+    return this.make(({ items, uses }, moment) => editing.takeOut(items, moment, chosen, this.#isAlone(""), (qubit) => uses.acting.has(qubit)));
+  }
+
+  async #observable(chosen) {
+    const number = await this.#act.number("observable", 0);
+    return number !== null && this.make(({ items }, moment) => putObservable(items, moment, chosen, number));
   }
 
   #product() {
@@ -198,6 +213,11 @@ export class Editor {
     if (this.#shown.round) offers.push(...PAULIS.map((letter) => [`${letter} in each round`, () => this.put(letter, [qubit], false)]));
     const others = ["S_DAG", "SQRT_X_DAG", "SQRT_Y_DAG", "C_ZYX", "MY", "RY", "MRX", "MRY", "I"];
     offers.push(...others.map((name) => [name, () => this.put(name, this.#chosenWith(qubit))]));
+    const ours = this.#chosenWith(qubit);
+    if (ours.length > 1) {
+      offers.push(["turn the chosen by a quarter", () => this.replace(ours, turned)], ["mirror them left to right", () => this.replace(ours, (all) => mirrored(all, false))],
+        ["mirror them upside down", () => this.replace(ours, (all) => mirrored(all, true))]);
+    }
     offers.push(["Stabilised by Z?", () => askSign(`Z${qubit}`)], ["Stabilised by X?", () => askSign(`X${qubit}`)]);
     return offers;
   }

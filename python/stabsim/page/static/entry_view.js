@@ -1,7 +1,9 @@
 // The line below the text in which an item is written, with what is wrong with it at its place.
 
-import { textOf } from "./circuit.js";
+import { itemAt, textOf } from "./circuit.js";
 import { completed } from "./completion.js";
+import { pathAfter, pathThere } from "./keeping.js";
+import { commandOf } from "./keys.js";
 import { partsOf } from "./refusals.js";
 
 const HINT = "Tab completes a name, Shift-Enter begins a line.";
@@ -43,6 +45,18 @@ export class EntryView {
   // Whether somebody writes in it.
   get isWritten() {
     return document.activeElement === this.#field;
+  }
+
+  // Takes over where an item is written from the items before edits to those after them. If the item is another now, what is written
+  // does not take its place, but is put in before it.
+  keep(items, moves) {
+    if (this.#path === null) return;
+    this.#path = pathThere(items, moves.reduce(pathAfter, this.#path));
+    const item = itemAt(items, this.#path) ?? null;
+    if (item === this.#item) return;
+    if (this.#kind === "replace") this.#kind = "insert";
+    this.#item = item;
+    this.#say();
   }
 
   // Shows an item that was chosen, in a block of `count` rounds, or 0 if it is in none.
@@ -104,7 +118,7 @@ export class EntryView {
   }
 
   #roundKey(event) {
-    event.stopPropagation();
+    keepFromPage(event);
     if (event.key === "Escape") this.#act.leave();
     if (event.key !== "Enter") return;
     event.preventDefault();
@@ -113,7 +127,7 @@ export class EntryView {
 
   // Enter sends the item. The key that opened it may still be held down, and types nothing.
   #key(event) {
-    event.stopPropagation();
+    keepFromPage(event);
     this.#isOpening &&= event.repeat;
     const isEnter = event.key === "Enter" && !event.shiftKey;
     if (event.repeat && (this.#isOpening || isEnter)) event.preventDefault();
@@ -133,4 +147,9 @@ export class EntryView {
     this.#field.setRangeText(found.words, selectionStart - found.typed.length, selectionStart, "end");
     this.#find("#why").textContent = found.names.length > 1 ? found.names.join(" ") : HINT;
   }
+}
+
+// What is typed here means nothing elsewhere, except commands, and the key that leads to the next pane.
+function keepFromPage(event) {
+  if (event.key !== "F6" && !commandOf(event)) event.stopPropagation();
 }

@@ -4,13 +4,16 @@ import { colourOf } from "./colours.js";
 import { download } from "./files.js";
 import { svgOf } from "./svg_pen.js";
 
-export function exportsOf({ ask, name, layout }) {
-  const told = async (what, called) => {
-    const answer = await ask({ ask: "export", what });
-    if (answer.text !== undefined) download(called, answer.text);
+// `page` has ask(question), name(), text(), which answers the circuit as the tab has it, so that it can be had without the server, and layout.
+export function exportsOf({ ask, name, text, layout }) {
+  const circuit = () => {
+    download(name(), text());
+    return ask({ ask: "saved" });
   };
-  const circuit = () => told("circuit", name());
-  const script = () => told("script", "edits.script");
+  const script = async () => {
+    const answer = await ask({ ask: "script" });
+    if (answer.text !== undefined) download("edits.script", answer.text);
+  };
   const picture = () => {
     const [width, height] = layout.size;
     download(`${name().replace(/\.\w+$/, "")}.svg`, svgOf(layout.elements(), { width, height, colour: colourOf, ground: "sheet" }), "image/svg+xml");

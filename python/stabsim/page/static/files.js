@@ -12,12 +12,12 @@ export function download(name, contents, type = "text/plain") {
   URL.revokeObjectURL(anchor.href);
 }
 
-// Has `open(text, name)` called for a file that is chosen in a field or dropped on the page, and for a circuit that is pasted outside
-// of fields, unless `put(text)` answers that it takes it.
+// Has `open(file)` called for a file that is chosen in a field or dropped on the page, and for a circuit that is pasted outside of fields,
+// unless `put(text)` answers that it takes it; `file` has its name, its size in bytes, and text(), which reads it.
 export function takeFiles(field, open, put) {
-  field.addEventListener("change", async () => {
+  field.addEventListener("change", () => {
     const [file] = field.files;
-    if (file) open(await file.text(), file.name);
+    if (file) open(file);
     field.value = "";
   });
   addEventListener("dragover", (event) => {
@@ -25,33 +25,42 @@ export function takeFiles(field, open, put) {
     document.body.classList.add("dropping");
   });
   addEventListener("dragleave", (event) => event.relatedTarget || document.body.classList.remove("dropping"));
-  addEventListener("drop", async (event) => {
+  addEventListener("drop", (event) => {
     event.preventDefault();
     document.body.classList.remove("dropping");
     const [file] = event.dataTransfer.files;
-    if (file) open(await file.text(), file.name);
-    else if (event.dataTransfer.getData("text")) open(await textOfPasted(event.dataTransfer.getData("text")), "dropped.stim");
+    const given = event.dataTransfer.getData("text");
+    if (file) open(file);
+    else if (given) open(fileOf(given, "dropped.stim"));
   });
-  addEventListener("paste", async (event) => {
+  addEventListener("paste", (event) => {
     if (event.target.matches?.("input, textarea")) return;
     const given = event.clipboardData.getData("text");
     if (!given.trim()) return;
     event.preventDefault();
-    if (!put(given)) open(await textOfPasted(given), "pasted.stim");
+    if (!put(given)) open(fileOf(given, "pasted.stim"));
   });
 }
 
 // What is pasted is a circuit, or a link that holds one.
-async function textOfPasted(given) {
-  return given.includes(LINK) ? unpacked(given.slice(given.indexOf(LINK) + LINK.length).trim()) : given;
-}
+const fileOf = (given, name) => ({
+  name, size: given.length, text: async () => (given.includes(LINK) ? unpacked(given.slice(given.indexOf(LINK) + LINK.length).trim()) : given),
+});
+
+// A size in words, by the letters of a text or the bytes of a file.
+export const saidOfSize = (size) => (size < 1e6 ? `${Math.ceil(size / 1e3)} kB` : `${(size / 1e6).toFixed(1)} MB`);
 
 // The circuit that the address holds, or null; it is taken out of the address, since edits would make it stale.
 export async function circuitOfAddress() {
   if (!location.hash.startsWith(LINK)) return null;
   const letters = location.hash.slice(LINK.length);
-  history.replaceState(null, "", location.pathname + location.search);
+  forgetLink();
   return unpacked(letters);
+}
+
+// Takes a circuit out of the address: it is another than the present one.
+export function forgetLink() {
+  if (location.hash.startsWith(LINK)) history.replaceState(null, "", location.pathname + location.search);
 }
 
 // Puts a circuit into the address and on the clipboard, and says so; throws if it is too long.

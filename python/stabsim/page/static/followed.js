@@ -1,4 +1,4 @@
-// What is followed through time: the region of a detector or observable, or the coins that decide it; and the way of an error.
+// What is followed through time: the region of a detector or observable, or the coins that decide it.
 
 export class Followed {
   // The detector or observable whose region is shown, as D3 or L0.
@@ -8,8 +8,6 @@ export class Followed {
   why = "";
   // Where the coins are thrown that decide it (coins.js), or null if that is not known, or none does.
   coins = null;
-  // The error that is followed: {moment, qubit, letter, letters}, with its letters by moments, or null.
-  way = null;
   #knowledge;
   #page;
 
@@ -19,10 +17,15 @@ export class Followed {
   }
 
   async chooseBit(bit) {
-    this.bit = bit;
-    [this.region, this.why, this.coins] = [{}, bit === null ? "" : "its region is asked for", null];
+    this.take(bit);
     this.#page.changed();
     if (bit !== null) await this.#findRegion(bit);
+  }
+
+  // Takes a bit of which nothing is known yet, or null.
+  take(bit) {
+    this.bit = bit;
+    [this.region, this.why, this.coins] = [{}, bit === null ? "" : "its region is asked for", null];
   }
 
   async #findRegion(bit) {
@@ -43,24 +46,8 @@ export class Followed {
     this.#page.changed();
   }
 
-  // Follows an error on a qubit at the end of a moment, or with null none.
-  async follow(error) {
-    this.way = error && { ...error, letters: { [error.moment]: { [error.qubit]: error.letter } } };
-    this.#page.changed();
-    if (error) await this.#findWay();
-  }
-
-  async #findWay() {
-    const { way } = this;
-    const found = await this.#knowledge.way(way.moment, way.qubit, way.letter);
-    if (this.way !== way || found.why) return;
-    this.way = { ...way, letters: found.letters };
-    this.#page.changed();
-  }
-
   // Asks anew, once more is known; what is shown stays until the answer is there.
   known() {
     if (this.bit !== null) this.#findRegion(this.bit);
-    if (this.way) this.#findWay();
   }
 }

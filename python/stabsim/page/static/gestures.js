@@ -18,7 +18,7 @@ export class Gestures {
   #drag = null;
   #hovered = null;
 
-  // `picture` has isThere, qubitAt(spot), qubitsIn(box), placeAt(spot), placesIn(box, step), hasGlyphAt(qubit, spot), pan(across, down),
+  // `picture` has isThere, qubitAt(spot), faceAt(spot), qubitsIn(box), placeAt(spot), placesIn(box, step), hasGlyphAt(qubit, spot), pan(across, down),
   // zoom(factor, x, y) and draw(); `act` is that of the LayoutView.
   constructor(canvas, picture, act) {
     [this.#canvas, this.#picture, this.#act] = [canvas, picture, act];
@@ -70,6 +70,7 @@ export class Gestures {
   // What a drag would do that begins so.
   #kindOf(event, qubit) {
     if (event.button !== 0 || event.ctrlKey || event.metaKey) return "pan";
+    if (event.altKey && qubit !== null) return "shift";
     const tool = this.#act.tool();
     // A finger has no key and no second button to pan by, so it leads gates on two and does nothing else.
     if (isFinger(event)) return qubit !== null && isPair(tool) ? "pair" : "pan";
@@ -125,6 +126,7 @@ export class Gestures {
     const end = this.#picture.qubitAt(last);
     if (kind === "box") this.#act.box(this.#picture.qubitsIn([from, last]), isMore);
     else if (kind === "places") this.#act.place(this.#picture.placesIn([from, last], isMore ? 2 : 1));
+    else if (kind === "shift") this.#act.shift(qubit, this.#picture.placeAt(last));
     else if (kind === "gate") this.#act.drop(qubit, { left: event.clientX, top: event.clientY });
     else if (kind === "pair" && end !== null && end !== qubit) this.#act.lead(qubit, end, isMore);
   }
@@ -132,7 +134,9 @@ export class Gestures {
   #click(event, { qubit }) {
     const tool = this.#act.tool();
     const isMore = event.shiftKey || event.ctrlKey || event.metaKey;
-    if (tool === "pick" || (qubit !== null && tool === "qubit")) this.#act.choose(qubit, isMore);
+    const bit = tool === "pick" && !isMore ? this.#picture.faceAt(spotOf(event)) : null;
+    if (bit) this.#act.face(bit);
+    else if (tool === "pick" || (qubit !== null && tool === "qubit")) this.#act.choose(qubit, isMore);
     else if (qubit !== null) this.#act.use(qubit, isMore);
     else if (tool === "qubit") this.#act.place([this.#picture.placeAt(spotOf(event))]);
     else this.#act.useAt(this.#picture.placeAt(spotOf(event)), isMore);

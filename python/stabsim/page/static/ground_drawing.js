@@ -1,16 +1,18 @@
-// What lies under a picture of qubits: a dot where one could be, and coordinates at the edges.
+// What lies under a picture of qubits: a dot where one could be; and coordinates in gutters at the edges, over all else.
 
 // From which scale on there are dots, and from which on all over the picture.
 const DOTS_FROM = 14;
 const ALL_FROM = 20;
 // How near numbers at the edges are at most, in pixels.
 const LEAST_STEP = 24;
-const EDGE = 20;
+// How wide the gutters of the numbers are, at the left and at the top.
+const LEFT = 32;
+const TOP = 22;
 
 const HINT = ["Press q, and click where a qubit shall be.", "A circuit may be dropped here, pasted or opened."];
 
 export function groundElements({ scene, view }) {
-  return [...dots(scene, view), ...(scene.hasCoordinates ? numbers(view) : []), ...(scene.places.size ? [] : hint(view))];
+  return [...dots(scene, view), ...(scene.places.size ? [] : hint(view))];
 }
 
 // The whole numbers that are in sight, across or down.
@@ -31,21 +33,22 @@ function dots({ box }, { scale, x, y, width, height }) {
   return boxes.length ? [{ boxes, fill: "edge", alpha: 0.45 }] : [];
 }
 
-function numbers({ scale, x, y, width, height }) {
+export function gutterElements({ scene, view: { scale, x, y, width, height } }) {
+  if (!scene.hasCoordinates) return [];
   const step = [1, 2, 5, 10, 20, 50].find((it) => it * scale >= LEAST_STEP) ?? 100;
-  const said = { size: 10, fill: "quiet", halo: "sheet" };
-  const elements = [];
-  const [left, right] = between(x, width, scale);
-  for (let across = Math.ceil(left / step) * step; across <= right; across += step) {
-    const at = x + across * scale;
-    if (at > EDGE * 1.5) elements.push({ ...said, words: String(across), x: at, y: EDGE * 0.6 });
-  }
-  const [top, bottom] = between(y, height, scale);
-  for (let down = Math.ceil(top / step) * step; down <= bottom; down += step) {
-    const at = y + down * scale;
-    if (at > EDGE * 1.5) elements.push({ ...said, words: String(down), x: EDGE, y: at, align: "right" });
-  }
-  return elements;
+  const said = { size: 12.5, fill: "quiet" };
+  const across = numbers(x, width, scale, step).filter(([, at]) => at > LEFT + 8).map(([words, at]) => ({ ...said, words, x: at, y: TOP / 2 }));
+  const down = numbers(y, height, scale, step).filter(([, at]) => at > TOP + 6).map(([words, at]) => ({ ...said, words, x: LEFT - 5, y: at, align: "right" }));
+  return [
+    { boxes: [[0, 0, width, TOP], [0, 0, LEFT, height]], fill: "sheet" }, { boxes: [[LEFT, TOP, width, 1], [LEFT, TOP, 1, height]], fill: "hair" },
+    ...across, ...down,
+  ];
+}
+
+// The numbers in steps that are in sight, each with where it is.
+function numbers(from, length, scale, step) {
+  const [first, last] = between(from, length, scale * step);
+  return Array.from({ length: Math.max(0, last - first + 1) }, (_, i) => [String((first + i) * step), from + (first + i) * step * scale]);
 }
 
 function hint({ width, height }) {

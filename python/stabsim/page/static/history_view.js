@@ -1,4 +1,6 @@
-// The history: each edit as a line, with what it changed and how long it took.
+// The history: each edit as a line, with what it flipped.
+
+const MOST_NAMES = 4;
 
 export class HistoryView {
   #place;
@@ -45,9 +47,6 @@ export class HistoryView {
   }
 }
 
-function saidOf(entry) {
-  const count = entry.changed.length;
-  const shown = entry.changed.slice(0, 4).join(" ");
-  const what = count === 0 ? "nothing changed" : count <= 4 ? shown : `${shown} and ${count - 4} more`;
-  return `${what} · ${(entry.seconds * 1000).toFixed(1)} ms`;
+function saidOf({ changed }) {
+  return changed.length > MOST_NAMES ? `${changed.slice(0, MOST_NAMES).join(" ")} and ${changed.length - MOST_NAMES} more` : changed.join(" ");
 }

@@ -15,8 +15,7 @@ export class Inspector {
   #decision = element("p");
   #region = element("p");
 
-  // `act` has choose(bit), select(path), follow(letter), which shows the way of an error on the qubit, and goTo(place), which shows what
-  // has {moment, path}.
+  // `act` has choose(bit), select(path), and goTo(place), which shows what has {moment, path}.
   constructor(boxes, act) {
     this.#boxes = boxes;
     this.#act = act;
@@ -28,33 +27,23 @@ export class Inspector {
   qubit(about, where) {
     const { qubit, kind, at, name, path, more } = about ?? {};
     fillOnce(this.#boxes.qubit, [about, where], () => {
-      if (!about) return [title("No qubit chosen"), line(where), quiet("Click one, or use the arrows.")];
+      if (!about) return [title("No qubit chosen", where)];
       const place = at ? ` at (${at.join(", ")})` : "";
       const item = name ? [code(name), " of item ", this.#itemButton(path)] : ["idle here"];
       return [title(`Qubit ${qubit}`, `${kind}${place}${more ? `, and ${more} more` : ""}`), line(where), line(...item)];
     });
   }
 
-  // What each Pauli there would flip, {X, Y, Z} of names, or why that is not known.
+  // What each Pauli there would flip, {X, Y, Z} of names, or why that is not known; with null for both nothing is said.
   errors(flips, why) {
+    if (why === null) return void fillOnce(this.#boxes.errors, [], () => []);
     fillOnce(this.#boxes.errors, [flips, why], () => [title("An error here would flip"), ...["X", "Y", "Z"].map((letter) => {
       const row = document.createElement("p");
       row.className = "error";
       row.dataset.letter = letter;
-      row.append(this.#follower(letter, flips), ...this.#names(flips?.[letter], why));
+      row.append(icon(letter, 15, letter.toLowerCase(), letter), ...this.#names(flips?.[letter], why));
       return row;
     })]);
-  }
-
-  // A button that shows the way of an error, if its way is known.
-  #follower(letter, flips) {
-    const button = document.createElement("button");
-    button.className = "follow";
-    button.disabled = !flips;
-    button.title = button.ariaLabel = `the way of ${letter} from here`;
-    button.append(icon(letter, 15, letter.toLowerCase(), letter));
-    button.addEventListener("click", () => this.#act.follow(letter));
-    return button;
   }
 
   #names(names, why) {
@@ -77,13 +66,13 @@ export class Inspector {
 
   #decided(value, kind, coins) {
     const role = { random: "quiet", flipped: "flip", bit1: "one", bit0: "zero" }[kind];
-    const said = { random: "a coin decides it", flipped: `${value}, flipped`, bit1: "1", bit0: "0" }[kind];
+    const said = { random: "random", flipped: `${value}, flipped`, bit1: "1", bit0: "0" }[kind];
     const decided = coins?.length ? [` decided by ${coins.length > 1 ? `${coins.length} coins` : "the coin"}: `, ...this.#coins(coins)] : [` ${said}`];
     return [icon(kind, 12, role), ...decided];
   }
 
   #declared(bit, declared) {
-    if (bit === null) return [title("No detector chosen"), quiet("Click one on the timeline, or in the list above.")];
+    if (bit === null) return [title("No detector chosen")];
     if (!declared) return [title(bit, "observable")];
     const { at, path, records } = declared;
     const head = title(bit, `${at}${at ? " · " : ""}item `);

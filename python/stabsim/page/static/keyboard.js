@@ -7,7 +7,7 @@ import { Roving } from "./roving.js";
 import { roundOf } from "./timeline.js";
 
 const PANES = ["tools", "text", "words", "palette", "picture", "view", "timeline", "inspector"];
-const ROVING = ["tools", "palette", "view", "inspector"];
+const ROVING = ["tools", "line-tools", "palette", "rounds-of-edits", "view", "inspector"];
 const ARROWS = { ArrowLeft: [-1, 0], ArrowRight: [1, 0], ArrowUp: [0, -1], ArrowDown: [0, 1] };
 
 // How far a key pans, in pixels.
@@ -19,7 +19,7 @@ export class Keyboard {
   #page;
   #roving = new Map(ROVING.map((id) => [id, new Roving(by(id))]));
 
-  // `page` has shown, editor, menu, layout, timeline, openMenu(qubit), chooseBit(bit) and press(id), which clicks a button.
+  // `page` has shown, editor, menu, layout, timeline, openMenu(qubit), chooseBit(bit), panes, and press(id), which clicks a button.
   constructor(page) {
     this.#page = page;
     document.addEventListener("keydown", (event) => this.#key(event));
@@ -27,9 +27,10 @@ export class Keyboard {
   }
 
   #key(event) {
-    if (event.defaultPrevented || !this.#page.shown.state || by("keys").open) return;
-    if (event.key === "F6") return void this.#nextPane(event);
+    if (event.defaultPrevented || !this.#page.shown.state) return;
     const command = commandOf(event);
+    if (by("asking").open || (by("keys").open && command !== "save")) return;
+    if (event.key === "F6") return void this.#nextPane(event);
     if (command && !(isField(event.target) && command !== "save" && command !== "open")) {
       event.preventDefault();
       if (command === "all") this.#page.shown.chooseAll(this.#page.shown.state.placement.places.keys());
@@ -50,7 +51,7 @@ export class Keyboard {
     const keys = {
       "[": () => shown.goTo(shown.moment - 1), "]": () => shown.goTo(shown.moment + 1), "+": () => this.#page.press("greater"), "=": () => this.#page.press("greater"),
       "-": () => this.#page.press("smaller"), 0: () => this.#page.press("fit"), "?": () => by("keys").showModal(), Escape: () => this.#letGo(),
-      ",": () => this.#bit(-1), ".": () => this.#bit(1), "{": () => this.#page.editor.stepTick(-1), "}": () => this.#page.editor.stepTick(1),
+      "/": () => this.#page.press("search"), ",": () => this.#bit(-1), ".": () => this.#bit(1), "{": () => this.#page.editor.stepTick(-1), "}": () => this.#page.editor.stepTick(1),
     };
     if (!Object.hasOwn(keys, key)) return false;
     keys[key]();
@@ -58,7 +59,7 @@ export class Keyboard {
   }
 
   #inPane(event) {
-    const pane = PANES.find((id) => by(id).contains(event.target));
+    const pane = [...PANES, "line-tools"].find((id) => by(id).contains(event.target));
     if (pane === "timeline") return this.#onTimeline(event);
     if (pane === "picture") return this.#onPicture(event);
     const by_ = { ArrowLeft: -1, ArrowUp: -1, ArrowRight: 1, ArrowDown: 1 }[event.key];
@@ -83,6 +84,10 @@ export class Keyboard {
 
   #onPicture(event) {
     const { shown } = this.#page;
+    if (ARROWS[event.key] && event.altKey) {
+      if (shown.chosen.length && !event.repeat) this.#page.editor.shift(shown.chosen[0], ARROWS[event.key]);
+      return true;
+    }
     if (ARROWS[event.key] && (event.ctrlKey || event.metaKey)) {
       this.#page.layout.pan(...ARROWS[event.key].map((step) => -step * PAN));
       return true;
@@ -136,7 +141,6 @@ export class Keyboard {
   #letGo() {
     const { shown } = this.#page;
     if (shown.tool !== "pick" || shown.waiting.length) shown.takeTool("pick");
-    else if (shown.way !== null) shown.follow(null);
     else if (shown.bit !== null) shown.chooseBit(null);
     else if (shown.set.length) shown.showSet([]);
     else shown.choose(null);
@@ -150,6 +154,7 @@ export class Keyboard {
       const id = PANES[(Math.max(now, step < 0 ? 0 : -1) + step * i + 2 * PANES.length) % PANES.length];
       const stop = this.#roving.has(id) ? this.#roving.get(id).stop : by(id).disabled ? null : by(id);
       if (!stop) continue;
+      this.#page.panes.show(stop);
       stop.focus();
       return;
     }

@@ -1,6 +1,7 @@
 // What the program's table of faults says of the circuit: what each Pauli would flip, and where bits have their regions. It is asked for
 // when it is shown, and known until the next edit.
 
+import { areApart } from "./faces.js";
 import { isRecorded } from "./instructions.js";
 import { momentAt, momentsOf } from "./moments.js";
 
@@ -32,12 +33,6 @@ export class Knowledge {
     return { region: answer.region ?? {}, why: answer.why ?? "" };
   }
 
-  // What an error on a qubit at the end of a moment becomes, {letters} by moments, or {why} that is not known.
-  async way(moment, qubit, letter) {
-    const answer = await this.#ask({ ask: "way", moment, qubit, letter }).catch(() => ({}));
-    return { letters: answer.way ?? {}, why: answer.why ?? answer.refused ?? "" };
-  }
-
   // The numbers of the coins that decide a bit; null if the program does not say them.
   coins(bit) {
     return this.#kept(this.#coins, bit, { ask: "why", bit }, (answer) => answer.coins ?? null);
@@ -61,11 +56,13 @@ export class Knowledge {
     return found;
   }
 
-  // The faces of checks round a moment: those of the last moment up to it, and of the first after it, in which something is measured.
-  async faces(items, moment, ancillas) {
+  // The faces of checks round a moment of a state: those of the last moment up to it, and of the first after it, in which something is measured.
+  async faces({ items, ancillas, placement: { places, near } }, moment) {
     const moments = measuredRound(items, moment);
     const slices = await Promise.all(moments.map((it) => this.slice(it)));
-    return slices.some((slice) => slice === null) ? null : facesOf(slices, ancillas);
+    if (slices.some((slice) => slice === null)) return null;
+    const faces = facesOf(slices, ancillas);
+    return areApart(faces, places, near) ? faces : [];
   }
 
   // The regions at a moment that share an error with that of a bit.
@@ -96,7 +93,8 @@ export function measuredRound(items, moment) {
   return found;
 }
 
-// The faces of slices: of each detector the qubits that are no ancillas, with the kind of its letters, or "op" for several.
+// The faces of slices: of each detector the qubits that are no ancillas, with the kind of its letters, or "op" for several; `bit` is the
+// first of those that have them.
 export function facesOf(slices, ancillas) {
   const faces = new Map();
   for (const slice of slices) {
@@ -107,7 +105,8 @@ export function facesOf(slices, ancillas) {
       const own = new Set(qubits.map((qubit) => letters.get(qubit)));
       const kind = own.size > 1 ? "op" : [...own][0].toLowerCase();
       const key = qubits.join(" ");
-      faces.set(key, { qubits, kind: faces.has(key) && faces.get(key).kind !== kind ? "op" : kind });
+      const known = faces.get(key);
+      faces.set(key, { qubits, kind: known && known.kind !== kind ? "op" : kind, bit: known?.bit ?? bit });
     }
   }
   // Greater ones are drawn first, so that none hides another.
@@ -116,7 +115,7 @@ export function facesOf(slices, ancillas) {
 
 // Whether faces are those of another list.
 export const areFaces = (faces, others) => faces.length === others.length
-  && faces.every(({ qubits, kind }, i) => kind === others[i].kind && qubits.join() === others[i].qubits.join());
+  && faces.every(({ qubits, kind, bit }, i) => kind === others[i].kind && bit === others[i].bit && qubits.join() === others[i].qubits.join());
 
 // The regions that some Pauli on one qubit flips together with that of a bit.
 export function neighboursOf(slice, bit) {

@@ -10,6 +10,8 @@ import { Sight } from "./sight.js";
 // From this many marks on a picture is moved as it is while it is zoomed or panned. It is drawn anew after this many milliseconds of rest.
 const MANY = 500;
 const REST = 150;
+// How far a click on a qubit may be from its middle where there is a face, in parts of the distance of neighbours.
+const ON_QUBIT = 0.36;
 
 export class LayoutView {
   #canvas;
@@ -26,7 +28,7 @@ export class LayoutView {
 
   // `act` has tool(), which is "pick", "qubit" or the name of a gate; choose(qubit, isMore), box(qubits, isMore), hover(qubit),
   // menu(qubit, place); use(qubit, isTurned), lead(first, second, isTurned) and useAt(place, isTurned) of the tool, place(places) of new qubits;
-  // carry(qubit, place) and drop(qubit, place) of a gate that is dragged; and zoomed(part).
+  // shift(qubit, place) of a qubit that is dragged; carry(qubit, place) and drop(qubit, place) of a gate that is; face(bit) of a face that is clicked; and zoomed(part).
   constructor(pane, act) {
     this.#canvas = pane.querySelector("canvas");
     this.#pen = new CanvasPen(this.#canvas);
@@ -61,6 +63,11 @@ export class LayoutView {
     this.#pen.show(layers, ...this.size);
     this.#canvas.style.transform = "";
     this.#drawn = layers.flat().length > MANY ? this.#sight.view : null;
+  }
+
+  // Whether it is drawn as it is to be seen.
+  get isDrawn() {
+    return !this.#frame && !this.#rest;
   }
 
   // What is drawn, as elements (glyphs.js).
@@ -154,6 +161,14 @@ export class LayoutView {
     return isOn && this.#scene.instructions.some(({ item }) => qubitsOf(item).includes(qubit));
   }
 
+  // The bit of the face under a spot, if that is not on a qubit; or null.
+  faceAt(spot) {
+    const qubit = this.qubitAt(spot);
+    const [left, top] = (qubit !== null && this.at(qubit)) || [Infinity, Infinity];
+    if (Math.hypot(left - spot[0], top - spot[1]) <= Math.max(10, this.#sight.pitch * ON_QUBIT)) return null;
+    return this.elements().findLast(({ path, bit }) => bit && this.#pen.isWithin(path, spot))?.bit ?? null;
+  }
+
   #zoomed() {
     this.#act.zoomed(this.isThere ? this.#sight.part : 1);
     this.#move();
@@ -163,8 +178,12 @@ export class LayoutView {
   // takes longer than a frame.
   #move() {
     clearTimeout(this.#rest);
+    this.#rest = 0;
     if (!this.#drawn || !this.#sight.isLike(this.#drawn)) return void this.draw();
-    this.#rest = setTimeout(() => this.draw(), REST);
+    this.#rest = setTimeout(() => {
+      this.#rest = 0;
+      this.draw();
+    }, REST);
     const [left, top, part] = this.#sight.shiftFrom(this.#drawn);
     this.#canvas.style.transform = `translate(${left}px, ${top}px) scale(${part})`;
   }

@@ -4,7 +4,7 @@ import { iconOf } from "./svg_pen.js";
 
 const MARKS = [
   ["data", 13, "qubit", "data"], ["ancilla", 13, "qubit", "ancilla"], ["X", 13, "x", "X"], ["Y", 13, "y", "Y"], ["Z", 13, "z", "Z"],
-  ["flipped", 9, "flip", "flipped"], ["random", 11, "quiet", "a coin decides"], ["bit1", 9, "one", "1"],
+  ["flipped", 9, "flip", "flipped"], ["random", 11, "quiet", "random"], ["bit1", 9, "one", "1"],
 ];
 
 export function showLegend(place) {

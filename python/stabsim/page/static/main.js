@@ -1,40 +1,55 @@
 // The page: what the server says goes into the views, and what a person does goes to the server.
 
 import { Carrier } from "./carrying.js";
-import { countBefore, pathOf, textOf } from "./circuit.js";
+import { blocksAround, countBefore, pathOf, textOf } from "./circuit.js";
+import { Asking } from "./asking.js";
+import { Banner } from "./banner.js";
 import { isCopied, linesOf, takeCopies } from "./clipboard.js";
-import { exchangeThemes, followSystem } from "./colours.js";
+import { exchangeThemes, takeTheme } from "./colours.js";
 import { DistanceView } from "./distance_view.js";
 import { Editor } from "./editor.js";
 import { pathOfRound } from "./editing.js";
 import { EntryView } from "./entry_view.js";
-import { circuitOfAddress, shared, takeFiles } from "./files.js";
+import { circuitOfAddress, forgetLink, saidOfSize, shared, takeFiles } from "./files.js";
 import { HistoryView } from "./history_view.js";
 import { Inspector } from "./inspector.js";
+import { afterSplits } from "./keeping.js";
 import { Keyboard } from "./keyboard.js";
 import { Knowledge } from "./knowledge.js";
 import { LayoutView } from "./layout_view.js";
 import { showLegend } from "./legend.js";
+import { LineEditor } from "./line_editor.js";
 import { Link } from "./link.js";
 import { Menu } from "./menu.js";
 import { momentsOf } from "./moments.js";
 import { exportsOf } from "./exports.js";
+import { PageFaults } from "./page_faults.js";
 import { Palette } from "./palette.js";
-import { partsOf } from "./refusals.js";
+import { Panes } from "./panes.js";
+import { saidOfRefusal } from "./refusals.js";
+import { RoundsSwitch } from "./rounds_switch.js";
+import { nextWith } from "./search.js";
 import { Shown } from "./shown.js";
+import { SourceView } from "./source_view.js";
 import { State } from "./state.js";
 import { TextView } from "./text_view.js";
 import { TimelineView } from "./timeline_view.js";
-import { saidOfBit } from "./tips.js";
+import { saidOfBit, saidOfFlips } from "./tips.js";
+import { Unsaved } from "./unsaved.js";
 
 const by = (id) => document.getElementById(id);
 
-const GONE = "The server is gone: nothing more can be asked. Start it again, and open the address that it prints.";
+// The most notes on lines that became others that are listed.
+const MOST_NOTES = 200;
+// The greatest text that is read, in bytes.
+const MOST_BYTES = 2 ** 25;
+const STRANGE = "The address lacks the token that the server printed: open that address.";
+const GONE = "The server is gone: Save, Export and Link still work in this tab. Start it again, and open the address that it prints.";
 
-followSystem(() => shown.state && shown.take("deterministic"));
+takeTheme(redraw);
 
 const views = {
-  text: new TextView(by("text"), { select, write, remove }),
+  text: new TextView(by("text"), { select, write, remove: () => lines.remove(), move: (by_) => lines.move(by_) }),
   entry: new EntryView(by("entry"), { send: sendItem, split, leave: leaveEntry }),
   layout: new LayoutView(by("picture"), {
     choose: (qubit, isMore) => shown.choose(qubit, isMore),
@@ -43,56 +58,87 @@ const views = {
     lead: (first, second, isTurned) => editor.lead(first, second, isTurned),
     useAt: (place, isTurned) => editor.useAt(place, isTurned),
     place: (places) => editor.place(places),
+    shift: (qubit, [x, y]) => {
+      const [left, top] = shown.state.placement.places.get(qubit);
+      editor.shift(qubit, [x - left, y - top]);
+    },
     carry: (qubit, place) => carrier.carry(qubit, place),
     drop: (qubit, place) => carrier.drop(qubit, place),
     hover: (qubit) => shown.hover(qubit),
+    face: (bit) => chooseBit(bit),
     menu: openMenu,
     zoomed: (part) => { by("scale").textContent = `${Math.round(part * 100)}%`; },
     tool: () => shown.tool,
   }),
   timeline: new TimelineView(by("timeline"), {
-    goTo: (moment) => shown.goTo(moment), choose: chooseBit, tip: showTip, say: showWords,
+    goTo: (moment) => shown.goTo(moment), range: (moment) => lines.chooseTicks(shown.moment, moment), choose: chooseBit, tip: showTip, say: showWords,
     moveTick: (moment, to, gap) => editor.moveTick(moment, to, gap),
   }),
   inspector: new Inspector({ qubit: by("about-qubit"), errors: by("about-errors"), detector: by("about-detector") }, {
-    choose: chooseBit, select: (path) => shown.select(path), follow: (letter) => shown.follow(shown.inspected, letter), goTo,
+    choose: chooseBit, select: (path) => shown.select(path), goTo,
   }),
   distance: new DistanceView(by("about-distance"), {
     ask: () => ask({ ask: "distance" }), end: () => ask({ ask: "end distance" }), show: (set) => shown.state && shown.showSet(set), goTo,
   }),
   history: new HistoryView(by("edits"), (position) => ask({ ask: "go", position })),
   palette: new Palette(by("palette"), (name) => editor.take(name)),
+  rounds: new RoundsSwitch(by("rounds-of-edits")),
 };
 const menu = new Menu(by("choice"));
-const link = new Link(hear, (reason) => say(reason || GONE, true));
+const asking = new Asking(by("asking"));
+const banner = new Banner(by("banner"));
+const link = new Link(hear, (reason) => banner.say("server", reason || (shown.state ? GONE : STRANGE)));
+const unsaved = new Unsaved(link.token, () => say("the circuit is too long to be kept in the browser until it is saved", true));
+const faults = new PageFaults({ say: (words) => banner.say("fault", words), drawAnew: () => ask({ ask: "all" }) });
 const knowledge = new Knowledge((question) => link.ask(question));
 const shown = new Shown(views, knowledge);
-const editor = new Editor(shown, { send, say, menu: (qubit, offers) => menu.open(by("picture"), placeOf(qubit), offers) });
+const panes = new Panes(document.querySelector("main"), by("tabs"));
+const editor = new Editor(shown, {
+  send, say, menu: (qubit, offers) => menu.open(by("picture"), placeOf(qubit), offers), isAlone: (isError) => views.rounds.isAlone(isError),
+  number: (words, offered) => asking.number(words, offered),
+});
+const lines = new LineEditor({ shown, text: views.text, send, ask, say, number: (...words) => asking.number(...words) });
+const source = new SourceView({ text: circuitText, send: (text) => ask({ ask: "text", text }), say, leave: () => views.text.focus() });
 const carrier = new Carrier({ shown, editor, timeline: views.timeline, tip: showWords, say });
-new Keyboard({ shown, editor, menu, layout: views.layout, timeline: views.timeline, openMenu, chooseBit, press: (id) => by(id).click() });
+new Keyboard({ shown, editor, menu, layout: views.layout, timeline: views.timeline, openMenu, chooseBit, panes, press: (id) => by(id).click() });
 
 function hear(event) {
   const started = performance.now();
   const { state } = shown;
   if (event.event === "opened") open(event);
   else if (state && event.event === "edited") {
+    forgetLink();
     if (event.age <= state.age) return;
     // An event that did not come, as while the tab slept, had edits that this one goes on from.
     if (event.age !== state.age + 1) return void ask({ ask: "all" });
     state.take(event);
   } else if (state && event.event === "deterministic" && event.age === state.age) state.takeDeterministic(event.deterministic);
   else if (state && event.event === "marked") state.mark(event.position);
+  else if (state && event.event === "saved") state.savedAt = event.position;
   else {
     if (event.event === "faults" && event.age === state?.age) shown.known();
     if (event.event === "distance" && event.age === state?.age) views.distance.take(event, state.items);
     return;
   }
   shown.take(event.event);
+  sayWhetherSaved();
+  if (event.event === "edited") {
+    faults.settle();
+    by("told").textContent = saidOfFlips(event.flipped);
+  }
   // What a test's clock reads: the time from the event to the picture.
   requestAnimationFrame(() => {
     document.body.dataset.shown = String(Number(document.body.dataset.shown ?? 0) + 1);
     document.body.dataset.drawn = (performance.now() - started).toFixed(1);
   });
+}
+
+// Draws all that has colours anew.
+function redraw() {
+  if (!shown.state) return;
+  shown.take("deterministic");
+  shown.drawLayout();
+  showLegend(by("legend"));
 }
 
 let isFirst = true;
@@ -101,27 +147,58 @@ function open(event) {
   shown.state = new State(event);
   by("save").title = event.saves ? "write the circuit to its file (Ctrl-S)" : "have the browser save the circuit (Ctrl-S)";
   by("save").dataset.writes = event.saves;
-  by("left-out").hidden = !event.left_out;
-  by("left-out").textContent = by("left-out").title = event.left_out;
+  by("left-out").hidden = !event.notice;
+  by("left-out").textContent = by("left-out").title = event.notice;
+  by("left-out").onclick = () => menu.open(by("left-out"), by("left-out").getBoundingClientRect(), event.notes.slice(0, MOST_NOTES).map((note) => [note, () => {}]));
   by("name").textContent = event.name;
-  document.title = `${event.name} · stabsim`;
   if (isFirst) openAddress();
+  else forgetLink();
   isFirst = false;
 }
 
 async function openAddress() {
   const text = await circuitOfAddress().catch(() => say("the address holds no circuit", true));
-  if (text) openText(text, "linked.stim");
+  if (text) await openFile({ name: "linked.stim", size: text.length, text: async () => text });
+  await offerUnsaved();
 }
 
-async function openText(text, name) {
-  const answer = await ask({ ask: "open", text, name });
-  if (!answer.refused) say(`${name} is opened; Undo brings the circuit before it back`);
+// Opens a file {name, size, text()}, and answers whether it could; `more` is what the server is told beside it.
+async function openFile(file, more = {}) {
+  const { name, size } = file;
+  if (size > MOST_BYTES) return void say(`${name} has ${saidOfSize(size)}, and no more than ${saidOfSize(MOST_BYTES)} are read`, true);
+  say(`${name}: ${saidOfSize(size)} are being read …`);
+  document.body.classList.add("reading");
+  const given = await file.text().catch((fault) => void say(`${name}: ${fault.message}`, true));
+  const isOpened = given !== undefined && !(await ask({ ask: "open", text: given, name, ...more })).refused;
+  document.body.classList.remove("reading");
+  if (isOpened) say(`${name} is opened; Undo brings the circuit before it back`);
+  return isOpened;
 }
 
+// The title has a dot for work that is not saved, and the browser keeps it.
+function sayWhetherSaved() {
+  const { state } = shown;
+  document.title = `${state.isUnsaved ? "● " : ""}${state.name} · stabsim`;
+  unsaved.keep(() => (shown.state.isUnsaved ? { name: shown.state.name, text: circuitText() } : null));
+}
+
+async function offerUnsaved() {
+  const work = await unsaved.found();
+  if (!work) return;
+  const { key, name, time, text } = work;
+  const settle = () => {
+    unsaved.drop(key);
+    offerUnsaved();
+  };
+  banner.say("unsaved", `${name} of ${new Date(time).toLocaleString()} was not saved.`, [
+    ["Open it", () => openFile({ name, size: text.length, text: async () => text }, { unsaved: true }).then((isOpened) => isOpened && settle())], ["Drop it", settle],
+  ]);
+}
+
+// Says words, or parts of which some are marked.
 function say(words, bad = false) {
-  by("message").textContent = words;
-  by("message").title = words;
+  by("message").replaceChildren(...[words].flat());
+  by("message").title = by("message").textContent;
   by("message").classList.toggle("bad", bad);
 }
 
@@ -129,7 +206,7 @@ function say(words, bad = false) {
 async function ask(question) {
   try {
     const answer = await link.ask(question);
-    if (answer.refused) say(`${answer.refused} ${partsOf(answer.explanation).why}`.trim(), true);
+    if (answer.refused) say(saidOfRefusal(answer), true);
     else say(answer.said ?? "");
     return answer;
   } catch (fault) {
@@ -139,12 +216,12 @@ async function ask(question) {
 }
 
 // Makes edits as one entry of the history, with a name of its own if one is given. With `round`, {place, number}, they are in a round of
-// that block that is first taken out of it.
+// that block that is first taken out of it. Answers the server's answer, or null if they were refused.
 async function send(edits, round = null, name = "") {
-  const answer = await ask({ ask: "edit", edits, round, name });
+  const answer = await ask({ ask: "edit", edits, round, name, keep: by("follow").ariaPressed === "true" });
   if (answer.refused) refuse(edits[0].place, answer);
   else views.text.refuse(null);
-  return !answer.refused;
+  return answer.refused ? null : answer;
 }
 
 function refuse(place, answer) {
@@ -155,11 +232,14 @@ function refuse(place, answer) {
 async function sendItem(kind, path, item) {
   const place = [...path];
   if (kind === "behind") place[place.length - 1] += 1;
-  return send([{ kind: kind === "replace" && shown.state.items.length > path[0] ? "replace" : "insert", place: place.join("/"), item }]);
+  const made = await send([{ kind: kind === "replace" && shown.state.items.length > path[0] ? "replace" : "insert", place: place.join("/"), item }]);
+  // What was put in is chosen.
+  if (made) views.text.select(afterSplits({ path: place, rounds: blocksAround(shown.state.items, place).map(() => 0) }, made.split_off).path);
+  return Boolean(made);
 }
 
-function remove(path) {
-  if (path[0] < shown.state.items.length) send([{ kind: "delete", place: path.join("/") }]);
+function isInText() {
+  return by("text").contains(document.activeElement);
 }
 
 // Takes a round out of the innermost block around a path, and chooses the path's item in it.
@@ -232,16 +312,37 @@ async function askSign(pauli) {
   if (sign) say(sign === "0" ? `neither ${pauli} nor -${pauli} is in the group at the end` : `${sign}${pauli} is in the group at the end`);
 }
 
-async function share() {
-  const { text } = await ask({ ask: "export", what: "circuit" });
-  if (text !== undefined) await shared(text).then(say, (fault) => say(fault.message, true));
+// The circuit as this tab has it.
+function circuitText() {
+  return shown.state.items.map((item) => `${textOf(item)}\n`).join("");
 }
+
+// Goes to the next item that has the words of the field for search, or with -1 to the one before.
+function search(direction) {
+  const from = views.text.selected === null ? [-1] : pathOf(views.text.selected);
+  const path = nextWith(shown.state.items, by("search-words").value, from, direction);
+  if (path) shown.select(path);
+  else say("nothing is found", true);
+}
+
+function closeSearch() {
+  by("search-words").hidden = true;
+  views.text.focus();
+}
+
+by("search-words").addEventListener("keydown", (event) => {
+  event.stopPropagation();
+  if (event.key === "Escape") closeSearch();
+  if (event.key === "Enter") search(event.shiftKey ? -1 : 1);
+});
+
+const share = () => shared(circuitText()).then(say, (fault) => say(fault.message, true));
 
 function openKind(kind) {
   if (views.text.selected !== null) write(kind, pathOf(views.text.selected), views.text.item);
 }
 
-const exports = exportsOf({ ask, name: () => shown.state.name, layout: views.layout });
+const exports = exportsOf({ ask, name: () => shown.state.name, text: circuitText, layout: views.layout });
 const clicks = {
   undo: () => ask({ ask: "go", position: shown.state.position - 1 }),
   redo: () => ask({ ask: "go", position: shown.state.position + 1 }),
@@ -249,12 +350,17 @@ const clicks = {
   open: () => by("file").click(),
   link: share,
   export: () => menu.open(by("export"), { left: by("export").getBoundingClientRect().left, top: 40 }, exports.offers),
-  save: () => (by("save").dataset.writes === "true" ? ask({ ask: "save" }) : exports.circuit()),
-  theme: () => { exchangeThemes(); shown.take("deterministic"); shown.drawLayout(); showLegend(by("legend")); },
+  save: () => (by("save").dataset.writes === "true" && link.isOpen ? ask({ ask: "save" }) : exports.circuit()),
+  theme: () => { exchangeThemes(); redraw(); },
+  follow: () => { by("follow").ariaPressed = by("follow").ariaPressed !== "true"; },
+  faces: () => shown.takeFaces(by("faces").ariaPressed !== "true"),
   replace: () => openKind("replace"),
   insert: () => openKind("insert"),
   behind: () => views.text.item && openKind("behind"),
-  delete: () => views.text.selected !== null && remove(pathOf(views.text.selected)),
+  delete: () => lines.remove(),
+  "as-text": () => source.toggle(),
+  lines: () => menu.open(by("lines"), by("lines").getBoundingClientRect(), lines.offers()),
+  search: () => { panes.show(by("text")); by("search-words").hidden = false; by("search-words").select(); by("search-words").focus(); },
   smaller: () => views.layout.zoom(0.8),
   greater: () => views.layout.zoom(1.25),
   fit: () => views.layout.fit(),
@@ -262,8 +368,8 @@ const clicks = {
 };
 for (const [id, act] of Object.entries(clicks)) by(id).addEventListener("click", act);
 by("since").addEventListener("change", (event) => shown.showSince(event.target.value));
-takeFiles(by("file"), openText, (text) => isCopied(text) && Boolean(editor.paste(linesOf(text))));
-takeCopies({ shown, editor, say });
+takeFiles(by("file"), openFile, (text) => isCopied(text) && Boolean((isInText() ? lines : editor).paste(linesOf(text))));
+takeCopies({ shown, editor, lines, isInText, say });
 showLegend(by("legend"));
 
 // Whether views know the sizes of their panes, which the browser says some time after they change.
@@ -272,7 +378,10 @@ function isInPlace() {
   return views.layout.isThere && isSized(views.layout.size, by("picture")) && isSized(views.timeline.size, by("timeline"));
 }
 
+// Whether all that is known is drawn, and no more is about to be asked for.
+const isDrawn = () => shown.isLearnt && [views.text, views.layout, views.timeline].every((view) => view.isDrawn);
+
 // For tests: what is shown, where it is seen, and whether more is to come.
 export const page = {
-  shown, views, isInPlace, isIdle: () => link.isIdle, moments: () => momentsOf(shown.state.items), text: () => shown.state.items.map((item) => `${textOf(item)}\n`).join(""),
+  shown, views, link, send, isInPlace, isDrawn, isIdle: () => link.isIdle, moments: () => momentsOf(shown.state.items), text: circuitText,
 };

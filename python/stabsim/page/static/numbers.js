@@ -1,13 +1,20 @@
 // How many of each thing there are, and what can be undone.
 
+// Says how many detectors and observables are random, or nothing until that is known.
+export function sayRandom(deterministic) {
+  const random = deterministic?.reduce((sum, it) => sum + (it === 0), 0) ?? 0;
+  by("random").textContent = random ? `${random} of ${deterministic.length} random` : "";
+}
+
 const by = (id) => document.getElementById(id);
 const count = (number, name) => `${number.toLocaleString("en")} ${name}${number === 1 ? "" : "s"}`;
 
-export function sayNumbers({ numbers, placement, items, position, entries }) {
+export function sayNumbers({ numbers, placement, items, position, entries, deterministic }) {
   by("numbers").textContent = [
     count(placement.places.size, "qubit"), count(numbers.steps, "step"), count(numbers.records, "record"),
     count(numbers.detectors, "detector"), count(numbers.observables, "observable"),
   ].join(" · ");
+  sayRandom(deterministic);
   by("items-said").textContent = count(items.length, "item");
   by("drawer").hidden = !placement.drawer.length;
   by("drawer").textContent = `${count(placement.drawer.length, "qubit")} unused`;

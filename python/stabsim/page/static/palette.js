@@ -49,7 +49,7 @@ export class Palette {
     button.setAttribute("aria-keyshortcuts", key);
     button.innerHTML = drawn(name, icon);
     const letter = document.createElement("kbd");
-    letter.textContent = key === "Escape" ? "esc" : key;
+    letter.textContent = key === "Escape" ? "" : key;
     button.append(letter);
     button.addEventListener("click", () => take(name));
     this.#buttons.set(name, button);

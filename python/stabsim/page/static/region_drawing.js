@@ -6,17 +6,20 @@ import { circle, outline } from "./glyphs.js";
 import { marksOf } from "./marks.js";
 
 const PATTERN_FROM = 18;
+const HATCH_OF_FACE = 0.3;
 const roleOf = (letter) => letter.toLowerCase();
 
-// Checks as calm faces: by X, by Z, by Y, or grey if the same qubits are checked by several or by a mix of letters.
-export function faceElements({ at, side, scene: { faces, box }, view }) {
+// Checks as calm faces: by X, by Z, which have strokes too, by Y, or grey if the same qubits are checked by several or by a mix of letters.
+export function faceElements({ at, side, pitch, scene: { faces, box }, view }) {
   const middle = [view.x + ((box.left + box.right) / 2) * view.scale, view.y + ((box.top + box.bottom) / 2) * view.scale];
   const elements = [];
   const gap = Math.max(0.5, side / 20);
-  for (const { qubits, kind } of faces) {
+  for (const { qubits, kind, bit } of faces) {
     const points = qubits.map(at);
     if (points.some((point) => !point) || points.every(([x, y]) => x < 0 || y < 0 || x > view.width || y > view.height)) continue;
-    elements.push({ path: points.length === 2 ? lune(...points, middle, gap) : outline(smaller(points, gap), 0.01), fill: `${kind}-soft` });
+    const path = points.length === 2 ? lune(...points, middle, gap) : outline(smaller(points, gap), 0.01);
+    elements.push({ path, fill: `${kind}-face`, bit });
+    if (kind === "z" && pitch >= PATTERN_FROM) elements.push({ path, hatch: "Z", alpha: HATCH_OF_FACE });
   }
   return elements;
 }
@@ -36,7 +39,7 @@ function lune(a, b, middle, gap) {
   let angle = Math.atan2(b[1] - a[1], b[0] - a[0]);
   const out = [Math.cos(angle + Math.PI / 2), Math.sin(angle + Math.PI / 2)];
   if (out[0] * (centre[0] - middle[0]) + out[1] * (centre[1] - middle[1]) < 0) angle += Math.PI;
-  const radius = Math.hypot(a[0] - b[0], a[1] - b[1]) / 2 - gap;
+  const radius = Math.max(0, Math.hypot(a[0] - b[0], a[1] - b[1]) / 2 - gap);
   [0, 1].forEach((axis) => { centre[axis] += gap * [Math.cos(angle + Math.PI / 2), Math.sin(angle + Math.PI / 2)][axis]; });
   const start = [centre[0] + radius * Math.cos(angle), centre[1] + radius * Math.sin(angle)];
   return [["M", ...start], ["A", ...centre, radius, angle, angle + Math.PI], ["Z"]];
@@ -88,10 +91,9 @@ export function letterElements({ at, side, scene: { region } }, busy) {
 }
 
 // Errors: a ring round each of their qubits, with the letter above on the right. Of a set that flips an observable unseen all are drawn,
-// with a broken ring if they are at other moments; then the error that is followed.
-export function errorElements({ at, side, scene: { set = [], way } }) {
-  const followed = [...(way ?? [])].map(([qubit, letter]) => ({ qubit, letter, isHere: true }));
-  return [...set, ...followed].filter(({ qubit }) => at(qubit)).flatMap(({ qubit, letter, isHere }) => errorAt(letter, at(qubit), side, isHere));
+// with a broken ring if they are at other moments.
+export function errorElements({ at, side, scene: { set = [] } }) {
+  return set.filter(({ qubit }) => at(qubit)).flatMap(({ qubit, letter, isHere }) => errorAt(letter, at(qubit), side, isHere));
 }
 
 function errorAt(letter, [x, y], side, isHere) {

@@ -7,15 +7,14 @@ import { roundOf } from "./timeline.js";
 const by = (id) => document.getElementById(id);
 
 // Says at which tick and in which round it is, above the picture and to readers; answers that in words. `shown` has state, moment,
-// instructions and round.
-export function sayMoment({ state: { items }, moment, instructions, round }) {
+// and instructions.
+export function sayMoment({ state: { items }, moment, instructions }) {
   const { name } = nameOf(items, moment);
   const { path, rounds } = roundOf(instructions);
   const block = path.slice(0, rounds.length).reduce((list, place) => (list.items ?? list)[place], items);
   const said = rounds.length ? saidOfRound(path.slice(0, rounds.length), rounds.at(-1), block.count) : "outside blocks";
   by("moment-said").textContent = `tick ${name}`;
   by("round-said").textContent = rounds.length ? said : "";
-  by("alone").disabled = round === null;
   const slider = by("timeline");
   slider.ariaValueMax = momentsOf(items) - 1;
   slider.ariaValueNow = moment;
@@ -39,6 +38,6 @@ export function saySeen(where, qubit, { name, letter, hasCoin, error }) {
 export function aboutBit({ state, bit, moment }, { region, why, coins }, kind) {
   if (bit === null) return { kind: "", region: "", coins: null };
   const isRandom = state.isRandom(bit);
-  const said = isRandom ? "a coin decides it, so that nothing flips it" : saidOfRegion(bit, region, (it) => nameOf(state.items, it).name, moment);
+  const said = isRandom ? "it is random, so that nothing flips it" : saidOfRegion(bit, region, (it) => nameOf(state.items, it).name, moment);
   return { kind, region: why || said, coins: isRandom ? coins : null };
 }

@@ -16,7 +16,6 @@ export function sceneOf({ state, moment, instructions, chosen, waiting, set }, f
     faces,
     region: mapOf(followed.region[moment]),
     coins: qubitsOfCoins(followed.coins ?? [], moment),
-    way: mapOf(followed.way?.letters[moment]),
     set: lettersAt(set, moment),
     neighbours,
     chosen,
@@ -25,9 +24,9 @@ export function sceneOf({ state, moment, instructions, chosen, waiting, set }, f
 }
 
 // `flips` has the bits that are drawn as flipped.
-export function timeOf({ state, moment, set }, { bit, region, coins, way }, flips) {
+export function timeOf({ state, moment, set }, { bit, region, coins }, flips) {
   return {
-    items: state.items, moments: momentsOf(state.items), moment, bit, region, coins, way, set: lettersByMoments(set),
+    items: state.items, moments: momentsOf(state.items), moment, bit, region, coins, set: lettersByMoments(set),
     observables: state.observables, coordinates: state.coordinates,
     kindOf: (it) => state.kindOf(it, flips), toldBetween: (first, end) => state.toldBetween(first, end, flips),
   };

@@ -4,9 +4,10 @@ import { blocksAround, itemAt, pathOf } from "./circuit.js";
 import { placesOfCoins } from "./coins.js";
 import { Followed } from "./followed.js";
 import { acts, qubitsOf } from "./instructions.js";
+import { pathThere, stillThere } from "./keeping.js";
 import { areFaces } from "./knowledge.js";
 import { endOf, momentAt, momentOf, momentsOf, momentsOfDetectors } from "./moments.js";
-import { sayNumbers } from "./numbers.js";
+import { sayNumbers, sayRandom } from "./numbers.js";
 import { aboutBit, sayMoment, saySeen } from "./saying.js";
 import { sceneOf, timeOf } from "./scene.js";
 
@@ -14,6 +15,7 @@ const by = (id) => document.getElementById(id);
 
 // How long, in milliseconds, a moment is shown before all regions there are asked for.
 const PAUSE = 30;
+const NONE = [];
 
 export class Shown {
   state = null;
@@ -26,6 +28,7 @@ export class Shown {
   // The first qubits of gates on two, whose second ones are waited for.
   waiting = [];
   since = "edit";
+  hasFaces = true;
   instructions = [];
   // The errors of a set that flips an observable unseen, at their places (fault_set.js).
   set = [];
@@ -35,8 +38,10 @@ export class Shown {
   #faces = [];
   #neighbours = [];
   #hovered = null;
+  // How often it is learnt, at this time, what the table of faults says.
+  #learning = 0;
 
-  // `views` has text, entry, layout, timeline, inspector, history and palette.
+  // `views` has text, entry, layout, timeline, inspector, history, palette and rounds.
   constructor(views, knowledge) {
     this.#views = views;
     this.#knowledge = knowledge;
@@ -50,33 +55,37 @@ export class Shown {
     return this.#followed.bit;
   }
 
-  // The error whose way is shown, or null.
-  get way() {
-    return this.#followed.way;
-  }
-
   // Shows what an event changed: another circuit, edits, or no more than bits.
   take(kind) {
     const { state } = this;
     if (kind === "opened" || kind === "edited") {
       this.#knowledge.forget();
-      if (kind === "opened") [this.#faces, this.chosen] = [[], []];
-      this.chosen = this.chosen.filter((qubit) => state.placement.places.has(qubit));
-      this.moment = Math.min(this.moment, momentsOf(state.items) - 1);
-      this.#neighbours = [];
-      [this.#followed.way, this.set] = [null, []];
+      this.#keep(kind === "opened");
       this.#views.text.show(state.items, (first, behind) => this.#flagOf(first, behind));
       this.#showEntry(kind === "opened");
       sayNumbers(state);
       this.#look(kind === "opened", true);
-      this.chooseBit(state.isThere(this.bit) ? this.bit : null);
+      this.chooseBit(this.bit);
     } else {
       this.#views.text.show(state.items, (first, behind) => this.#flagOf(first, behind));
       this.#drawTime(false);
       if (kind === "deterministic") this.#followed.explain();
+      sayRandom(state.deterministic);
     }
     if (kind !== "deterministic") this.#views.history.show(state.entries, state.position, state.markedAt);
     this.#sayBit();
+  }
+
+  // What was chosen stays so if it is still there; of another circuit nothing is.
+  #keep(isOther) {
+    const { state } = this;
+    if (isOther) [this.chosen, this.waiting, this.#faces] = [[], [], []];
+    const kept = stillThere({ ...this, hovered: this.#hovered, bit: this.bit }, state, momentsOf(state.items));
+    [this.moment, this.chosen, this.waiting, this.#hovered] = [kept.moment, kept.chosen, kept.waiting, kept.hovered];
+    this.#followed.take(kept.bit);
+    [this.#neighbours, this.set] = [[], []];
+    if (isOther) this.#views.text.letGo();
+    else for (const view of [this.#views.text, this.#views.entry]) view.keep(state.items, state.moves);
   }
 
   goTo(moment) {
@@ -135,7 +144,8 @@ export class Shown {
   }
 
   // Has the entry line show an item; answers how many rounds the block around it has, or 0.
-  showItem(path) {
+  showItem(asked) {
+    const path = pathThere(this.state.items, asked);
     const count = blocksAround(this.state.items, path).at(-1)?.count ?? 0;
     this.#views.entry.show(path, itemAt(this.state.items, path) ?? null, count);
     return count;
@@ -144,7 +154,6 @@ export class Shown {
   // After an edit another item may be where the chosen one was; what is being written stays.
   #showEntry(isFresh) {
     const { text, entry } = this.#views;
-    if (isFresh) text.letGo();
     if (entry.isWritten && !isFresh) return;
     if (text.selected !== null && (text.item || text.selected === String(this.state.items.length))) this.showItem(pathOf(text.selected));
     else entry.show(null, null, 0);
@@ -155,11 +164,6 @@ export class Shown {
     const done = this.#followed.chooseBit(bit);
     this.learn();
     return done;
-  }
-
-  // Shows the way of an error on a qubit at this moment, or with null that of none.
-  follow(qubit, letter) {
-    return this.#followed.follow(letter && { moment: this.moment, qubit, letter });
   }
 
   // Shows a set of errors, or with an empty one none.
@@ -183,12 +187,22 @@ export class Shown {
 
   // Asks for what the table of faults says of this moment: faces of checks, and regions beside the chosen one.
   async learn() {
+    this.#learning += 1;
+    await this.#learn().finally(() => { this.#learning -= 1; });
+  }
+
+  // Whether nothing is about to be asked for.
+  get isLearnt() {
+    return this.#learning === 0;
+  }
+
+  async #learn() {
     const { moment, bit, state } = this;
     const isStale = () => this.moment !== moment || this.bit !== bit || this.state !== state;
     // While time is scrubbed the moments on the way are not asked for.
     await new Promise((settle) => { setTimeout(settle, PAUSE); });
     if (isStale()) return;
-    const faces = await this.#knowledge.faces(state.items, moment, state.ancillas);
+    const faces = await this.#knowledge.faces(state, moment);
     const neighbours = bit === null ? [] : await this.#knowledge.neighbours(bit, moment);
     if (isStale()) return;
     // Most often the checks of a moment are those of the one before.
@@ -204,6 +218,7 @@ export class Shown {
     this.drawLayout(isFresh);
     this.#drawTime(isEdited);
     this.where = sayMoment(this);
+    this.#views.rounds.show(this.round !== null);
     this.#inspect();
     this.#sayBit();
   }
@@ -222,7 +237,7 @@ export class Shown {
 
   // What drawing.js draws, with what is chosen.
   scene() {
-    return sceneOf(this, this.#followed, { faces: this.#faces, neighbours: this.#neighbours });
+    return sceneOf(this, this.#followed, { faces: this.hasFaces ? this.#faces : NONE, neighbours: this.#neighbours });
   }
 
   #drawTime(isEdited) {
@@ -240,6 +255,13 @@ export class Shown {
   #flagOf(first, behind) {
     const kinds = this.state.toldBetween(first, behind, this.#flips()).map((number) => this.#kindOf(`D${number}`));
     return ["flipped", "random"].find((kind) => kinds.includes(kind)) ?? null;
+  }
+
+  // Shows the faces of checks, or none.
+  takeFaces(hasFaces) {
+    this.hasFaces = hasFaces;
+    by("faces").ariaPressed = hasFaces;
+    this.drawLayout();
   }
 
   showSince(which) {
@@ -278,7 +300,7 @@ export class Shown {
       name: found?.item.name, letter: this.#followed.region[this.moment]?.[qubit], hasCoin: coins.has(qubit),
       error: set.find((it) => it.qubit === qubit && it.isHere)?.letter,
     });
-    if (qubit === null) return void inspector.errors(null, "—");
+    if (qubit === null) return void inspector.errors(null, null);
     const { moment } = this;
     const flips = await this.#knowledge.flips(moment, qubit);
     if (this.moment === moment && qubit === this.inspected) inspector.errors(flips, "not known yet");

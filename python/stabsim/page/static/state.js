@@ -1,8 +1,9 @@
 // What all views show of the circuit: the server's events alone change it.
 
-import { applyEdit, parseCircuit } from "./circuit.js";
-import { isRecorded, pairsOf, isPair, isRecord, qubitOf, qubitsOf, resets } from "./instructions.js";
+import { applyEdit, blocksAround, parseCircuit } from "./circuit.js";
+import { isPair, isRecord, pairsOf, qubitOf, qubitsOf } from "./instructions.js";
 import { placesOf } from "./places.js";
+import { Uses } from "./uses.js";
 
 const ENCODER = new TextEncoder();
 
@@ -20,33 +21,49 @@ export class State {
       entries: event.entries,
       position: event.position,
       markedAt: event.marked_at,
+      savedAt: event.saved_at,
       flipped: new Set(event.flipped),
       marked: new Set(event.marked),
-      used: new Set(),
-      ancillas: new Set(),
+      uses: new Uses(),
       placement: null,
       arranged: new Map(),
+      // The last edits, as applyEdit answers them.
+      moves: [],
     });
-    this.#use(this.items, 1, new Set());
+    this.uses.count(this.items, 1);
     this.#takeBits(event);
     this.#place();
   }
 
   // Edits that were made, by this tab or another. Entries that were undone are gone if new ones came.
   take(event) {
-    const known = this.used.size;
-    for (const made of event.edits) {
-      applyEdit(this.items, made);
-      if (made.kind === "insert" || made.kind === "replace") this.#use(parseCircuit(made.item), made.place.includes("/") ? 2 : 1, new Set());
-    }
+    const used = [...this.uses.acting].join();
+    this.moves = event.edits.map((edit) => this.#make(edit));
     if (event.entries.length) this.entries.splice(event.position - event.entries.length, Infinity, ...event.entries);
-    Object.assign(this, { age: event.age, position: event.position, flipped: new Set(event.flipped), deterministic: null });
+    // A mark that has moved counts from where the history goes on.
+    if (event.marked_at !== this.markedAt) this.marked.clear();
+    Object.assign(this, {
+      age: event.age, position: event.position, markedAt: event.marked_at, savedAt: event.saved_at, flipped: new Set(event.flipped), deterministic: null,
+    });
     for (const name of event.flipped) if (!this.marked.delete(name)) this.marked.add(name);
-    const isMoved = event.detectors !== undefined || event.numbers.qubits !== this.numbers.qubits || this.used.size !== known;
+    const isMoved = event.detectors !== undefined || event.numbers.qubits !== this.numbers.qubits || [...this.uses.acting].join() !== used;
     this.numbers = event.numbers;
     if (event.detectors === undefined) event.flipped.forEach((name) => this.#flip(name));
     else this.#takeBits(event);
     if (isMoved) this.#place();
+  }
+
+  #make(edit) {
+    const move = applyEdit(this.items, edit);
+    const rounds = blocksAround(this.items, move.at).reduce((product, { count }) => product * count, 1);
+    if (edit.kind === "delete" || edit.kind === "replace") this.uses.count([move.before], -rounds);
+    if (edit.kind === "insert" || edit.kind === "replace") this.uses.count([move.after], rounds);
+    return move;
+  }
+
+  // The qubits that are measured more than once.
+  get ancillas() {
+    return this.uses.ancillas;
   }
 
   takeDeterministic(line) {
@@ -56,6 +73,11 @@ export class State {
   mark(position) {
     this.marked.clear();
     this.markedAt = position;
+  }
+
+  // Whether the circuit is another than the one that was saved last.
+  get isUnsaved() {
+    return this.position !== this.savedAt;
   }
 
   // Of a bit as D3 or L0: whether there is one, and whether a coin decides it, as far as that is known.
@@ -99,27 +121,7 @@ export class State {
   }
 
   #place() {
-    this.placement = placesOf(this.qubitCoordinates, this.used, () => joinedIn(this.items), this.arranged);
-  }
-
-  // Notes on which qubits items act, and which are measured more than once, as ancillas are.
-  // Items that share their targets (circuit.js) say the same, and are `seen` once.
-  #use(items, rounds, seen) {
-    for (const item of items) {
-      if (item.items) this.#use(item.items, item.count * rounds, seen);
-      else if (!seen.has(item.targets) || rounds > 1) {
-        seen.add(item.targets);
-        this.#useItem(item, rounds);
-      }
-    }
-  }
-
-  #useItem(item, rounds) {
-    const isReused = isRecorded(item.name) && item.name !== "MPP" && (resets(item.name) || rounds > 1);
-    for (const qubit of qubitsOf(item)) {
-      this.used.add(qubit);
-      if (isReused) this.ancillas.add(qubit);
-    }
+    this.placement = placesOf(this.qubitCoordinates, this.uses.acting, () => joinedIn(this.items), this.arranged);
   }
 }
 

@@ -2,6 +2,7 @@
 
 import { blocksAround, pathOf } from "./circuit.js";
 import { before } from "./counts.js";
+import { pathAfter, pathThere } from "./keeping.js";
 import { keyOf } from "./keys.js";
 import { countRows, numberOfRow, rowsBetween } from "./rows.js";
 import { iconOf } from "./svg_pen.js";
@@ -13,10 +14,13 @@ export class TextView {
   #rows;
   #act;
   #items = [];
-  #unfolded = new Set();
+  // Blocks, and first items of runs; those that are gone are forgotten.
+  #unfolded = new WeakSet();
   // The path of the row that is chosen, and whether that is the head of a run and no item.
   #selected = null;
   #isHead = false;
+  // Where a range of lines begins that ends with the chosen one, in the same list; null if there is none.
+  #anchor = null;
   #here = new Set();
   #flagOf = () => null;
   #refusal = null;
@@ -27,7 +31,7 @@ export class TextView {
   #row = 20;
   #frame = 0;
 
-  // `act` has select(path, item), write(kind, path, item), remove(path).
+  // `act` has select(path, item), write(kind, path, item), remove() of the chosen lines, move(by) of them, and search().
   constructor(place, act) {
     this.#place = place;
     this.#act = act;
@@ -43,14 +47,29 @@ export class TextView {
       this.#top = place.scrollTop;
       this.#draw();
     });
-    list.addEventListener("click", ({ target }) => this.#click(this.#rows.rowOf(target), target.matches(".fold")));
-    list.addEventListener("dblclick", ({ target }) => this.#write(this.#rows.rowOf(target)));
+    list.addEventListener("click", ({ target, shiftKey }) => this.#click(this.#rowOf(target), target.matches(".fold"), shiftKey));
+    // A range of lines is chosen, and not their letters.
+    list.addEventListener("mousedown", (event) => event.shiftKey && event.preventDefault());
+    list.addEventListener("dblclick", ({ target }) => this.#write(this.#rowOf(target)));
     place.addEventListener("keydown", (event) => this.#key(event));
     new ResizeObserver(() => {
       this.#height = place.clientHeight;
       this.#row = parseFloat(getComputedStyle(place).lineHeight) || 20;
       this.#draw();
     }).observe(place);
+  }
+
+  // Takes over what is chosen and unfolded from the items before edits, as applyEdit answers them, to those after them.
+  keep(items, moves) {
+    this.#items = items;
+    this.#refusal = null;
+    for (const { before, after } of moves) {
+      if (before && after && Boolean(before.items) === Boolean(after.items) && this.#unfolded.has(before)) this.#unfolded.add(after);
+    }
+    if (this.#selected === null) return;
+    this.#selected = pathThere(items, moves.reduce(pathAfter, pathOf(this.#selected))).join("/");
+    this.#anchor = null;
+    this.#isHead &&= this.#selectedRow() !== null;
   }
 
   // `flagOf(first, behind)` says whether one of some detectors is "flipped" or "random".
@@ -70,21 +89,57 @@ export class TextView {
     return this.#selected;
   }
 
+  // Whether it is drawn as it is to be seen.
+  get isDrawn() {
+    return !this.#frame;
+  }
+
   // The item that is chosen; null if none is, after the last, or if an edit has taken it away.
   get item() {
     return this.#selectedRow()?.item ?? null;
   }
 
-  select(path) {
+  // The chosen lines, as the path of their list, the place of the first, and how many they are; null if none is.
+  get lines() {
+    const item = this.item;
+    if (!item) return null;
+    const list = pathOf(this.#selected).slice(0, -1);
+    const [first, last] = this.#range();
+    return { list, first, count: last - first + 1 };
+  }
+
+  // The places of the first and the last chosen line.
+  #range() {
+    const last = pathOf(this.#selected).at(-1);
+    const first = this.#anchor === null ? last : pathOf(this.#anchor).at(-1);
+    return [Math.min(first, last), Math.max(first, last)];
+  }
+
+  #isInRange(path) {
+    if (this.#selected === null || this.#isHead || path.slice(0, -1).join("/") !== pathOf(this.#selected).slice(0, -1).join("/")) return false;
+    const [first, last] = this.#range();
+    return path.at(-1) >= first && path.at(-1) <= last;
+  }
+
+  // Chooses lines of a list.
+  selectLines(list, first, count) {
+    this.select([...list, first + count - 1]);
+    this.#anchor = count > 1 ? [...list, first].join("/") : null;
+    this.#draw();
+  }
+
+  select(asked) {
+    const path = pathThere(this.#items, asked);
     this.#selected = path.join("/");
     this.#isHead = false;
+    this.#anchor = null;
     for (const block of blocksAround(this.#items, path)) this.#unfolded.add(block);
     this.#bringIntoSight();
     this.#draw();
   }
 
   letGo() {
-    [this.#selected, this.#isHead] = [null, false];
+    [this.#selected, this.#isHead, this.#anchor, this.#refusal, this.#unfolded] = [null, false, null, null, new WeakSet()];
     this.#scrollTo(0);
     this.#draw();
   }
@@ -150,7 +205,7 @@ export class TextView {
     const { rows } = this.#rowsBetween(first, first + Math.ceil(this.#height / this.#row) + 10);
     const selected = this.#selectedRow()?.number;
     this.#sheet.style.height = `${height}px`;
-    this.#rows.show(rows.map((row) => this.#shown(row, row.number === selected)));
+    this.#rows.show(rows.map((row) => this.#shown(row, row.number === selected || (this.#anchor !== null && this.#isInRange(row.path)))));
     const active = rows.find(({ number }) => number === selected);
     if (active) this.#place.setAttribute("aria-activedescendant", idOf(active));
     else this.#place.removeAttribute("aria-activedescendant");
@@ -196,13 +251,46 @@ export class TextView {
     return this.#flagOf(detectors[path[0]], detectors[path[0] + Math.max(1, run)]);
   }
 
-  #click({ path, item, run }, isFold) {
+  // The row of which an element is a part; null if it is of none, as after a drag from row to row, or if an edit has just moved it.
+  #rowOf(element) {
+    const row = this.#rows.rowOf(element);
+    return row && pathThere(this.#items, row.path).join() === row.path.join() ? row : null;
+  }
+
+  #click(row, isFold, isMore) {
+    if (!row) return;
+    const { path, item, run } = row;
     if (isFold && (item?.items || run)) this.#toggle(item);
+    else if (isMore && this.#isBeside(path) && item) this.#extend(path);
     else this.#choose(path, item, run);
   }
 
-  #write({ path, item, run }) {
-    if (!run) this.#act.write(item ? "replace" : "insert", path, item);
+  // Whether a path is of the list of the chosen line.
+  #isBeside(path) {
+    return this.#selected !== null && path.slice(0, -1).join("/") === pathOf(this.#selected).slice(0, -1).join("/");
+  }
+
+  // Has the range of lines end at a path.
+  #extend(path) {
+    const anchor = this.#anchor ?? this.#selected;
+    this.#choose(path, null, 0);
+    this.#anchor = anchor === path.join("/") ? null : anchor;
+    this.#draw();
+  }
+
+  // Has the range of lines end one line further.
+  #extendBy(by) {
+    if (!this.item) return;
+    const path = pathOf(this.#selected);
+    const list = blocksAround(this.#items, path).at(-1)?.items ?? this.#items;
+    const place = path.at(-1) + by;
+    if (!list[place]) return;
+    this.#extend([...path.slice(0, -1), place]);
+    this.#bringIntoSight();
+  }
+
+  #write(row) {
+    if (row && !row.run) this.#act.write(row.item ? "replace" : "insert", row.path, row.item);
   }
 
   #toggle(item) {
@@ -213,6 +301,7 @@ export class TextView {
   #choose(path, item, run) {
     this.#selected = path.join("/");
     this.#isHead = run > 0;
+    this.#anchor = null;
     this.#refusal = null;
     this.#draw();
     this.#place.focus();
@@ -222,6 +311,13 @@ export class TextView {
   #key(event) {
     const moves = { ArrowDown: 1, ArrowUp: -1, PageDown: 20, PageUp: -20, Home: -Infinity, End: Infinity };
     const row = this.#selectedRow();
+    const by = { ArrowDown: 1, ArrowUp: -1 }[event.key];
+    if (by && (event.shiftKey || event.altKey)) {
+      event.preventDefault();
+      if (event.shiftKey) this.#extendBy(by);
+      else if (!event.repeat) this.#act.move(by);
+      return;
+    }
     if (event.key in moves) {
       event.preventDefault();
       this.#move(row || Math.abs(moves[event.key]) === Infinity ? (row?.number ?? 0) + moves[event.key] : 0);
@@ -237,7 +333,7 @@ export class TextView {
       Enter: () => (run ? this.#toggle(item) : this.#act.write(item ? "replace" : "insert", path, item)),
       i: () => this.#act.write("insert", path, item),
       a: () => item && !run && this.#act.write("behind", path, item),
-      Delete: () => item && !run && this.#act.remove(path),
+      Delete: () => item && !run && this.#act.remove(),
     };
     const act = keys[keyOf(event)];
     if (act) {

@@ -9,7 +9,7 @@ import { circle, gates } from "./glyphs.js";
 import { isControlled, isPair } from "./instructions.js";
 import { endsByTick } from "./ticks.js";
 
-export const LEFT = 76;
+export const LEFT = 86;
 export const TOP = 82;
 const ROUNDS = 11;
 const TICKS = 30;
@@ -44,7 +44,7 @@ export function timelineOf(sheet) {
 
 function names() {
   const said = [["rounds", ROUNDS], ["ticks", TICKS], ["operations", OPERATIONS], ["error", ERROR], ["detectors", TOP + 14]];
-  return said.map(([words, y]) => ({ words, x: 10, y, size: 11, fill: "quiet", align: "left" }));
+  return said.map(([words, y]) => ({ words, x: 10, y, size: 12.5, fill: "quiet", align: "left" }));
 }
 
 // Rounds as bands, each with its block and its number; what is in no block is between them.
@@ -55,8 +55,8 @@ function bands({ line, first, last, x, step, height }) {
     if (isBlock) elements.push({ path: box(left, 0, right - left, height), fill: isOdd ? "hover" : "well" });
     elements.push({ path: [["M", left, 0], ["L", left, height]], stroke: "hair" });
     const seen = Math.max(left, LEFT);
-    const words = right - seen > 6.2 * label.length + 8 ? label : right - seen > 6.2 * short.length + 8 ? short : "";
-    if (words) elements.push({ words, x: seen + 5, y: ROUNDS, size: 11, fill: "ink", align: "left" });
+    const words = right - seen > 7 * label.length + 8 ? label : right - seen > 7 * short.length + 8 ? short : "";
+    if (words) elements.push({ words, x: seen + 5, y: ROUNDS, size: 12.5, fill: "ink", align: "left" });
   }
   return elements;
 }
@@ -70,7 +70,7 @@ function ticks({ line, shown, first, last, x, step }) {
     const { tick, name } = line.name(moment);
     const isClear = Math.abs(moment - shown.moment) * step > 22;
     if (isNow || (tick % every === 0 && isClear && !name.includes(".")) || (name.endsWith(".1") && isClear && every === 1)) {
-      elements.push({ words: name, x: x(moment), y: TICKS, size: 10, fill: isNow ? "ink" : "quiet", weight: isNow ? 700 : 400 });
+      elements.push({ words: name, x: x(moment), y: TICKS, size: 12.5, fill: isNow ? "ink" : "quiet", weight: isNow ? 700 : 400 });
     }
     const glyph = glyphOf(line.operation(moment), side);
     if (glyph) elements.push({ ...glyph, x: x(moment), y: OPERATIONS, side });
@@ -88,10 +88,10 @@ function tickMarks({ shown: { items }, first, last, x, step }) {
   return path.length ? [{ path, stroke: "edge", width: 2 }] : [];
 }
 
-// The way of an error, or a set of them: at each moment the letter, or a grey mark for several, and on how many qubits it is.
-function errorElements({ shown: { way, set }, first, last, x, step }) {
+// A set of errors: at each moment the letter, or a grey mark for several, and on how many qubits it is.
+function errorElements({ shown: { set }, first, last, x, step }) {
   const side = Math.max(5, Math.min(16, step * 0.84));
-  return Object.entries(way?.letters ?? set).map(([moment, letters]) => [Number(moment), Object.values(letters)])
+  return Object.entries(set).map(([moment, letters]) => [Number(moment), Object.values(letters)])
     .filter(([moment]) => moment >= first && moment <= last)
     .map(([moment, letters]) => ({ ...errorMark(letters, side), x: x(moment), y: ERROR, side }));
 }
@@ -158,7 +158,7 @@ function observables({ shown, at }, width, height) {
   const elements = [{ path: box(0, height - 22, width, 22), fill: "sheet" }];
   shown.observables.forEach((_, number) => {
     const [x, y] = at(`L${number}`);
-    elements.push({ ...dotOf(shown.kindOf(`L${number}`)), x, y, side: 10 }, { words: `L${number}`, x: x - 10, y, size: 11, fill: "quiet", align: "right" });
+    elements.push({ ...dotOf(shown.kindOf(`L${number}`)), x, y, side: 10 }, { words: `L${number}`, x: x - 10, y, size: 12.5, fill: "quiet", align: "right" });
     if (shown.bit === `L${number}`) elements.push({ path: circle(x, y, 8), stroke: "accent", width: 2 });
   });
   return shown.observables.length ? elements : [];

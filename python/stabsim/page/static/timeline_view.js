@@ -45,13 +45,15 @@ export class TimelineView {
   // All detectors as they are if nothing is known of them, drawn once for as long as they are where they are.
   #ground = null;
 
-  // `act` has goTo(moment), choose(bit), moveTick(moment, to, gap) (ticks.js), tip(bit, place) and say(words, place); without a bit or
+  // `act` has goTo(moment), range(moment) from the one that is shown, choose(bit), moveTick(moment, to, gap) (ticks.js), tip(bit, place) and say(words, place); without a bit or
   // words these two take away what was said.
   constructor(canvas, act) {
     this.#canvas = canvas;
     this.#pen = new CanvasPen(canvas);
     this.#act = act;
     canvas.addEventListener("pointerdown", (event) => this.#press(event));
+    // What chooses several ticks gives the focus to their lines.
+    canvas.addEventListener("mousedown", (event) => event.shiftKey && event.preventDefault());
     canvas.addEventListener("pointermove", (event) => this.#move(event));
     canvas.addEventListener("pointerup", () => this.#release());
     canvas.addEventListener("pointercancel", () => this.#letGo());
@@ -60,14 +62,13 @@ export class TimelineView {
     new ResizeObserver(() => {
       this.#size = [canvas.clientWidth, canvas.clientHeight];
       this.#measure();
-      this.draw();
+      if (this.#shown) this.#scrollBy(0);
     }).observe(canvas);
   }
 
-  // state: {items, moments, moment, observables, coordinates, toldBetween, kindOf, bit, region, coins, way, set}: `kindOf(bit)` says how a
+  // state: {items, moments, moment, observables, coordinates, toldBetween, kindOf, bit, region, coins, set}: `kindOf(bit)` says how a
   // bit is drawn and `toldBetween(first, end)` which detectors otherwise than as 0 (state.js), `bit` is the chosen one, `coins` are those
-  // that decide it, and `region` has its letters by moment, as `way.letters` has those of an error and `set` those of several; `coins` and
-  // `way` may be null.
+  // that decide it, and `region` has its letters by moment, as `set` has those of errors; `coins` may be null.
   show(state, isFresh) {
     const isOther = this.#shown?.items !== state.items;
     if (isFresh || !this.#line) {
@@ -83,6 +84,11 @@ export class TimelineView {
 
   get size() {
     return this.#size;
+  }
+
+  // Whether it is drawn as it is to be seen.
+  get isDrawn() {
+    return !this.#frame;
   }
 
   // Where a detector is drawn, from the upper left corner of the canvas, or an observable, as D3 or L0.
@@ -134,6 +140,12 @@ export class TimelineView {
     this.#pen.begin(...this.#size);
     const sheet = this.#sheet();
     this.#pen.show(timelineOf({ ...sheet, ground: this.#groundOf(sheet) }), ...this.#size);
+  }
+
+  // What is drawn, as elements (glyphs.js), with all detectors one by one.
+  elements() {
+    const sheet = this.#sheet();
+    return [timelineOf({ ...sheet, ground: groundOf(sheet) })].flat(2);
   }
 
   #measure() {
@@ -191,6 +203,7 @@ export class TimelineView {
     if (event.button !== 0 || !this.#shown) return;
     const bit = this.#bitAt(event.offsetX, event.offsetY);
     if (bit !== null) return void this.#act.choose(bit);
+    if (event.shiftKey) return void this.#act.range(this.#momentAt(event.offsetX));
     if (event.isTrusted) this.#canvas.setPointerCapture(event.pointerId);
     const moment = this.#tickAt(event.offsetX, event.offsetY);
     if (moment === null) this.#act.goTo(this.#momentAt(event.offsetX));

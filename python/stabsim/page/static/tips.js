@@ -1,4 +1,4 @@
-// What is said of a detector under the pointer.
+// What is said of a detector under the pointer, and of what an edit flipped.
 
 import { findNumbered } from "./circuit.js";
 
@@ -16,5 +16,13 @@ export function saidOfBit(bit, state) {
 
 function kindOf(bit, state) {
   if (state.deterministic === null) return "";
-  return state.isRandom(bit) ? ", a coin decides it" : ", the same for all coins";
+  return state.isRandom(bit) ? ", random" : ", deterministic";
+}
+
+const MOST_FLIPS = 12;
+
+// What an edit flipped, in words for those who do not see it.
+export function saidOfFlips(flipped) {
+  if (!flipped.length) return "flips nothing";
+  return `flips ${flipped.slice(0, MOST_FLIPS).join(" ")}${flipped.length > MOST_FLIPS ? ` and ${flipped.length - MOST_FLIPS} more` : ""}`;
 }

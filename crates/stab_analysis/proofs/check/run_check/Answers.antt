@@ -1,4 +1,4 @@
-use Rattle.stab_analysis.proofs.Names.{subst, inl, Err, ReadsCircuit}
+use Rattle.stab_analysis.proofs.Names.{refl, subst, inl, Err, ReadsCircuit}
 use Rattle.stab_analysis.proofs.CheckLaws.{text_refused}
 use Rattle.stab_analysis.proofs.check.run_check.Goals as goal
 
@@ -10,4 +10,5 @@ returns g c =
         c.explain-in-Err-circuit_of_text.ensures.explains,
         text_refused (g.I.Input.seen c.args.input.now) (g.I.Input.seen c.read_text.new.input) c.in-Ok.text.items fault c.in-Ok.ensures.reads reads,
       );
+      warns = refl;
     }

@@ -1,6 +1,7 @@
-use Rattle.std.proofs.Common.{subst, sym}
+use Rattle.std.proofs.Common.{false, subst, sym}
 use Rattle.stab_texts.specs.Distances.{EndsDistance}
 use Rattle.stab_texts.specs.FaultTables.{EndsFaults, fault_of}
+use Rattle.stab_cli.proofs.WarningLaws.{warned_alike}
 use Rattle.stab_cli.proofs.status.run_command.Goals as goal
 
 pub returns-in-Faults-clause-ends : goal.returns-in-Faults-clause-ends
@@ -16,3 +17,20 @@ returns-in-Distance-clause-ends g c =
     (λ u. EndsDistance c.in-Distance.options (g.I.Input.seen c.args.input.now) (g.I.Input.seen c.run_distance.new.input) (g.O.Output.seen c.args.out.now) (g.O.Output.seen c.run_distance.new.out) (fault_of c.run_distance.result) u)
     (sym c.refuses_none-in-Distance.ensures.same) c.run_distance.ensures.ends in
     rw c.in-Distance.is (fault_of c.run_distance.result, ends, c.refuses_none-in-Distance.ensures.value)
+
+pub returns-in-Distance-clause-told : goal.returns-in-Distance-clause-told
+returns-in-Distance-clause-told g c = rw c.in-Distance.is (fault_of c.run_distance.result, c.run_distance.ensures.told, c.refuses_none-in-Distance.ensures.value)
+
+-- what is left of the error output
+
+pub returns-in-Check-clause-warns : goal.returns-in-Check-clause-warns
+returns-in-Check-clause-warns g c =
+    rw c.in-Check.is (warned_alike false (g.I.Input.seen c.args.input.now) (g.I.Input.seen c.run_check.new.input) (g.E.Output.seen c.args.err.now) (g.E.Output.seen c.run_check.new.err) c.run_check.result (fault_of c.plain_answer-in-Check.result) c.plain_answer-in-Check.ensures.value c.run_check.ensures.warns)
+
+pub returns-in-Faults-clause-warns : goal.returns-in-Faults-clause-warns
+returns-in-Faults-clause-warns g c =
+    rw c.in-Faults.is (warned_alike c.in-Faults.everywhere (g.I.Input.seen c.args.input.now) (g.I.Input.seen c.run_faults.new.input) (g.E.Output.seen c.args.err.now) (g.E.Output.seen c.run_faults.new.err) (fault_of c.run_faults.result) (fault_of c.refuses_none.result) c.refuses_none.ensures.value c.run_faults.ensures.warns)
+
+pub returns-in-Distance-clause-warns : goal.returns-in-Distance-clause-warns
+returns-in-Distance-clause-warns g c =
+    rw c.in-Distance.is (warned_alike c.in-Distance.options.everywhere (g.I.Input.seen c.args.input.now) (g.I.Input.seen c.run_distance.new.input) (g.E.Output.seen c.args.err.now) (g.E.Output.seen c.run_distance.new.err) (fault_of c.run_distance.result) (fault_of c.refuses_none-in-Distance.result) c.refuses_none-in-Distance.ensures.value c.run_distance.ensures.warns)

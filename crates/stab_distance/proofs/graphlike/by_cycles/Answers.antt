@@ -1,6 +1,6 @@
-use Rattle.stab_distance.proofs.Names.{◌≡◌, ap, subst, arith, length, HasNone}
-use Rattle.stab_distance.proofs.DistinctLemmas.{none-told, none-within_told, bound-told}
-use Rattle.stab_distance.proofs.BoundLemmas.{least-bounded, none-bounded}
+use Rattle.stab_distance.proofs.Names.{◌≡◌, ◌<◌, ◌≤◌, subst, arith, length, HasNone}
+use Rattle.stab_distance.proofs.DistinctLemmas.{none-told, bound-told}
+use Rattle.stab_distance.proofs.BoundLemmas.{least-bounded}
 use Rattle.stab_distance.proofs.graphlike.by_cycles.Goals as goal
 
 pub returns-then-certified : goal.returns-then-certified
@@ -13,22 +13,32 @@ returns-then-certified c =
           (subst HasNone same (c.in_ok-certified.ensures.none c.if-certified.true));
     }
 
-pub returns-then-none : goal.returns-then-none
-returns-then-none c =
-    let count : length c.rows-2.result.now ≡ length c.in-Some.graph.table.rows = ap length c.rows-2.ensures.value in
+pub returns-then-len-most : goal.returns-then-len-most
+returns-then-len-most c =
+    let count : c.len-2.result ≡ length c.in-Some-2.set.items = omega (arith, c.len-2.ensures, c.in-Some-2.set.ok.0) in
+    let same : c.len.result ≡ c.len-2.result = omega (arith, c.len.ensures, c.len-2.ensures) in
+    let bound =
+    bound-told c.args.part.now c.in-Some.graph.table c.detectors.result c.in_ok-distinct.distinct.rows.items
+    (rw c.in-Some.is at c.in_ok-new.ensures.table) c.detectors.ensures.value c.in_ok-distinct.ensures.all c.min-bound.result
+    (c.in_ok-shown.ensures.yes c.if-not-shown.false) in
+    let more : c.args.most < c.min-bound.result = omega (arith, same, c.if-len-most.true, c.min-bound.ensures, c.saturating_add.ensures, c.ranges.most) in
     record {
-      answer = none-within_told c.args.part.now c.in-Some.graph.table c.detectors.result c.in_ok-distinct.distinct.rows.items
-          (rw c.in-Some.is at c.in_ok-new.ensures.table) c.detectors.ensures.value c.in_ok-distinct.ensures.all c.args.most
-          (none-bounded c.in-Some.graph.table c.args.most c.min-within.result (omega (arith, count, c.min-within.ensures))
-          (c.in_ok-none.ensures.yes c.if-none.true));
+      answer = (
+        λ errors logical. omega (arith, more, bound errors logical),
+        (c.in-Some-2.set.items, (rw c.in-Some-2.is at c.in_ok-logical_set.ensures.set).logical),
+      );
     }
 
 pub returns : goal.returns
-returns c = record {
-  answer = least-bounded c.args.part.now c.args.most c.len-2.result (length c.as_slice.result.now) c.in-Some-2.set.items
-      (omega (arith, c.as_slice.ensures.len, c.len-2.ensures)) (omega (arith, c.if-len-most.false, c.len.ensures, c.len-2.ensures))
-      (bound-told c.args.part.now c.in-Some.graph.table c.detectors.result c.in_ok-distinct.distinct.rows.items
-      (rw c.in-Some.is at c.in_ok-new.ensures.table) c.detectors.ensures.value c.in_ok-distinct.ensures.all c.len-2.result
-      (c.in_ok-least.ensures.yes c.if-not-least.false))
-      (rw c.in-Some-2.is at c.in_ok-logical_set.ensures.set);
-}
+returns c =
+    let count : c.len-2.result ≡ length c.in-Some-2.set.items = omega (arith, c.len-2.ensures, c.in-Some-2.set.ok.0) in
+    let same : c.len.result ≡ c.len-2.result = omega (arith, c.len.ensures, c.len-2.ensures) in
+    let few : c.len-2.result ≤ c.args.most = omega (arith, c.if-len-most.false) in
+    record {
+      answer = least-bounded c.args.part.now c.args.most c.min-bound.result (length c.as_slice.result.now) c.in-Some-2.set.items
+          (omega (arith, count, same, few, c.min-bound.ensures, c.saturating_add.ensures, c.in-Some-2.set.small)) (omega (arith, same, few, c.min-bound.ensures))
+          (bound-told c.args.part.now c.in-Some.graph.table c.detectors.result c.in_ok-distinct.distinct.rows.items
+          (rw c.in-Some.is at c.in_ok-new.ensures.table) c.detectors.ensures.value c.in_ok-distinct.ensures.all c.min-bound.result
+          (c.in_ok-shown.ensures.yes c.if-not-shown.false))
+          (rw c.in-Some-2.is at c.in_ok-logical_set.ensures.set);
+    }

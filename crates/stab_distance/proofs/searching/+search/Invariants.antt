@@ -1,4 +1,4 @@
-use Rattle.stab_distance.proofs.Names.{ℕ, ◌+◌, ◌*◌, ◌<◌, get_or, NoEndsBy}
+use Rattle.stab_distance.proofs.Names.{◌≡◌, ℕ, ◌+◌, ◌*◌, ◌<◌, length, get_or, NoEndsBy}
 use Rattle.stab_distance.proofs.searching.+search.Given as goal
 
 abbrev pub decreases-search : goal.decreases-search
@@ -8,4 +8,8 @@ abbrev pub decreases-try_error : goal.decreases-try_error
 decreases-try_error l = 2 * l.left + 1
 
 abbrev pub invariant-search-tries : goal.invariant-search-tries
-invariant-search-tries l = (k : ℕ) → k < l.g-index → NoEndsBy l.errors.table l.first l.flipped l.left (get_or l.flipping k 0)
+invariant-search-tries l = record {
+  cover : length l.cover ≡ length l.errors.table.rows;
+  path : l.path.items ≡ l.initial.path.items;
+  tried : (k : ℕ) → k < l.g-index → NoEndsBy l.errors.table l.errors.pairs l.first l.initial.path.items l.flipped l.left (get_or l.g-items k 0);
+}

@@ -1,7 +1,7 @@
-use Rattle.stab_editor.proofs.Names.{◌≡◌, ◌+◌, ◌-◌, ◌++◌, [], ◌∷◌, false, sym, ap, ◌∙◌, subst, arith, inr, length, length-take, take, drop, append-nil, take-append-drop, Gave, ScriptReader, begin, read, empty_reader, opened_in, Sitting, Told, ToldSome, sitting, opened_read, sitting_with}
+use Rattle.stab_editor.proofs.Names.{◌≡◌, ◌+◌, ◌-◌, ◌++◌, [], ◌∷◌, false, sym, ap, ◌∙◌, subst, arith, inr, length, length-take, take, drop, append-nil, take-append-drop, Gave, ScriptReader, begin, read, empty_reader, opened_in, Sitting, Told, ToldSome, sitting, opened_read, sitting_with, Request, Answer, EndsScript}
 use Rattle.std.specs.Prelude.{List, ℕ, Ok, Err}
-use Rattle.stab_editor.proofs.ScriptRunLaws.{before_script, greeting_broke, script_failed, broke_behind, script_too_long, gave_end, script_ended, script_err}
-use Rattle.stab_editor.proofs.ScriptTurnLaws.{in_turn_at_first, in_turn_so_far, last_in_turn, unread_in_turn}
+use Rattle.stab_editor.proofs.ScriptRunLaws.{Said, before_script, greeting_broke, script_failed, broke_behind, script_too_long, gave_end, script_ended, script_err, ends_as}
+use Rattle.stab_editor.proofs.ScriptTurnLaws.{ended_in_turn, in_turn_at_first, in_turn_so_far, unread_in_turn}
 use Rattle.stab_editor.proofs.session_edit.run_script.Goals as goal
 
 pub returns-in_err-tell_request : goal.returns-in_err-tell_request
@@ -14,10 +14,13 @@ returns-in_err-tell_request g c =
     let f = c.in_err-tell_request.field-0.0 in
     let at_first : sitting g.A.Answer.setting g.A.Answer.held c.new-editor.result ≡ before_script setting items =
     c.new-editor.ensures.sitting ∙ ap (λ h. sitting_with setting h false) c.requires.opened in
+    let ends : (P : List Request → Answer → Type 0) → ((xs : List Request) (a : Answer) → P xs a) → EndsScript (Said setting items P) s s o o' c.from_residual.result =
+    λ P always.
+    script_err f c.from_residual.result c.from_residual.ensures.1
+    (greeting_broke setting items P s f always (subst (λ (x : Sitting). ToldSome x (begin ∷ []) o o' f) at_first c.in_err-tell_request.ensures.tells)) in
     record {
-      ends = script_err f c.from_residual.result c.from_residual.ensures.1
-          (greeting_broke s f (subst (λ (x : Sitting). ToldSome x (begin ∷ []) o o' f) at_first c.in_err-tell_request.ensures.tells));
-      turns = unread_in_turn setting items s o (g.W.Watcher.log c.args.script.now);
+      ends = ends_as s s o o' c.from_residual.result (λ xs a said. said.0) (ends (λ xs a. Unit {0}) (λ xs a. tt));
+      turns = unread_in_turn s o' (g.W.Watcher.log c.args.script.now) c.from_residual.result ends;
     }
 
 pub reads-init : goal.reads-init
@@ -39,14 +42,23 @@ reads-init g c =
     }
 
 pub returns-in-Err : goal.returns-in-Err
-returns-in-Err g c = record { ends = inr (script_failed c.whole.result c.reads.invariant.so_far.0 c.reads.invariant.few c.in-Err.ensures.reads c.whole.ensures.value); turns = last_in_turn (g.S.Input.seen c.read.new.script) (Err c.in-Err.field-0) c.read.new.buf c.reads.invariant.so_far c.in-Err.ensures.logs c.in-Err.ensures.reads }
+returns-in-Err g c =
+    let both =
+    ended_in_turn (g.S.Input.seen c.read.new.script) (g.O.Output.seen c.reads.out) (Err c.in-Err.field-0) c.read.new.buf (Err c.whole.result) c.reads.invariant.so_far c.in-Err.ensures.logs c.in-Err.ensures.reads
+    (λ P lasts p. inr (script_failed P c.whole.result c.reads.invariant.so_far.0 p c.reads.invariant.few c.in-Err.ensures.reads c.whole.ensures.value)) in
+    record { ends = both.0; turns = both.1 }
 
 pub returns-then-count-eq0 : goal.returns-then-count-eq0
 returns-then-count-eq0 g c =
     let s' = g.S.Input.seen c.reads.script in
     let s'' = g.S.Input.seen c.read.new.script in
     let none : Gave s' s'' [] = subst (λ (n : ℕ). Gave s' s'' (take n c.read.new.buf)) c.if-count-eq0.true c.in-Ok.ensures.reads.1 in
-    record { ends = script_ended (g.O.Output.seen c.end.new.out) c.end.result c.reads.invariant.so_far.0 c.reads.invariant.few (gave_end none (c.in-Ok.ensures.reads.2 c.if-count-eq0.true (omega (arith, c.read.auto)))) c.end.ensures.finishes; turns = last_in_turn (g.S.Input.seen c.read.new.script) (Ok c.in-Ok.count) c.read.new.buf c.reads.invariant.so_far c.in-Ok.ensures.logs c.in-Ok.ensures.reads }
+    let both =
+    ended_in_turn s'' (g.O.Output.seen c.end.new.out) (Ok c.in-Ok.count) c.read.new.buf c.end.result c.reads.invariant.so_far c.in-Ok.ensures.logs c.in-Ok.ensures.reads
+    (λ P lasts p.
+    script_ended P (g.O.Output.seen c.end.new.out) c.end.result lasts c.reads.invariant.so_far.0 p c.reads.invariant.few
+    (gave_end none (c.in-Ok.ensures.reads.2 c.if-count-eq0.true (omega (arith, c.read.auto)))) c.end.ensures.finishes) in
+    record { ends = both.0; turns = both.1 }
 
 pub returns-in_err-take-in-Ok : goal.returns-in_err-take-in-Ok
 returns-in_err-take-in-Ok g c =
@@ -57,11 +69,12 @@ returns-in_err-take-in-Ok g c =
     let rest = drop (67108864 - c.reads.taken) piece in
     let given : Gave s' s'' piece = subst (λ (l : List ℕ). Gave s' s'' l) (sym c.split_at.ensures.front) c.in-Ok.ensures.reads.1 in
     let whole : part ++ rest ≡ piece = ap (λ l. l ++ rest) c.split_at-then-count-taken.ensures.front ∙ take-append-drop (67108864 - c.reads.taken) piece in
-    record {
-      ends = script_err c.in_err-take-in-Ok.field-0.0 c.from_residual-in_err-take-in-Ok.result c.from_residual-in_err-take-in-Ok.ensures.1
-          (broke_behind c.in_err-take-in-Ok.field-0.0 part rest c.reads.invariant.so_far.0 (subst (λ (l : List ℕ). Gave s' s'' l) (sym whole) given) c.in_err-take-in-Ok.ensures.tells);
-      turns = last_in_turn (g.S.Input.seen c.read.new.script) (Ok c.in-Ok.count) c.read.new.buf c.reads.invariant.so_far c.in-Ok.ensures.logs c.in-Ok.ensures.reads;
-    }
+    let both =
+    ended_in_turn s'' (g.O.Output.seen c.take.new.out) (Ok c.in-Ok.count) c.read.new.buf c.from_residual-in_err-take-in-Ok.result c.reads.invariant.so_far c.in-Ok.ensures.logs c.in-Ok.ensures.reads
+    (λ P lasts p.
+    script_err c.in_err-take-in-Ok.field-0.0 c.from_residual-in_err-take-in-Ok.result c.from_residual-in_err-take-in-Ok.ensures.1
+    (broke_behind P c.in_err-take-in-Ok.field-0.0 part rest lasts c.reads.invariant.so_far.0 p (subst (λ (l : List ℕ). Gave s' s'' l) (sym whole) given) c.in_err-take-in-Ok.ensures.tells)) in
+    record { ends = both.0; turns = both.1 }
 
 pub returns-then-count-taken : goal.returns-then-count-taken
 returns-then-count-taken g c =
@@ -70,11 +83,12 @@ returns-then-count-taken g c =
     let piece = c.split_at.result.0.now in
     let given : Gave s' s'' piece = subst (λ (l : List ℕ). Gave s' s'' l) (sym c.split_at.ensures.front) c.in-Ok.ensures.reads.1 in
     let size : length piece ≡ c.in-Ok.count = omega (arith, ap length c.split_at.ensures.front, length-take c.in-Ok.count c.read.new.buf, c.in-Ok.ensures.reads.0) in
-    record {
-      ends = inr (script_too_long c.whole-then-count-taken.result piece c.split_at-then-count-taken.result.0.now c.reads.invariant.so_far.0 c.reads.invariant.few
-          (omega (arith, size, c.in-Ok.ensures.reads.0, c.read.auto)) (omega (arith, size, c.if-count-taken.true)) c.split_at-then-count-taken.ensures.front given c.in_ok-take-in-Ok.ensures.tells c.whole-then-count-taken.ensures.value);
-      turns = last_in_turn (g.S.Input.seen c.read.new.script) (Ok c.in-Ok.count) c.read.new.buf c.reads.invariant.so_far c.in-Ok.ensures.logs c.in-Ok.ensures.reads;
-    }
+    let both =
+    ended_in_turn s'' (g.O.Output.seen c.take.new.out) (Ok c.in-Ok.count) c.read.new.buf (Err c.whole-then-count-taken.result) c.reads.invariant.so_far c.in-Ok.ensures.logs c.in-Ok.ensures.reads
+    (λ P lasts p.
+    inr (script_too_long P c.whole-then-count-taken.result piece c.split_at-then-count-taken.result.0.now lasts c.reads.invariant.so_far.0 p c.reads.invariant.few
+    (omega (arith, size, c.in-Ok.ensures.reads.0, c.read.auto)) (omega (arith, size, c.if-count-taken.true)) c.split_at-then-count-taken.ensures.front given c.in_ok-take-in-Ok.ensures.tells c.whole-then-count-taken.ensures.value)) in
+    record { ends = both.0; turns = both.1 }
 
 pub returns-in_err-take-in-Ok-2 : goal.returns-in_err-take-in-Ok-2
 returns-in_err-take-in-Ok-2 g c =
@@ -82,11 +96,12 @@ returns-in_err-take-in-Ok-2 g c =
     let s'' = g.S.Input.seen c.read.new.script in
     let piece = c.split_at.result.0.now in
     let given : Gave s' s'' piece = subst (λ (l : List ℕ). Gave s' s'' l) (sym c.split_at.ensures.front) c.in-Ok.ensures.reads.1 in
-    record {
-      ends = script_err c.in_err-take-in-Ok-2.field-0.0 c.from_residual-in_err-take-in-Ok-2.result c.from_residual-in_err-take-in-Ok-2.ensures.1
-          (broke_behind c.in_err-take-in-Ok-2.field-0.0 piece [] c.reads.invariant.so_far.0 (subst (λ (l : List ℕ). Gave s' s'' l) (sym (append-nil piece)) given) c.in_err-take-in-Ok-2.ensures.tells);
-      turns = last_in_turn (g.S.Input.seen c.read.new.script) (Ok c.in-Ok.count) c.read.new.buf c.reads.invariant.so_far c.in-Ok.ensures.logs c.in-Ok.ensures.reads;
-    }
+    let both =
+    ended_in_turn s'' (g.O.Output.seen c.take-in-Ok.new.out) (Ok c.in-Ok.count) c.read.new.buf c.from_residual-in_err-take-in-Ok-2.result c.reads.invariant.so_far c.in-Ok.ensures.logs c.in-Ok.ensures.reads
+    (λ P lasts p.
+    script_err c.in_err-take-in-Ok-2.field-0.0 c.from_residual-in_err-take-in-Ok-2.result c.from_residual-in_err-take-in-Ok-2.ensures.1
+    (broke_behind P c.in_err-take-in-Ok-2.field-0.0 piece [] lasts c.reads.invariant.so_far.0 p (subst (λ (l : List ℕ). Gave s' s'' l) (sym (append-nil piece)) given) c.in_err-take-in-Ok-2.ensures.tells)) in
+    record { ends = both.0; turns = both.1 }
 
 pub reads-preserved : goal.reads-preserved
 reads-preserved g c =

@@ -1,5 +1,5 @@
-use Rattle.stab_edits.proofs.Names.{◌≡◌, ◌∙◌, ap, Ok, ◌+◌, min, length, drop, subst, arith, take-length, slice_get_within, repeat, listed, repeated, IsSumOf, edit_path, steps_within}
-use Rattle.stab_edits.proofs.JudgementLemmas.{judged_err, judged_ok, judged_apart, begins_at, begins_block, gone_block, put_block, edit_refused}
+use Rattle.stab_edits.proofs.Names.{◌≡◌, ◌∙◌, ap, Ok, ◌+◌, min, length, drop, subst, arith, take-length, slice_get_within, repeat, listed, repeated, IsSumOf, IsCount, edit_path, steps_within}
+use Rattle.stab_edits.proofs.JudgementLemmas.{judged_err, judged_ok, judged_good, begins_at, begins_block, gone_block, put_block, edit_refused}
 use Rattle.stab_edits.proofs.EditResultLemmas.{on_ok, edit_result_is}
 use Rattle.stab_edits.proofs.judge.+judging.Goals as goal
 
@@ -35,11 +35,12 @@ judge-returns-in-Ok-edit_result_in-clause-front t c =
     begins_block c.in-Some.block.now (edit_path c.args.edit.now).place c.in-Ok.inner.count c.in-Some.others.now c.args.blocks.now found.0 c.args.items.now c.in-Ok.inner.body.now c.in-Some.ensures.cases.0 found.1 (rw count at c.number.ensures.some)
     c.in-Ok-edit_result_in.ensures.ok.front
 
-pub judge-returns-in-Ok-edit_result_in-clause-apart : goal.judge-returns-in-Ok-edit_result_in-clause-apart
-judge-returns-in-Ok-edit_result_in-clause-apart t c =
+pub judge-returns-in-Ok-edit_result_in-clause-good : goal.judge-returns-in-Ok-edit_result_in-clause-good
+judge-returns-in-Ok-edit_result_in-clause-good t c =
     let found = c.in-Ok.ensures.value in
-    judged_apart c.args.edit.now c.in-Some.block.now c.in-Ok.inner.count c.in-Some.others.now c.args.blocks.now found.0 c.args.items.now c.in-Ok.inner.body.now c.in-Some.ensures.cases.0 found.1
-    c.in-Ok-edit_result_in.ensures.ok.apart
+    let count : c.number.result ≡ c.in-Ok.inner.count = c.number.ensures.value in
+    judged_good c.args.edit.now c.in-Some.block.now c.in-Ok.inner.count c.in-Some.others.now c.args.blocks.now found.0 c.args.items.now c.in-Ok.inner.body.now c.in-Some.ensures.cases.0 found.1
+    (subst IsCount count (c.number.ensures.some, c.number.ensures.few)) found.2 c.in-Ok-edit_result_in.ensures.ok.good
 
 pub judge-returns-in-Ok-edit_result_in-clause-within_put : goal.judge-returns-in-Ok-edit_result_in-clause-within_put
 judge-returns-in-Ok-edit_result_in-clause-within_put t c =
@@ -62,7 +63,7 @@ edit_result_in-returns-in-Ok-clause-ok t c =
     let xs = c.args.items.now in
     let last = c.summary_between-in-Ok-2 in
     let back = subst (λ l. IsSumOf (listed (drop c.in-Ok.judgement.behind l)) last.result) (take-length xs) last.ensures.sum in
-    edit_result_is c.args.edit.now c.args.blocks.now xs c.in-Ok.judgement c.summary_between.result c.summary_between-in-Ok.result last.result c.edit_result_of.result j.value j.small j.front j.apart
+    edit_result_is c.args.edit.now c.args.blocks.now xs c.in-Ok.judgement c.summary_between.result c.summary_between-in-Ok.result last.result c.edit_result_of.result j.value j.small j.front j.good
     c.summary_between.ensures.sum c.summary_between-in-Ok.ensures.sum back j.within_put j.within_gone c.edit_result_of.ensures.value c.edit_result_of.ensures.small
 
 pub edit_result_in-returns-in-Err-clause-refused : goal.edit_result_in-returns-in-Err-clause-refused

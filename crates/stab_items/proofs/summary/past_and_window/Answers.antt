@@ -1,6 +1,5 @@
-use Rattle.stab_items.proofs.Names.{◌≡◌, ap, ◌∙◌, ◌∷◌, [], get_or, take, All, subst, arith, past, controlled_qubits, IsPairApart, looks_back}
+use Rattle.stab_items.proofs.Names.{◌≡◌, ap, ◌∙◌, ◌∷◌, [], get_or, arith, past, controlled_qubits, looks_back}
 use Rattle.stab_items.proofs.SummaryLemmas.{past_controlled_dropped, furthest_dropped}
-use Rattle.stab_items.proofs.StepApartLemmas.{All_taken, All_whole}
 use Rattle.stab_items.proofs.summary.past_and_window.Goals as goal
 
 pub loop-pair-preserved : goal.loop-pair-preserved
@@ -15,11 +14,6 @@ loop-pair-preserved c =
     record {
       few = grind (arith, c.max-past.ensures, c.loop-pair.invariant.few, c.past_pair.ensures.small);
       near = grind (arith, c.max-furthest.ensures, c.loop-pair.invariant.near, c.window_of_pair.ensures.small);
-      apart = All_taken IsPairApart ps i c.pair-item.result c.loop-pair-test.true c.loop-pair.invariant.apart (subst IsPairApart c.pair-item.is c.past_pair.ensures.apart);
       past_same = grind (arith, c.max-past.ensures, c.loop-pair.invariant.past_same, here, dropped);
       window_same = grind (arith, c.max-furthest.ensures, c.loop-pair.invariant.window_same, back, further);
     }
-
-pub returns-clause-apart : goal.returns-clause-apart
-returns-clause-apart c =
-    All_whole IsPairApart c.args.pairs.now (subst (λ n. All IsPairApart (take n c.args.pairs.now)) (omega (arith, c.loop-pair-test.false, c.loop-pair.auto.pair-index-end)) c.loop-pair.invariant.apart)

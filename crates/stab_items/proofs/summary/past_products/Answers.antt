@@ -1,5 +1,4 @@
-use Rattle.stab_items.proofs.Names.{◌≡◌, ap, ◌∙◌, get_or, subst, arith, past, factor_qubits, IsProductApart}
-use Rattle.stab_items.proofs.StepApartLemmas.{All_taken}
+use Rattle.stab_items.proofs.Names.{◌≡◌, ap, ◌∙◌, get_or, arith, past, factor_qubits}
 use Rattle.stab_items.proofs.SummaryLemmas.{past_products_dropped}
 use Rattle.stab_items.proofs.summary.past_products.Goals as goal
 
@@ -12,6 +11,5 @@ loop-product-preserved c =
     let dropped = past_products_dropped ps i c.product-item.result c.loop-product-test.true in
     record {
       small = grind (arith, c.max-past.ensures, c.loop-product.invariant.small, c.past_factors.ensures.small);
-      apart = All_taken IsProductApart ps i c.product-item.result c.loop-product-test.true c.loop-product.invariant.apart (subst IsProductApart c.product-item.is (c.as_slice.ensures.different));
       same = grind (arith, c.max-past.ensures, c.loop-product.invariant.same, here, dropped);
     }

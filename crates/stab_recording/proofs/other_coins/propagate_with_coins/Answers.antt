@@ -1,5 +1,5 @@
-use Rattle.stab_recording.proofs.Names.{subst, length, take, drop, arith, all_coins_of, coins_from, outcome_of, differing, GoesOver, ones-split, ones-within, propagation-others}
-use Rattle.stab_recording.proofs.StopLemmas.{propagation-whole}
+use Rattle.stab_recording.proofs.Names.{ℕ, Bool, List, Letter, Step, IsMissing, subst, ◌+◌, ◌-◌, ◌≤◌, length, length-take, coins-less, missing-later, take, drop, arith, all_coins_of, coins_from, outcome_of, differing, GoesOver, ones-split, ones-within, propagation-others}
+use Rattle.stab_recording.proofs.StopLemmas.{propagation-whole, whole-left}
 use Rattle.stab_recording.proofs.other_coins.propagate_with_coins.Goals as goal
 
 pub returns-in_err-propagate-clause-asks : goal.returns-in_err-propagate-clause-asks
@@ -16,6 +16,21 @@ pub returns-clause-asks_free : goal.returns-clause-asks_free
 returns-clause-asks_free g c =
     omega (arith, c.propagate.ensures.asks, ones-split c.args.propagation.now.coin (all_coins_of (take c.args.most c.args.cursor.now.left)) c.args.free.now)
 
+-- no string is missing
+kept : (strings : List (List Letter)) (free : List Bool) (coin most framed : ℕ) (xs : List Step) → framed ≤ 0 + length (take most xs)
+    → IsMissing strings free (coin + all_coins_of (take (framed - 0) xs)) → IsMissing strings free (coin + all_coins_of (take most xs))
+kept strings free coin most framed xs le =
+    missing-later strings free (coin + all_coins_of (take (framed - 0) xs)) (coin + all_coins_of (take most xs))
+    (omega (arith, coins-less (framed - 0) most xs (omega (arith, le, length-take most xs))))
+
+pub returns-clause-left : goal.returns-clause-left
+returns-clause-left g c =
+    let xs = c.args.cursor.now.left in
+    let done = c.in_ok-propagate.ensures {u = tt} in
+    whole-left (length c.args.propagation.now.letters) 0 c.in_ok-propagate.field-0.steps c.args.most _ c.args.strings.now.strings c.args.free.now xs c.propagate.new.cursor.left c.propagate.new.propagation
+    c.in_ok-propagate.field-0.stop done.stop done.gone
+    (λ told. kept c.args.strings.now.strings c.args.free.now c.args.propagation.now.coin c.args.most c.propagate.new.framed xs done.most (done.missing told)) c.requires.kept done.left
+
 pub returns-clause-propagated : goal.returns-clause-propagated
 returns-clause-propagated g c =
     let n = length c.args.propagation.now.letters in
@@ -24,7 +39,9 @@ returns-clause-propagated g c =
     let done = c.in_ok-propagate.ensures {u = tt} in
     let whole =
     propagation-whole n 0 c.in_ok-propagate.field-0.steps c.args.most _ c.args.strings.now.strings c.args.free.now xs c.propagate.new.propagation c.in_ok-propagate.field-0.stop
-    done.stop done.gone done.missing c.requires.kept in
+    done.stop done.gone
+    (λ told. kept c.args.strings.now.strings c.args.free.now c.args.propagation.now.coin c.args.most c.propagate.new.framed xs done.most (done.missing told))
+    c.requires.kept in
     propagation-others n c.args.strings.now.strings c.args.free.now c.args.outcomes.now others (take c.args.most xs) c.args.propagation.now c.propagate.new.propagation
     (subst (λ ys. GoesOver n c.args.strings.now.strings c.args.free.now (differing (outcome_of c.args.outcomes.now c.args.propagation.now.coin) others) ys c.args.propagation.now c.propagate.new.propagation) whole
     (subst (λ k. GoesOver n c.args.strings.now.strings c.args.free.now (differing (outcome_of c.args.outcomes.now k) others) (take c.in_ok-propagate.field-0.steps xs)

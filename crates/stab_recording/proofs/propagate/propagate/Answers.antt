@@ -1,4 +1,4 @@
-use Rattle.stab_recording.proofs.Names.{◌≡◌, ◌+◌, ◌≤◌, ◌∙◌, ap, sym, subst, arith, length, take, drop, length-take, take-length, steps_shown, all_coins_of, coins-few, frame_at, IsGone, asks-later, asks-further, missing-later, goes-same, left-over, left-none, drop-over, fits-over, coins-within, coins-less, goes-over}
+use Rattle.stab_recording.proofs.Names.{◌≡◌, ◌+◌, ◌-◌, ◌≤◌, ◌∙◌, ap, sym, subst, arith, length, take, drop, length-take, take-length, steps_shown, all_coins_of, coins-few, frame_at, IsGone, asks-later, asks-further, missing-later, goes-same, left-over, left-none, drop-over, fits-over, coins-within, coins-less, goes-over}
 use Rattle.stab_recording.proofs.propagate.propagate.Goals as goal
 
 pub returns-then-is_gone-clause-stop : goal.returns-then-is_gone-clause-stop
@@ -19,6 +19,40 @@ pub propagate_instruction-requires-clause-few : goal.propagate_instruction-requi
 propagate_instruction-requires-clause-few g c =
     let le = left-over c.loop-steps.steps c.args.cursor.now.left (steps_shown c.in-Some.next) c.next_steps.new.self.left (sym c.loop-steps.invariant.left ∙ c.in-Some.ensures.some) c.in-Some.ensures.within.0 in
     omega (arith, c.loop-steps.invariant.goes.coin, coins-few c.loop-steps.steps c.args.cursor.now.left, le, c.requires.few)
+
+pub propagate_instruction-requires-clause-few_framed : goal.propagate_instruction-requires-clause-few_framed
+propagate_instruction-requires-clause-few_framed g c =
+    let le = left-over c.loop-steps.steps c.args.cursor.now.left (steps_shown c.in-Some.next) c.next_steps.new.self.left (sym c.loop-steps.invariant.left ∙ c.in-Some.ensures.some) c.in-Some.ensures.within.0 in
+    omega (arith, c.loop-steps.invariant.framed, le, c.requires.few_framed)
+
+-- no more steps are counted than it may pass
+
+pub returns-then-is_gone-clause-most : goal.returns-then-is_gone-clause-most
+returns-then-is_gone-clause-most g c =
+    omega (arith, length-take c.args.most c.args.cursor.now.left, c.loop-steps.invariant.framed, c.loop-steps.invariant.most, c.loop-steps.invariant.within)
+
+pub returns-in_default-clause-most : goal.returns-in_default-clause-most
+returns-in_default-clause-most g c =
+    omega (arith, length-take c.args.most c.args.cursor.now.left, c.loop-steps.invariant.framed, c.loop-steps.invariant.most, c.loop-steps.invariant.within)
+
+pub returns-clause-most : goal.returns-clause-most
+returns-clause-most g c =
+    omega (arith, length-take c.args.most c.args.cursor.now.left, c.loop-steps.invariant.framed, c.loop-steps.invariant.most, c.loop-steps.invariant.within)
+
+pub returns-in_err-went-clause-most : goal.returns-in_err-went-clause-most
+returns-in_err-went-clause-most g c =
+    let le = left-over c.loop-steps.steps c.args.cursor.now.left (steps_shown c.in-Some.next) c.next_steps.new.self.left (sym c.loop-steps.invariant.left ∙ c.in-Some.ensures.some) c.in-Some.ensures.within.0 in
+    omega (arith, length-take c.args.most c.args.cursor.now.left, c.loop-steps.invariant.framed, c.propagate_instruction.ensures.counted, le, c.in-Some.ensures.within.1, c.loop-steps-test.true)
+
+pub returns-then-went-len-clause-most : goal.returns-then-went-len-clause-most
+returns-then-went-len-clause-most g c =
+    let le = left-over c.loop-steps.steps c.args.cursor.now.left (steps_shown c.in-Some.next) c.next_steps.new.self.left (sym c.loop-steps.invariant.left ∙ c.in-Some.ensures.some) c.in-Some.ensures.within.0 in
+    omega (arith, length-take c.args.most c.args.cursor.now.left, c.loop-steps.invariant.framed, c.propagate_instruction.ensures.counted, le, c.in-Some.ensures.within.1, c.loop-steps-test.true)
+
+pub returns-then-went-len-clause-counted : goal.returns-then-went-len-clause-counted
+returns-then-went-len-clause-counted g c =
+    let few : c.in_ok-went.went ≤ length (steps_shown c.in-Some.next) = c.in_ok-went.ensures.within in
+    omega (arith, few, c.loop-steps.invariant.framed, c.propagate_instruction.ensures.counted)
 
 pub returns-then-went-len-clause-within : goal.returns-then-went-len-clause-within
 returns-then-went-len-clause-within g c =
@@ -71,11 +105,14 @@ returns-then-went-len-clause-goes g c =
 
 pub returns-then-went-len-clause-missing : goal.returns-then-went-len-clause-missing
 returns-then-went-len-clause-missing g c = λ is.
-    let coins =
-    coins-within c.loop-steps.steps c.args.most c.args.cursor.now.left (steps_shown c.in-Some.next) _ (sym c.loop-steps.invariant.left ∙ c.in-Some.ensures.some)
-    (omega (arith, c.in-Some.ensures.within.1, c.loop-steps-test.true)) in
-    missing-later c.args.known.strings.now.strings c.args.known.free.now (c.loop-steps.propagation.coin + all_coins_of (steps_shown c.in-Some.next))
-    (c.args.propagation.now.coin + all_coins_of (take c.args.most c.args.cursor.now.left)) (omega (arith, c.loop-steps.invariant.goes.coin, coins))
+    let ys = steps_shown c.in-Some.next in
+    let xs = c.args.cursor.now.left in
+    let passed : c.propagate_instruction.new.framed - c.args.framed.now ≡ c.loop-steps.steps + length ys =
+    omega (arith, c.loop-steps.invariant.framed, c.propagate_instruction.ensures.counted) in
+    let coins = coins-within c.loop-steps.steps (c.loop-steps.steps + length ys) xs ys _ (sym c.loop-steps.invariant.left ∙ c.in-Some.ensures.some) (omega arith) in
+    missing-later c.args.known.strings.now.strings c.args.known.free.now (c.loop-steps.propagation.coin + all_coins_of ys)
+    (c.args.propagation.now.coin + all_coins_of (take (c.propagate_instruction.new.framed - c.args.framed.now) xs))
+    (omega (arith, c.loop-steps.invariant.goes.coin, coins, ap (λ k. all_coins_of (take k xs)) passed))
     ((c.in_ok-went.ensures {u = tt}).missing (omega (arith, c.if-went-len.true, c.len.ensures.value)))
 
 pub loop-steps-preserved : goal.loop-steps-preserved
@@ -94,6 +131,7 @@ loop-steps-preserved g c =
     let coins = ap (λ j. all_coins_of (take j ys)) (sym all) ∙ ap all_coins_of (take-length ys) in
     record {
       most = omega (arith, few, c.in-Some.ensures.within.1, c.loop-steps-test.true);
+      framed = omega (arith, done.counted, all, inv.framed);
       within = omega (arith, few, left-over c.loop-steps.steps xs ys rest left c.in-Some.ensures.within.0);
       left = drop-over c.loop-steps.steps xs ys rest left ∙ ap (λ j. drop (c.loop-steps.steps + j) xs) all;
       all = c.next_steps.ensures.all ∙ inv.all;

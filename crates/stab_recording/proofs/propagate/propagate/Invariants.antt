@@ -1,9 +1,10 @@
-use Rattle.stab_recording.proofs.Names.{◌≡◌, ◌-◌, ◌≤◌, length, take, drop, AsksFree, GoesOver}
+use Rattle.stab_recording.proofs.Names.{◌≡◌, ◌+◌, ◌-◌, ◌≤◌, length, take, drop, AsksFree, GoesOver}
 use Rattle.stab_recording.proofs.propagate.propagate.Given as goal
 
 abbrev pub invariant-loop-steps : goal.invariant-loop-steps
 invariant-loop-steps g l = record {
   most : l.steps ≤ l.most;
+  framed : l.framed ≡ l.initial.framed + l.steps;
   within : l.steps ≤ length l.initial.cursor.left;
   left : l.cursor.left ≡ drop l.steps l.initial.cursor.left;
   all : l.cursor.all ≡ l.initial.cursor.all;

@@ -1,9 +1,68 @@
-use Rattle.stab_recording.proofs.Names.{◌≡◌, ◌≢◌, ◌+◌, ◌-◌, ◌∙◌, ap, length, drop, arith, rules, drop-drop, take_all, take-append-drop, NoString}
-use Rattle.stab_recording.proofs.LeadingLemmas.{order-first, behind-copy, steps-there, behind-told, past-next, short-left, few-left, past-more, next-copy, advanced-dropped, advanced-gone, advanced-behind}
+use Rattle.stab_recording.proofs.Names.{◌≡◌, ◌≢◌, ◌+◌, ◌-◌, ◌∙◌, ap, length, length-take, drop, arith, rules, drop-drop, take_all, take-append-drop, NoString}
+use Rattle.stab_recording.proofs.LeadingLemmas.{order-first, behind-copy, steps-there, behind-told, past-next, short-left, few-left, few-counted, most-counted, missing-more, past-more, next-copy, advanced-dropped, advanced-gone, advanced-behind}
 use Rattle.stab_recording.proofs.rest_of_run.propagate_rest.Goals as goal
 
 pub propagate_steps-requires-clause-few : goal.propagate_steps-requires-clause-few
 propagate_steps-requires-clause-few c = few-left c.loop-copy.invariant.past c.loop-copy.cursor.left c.loop-copy.invariant.left c.requires.few
+
+pub propagate_steps-requires-clause-few_framed : goal.propagate_steps-requires-clause-few_framed
+propagate_steps-requires-clause-few_framed c =
+    few-counted c.loop-copy.invariant.past c.loop-copy.cursor.left c.loop-copy.invariant.left c.args.framed.now c.loop-copy.framed c.loop-copy.invariant.most c.requires.few_framed
+
+pub propagate_steps-requires-2-clause-few_framed : goal.propagate_steps-requires-2-clause-few_framed
+propagate_steps-requires-2-clause-few_framed c =
+    few-counted c.loop-copy.invariant.past c.loop-copy.cursor.left c.loop-copy.invariant.left c.args.framed.now c.loop-copy.framed c.loop-copy.invariant.most c.requires.few_framed
+
+pub returns-in_err-propagated-clause-most : goal.returns-in_err-propagated-clause-most
+returns-in_err-propagated-clause-most c =
+    most-counted c.loop-copy.invariant.past c.loop-copy.cursor.left c.loop-copy.invariant.left c.args.framed.now c.loop-copy.framed c.propagate_steps.new.framed (c.copy-item.result.step - c.loop-copy.at) c.loop-copy.invariant.most c.propagate_steps.ensures.most
+
+pub returns-in-NoString-clause-most : goal.returns-in-NoString-clause-most
+returns-in-NoString-clause-most c =
+    most-counted c.loop-copy.invariant.past c.loop-copy.cursor.left c.loop-copy.invariant.left c.args.framed.now c.loop-copy.framed c.propagate_steps.new.framed (c.copy-item.result.step - c.loop-copy.at) c.loop-copy.invariant.most c.propagate_steps.ensures.most
+
+pub returns-in-Gone-clause-most : goal.returns-in-Gone-clause-most
+returns-in-Gone-clause-most c =
+    most-counted c.loop-copy.invariant.past c.loop-copy.cursor.left c.loop-copy.invariant.left c.args.framed.now c.loop-copy.framed c.propagate_steps.new.framed (c.copy-item.result.step - c.loop-copy.at) c.loop-copy.invariant.most c.propagate_steps.ensures.most
+
+pub returns-in_err-drop_letters-clause-most : goal.returns-in_err-drop_letters-clause-most
+returns-in_err-drop_letters-clause-most c =
+    most-counted c.loop-copy.invariant.past c.loop-copy.cursor.left c.loop-copy.invariant.left c.args.framed.now c.loop-copy.framed c.propagate_steps.new.framed (c.copy-item.result.step - c.loop-copy.at) c.loop-copy.invariant.most c.propagate_steps.ensures.most
+
+pub returns-then-branch-clause-most : goal.returns-then-branch-clause-most
+returns-then-branch-clause-most c =
+    most-counted c.loop-copy.invariant.past c.loop-copy.cursor.left c.loop-copy.invariant.left c.args.framed.now c.loop-copy.framed c.propagate_steps.new.framed (c.copy-item.result.step - c.loop-copy.at) c.loop-copy.invariant.most c.propagate_steps.ensures.most
+
+pub returns-in_err-framed_checkpoint-clause-most : goal.returns-in_err-framed_checkpoint-clause-most
+returns-in_err-framed_checkpoint-clause-most c =
+    most-counted c.loop-copy.invariant.past c.loop-copy.cursor.left c.loop-copy.invariant.left c.args.framed.now c.loop-copy.framed c.propagate_steps.new.framed (c.copy-item.result.step - c.loop-copy.at) c.loop-copy.invariant.most c.propagate_steps.ensures.most
+
+pub returns-in_err-push-clause-most : goal.returns-in_err-push-clause-most
+returns-in_err-push-clause-most c =
+    most-counted c.loop-copy.invariant.past c.loop-copy.cursor.left c.loop-copy.invariant.left c.args.framed.now c.loop-copy.framed c.propagate_steps.new.framed (c.copy-item.result.step - c.loop-copy.at) c.loop-copy.invariant.most c.propagate_steps.ensures.most
+
+pub returns-in_err-propagated-2-clause-most : goal.returns-in_err-propagated-2-clause-most
+returns-in_err-propagated-2-clause-most c =
+    most-counted c.loop-copy.invariant.past c.loop-copy.cursor.left c.loop-copy.invariant.left c.args.framed.now c.loop-copy.framed c.propagate_steps-2.new.framed 18446744073709551615 c.loop-copy.invariant.most c.propagate_steps-2.ensures.most
+
+pub returns-clause-most : goal.returns-clause-most
+returns-clause-most c =
+    most-counted c.loop-copy.invariant.past c.loop-copy.cursor.left c.loop-copy.invariant.left c.args.framed.now c.loop-copy.framed c.propagate_steps-2.new.framed 18446744073709551615 c.loop-copy.invariant.most c.propagate_steps-2.ensures.most
+
+pub returns-in-NoString-clause-missing : goal.returns-in-NoString-clause-missing
+returns-in-NoString-clause-missing c = λ e.
+    let inv = c.loop-copy.invariant in
+    let ok = c.in_ok-propagated.ensures in
+    missing-more inv.past c.loop-copy.cursor.left inv.left c.args.framed.now c.loop-copy.framed c.propagate_steps.new.framed inv.most inv.least (omega (arith, ok.counted))
+    (ok.missing c.in-NoString.is)
+
+pub returns-clause-missing : goal.returns-clause-missing
+returns-clause-missing c = λ e.
+    let inv = c.loop-copy.invariant in
+    let ok = c.in_ok-propagated-2.ensures in
+    let told : c.in_ok-propagated-2.propagated.stop ≡ NoString = search rules in
+    missing-more inv.past c.loop-copy.cursor.left inv.left c.args.framed.now c.loop-copy.framed c.propagate_steps-2.new.framed inv.most inv.least (omega (arith, ok.counted))
+    (ok.missing told)
 
 pub returns-in-Gone-clause-advanced : goal.returns-in-Gone-clause-advanced
 returns-in-Gone-clause-advanced c = λ e.
@@ -41,6 +100,8 @@ loop-copy-preserved c =
     c.propagate_steps.new.propagation c.in_ok-propagated.propagated.stop inv.left inv.behind here.0 here.1 ok.stop c.in-Behind.is in
     record {
       behind = omega (arith, here.0, inv.behind);
+      most = omega (arith, here.0, inv.behind, inv.most, c.propagate_steps.ensures.most, length-take (c.copy-item.result.step - c.loop-copy.at) c.loop-copy.cursor.left);
+      least = omega (arith, here.0, inv.behind, inv.least, ok.counted, there);
       left =
           ok.left (behind-told c.in_ok-propagated.propagated.stop c.in-Behind.is)
           ∙ ap (drop c.in_ok-propagated.propagated.steps) inv.left

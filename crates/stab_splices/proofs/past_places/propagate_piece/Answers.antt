@@ -24,6 +24,7 @@ loop-copy-preserved c =
       coin =
           let propagated = went.propagated did in
           omega (arith, propagated.coin, coins-steps (take (behind - gone) left), length-take (behind - gone) left, ap length (went.left did), length-drop (behind - gone) left, went.within did, inv.coin);
+      counted = omega (arith, went.counted did, inv.counted);
       count = omega (arith, ap length c.in_ok-push.ensures.items, length-append c.loop-copy.passed.items (record { step = c.saturating_add.result; lengths = c.copy-item.result.lengths; tableau = c.in_ok-framed_checkpoint.field-0 } ∷ []), inv.count);
       between = λ coins xs base front b.
           piece-on b gone behind c.loop-copy.propagation c.propagate_exactly.new.propagation left place.0 place.1 inv.left (inv.between coins xs base front b) (length c.loop-copy.propagation.letters) inv.size

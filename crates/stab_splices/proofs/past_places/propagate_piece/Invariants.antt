@@ -9,6 +9,7 @@ invariant-loop-copy l = record {
   size : length l.propagation.letters ≡ length l.initial.propagation.letters;
   placed : IsPlaced l.free l.propagation;
   coin : l.propagation.coin + length l.cursor.left ≤ l.initial.propagation.coin + length l.initial.cursor.left;
+  counted : l.framed + length l.cursor.left ≤ l.initial.framed + length l.initial.cursor.left;
   count : length l.passed.items ≡ length l.initial.passed.items + l.copy-index;
   between : (coins : ℕ → Bool) (xs : List Step) (base : ℕ) (front : RunOutput)
       → IsBeforePiece (length l.initial.propagation.letters) coins xs l.initial.cursor.all (pivot_at l.strings.strings l.free) l.free base front l.old l.new l.gap l.initial.cursor.left l.initial.propagation

@@ -13,6 +13,7 @@ loop-gap-init c =
       size = refl;
       placed = c.requires.placed;
       coin = omega arith;
+      counted = omega arith;
       within = omega (arith, ap length c.requires.nothing);
       under_way = λ coins xs base front s first b.
           subst (λ k. IsUnderWay n coins xs c.args.cursor.now.all pivots c.args.free.now base front s c.args.change.now b.differ.differ.old_gates b.differ.differ.new_gates 0 k k
@@ -20,6 +21,20 @@ loop-gap-init c =
       are_copies = λ coins xs base front s first b are.
           subst (All (IsCheckpoint n coins c.args.cursor.now.all)) (sym c.requires.nothing) (All-nil (IsCheckpoint n coins c.args.cursor.now.all));
     }
+
+-- no more steps are counted than there are
+
+pub propagate_piece-requires-clause-few_framed : goal.propagate_piece-requires-clause-few_framed
+propagate_piece-requires-clause-few_framed c =
+    omega (arith, ap length (c.skip_steps.ensures.left c.if-not-skip_steps.false), length-drop c.args.change.now.new c.loop-gap.cursor.left, c.loop-gap.invariant.counted, c.requires.few_framed)
+
+pub returns-in_err-propagate_piece-clause-most : goal.returns-in_err-propagate_piece-clause-most
+returns-in_err-propagate_piece-clause-most c =
+    omega (arith, c.propagate_piece.ensures.most, ap length (c.skip_steps.ensures.left c.if-not-skip_steps.false), length-drop c.args.change.now.new c.loop-gap.cursor.left, c.loop-gap.invariant.counted)
+
+pub returns-then-not-branch-clause-most : goal.returns-then-not-branch-clause-most
+returns-then-not-branch-clause-most c =
+    omega (arith, c.propagate_piece.ensures.most, ap length (c.skip_steps.ensures.left c.if-not-skip_steps.false), length-drop c.args.change.now.new c.loop-gap.cursor.left, c.loop-gap.invariant.counted)
 
 -- at a place
 
@@ -77,6 +92,7 @@ loop-gap-preserved c =
             length-drop c.args.change.now.new c.loop-gap.cursor.left,
             inv.coin,
           );
+      counted = omega (arith, piece.counted went, ap length skipped, length-drop c.args.change.now.new c.loop-gap.cursor.left, inv.counted);
       within =
           omega (
             arith,

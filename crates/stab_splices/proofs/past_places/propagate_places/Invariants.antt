@@ -9,6 +9,7 @@ invariant-loop-gap l = record {
   size : length l.propagation.letters ≡ length l.initial.propagation.letters;
   placed : IsPlaced l.free l.propagation;
   coin : l.propagation.coin + length l.cursor.left ≤ l.initial.propagation.coin + length l.initial.cursor.left;
+  counted : l.framed + length l.cursor.left ≤ l.initial.framed + length l.initial.cursor.left;
   within : length l.passed.items ≤ length l.copies;
   under_way : (coins : ℕ → Bool) (xs : List Step) (base : ℕ) (front : RunOutput) (s : Span) → s.first ≡ l.first
       → (b : IsBeforePlaces (length l.initial.propagation.letters) coins xs l.initial.cursor.all (pivot_at l.strings.strings l.free) l.free base front s l.change l.initial.cursor.left l.initial.propagation)

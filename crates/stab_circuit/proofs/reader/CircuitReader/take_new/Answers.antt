@@ -1,7 +1,11 @@
 use Rattle.stab_circuit.proofs.Names.{inl, subst, sym, ap, ◌∙◌, Ok, option_copied, err_from_is_err_and, content_of, meaning_of, IsOneLine}
 use Rattle.stab_lines.specs.declared.operation.Line.TheVariants as line
 use Rattle.stab_circuit.proofs.FrontLemmas.{one_line_first, split_cut, some_first, some_told}
+use Rattle.stab_circuit.proofs.KnownLineLemmas.{told_good}
 use Rattle.stab_circuit.proofs.reader.CircuitReader.take_new.Goals as goal
+
+pub plain-requires : goal.plain-requires
+plain-requires c = record { good = told_good c.args.text.now c.in_ok-kind.field-0 (c.in-Some.kind, c.in-Some.after) c.in-Some.is c.in_ok-kind.ensures.tells }
 
 pub take_instruction-requires-clause-whole : goal.take_instruction-requires-clause-whole
 take_instruction-requires-clause-whole c =

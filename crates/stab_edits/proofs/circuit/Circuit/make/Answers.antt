@@ -1,4 +1,4 @@
-use Rattle.stab_edits.proofs.Names.{◌≡◌, ◌∙◌, ap, sym, subst, length, Some, Ok, IfOk, slice_get, listed, summary_of, edited_in, edit_path, edited, taken_in, numbers, summed, IsShallow, AreApart, AreStretches, WereStretches}
+use Rattle.stab_edits.proofs.Names.{◌≡◌, ◌∙◌, ap, sym, subst, length, Some, Ok, IfOk, slice_get, listed, summary_of, edited_in, edit_path, edited, taken_in, numbers, summed, IsShallow, IsGoodList, AreStretches, WereStretches}
 use Rattle.stab_edits.proofs.EditResultLemmas.{were_stretches}
 use Rattle.stab_edits.proofs.EditingLemmas.{result_shallow}
 use Rattle.stab_edits.proofs.circuit.Circuit.make.Goals as goal
@@ -44,7 +44,7 @@ invariant_of-self c =
       cc,
       c.requires.judged.small,
       c.requires.shallow,
-      subst (λ r. IfOk r AreApart) new c.requires.judged.apart,
+      subst (λ r. IfOk r IsGoodList) new c.requires.judged.good,
       subst (AreStretches c.renew_stretch.new.stretches.items) c.as_slice.ensures.value c.renew_stretch.ensures.are,
     )
 
@@ -54,4 +54,4 @@ returns-in-Err-clause-unchanged c = c.in-Err.ensures.unchanged ∙ c.self.view_i
 pub invariant_of-self-in-Err : goal.invariant_of-self-in-Err
 invariant_of-self-in-Err c =
     let same = sym c.in-Err.ensures.unchanged in
-    (c.self.invariant.0 ∙ ap (λ l. summary_of (listed l)) same, c.self.invariant.1, c.self.invariant.2, subst AreApart same c.self.invariant.3, subst (AreStretches c.self.inside.stretches.items) same c.self.invariant.4)
+    (c.self.invariant.0 ∙ ap (λ l. summary_of (listed l)) same, c.self.invariant.1, c.self.invariant.2, subst IsGoodList same c.self.invariant.3, subst (AreStretches c.self.inside.stretches.items) same c.self.invariant.4)

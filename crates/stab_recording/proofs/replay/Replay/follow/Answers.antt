@@ -3,6 +3,7 @@ use Rattle.std.proofs.Common.{length-append}
 use Rattle.stab_recording.proofs.ReplayLemmas.{went-so, ends-soon, on-further, fewer-left}
 use Rattle.stab_recording.proofs.FoldedReplayLemmas.{way-own, way-named}
 use Rattle.stab_recording.proofs.LaidLemmas.{laid-on, laid-more, laid-end}
+use Rattle.stab_recording.proofs.TriedLemmas.{tried-on}
 use Rattle.stab_recording.proofs.replay.Replay.follow.Given.{Over}
 use Rattle.stab_recording.proofs.replay.Replay.follow.Goals as goal
 use Rattle.stab_recording.proofs.replay.Replay.follow.Goals.{In_ok-reached, In_ok-lay}
@@ -63,6 +64,28 @@ returns-in-Met-clause-soon g c = ended g ((goal.at.returns-in-Met-clause-soon g 
 
 pub returns-in-Behind-clause-soon : goal.returns-in-Behind-clause-soon
 returns-in-Behind-clause-soon g c = ended g ((goal.at.returns-in-Behind-clause-soon g c).In_ok-reached) c.arrive.new.self c.arrive.ensures.unchanged
+
+-- frames went in vain over no more than the steps after what was changed
+
+pub frame_rest-requires-clause-few_tried : goal.frame_rest-requires-clause-few_tried
+frame_rest-requires-clause-few_tried g c = omega (arith, c.following.invariant.tried.1, c.requires.few_tried, c.requires.few)
+
+all-long : (g : Over) (c : In_ok-reached g) (r : Replay) → r ≡ c.advance.new.self → length r.cursor.all ≡ c.args.plan.total
+all-long g c r same =
+    ap (λ (r : Replay). length r.cursor.all) same ∙ ap length (c.advance.ensures.all ∙ c.following.invariant.all) ∙ sym c.requires.total
+
+pub returns-in-Met-clause-tried : goal.returns-in-Met-clause-tried
+returns-in-Met-clause-tried g c = c.following.invariant.tried.1
+
+pub returns-in-Behind-clause-tried : goal.returns-in-Behind-clause-tried
+returns-in-Behind-clause-tried g c = c.following.invariant.tried.1
+
+pub returns-in-Some-clause-tried : goal.returns-in-Some-clause-tried
+returns-in-Some-clause-tried g c =
+    let at = (goal.at.returns-in-Some-clause-tried g c).In_ok-reached in
+    (tried-on c.following.leads c.frame_rest.new.leads c.args.tried.now c.following.tried c.frame_rest.new.tried (c.args.plan.total - c.args.plan.new_end) c.following.invariant.tried
+    c.frame_rest.ensures.once (c.in_ok-framed.ensures {u = tt}).untried
+    (omega (arith, c.frame_rest.ensures.most, all-long g at c.arrive.new.self c.arrive.ensures.unchanged))).1
 
 pub returns-in-Met-clause-end : goal.returns-in-Met-clause-end
 returns-in-Met-clause-end g c =
@@ -201,6 +224,10 @@ following-preserved g c =
                 ∙ ap (λ k. k + 1) (ap (λ (r : Replay). length r.laid.items) c.arrive.ensures.unchanged))
                 (stopped g reached).order c.advance.ensures.further done.stops (between g at.In_ok-lay),
           );
+      tried =
+          tried-on c.following.leads c.frame_rest.new.leads c.args.tried.now c.following.tried c.frame_rest.new.tried (c.args.plan.total - c.args.plan.new_end) inv.tried
+          c.frame_rest.ensures.once (c.in_ok-framed.ensures {u = tt}).untried
+          (omega (arith, c.frame_rest.ensures.most, all-long g reached c.arrive.new.self c.arrive.ensures.unchanged));
       way =
           way-named c.lay.new.self.tableau.qubits c.args.self.now.tableau.qubits (g.C.Coins.sequence c.args.coins.now) c.args.self.now.step c.args.plan c.lay.new.self.cursor.all steps
           c.args.copies.now c.args.old.now.records.items c.in-Between.later c.come_again.new.self way.stop.replay.at_step.qubits way.stop.replay.at_step.all

@@ -1,4 +1,4 @@
-use Rattle.stab_recording.proofs.Names.{◌≡◌, ◌+◌, ◌-◌, ◌*◌, ◌≤◌, length, drop, ones, all_coins_of, spacing_of, IsOnWay}
+use Rattle.stab_recording.proofs.Names.{true, ◌≡◌, ◌+◌, ◌-◌, ◌*◌, ◌≤◌, length, drop, ones, all_coins_of, spacing_of, IsOnWay}
 use Rattle.stab_recording.proofs.replay.Replay.follow.Given as goal
 
 abbrev pub invariant-following : goal.invariant-following
@@ -12,6 +12,7 @@ invariant-following g l = record {
   asked : g.C.Coins.asks l.coins + all_coins_of (drop l.self.step l.initial.self.cursor.all)
       ≤ g.C.Coins.asks l.initial.coins + all_coins_of (drop l.initial.self.step l.initial.self.cursor.all);
   few_laid : spacing_of l.plan.stride * length l.self.laid.items + l.initial.self.step ≤ l.self.step + spacing_of l.plan.stride * (l.next - l.plan.next);
+  tried : (l.leads ≡ true → l.tried ≡ l.initial.tried) × (l.tried ≤ l.initial.tried + (l.plan.total - l.plan.new_end));
   way : IsOnWay l.initial.self.tableau.qubits (g.C.Coins.sequence l.initial.coins) l.initial.self.step l.plan l.initial.self.cursor.all l.copies l.old.records.items l.next l.self;
 }
 

@@ -1,6 +1,6 @@
-use Rattle.stab_recording.proofs.Names.{◌≡◌, ◌+◌, refl, sym, ◌∙◌, ap, subst, All, Some, slice_get, length, drop, arith, All-drop, slice_get_read, slice_get_within, StepFits, output_of, Checkpoint, AreInOrder, IsRestFrame, BeginsAt}
+use Rattle.stab_recording.proofs.Names.{◌≡◌, ◌+◌, refl, sym, ◌∙◌, ap, subst, All, Some, slice_get, length, length-drop, take, drop, arith, all_coins_of, IsMissing, ◌-◌, ◌≤◌, All-drop, slice_get_read, slice_get_within, StepFits, output_of, Checkpoint, AreInOrder, IsRestFrame, BeginsAt}
 use Rattle.stab_recording.proofs.PropagatedWayLemmas.{some-of}
-use Rattle.stab_recording.proofs.OldRunLemmas.{order-behind, coins-behind, advanced-framed}
+use Rattle.stab_recording.proofs.OldRunLemmas.{order-behind, coins-behind, place-is, advanced-framed}
 use Rattle.stab_recording.proofs.replay.Replay.lead.Goals as goal
 use Rattle.stab_recording.proofs.replay.Replay.lead.Goals.{In_ok-cursor, After-index-copies-number}
 
@@ -29,6 +29,38 @@ propagate_rest-requires-clause-few c =
     let at = goal.at.propagate_rest-requires-clause-few c in
     let b = begins at.In_ok-cursor in
     omega (arith, coins-behind c.requires.old.1 c.args.number b.0 b.1 b.2.behind c.args.self.now.step b.2.place c.requires.few, b.2.frame.coin, ap length (left at.In_ok-cursor))
+
+pub propagate_rest-requires-clause-few_framed : goal.propagate_rest-requires-clause-few_framed
+propagate_rest-requires-clause-few_framed c =
+    let at = goal.at.propagate_rest-requires-clause-few_framed c in
+    omega (arith, ap length (left at.In_ok-cursor), length-drop c.args.self.now.step c.args.self.now.cursor.all, c.requires.few)
+
+-- no more steps are past than come after the place
+passed : (c : In_ok-cursor) → length c.in_ok-cursor.cursor.left ≤ length c.args.self.now.cursor.all - c.args.plan.new_end
+passed c =
+    let b = begins c in
+    let place = place-is c.requires.old.1 c.args.number b.0 b.1 b.2.behind c.args.self.now.step b.2.place c.requires.few in
+    omega (arith, place, ap length (left c), length-drop c.args.self.now.step c.args.self.now.cursor.all)
+
+pub overflow_add-tried : goal.overflow_add-tried
+overflow_add-tried c =
+    let at = goal.at.overflow_add-tried c in
+    let le = passed at.In_ok-cursor in
+    omega (arith, le, c.propagate_rest.ensures.most, c.requires.few, c.requires.few_tried)
+
+pub returns-then-not-advanced-clause-most : goal.returns-then-not-advanced-clause-most
+returns-then-not-advanced-clause-most c =
+    let at = goal.at.returns-then-not-advanced-clause-most c in
+    let le = passed at.In_ok-cursor in
+    omega (arith, le, c.propagate_rest.ensures.most)
+
+pub returns-then-not-advanced-clause-missing : goal.returns-then-not-advanced-clause-missing
+returns-then-not-advanced-clause-missing c = λ none.
+    let at = goal.at.returns-then-not-advanced-clause-missing c in
+    let counted : c.propagate_rest.new.framed - 0 ≡ (c.args.tried.now + c.propagate_rest.new.framed) - c.args.tried.now = omega arith in
+    subst (λ x. x)
+    (λ i. IsMissing c.args.strings.now.strings (c.as_slice.ensures.value i) (c.args.propagation.coin + all_coins_of (take (counted i) (left at.In_ok-cursor i))))
+    (c.in_ok-advanced.ensures.missing c.if-not-advanced.true)
 
 pub propagate_rest-requires-clause-order : goal.propagate_rest-requires-clause-order
 propagate_rest-requires-clause-order c =

@@ -1,6 +1,6 @@
-use Rattle.stab_session.proofs.Names.{ap, sym, ◌∙◌, subst, ◌+◌, ◌≤◌, arith, whole, IsCallFault, listed, unroll, observables_of, SessionState, checkpoint_steps}
+use Rattle.stab_session.proofs.Names.{ap, sym, ◌∙◌, subst, ◌+◌, ◌-◌, ◌≤◌, arith, whole, IsCallFault, listed, unroll, observables_of, SessionState, checkpoint_steps}
 use Rattle.stab_session.proofs.SessionLemmas.{statement, few-checkpoints}
-use Rattle.stab_session.proofs.EditedLemmas.{session-verdict, run-fault, followed, agreed, counted_same, new-run, edited-recorded, session-edited, edited-applied, edited-counted, edited-early, refused-asks}
+use Rattle.stab_session.proofs.EditedLemmas.{session-verdict, run-fault, followed, agreed, counted_same, few-steps, new-run, edited-recorded, session-edited, edited-applied, edited-tried, edited-counted, edited-early, refused-asks}
 use Rattle.stab_session.proofs.session.Session.apply.Goals as goal
 
 pub returns-in-Ok-follow-clause-applied : goal.returns-in-Ok-follow-clause-applied
@@ -69,18 +69,43 @@ returns-in-Ok-follow-clause-edited g c =
     c.finish.new.circuit c.finish.ensures.value c.self.inside.stride c.follow.new.coins c.follow.new.self
     (ap (λ (s : SessionState g.row.C.Denot). s.stride) c.self.view_is) (ran.same_coins ∙ coins) run
 
+pub overflow_add-result : goal.overflow_add-result
+overflow_add-result g c =
+    let begun = c.in-Ok.ensures {u = tt} in
+    let ran = c.in-Ok-follow.ensures {u = tt} in
+    let few =
+    few-steps g.C.Coins.sequence c.args.edit c.args.self.now c.len-n.result c.self.inside.circuit c.begin.new.circuit c.in-Ok.begun.0 c.in-Ok.begun.1 begun.begun
+    (ap (λ (s : SessionState g.row.C.Denot). s.items) (sym c.self.view_is))
+    (ap (λ (s : SessionState g.row.C.Denot). s.qubits) (sym c.self.view_is) ∙ sym c.len-n.ensures.value) in
+    omega (arith, few, ran.applied, ran.tried, c.self.invariant.stride_within)
+
 pub returns-in-Ok-follow-clause-framed : goal.returns-in-Ok-follow-clause-framed
 returns-in-Ok-follow-clause-framed g c =
     let begun = c.in-Ok.ensures {u = tt} in
     let ran = c.in-Ok-follow.ensures {u = tt} in
     let coins = ap (λ (s : SessionState g.row.C.Denot). g.C.Coins.sequence s.coins) c.self.view_is in
     let run = followed c.len-n.result c.self.inside.recording.tableau.qubits _ _ c.self.inside.stride _ _ c.follow.new.self c.len-n.ensures.value coins ran.kept in
+    let le =
     edited-applied g.C.Coins.sequence c.args.edit c.args.self.now c.len-n.result c.self.inside.circuit c.begin.new.circuit c.in-Ok.begun.0 c.in-Ok.begun.1 begun.begun
     (ap (λ (s : SessionState g.row.C.Denot). s.items) (sym c.self.view_is))
     (ap (λ (s : SessionState g.row.C.Denot). s.qubits) (sym c.self.view_is) ∙ sym c.len-n.ensures.value)
     c.finish.new.circuit c.finish.ensures.value c.self.inside.stride c.follow.new.coins c.follow.new.self
     (ap (λ (s : SessionState g.row.C.Denot). s.stride) c.self.view_is) (ran.same_coins ∙ coins) run
-    (c.in-Ok-follow.followed.applied + c.in-Ok-follow.followed.framed) ran.applied
+    (c.in-Ok-follow.followed.applied + c.in-Ok-follow.followed.framed) ran.applied in
+    omega (arith, le)
+
+pub returns-in-Ok-follow-clause-tried : goal.returns-in-Ok-follow-clause-tried
+returns-in-Ok-follow-clause-tried g c =
+    let begun = c.in-Ok.ensures {u = tt} in
+    let ran = c.in-Ok-follow.ensures {u = tt} in
+    let coins = ap (λ (s : SessionState g.row.C.Denot). g.C.Coins.sequence s.coins) c.self.view_is in
+    let run = followed c.len-n.result c.self.inside.recording.tableau.qubits _ _ c.self.inside.stride _ _ c.follow.new.self c.len-n.ensures.value coins ran.kept in
+    edited-tried g.C.Coins.sequence c.args.edit c.args.self.now c.len-n.result c.self.inside.circuit c.begin.new.circuit c.in-Ok.begun.0 c.in-Ok.begun.1 begun.begun
+    (ap (λ (s : SessionState g.row.C.Denot). s.items) (sym c.self.view_is))
+    (ap (λ (s : SessionState g.row.C.Denot). s.qubits) (sym c.self.view_is) ∙ sym c.len-n.ensures.value)
+    c.finish.new.circuit c.finish.ensures.value c.self.inside.stride c.follow.new.coins c.follow.new.self
+    (ap (λ (s : SessionState g.row.C.Denot). s.stride) c.self.view_is) (ran.same_coins ∙ coins) run
+    c.in-Ok-follow.followed.tried ran.tried
 
 pub returns-in-Ok-follow-clause-counted : goal.returns-in-Ok-follow-clause-counted
 returns-in-Ok-follow-clause-counted g c =
@@ -93,7 +118,9 @@ returns-in-Ok-follow-clause-counted g c =
     (ap (λ (s : SessionState g.row.C.Denot). s.qubits) (sym c.self.view_is) ∙ sym c.len-n.ensures.value)
     c.finish.new.circuit c.finish.ensures.value c.self.inside.stride c.follow.new.coins c.follow.new.self
     (ap (λ (s : SessionState g.row.C.Denot). s.stride) c.self.view_is) (ran.same_coins ∙ coins) run
-    (c.in-Ok-follow.followed.applied + c.in-Ok-follow.followed.framed) (checkpoint_steps c.self.inside.recording.checkpoints.items) (ap (λ (s : SessionState g.row.C.Denot). s.checkpoints) c.self.view_is)
+    (c.in-Ok-follow.followed.applied + c.in-Ok-follow.followed.framed)
+    (c.in-Ok-follow.followed.applied + ((c.in-Ok-follow.followed.framed + c.in-Ok-follow.followed.tried) - c.in-Ok-follow.followed.tried))
+    (checkpoint_steps c.self.inside.recording.checkpoints.items) (omega arith) (ap (λ (s : SessionState g.row.C.Denot). s.checkpoints) c.self.view_is)
     (counted_same c.len-n.result c.self.inside.recording.tableau.qubits _ _ (unroll (listed c.self.inside.circuit)) (unroll (listed c.begin.new.circuit)) c.in-Ok.begun.1 _ _ _ c.len-n.ensures.value coins
     (ran.counted (unroll (listed c.self.inside.circuit)) (observables_of (listed c.self.inside.circuit)) c.self.invariant.run begun.begun.span.span))
 
@@ -109,7 +136,7 @@ returns-in-Ok-follow-clause-early g c =
     (ap (λ (s : SessionState g.row.C.Denot). s.qubits) (sym c.self.view_is) ∙ sym c.len-n.ensures.value)
     c.finish.new.circuit c.finish.ensures.value c.self.inside.stride c.follow.new.coins c.follow.new.self
     (ap (λ (s : SessionState g.row.C.Denot). s.stride) c.self.view_is) (ran.same_coins ∙ coins) run
-    (c.in-Ok-follow.followed.applied + c.in-Ok-follow.followed.framed) far
+    (c.in-Ok-follow.followed.applied + ((c.in-Ok-follow.followed.framed + c.in-Ok-follow.followed.tried) - c.in-Ok-follow.followed.tried)) far
     (λ agree.
     omega (
       arith,

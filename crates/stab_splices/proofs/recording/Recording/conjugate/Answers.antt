@@ -44,6 +44,23 @@ passed c =
     subst (λ o. IfSome o (λ p. IsPastPlaces (unroll (circuit_items c.args.circuit.now)) c.args.span c.count_before-before.result c.count_within-inside.result c.args.change.now c.args.self.now
     p.from p.propagation p.copies.items)) c.in-Some.is c.in_ok-passed.ensures.passed
 
+pub conjugating-requires-clause-few_framed : goal.conjugating-requires-clause-few_framed
+conjugating-requires-clause-few_framed c =
+    let at = goal.at.conjugating-requires-clause-few_framed c in
+    omega (arith, c.past_places.ensures.most, few at.After-as_slice-copies)
+
+-- the steps that it tries are counted
+
+pub returns-in_default-2-clause-tried : goal.returns-in_default-2-clause-tried
+returns-in_default-2-clause-tried c =
+    let order = c.requires.follows.1.span.new_order in
+    omega (arith, c.past_places.ensures.most, c.conjugating.ensures.most, order)
+
+pub returns-clause-tried : goal.returns-clause-tried
+returns-clause-tried c =
+    let order = c.requires.follows.1.span.new_order in
+    omega (arith, c.past_places.ensures.most, c.conjugating.ensures.most, order)
+
 pub conjugating-requires-clause-few : goal.conjugating-requires-clause-few
 conjugating-requires-clause-few c =
     let at = goal.at.conjugating-requires-clause-few c in

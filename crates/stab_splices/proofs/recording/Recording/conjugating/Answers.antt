@@ -1,4 +1,6 @@
-use Rattle.stab_splices.proofs.Names.{◌+◌, refl, sym, ◌∙◌, ap, subst, arith, length, drop, All, All-drop, unroll, circuit_items, StepFits, check-fits, AreInOrder, IsRestFrame}
+use Rattle.stab_splices.proofs.Names.{◌≡◌, ℕ, ◌+◌, ◌*◌, ◌^◌, ◌<◌, ◌≤◌, None, List, Step, length-drop, check-steps, check-whole, refl, sym, ◌∙◌, ap, subst, arith, length, drop, All, All-drop, unroll, circuit_items, StepFits, check-fits, AreInOrder, IsRestFrame}
+use Rattle.stab_items.specs.Items.{Items}
+use Rattle.stab_items.specs.Steps.{most_steps, check_within}
 use Rattle.stab_splices.proofs.ConjugatingLemmas.{behind-order, advanced-few}
 use Rattle.stab_splices.proofs.recording.Recording.conjugating.Goals as goal
 
@@ -9,6 +11,32 @@ propagate_rest-requires-clause-fits c =
     subst (λ k. All (StepFits k) c.in_ok-cursor.cursor.left) (sym c.requires.letters)
     (subst (All (StepFits n)) (sym c.in_ok-cursor.ensures.steps)
     (All-drop (StepFits n) c.args.span.new_end ys (check-fits n (circuit_items c.args.circuit.now) ys c.requires.checked refl c.requires.apart)))
+
+few : (items : Items) (n first framed : ℕ) (left : List Step) → check_within n items ≡ None → left ≡ drop first (unroll items) → framed ≤ 2 * most_steps → framed + length left < 2 ^ 63
+few items n first framed left checked rest le =
+    omega (arith, le, ap length rest, length-drop first (unroll items), check-steps items (check-whole n items checked))
+
+pub propagate_rest-requires-clause-few_framed : goal.propagate_rest-requires-clause-few_framed
+propagate_rest-requires-clause-few_framed c =
+    few (circuit_items c.args.circuit.now) c.args.self.now.tableau.qubits c.args.span.new_end c.args.framed.now c.in_ok-cursor.cursor.left c.requires.checked c.in_ok-cursor.ensures.steps c.requires.few_framed
+
+-- no more steps are counted than come after the span
+
+pub returns-in_err-advanced-clause-most : goal.returns-in_err-advanced-clause-most
+returns-in_err-advanced-clause-most c =
+    omega (arith, c.propagate_rest.ensures.most, ap length c.in_ok-cursor.ensures.steps, length-drop c.args.span.new_end (unroll (circuit_items c.args.circuit.now)))
+
+pub returns-then-not-advanced-clause-most : goal.returns-then-not-advanced-clause-most
+returns-then-not-advanced-clause-most c =
+    omega (arith, c.propagate_rest.ensures.most, ap length c.in_ok-cursor.ensures.steps, length-drop c.args.span.new_end (unroll (circuit_items c.args.circuit.now)))
+
+pub returns-in_err-with_capacity-clause-most : goal.returns-in_err-with_capacity-clause-most
+returns-in_err-with_capacity-clause-most c =
+    omega (arith, c.propagate_rest.ensures.most, ap length c.in_ok-cursor.ensures.steps, length-drop c.args.span.new_end (unroll (circuit_items c.args.circuit.now)))
+
+pub returns-clause-most : goal.returns-clause-most
+returns-clause-most c =
+    omega (arith, c.propagate_rest.ensures.most, ap length c.in_ok-cursor.ensures.steps, length-drop c.args.span.new_end (unroll (circuit_items c.args.circuit.now)))
 
 pub propagate_rest-requires-clause-order : goal.propagate_rest-requires-clause-order
 propagate_rest-requires-clause-order c =

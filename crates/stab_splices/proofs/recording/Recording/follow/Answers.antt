@@ -1,4 +1,4 @@
-use Rattle.stab_splices.proofs.Names.{◌≡◌, ℕ, Bool, ◌+◌, ◌∙◌, subst, List, Some, length, IfSome, IfOk, Step, unroll, observables_of, circuit_items, checkpoint_steps, Recording, IsCounted, IsRecording, IsSpan, Follows, AgreeBehindSpan, AgreeBackBehindSpan, HasConjugated}
+use Rattle.stab_splices.proofs.Names.{◌≡◌, ℕ, Bool, ◌+◌, ◌∙◌, subst, arith, List, Some, length, IfSome, IfOk, Step, unroll, observables_of, circuit_items, checkpoint_steps, Recording, IsCounted, IsRecording, IsSpan, Follows, AgreeBehindSpan, AgreeBackBehindSpan, HasConjugated}
 use Rattle.stab_splices.proofs.recording.Recording.follow.Given.{Over}
 use Rattle.stab_splices.proofs.recording.Recording.follow.Goals as goal
 use Rattle.stab_splices.proofs.recording.Recording.follow.Goals.{In-Some-2, in-Some+in_ok-followed+in_default-2, in_default}
@@ -22,6 +22,17 @@ returns-in-Some-2-clause-few g c = (conjugated g (goal.at.returns-in-Some-2-clau
 
 pub returns-in-Some-2-clause-counted : goal.returns-in-Some-2-clause-counted
 returns-in-Some-2-clause-counted g c = (conjugated g (goal.at.returns-in-Some-2-clause-counted g c).In-Some-2).counted
+
+pub replay-requires-clause-tried : goal.replay-requires-clause-tried
+replay-requires-clause-tried g c =
+    elim c.match-paulis.branch [
+      | in-Some+in_ok-followed+in_default-2 w ↦ omega (arith, w.tried-is, w.in_ok-followed.ensures.tried)
+      | in_default w ↦ omega (arith, w.tried-is)
+    ]
+
+pub returns-in-Some-2-clause-tried : goal.returns-in-Some-2-clause-tried
+returns-in-Some-2-clause-tried g c =
+    let none : c.in-Some-2.followed.tried ≡ 0 = subst (λ o. IfSome o (λ f. f.tried ≡ 0)) c.in-Some-2.is c.in_ok-followed.ensures.none_in_vain in omega (arith, none)
 
 pub returns-clause-counted : goal.returns-clause-counted
 returns-clause-counted g c =

@@ -94,6 +94,32 @@ propagate_places-requires-clause-few c =
       ap length (left at.In_ok-propagation (at-first at.After-index-copy)),
     )
 
+pub propagate_places-requires-clause-few_framed : goal.propagate_places-requires-clause-few_framed
+propagate_places-requires-clause-few_framed c =
+    let at = goal.at.propagate_places-requires-clause-few_framed c in
+    let ys = unroll (circuit_items c.args.circuit.now) in
+    omega (arith, ap length (left at.In_ok-propagation (at-first at.After-index-copy)), length-drop c.args.span.first ys, few at.After-index-copy, c.requires.none_framed)
+
+-- no more steps are counted than there are from the first place on
+most-counted : (c : In_ok-propagation) → (first : ℕ) → c.lengths_behind-from.new.cursor.left ≡ drop first (unroll (circuit_items c.args.circuit.now)) → (framed : ℕ)
+    → framed ≤ c.args.framed.now + length c.lengths_behind-from.new.cursor.left → framed ≤ length (unroll (circuit_items c.args.circuit.now)) - first
+most-counted c first rest framed le = omega (arith, le, ap length rest, length-drop first (unroll (circuit_items c.args.circuit.now)), c.requires.none_framed)
+
+pub returns-in_err-went-clause-most : goal.returns-in_err-went-clause-most
+returns-in_err-went-clause-most c =
+    let at = goal.at.returns-in_err-went-clause-most c in
+    most-counted at.In_ok-propagation c.args.span.first (left at.In_ok-propagation (at-first at.After-index-copy)) c.propagate_places.new.framed c.propagate_places.ensures.most
+
+pub returns-then-not-went-clause-most : goal.returns-then-not-went-clause-most
+returns-then-not-went-clause-most c =
+    let at = goal.at.returns-then-not-went-clause-most c in
+    most-counted at.In_ok-propagation c.args.span.first (left at.In_ok-propagation (at-first at.After-index-copy)) c.propagate_places.new.framed c.propagate_places.ensures.most
+
+pub returns-clause-most : goal.returns-clause-most
+returns-clause-most c =
+    let at = goal.at.returns-clause-most c in
+    most-counted at.In_ok-propagation c.args.span.first (left at.In_ok-propagation (at-first at.After-index-copy)) c.propagate_places.new.framed c.propagate_places.ensures.most
+
 -- the copies that are within the span
 within : (back cs : List Checkpoint) (before inside : ℕ) (some all : List Checkpoint) → some ≡ take (inside - before) back → back ≡ drop before all → all ≡ cs
     → some ≡ take (inside - before) (drop before cs)

@@ -139,6 +139,17 @@ follow-requires-clause-few g c =
     let at = goal.at.follow-requires-clause-few g c in
     omega (arith, c.steps.ensures.value, few g at.After-as_slice)
 
+pub follow-requires-clause-few_tried : goal.follow-requires-clause-few_tried
+follow-requires-clause-few_tried g c =
+    let at = goal.at.follow-requires-clause-few_tried g c in
+    omega (arith, c.requires.tried, few g at.After-as_slice)
+
+pub returns-clause-tried : goal.returns-clause-tried
+returns-clause-tried g c =
+    let at = goal.at.returns-clause-tried g c in
+    let order = c.requires.follows.span.new_order in
+    omega (arith, c.in_ok-end.ensures.tried, c.requires.tried, c.steps.ensures.value, few g at.After-as_slice, order)
+
 pub follow-requires-clause-nothing_applied : goal.follow-requires-clause-nothing_applied
 follow-requires-clause-nothing_applied g c =
     let at = goal.at.follow-requires-clause-nothing_applied g c in

@@ -1,0 +1,78 @@
+-- Lists of pairs that are left out: one more pair is listed.
+use Rattle.stab_distance.proofs.Names.{◌≡◌, ◌≢◌, ℕ, ◌<◌, ◌⊎◌, inl, inr, refl, sym, ◌∙◌, ap, subst, Bool, true, false, List, [], ◌∷◌, ◌++◌, length, ◌==◌, eqb-true, eqb-false, ◌⊕◌, parity-comm, odd, row, has, listed, Vec, IsLeftOut, by_two, ArePairs}
+use Rattle.stab_distance.proofs.ListLemmas.{by-bit}
+use Rattle.stab_distance.proofs.EndLemmas.{at-end}
+
+pub pairs-more : (rows : List (List ℕ)) (old new : List (Vec ℕ)) (a b : ℕ) → listed new a ≡ listed old a ++ b ∷ []
+    → ((e : ℕ) → e ≢ a → listed new e ≡ listed old e) → a ≢ b → IsLeftOut rows a b ⊎ IsLeftOut rows b a → ArePairs rows old → ArePairs rows new
+pairs-more rows old new a b here elsewhere differ out are = record {
+  differ = λ x y there. on x y there (are.differ x y) (λ same_x same_y. subst (λ k. k ≢ y) (sym same_x) (subst (λ k. a ≢ k) (sym same_y) differ));
+  left_out = λ x y there.
+      on x y there (are.left_out x y)
+      (λ same_x same_y.
+      subst (λ k. IsLeftOut rows k y ⊎ IsLeftOut rows y k) (sym same_x) (subst (λ k. IsLeftOut rows a k ⊎ IsLeftOut rows k a) (sym same_y) out));
+}
+  where
+    on : {P : Type 0} (x y : ℕ) → has y (listed new x) ≡ true → (has y (listed old x) ≡ true → P) → (x ≡ a → y ≡ b → P) → P
+    on x y there before added =
+        by-bit (x == a)
+        (λ same.
+        let is : x ≡ a = eqb-true x a same in
+        at-end y (listed old a) b (sym (ap (has y) here) ∙ subst (λ k. has y (listed new k) ≡ true) is there)
+        (λ was. before (subst (λ k. has y (listed old k) ≡ true) (sym is) was)) (added is))
+        (λ other. before (sym (ap (has y) (elsewhere x (eqb-false x a other))) ∙ there))
+
+-- two errors flip the same as two after one of them
+pub earlier : (rows : List (List ℕ)) (a b c d : ℕ) → c < length rows → d < length rows
+    → ((i : ℕ) → odd i (row rows a) ⊕ odd i (row rows b) ≡ odd i (row rows c) ⊕ odd i (row rows d))
+    → ((a < c) × (a < d)) ⊎ ((b < c) × (b < d)) → IsLeftOut rows a b ⊎ IsLeftOut rows b a
+earlier rows a b c d in_c in_d same (inl after) = inl (by_two c d in_c in_d after.0 after.1 same)
+earlier rows a b c d in_c in_d same (inr after) = inr (by_two c d in_c in_d after.0 after.1 (λ i. parity-comm (odd i (row rows b)) (odd i (row rows a)) ∙ same i))
+
+-- bits of which an even number are 1: one is the sum of the others, and two are the sum of the other two
+pub third : (x y z : Bool) → x ⊕ (y ⊕ (z ⊕ false)) ≡ false → (x ⊕ y ≡ z) × ((x ⊕ z ≡ y) × (y ⊕ z ≡ x))
+third true true true e = absurd (cc)
+third true true false e = (refl, (refl, refl))
+third true false true e = (refl, (refl, refl))
+third true false false e = absurd (cc)
+third false true true e = (refl, (refl, refl))
+third false true false e = absurd (cc)
+third false false true e = absurd (cc)
+third false false false e = (refl, (refl, refl))
+
+pub halves : (w x y z : Bool) → w ⊕ (x ⊕ (y ⊕ (z ⊕ false))) ≡ false → w ⊕ x ≡ y ⊕ z
+halves true true true true e = refl
+halves true true true false e = absurd (cc)
+halves true true false true e = absurd (cc)
+halves true true false false e = refl
+halves true false true true e = absurd (cc)
+halves true false true false e = refl
+halves true false false true e = refl
+halves true false false false e = absurd (cc)
+halves false true true true e = absurd (cc)
+halves false true true false e = refl
+halves false true false true e = refl
+halves false true false false e = absurd (cc)
+halves false false true true e = refl
+halves false false true false e = absurd (cc)
+halves false false false true e = absurd (cc)
+halves false false false false e = refl
+
+-- in another order
+pub crossed : (w x y z : Bool) → w ⊕ (x ⊕ (y ⊕ (z ⊕ false))) ≡ false → (w ⊕ y ≡ x ⊕ z) × (w ⊕ z ≡ x ⊕ y)
+crossed true true true true e = (refl, refl)
+crossed true true true false e = absurd (cc)
+crossed true true false true e = absurd (cc)
+crossed true true false false e = (refl, refl)
+crossed true false true true e = absurd (cc)
+crossed true false true false e = (refl, refl)
+crossed true false false true e = (refl, refl)
+crossed true false false false e = absurd (cc)
+crossed false true true true e = absurd (cc)
+crossed false true true false e = (refl, refl)
+crossed false true false true e = (refl, refl)
+crossed false true false false e = absurd (cc)
+crossed false false true true e = (refl, refl)
+crossed false false true false e = absurd (cc)
+crossed false false false true e = absurd (cc)
+crossed false false false false e = (refl, refl)

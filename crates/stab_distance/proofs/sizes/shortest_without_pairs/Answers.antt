@@ -1,0 +1,11 @@
+use Rattle.stab_distance.proofs.Names.{IsLast}
+use Rattle.stab_distance.proofs.TellingLemmas.{ok-of_err}
+use Rattle.stab_distance.proofs.sizes.shortest_without_pairs.Goals as goal
+
+pub returns-in_err-leave_out_pairs-clause-told : goal.returns-in_err-leave_out_pairs-clause-told
+returns-in_err-leave_out_pairs-clause-told g c = record {
+  last = c.args.from;
+  none = c.requires.none;
+  heard = λ first said h. h;
+  all = ok-of_err _ _ _ (λ a. IsLast c.args.most a c.args.from) c.from_residual.result c.from_residual.ensures.1;
+}

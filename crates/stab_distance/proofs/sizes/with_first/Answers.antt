@@ -1,0 +1,10 @@
+use Rattle.stab_distance.proofs.Names.{sym, subst, ℕ, List, ◌+◌, EndsWithin, IsLogicalWithin}
+use Rattle.stab_distance.proofs.ShortestLemmas.{begun}
+use Rattle.stab_distance.proofs.sizes.with_first.Goals as goal
+
+pub returns-clause-some : goal.returns-clause-some
+returns-clause-some c =
+    subst (IsLogicalWithin c.args.errors.now.table (c.args.left + 1)) (sym c.in_ok-push-in-Some.ensures.items)
+    (begun c.args.errors.now.table c.args.first c.args.left c.in-Some.rest.items c.requires.inside
+    (subst (λ (xs : List ℕ). EndsWithin c.args.errors.now.table xs c.args.left c.in-Some.rest.items) c.row-flipped.ensures.value
+    (rw c.in-Some.is at c.in_ok-search.ensures.some)))

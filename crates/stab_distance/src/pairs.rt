@@ -1,0 +1,307 @@
+//! Pairs of errors that need not be tried together: one other error, or two later ones, flip the same.
+//!
+//! No proof rests on how pairs are found: each is checked.
+ghost use Rattle.std.specs.Prelude.{◌≡◌, ◌≢◌, ◌⊎◌, ℕ, ◌<◌, true, false, List, ◌∷◌, [], length, IfOk, OnOk};
+ghost use Rattle.stab_gates.specs.Letters.{◌⊕◌};
+ghost use Rattle.stab_distance.specs.Tables.{odd, row, flips};
+ghost use Rattle.stab_distance.specs.inner.Lists.{Each};
+ghost use Rattle.stab_distance.specs.inner.Pairs.{IsLeftOut, ArePairs};
+
+use crate::errors::mixed;
+use crate::index::{list, rows_at};
+use crate::merging::merge_into;
+use crate::row::Row;
+use std::alloc::{AllocError, Global};
+
+/// With how many of the sums after it that have its key a sum is compared.
+const NEAR: usize = 15;
+
+/// What one error flips (a = b), or two, by a key that is the same if they flip the same.
+#[derive(Clone, Copy, PartialEq, Eq, PartialOrd, Ord)]
+struct Sum {
+    key: u64,
+    a: usize,
+    b: usize,
+}
+
+/// For each error those that need not be tried with it.
+pub(crate) fn pairs_of(
+    alloc: Global,
+    rows: &[Row],
+    index: &[Vec<usize>],
+    detectors: usize,
+) -> Result<Vec<Vec<usize>>, AllocError>
+    ensures pairs { IfOk result (λ v. ArePairs rows.now v.items) }
+{
+    let mut sums = sums_of(alloc, rows, index, detectors)?;
+    sums.sort()?;
+    let mut pairs = Vec::new(alloc);
+    for place in 0..sums.len() {
+        compare_next(alloc, rows, sums.as_slice(), place, &mut pairs)?;
+    }
+    Ok(pairs)
+}
+
+/// The sums of one error, and of each two that flip a common detector.
+fn sums_of(
+    alloc: Global,
+    rows: &[Row],
+    index: &[Vec<usize>],
+    detectors: usize,
+) -> Result<Vec<Sum>, AllocError> {
+    let mut keys = Vec::new(alloc);
+    for a in 0..rows.len() {
+        let row = &rows[a];
+        keys.push(whole_key(row.numbers()))?;
+    }
+    let mut seen = vec![in alloc; usize::MAX; rows.len()]?;
+    let mut sums = Vec::new(alloc);
+    for a in 0..rows.len() {
+        sums.push(Sum {
+            key: key_at(keys.as_slice(), a),
+            a,
+            b: a,
+        })?;
+        let row = &rows[a];
+        for d in row.numbers() {
+            let d = *d as usize;
+            if d < detectors {
+                add_sums(
+                    keys.as_slice(),
+                    a,
+                    rows_at(index, d),
+                    seen.as_mut_slice(),
+                    &mut sums,
+                )?;
+            }
+        }
+    }
+    Ok(sums)
+}
+
+/// A key of all that an error flips.
+fn whole_key(numbers: &[u32]) -> u64 {
+    let mut key = 0;
+    for n in numbers {
+        key ^= mixed(u64::from(*n));
+    }
+    key
+}
+
+/// The key of error a.
+fn key_at(keys: &[u64], a: usize) -> u64 {
+    if a < keys.len() { keys[a] } else { 0 }
+}
+
+/// Adds the sums of error a and each of the others after it that it was not added with.
+fn add_sums(
+    keys: &[u64],
+    a: usize,
+    others: &[usize],
+    seen: &mut [usize],
+    sums: &mut Vec<Sum>,
+) -> Result<(), AllocError> {
+    for b in others {
+        let b = *b;
+        if a < b && b < seen.len() && seen[b] != a {
+            seen[b] = a;
+            sums.push(Sum {
+                key: key_at(keys, a) ^ key_at(keys, b),
+                a,
+                b,
+            })?;
+        }
+    }
+    Ok(())
+}
+
+/// Compares a sum with those after it that have its key.
+fn compare_next(
+    alloc: Global,
+    rows: &[Row],
+    sums: &[Sum],
+    place: usize,
+    pairs: &mut Vec<Vec<usize>>,
+) -> Result<(), AllocError>
+    requires inside { place < length sums.now }
+    requires pairs { ArePairs rows.now pairs.old.items }
+    ensures pairs { OnOk result (ArePairs rows.now pairs.new.items) }
+{
+    let sum = sums[place];
+    let end = sums.len().min(place.saturating_add(NEAR + 1));
+    for other in place + 1..end {
+        if sums[other].key != sum.key {
+            break;
+        }
+        compare(alloc, rows, sum, sums[other], pairs)?;
+    }
+    Ok(())
+}
+
+/// Leaves pairs out if two sums are the same.
+fn compare(
+    alloc: Global,
+    rows: &[Row],
+    first: Sum,
+    second: Sum,
+    pairs: &mut Vec<Vec<usize>>,
+) -> Result<(), AllocError>
+    requires pairs { ArePairs rows.now pairs.old.items }
+    ensures pairs { OnOk result (ArePairs rows.now pairs.new.items) }
+{
+    if first.a == first.b {
+        leave_three(alloc, rows, second.a, second.b, first.a, pairs)
+    } else if second.a == second.b {
+        leave_three(alloc, rows, first.a, first.b, second.a, pairs)
+    } else {
+        leave_four(alloc, rows, first.a, first.b, second.a, second.b, pairs)
+    }
+}
+
+/// Leaves out each two of three errors that flip nothing together: the third flips the same.
+fn leave_three(
+    alloc: Global,
+    rows: &[Row],
+    a: usize,
+    b: usize,
+    c: usize,
+    pairs: &mut Vec<Vec<usize>>,
+) -> Result<(), AllocError>
+    requires pairs { ArePairs rows.now pairs.old.items }
+    ensures pairs { OnOk result (ArePairs rows.now pairs.new.items) }
+{
+    if !differ(a, b, c) {
+        return Ok(());
+    }
+    if !are_even(alloc, rows, &[a, b, c])? {
+        return Ok(());
+    }
+    leave(alloc, pairs, a, b)?;
+    leave(alloc, pairs, a, c)?;
+    leave(alloc, pairs, b, c)?;
+    Ok(())
+}
+
+fn differ(a: usize, b: usize, c: usize) -> bool
+    ensures value { result ≡ true → (a ≢ b) × (a ≢ c) × (b ≢ c) }
+{
+    a != b && a != c && b != c
+}
+
+/// Leaves out each two of four errors that flip nothing together, if the other two are after one of them.
+fn leave_four(
+    alloc: Global,
+    rows: &[Row],
+    a: usize,
+    b: usize,
+    c: usize,
+    d: usize,
+    pairs: &mut Vec<Vec<usize>>,
+) -> Result<(), AllocError>
+    requires pairs { ArePairs rows.now pairs.old.items }
+    ensures pairs { OnOk result (ArePairs rows.now pairs.new.items) }
+{
+    if !are_even(alloc, rows, &[a, b, c, d])? {
+        return Ok(());
+    }
+    leave_two(alloc, rows, a, b, c, d, pairs)?;
+    leave_two(alloc, rows, a, c, b, d, pairs)?;
+    leave_two(alloc, rows, a, d, b, c, pairs)?;
+    Ok(())
+}
+
+/// Leaves out that of two pairs with the same sum which has the least error of all four.
+fn leave_two(
+    alloc: Global,
+    rows: &[Row],
+    a: usize,
+    b: usize,
+    c: usize,
+    d: usize,
+    pairs: &mut Vec<Vec<usize>>,
+) -> Result<(), AllocError>
+    requires inside { Each (λ r. r < length rows.now) (a ∷ b ∷ c ∷ d ∷ []) }
+    requires same { (i : ℕ) → odd i (row rows.now a) ⊕ odd i (row rows.now b) ≡ odd i (row rows.now c) ⊕ odd i (row rows.now d) }
+    requires pairs { ArePairs rows.now pairs.old.items }
+    ensures pairs { OnOk result (ArePairs rows.now pairs.new.items) }
+{
+    leave_earlier(alloc, rows, a, b, c, d, pairs)?;
+    leave_earlier(alloc, rows, c, d, a, b, pairs)?;
+    Ok(())
+}
+
+/// Leaves out errors a and b, if c and d are after one of them.
+fn leave_earlier(
+    alloc: Global,
+    rows: &[Row],
+    a: usize,
+    b: usize,
+    c: usize,
+    d: usize,
+    pairs: &mut Vec<Vec<usize>>,
+) -> Result<(), AllocError>
+    requires inside_c { c < length rows.now }
+    requires inside_d { d < length rows.now }
+    requires same { (i : ℕ) → odd i (row rows.now a) ⊕ odd i (row rows.now b) ≡ odd i (row rows.now c) ⊕ odd i (row rows.now d) }
+    requires pairs { ArePairs rows.now pairs.old.items }
+    ensures pairs { OnOk result (ArePairs rows.now pairs.new.items) }
+{
+    if a == b {
+        return Ok(());
+    }
+    if !are_after(a, b, c, d) {
+        return Ok(());
+    }
+    leave(alloc, pairs, a, b)?;
+    Ok(())
+}
+
+/// Whether errors c and d are both after a, or both after b.
+fn are_after(a: usize, b: usize, c: usize, d: usize) -> bool
+    ensures value { result ≡ true → ((a < c) × (a < d)) ⊎ ((b < c) × (b < d)) }
+{
+    (a < c && a < d) || (b < c && b < d)
+}
+
+/// Whether these are errors that flip nothing together.
+fn are_even(alloc: Global, rows: &[Row], numbers: &[usize]) -> Result<bool, AllocError>
+    ensures inside { IfOk result (λ b. b ≡ true → Each (λ r. r < length rows.now) numbers.now) }
+    ensures even { IfOk result (λ b. b ≡ true → (i : ℕ) → flips rows.now numbers.now i ≡ false) }
+{
+    let mut flipped = Vec::new(alloc);
+    for r in numbers {
+        if *r >= rows.len() {
+            return Ok(false);
+        }
+        let row = &rows[*r];
+        let mut next = Vec::new(alloc);
+        merge_into(&mut next, flipped.as_slice(), row.numbers())?;
+        flipped = next;
+    }
+    Ok(flipped.is_empty())
+}
+
+/// Lists two errors with each other.
+fn leave(alloc: Global, pairs: &mut Vec<Vec<usize>>, a: usize, b: usize) -> Result<(), AllocError>
+    ensures pairs { OnOk result ((rows : List (List ℕ)) → a ≢ b → IsLeftOut rows a b ⊎ IsLeftOut rows b a → ArePairs rows pairs.old.items → ArePairs rows pairs.new.items) }
+{
+    list_with(alloc, pairs, a, b)?;
+    list_with(alloc, pairs, b, a)?;
+    Ok(())
+}
+
+/// Lists error b with error a, once.
+fn list_with(
+    alloc: Global,
+    pairs: &mut Vec<Vec<usize>>,
+    a: usize,
+    b: usize,
+) -> Result<(), AllocError>
+    ensures pairs { OnOk result ((rows : List (List ℕ)) → a ≢ b → IsLeftOut rows a b ⊎ IsLeftOut rows b a → ArePairs rows pairs.old.items → ArePairs rows pairs.new.items) }
+{
+    if rows_at(pairs.as_slice(), a).contains(&b) {
+        return Ok(());
+    }
+    list(alloc, pairs, a, b)?;
+    Ok(())
+}

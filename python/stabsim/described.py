@@ -1,0 +1,84 @@
+"""What circuits with noise and without it have besides questions: detectors that are added, and coordinates."""
+
+from collections.abc import Iterable
+from dataclasses import dataclass
+from typing import TYPE_CHECKING, Self
+
+import numpy as np
+from numpy.typing import NDArray
+
+from stabsim import checking, coordinates, judging
+from stabsim.parities import Parity, detector_lines
+from stabsim.questions import Questioned
+from stabsim.reading import closed_text
+from stabsim.written import Written
+
+if TYPE_CHECKING:
+    from stabsim.circuit import Circuit
+    from stabsim.noise_models import NoiseModel
+    from stabsim.stim_circuit import StimCircuit
+
+
+@dataclass(frozen=True, eq=False)
+class Described(Written, Questioned):
+    """A circuit as its text, and what is asked of that."""
+
+    def without_noise(self) -> "Circuit":
+        """The circuit without its noise, in text that the program reads: `stabsim.without_noise` of its text.
+
+        >>> import stabsim
+        >>> print(stabsim.from_stim("MXX(0.1) 0 1").without_noise())
+        MPP X0*X1
+        """
+        from stabsim.circuit import Circuit
+
+        return Circuit(judging.without_noise(self.text))
+
+    def with_noise(self, model: "NoiseModel", *, data: Iterable[int] | None = None) -> "StimCircuit":
+        """This circuit, which has no noise, with that of a model: `NoiseModel.on` of it.
+
+        >>> import stabsim
+        >>> print(stabsim.Circuit("R 0\\nM 0").with_noise(stabsim.NoiseModel.sd6(0.001)), end="")
+        R 0
+        X_ERROR(0.001) 0
+        M(0.001) 0
+        """
+        from stabsim.noise_models import NoiseModel
+
+        return checking.of_kind("model", model, NoiseModel, "a NoiseModel, as stabsim.NoiseModel.sd6(0.001)").on(self.text, data=data)
+
+    def with_detectors(self, parities: Iterable[Parity | Iterable[int]]) -> Self:
+        """This circuit with a DETECTOR at its end for each parity: for one of `missing_detectors`, or for records as numbers from 0.
+
+        >>> import stabsim
+        >>> print(stabsim.Circuit("MX 0\\nMX 0").with_detectors([(0, 1)]), end="")
+        MX 0
+        MX 0
+        DETECTOR rec[-2] rec[-1]
+        """
+        some: list[Parity | list[int]]
+        some = [it if isinstance(it, Parity) else [checking.whole("a record", record) for record in checking.several("a parity", it, "(0, 3)")]
+                for it in checking.several("parities", parities, "[(0, 3)]")]
+        return self.of_text(closed_text(self.text) + detector_lines(some, self.num_records))
+
+    def detector_coordinates(self) -> NDArray[np.float64]:
+        """The coordinates of each detector, float64 (detectors, width): width is the most that one has, and nan is there if
+        another has none. SHIFT_COORDS counts, also in blocks, as in Stim. The program judges the circuit first.
+
+        >>> import stabsim
+        >>> c = stabsim.Circuit("M 0\\nREPEAT 2 {\\nDETECTOR(5, 0) rec[-1]\\nSHIFT_COORDS(0, 1)\\n}")
+        >>> c.detector_coordinates().tolist()
+        [[5.0, 0.0], [5.0, 1.0]]
+        """
+        # The program judges the circuit first, so what is made here is within its limits.
+        self.numbers()
+        return coordinates.detector_coordinates(self.asked)
+
+    def qubit_coordinates(self) -> NDArray[np.float64]:
+        """The coordinates of each qubit, float64 (qubits, width), nan if a qubit has none.
+
+        >>> import stabsim
+        >>> stabsim.Circuit("QUBIT_COORDS(3, 4) 1").qubit_coordinates().tolist()
+        [[nan, nan], [3.0, 4.0]]
+        """
+        return coordinates.qubit_coordinates(self.asked, self.numbers().qubits)

@@ -1,0 +1,50 @@
+"""Edits of the page that have lookbacks follow the records that they name."""
+
+from collections.abc import Sequence
+from dataclasses import dataclass
+
+import stabsim
+from stabsim import names
+from stabsim.page.edits import Edit, Kind
+from stabsim.reading import items_of, walk
+from stabsim.retargeting import of_items
+
+
+# The edits of a session, by their names.
+SESSIONS: dict[str, Kind] = {"insert": "insert", "replace": "replace", "delete": "delete", "split": "split"}
+
+
+@dataclass
+class Followed:
+    """The edits to be made; which detectors and observables they take a record from; and the paths of blocks off which the first round is
+    split, one after another."""
+
+    edits: Sequence[Edit]
+    lost: tuple[str, ...] = ()
+    split_off: tuple[str, ...] = ()
+
+
+def following(session: stabsim.Session, edits: Sequence[Edit]) -> Followed:
+    """What makes edits of a session's circuit so that each lookback goes on naming its record. Edits that bring, take and move no
+    records are as they are."""
+    if not any(changes_records(session, edit, len(edits) > 1) for edit in edits):
+        return Followed(edits)
+    made = of_items(items_of(session.circuit()), [(edit.kind, edit.place, edit.item) for edit in edits])
+    found = [Edit(SESSIONS[kind], place, words[0] if words else "") for kind, place, *words in made.edits]
+    return Followed(found, made.lost, tuple(edit.place for edit in found if edit.kind == "split"))
+
+
+def changes_records(session: stabsim.Session, edit: Edit, is_moved: bool) -> bool:
+    """Whether an edit brings or takes records, as far as that can be seen: of several edits each moves the places of the others."""
+    if edit.kind == "delete" and is_moved:
+        return True
+    try:
+        before = "" if edit.kind == "insert" or is_moved else session.item(edit.place)
+        return makes_records(edit.item) or makes_records(before)
+    except stabsim.Refused:
+        # The session says what is wrong.
+        return False
+
+
+def makes_records(text: str) -> bool:
+    return any(item.name in names.MEASUREMENTS for item in walk(items_of(text)))

@@ -1,0 +1,111 @@
+// What is done with the chosen lines of the text: each is one entry of the history.
+
+import { itemAt, textOf } from "./circuit.js";
+import { copiedLines } from "./clipboard.js";
+import { beginOf, endOf, nameOf } from "./moments.js";
+
+export class LineEditor {
+  #page;
+
+  // `page` has shown, text (the TextView), send(edits), ask(question), say(words, isBad) and number(words, offered, least).
+  constructor(page) {
+    this.#page = page;
+  }
+
+  // The chosen lines, {list, first, count}; null if none is.
+  get #lines() {
+    return this.#page.text.lines;
+  }
+
+  #place(number) {
+    const { list, first } = this.#lines;
+    return [...list, first + number].join("/");
+  }
+
+  #texts() {
+    const { list, first, count } = this.#lines;
+    return Array.from({ length: count }, (_, i) => textOf(itemAt(this.#page.shown.state.items, [...list, first + i])));
+  }
+
+  // The lines as a text that is pasted elsewhere; "" if none is chosen.
+  copied() {
+    return this.#lines ? copiedLines(this.#texts()) : "";
+  }
+
+  remove() {
+    if (!this.#lines) return;
+    const { count } = this.#lines;
+    this.#page.send(Array.from({ length: count }, (_, i) => ({ kind: "delete", place: this.#place(count - 1 - i) })), null, count > 1 ? `delete ${count} lines` : "");
+  }
+
+  // Puts lines in before the chosen ones, or at the end, and chooses them.
+  async paste(texts) {
+    const { list, first } = this.#lines ?? { list: [], first: this.#page.shown.state.items.length };
+    const edits = texts.map((item, i) => ({ kind: "insert", place: [...list, first + i].join("/"), item }));
+    if (await this.#page.send(edits, null, texts.length > 1 ? `put ${texts.length} lines in` : "")) this.#choose(list, first, texts.length);
+  }
+
+  #choose(list, first, count) {
+    this.#page.text.selectLines(list, first, count);
+    this.#page.shown.showItem([...list, first + count - 1]);
+  }
+
+  // Moves the lines over the one before them (-1), or after them: that one goes to their other end.
+  async move(by_) {
+    if (!this.#lines) return;
+    const { list, first, count } = this.#lines;
+    const other = by_ < 0 ? -1 : count;
+    const item = itemAt(this.#page.shown.state.items, [...list, first + other]);
+    if (!item || first + other < 0) return void this.#page.say("there is no line beyond them", true);
+    const to = by_ < 0 ? count - 1 : 0;
+    const edits = [{ kind: "delete", place: this.#place(other) }, { kind: "insert", place: this.#place(to), item: textOf(item) }];
+    if (await this.#page.send(edits, null, `move ${count === 1 ? "a line" : `${count} lines`} ${by_ < 0 ? "up" : "down"}`)) this.#choose(list, first + by_, count);
+  }
+
+  async repeat() {
+    const lines = this.#lines;
+    const rounds = lines && await this.#page.number("rounds of the block", 2, 1);
+    if (rounds) await this.#ask("repeat", lines, 1, { rounds });
+  }
+
+  reverse() {
+    return this.#lines && this.#ask("reverse", this.#lines, this.#lines.count);
+  }
+
+  takeOut() {
+    return this.#lines && this.#ask("take out", this.#lines, 1);
+  }
+
+  // Has the server do something with lines, and chooses the lines that they are then.
+  async #ask(act, { list, first, count }, after, more = {}) {
+    const answer = await this.#page.ask({ ask: "lines", act, place: [...list, first].join("/"), count, ...more });
+    if (!answer.refused) this.#choose(list, first, after);
+  }
+
+  // Chooses the lines of the ticks from one moment to another.
+  chooseTicks(from, to) {
+    const { items } = this.#page.shown.state;
+    const [first, last] = [Math.min(from, to), Math.max(from, to)];
+    const [begin, end] = [beginOf(items, first), endOf(items, last)];
+    const isOne = begin.path.slice(0, -1).join() === end.path.slice(0, -1).join() && begin.rounds.join() === end.rounds.join();
+    if (!isOne) return void this.#page.say("these ticks are in several rounds: choose some within one, or outside blocks", true);
+    const place = begin.path.at(-1);
+    const count = end.path.at(-1) - place + (itemAt(items, end.path)?.name === "TICK" ? 1 : 0);
+    if (!count) return void this.#page.say("there are no lines", true);
+    this.#choose(begin.path.slice(0, -1), place, count);
+    this.#page.text.focus();
+    return void this.#page.say(`ticks ${nameOf(items, first).name} to ${nameOf(items, last).name}: ${count} lines are chosen`);
+  }
+
+  // What the menu offers for the chosen lines.
+  offers() {
+    if (!this.#lines) return [["choose lines first: click, and Shift-click the last one", () => {}]];
+    const { list, first, count } = this.#lines;
+    const block = count === 1 && itemAt(this.#page.shown.state.items, [...list, first])?.items;
+    return [
+      ["make a REPEAT of them …", () => this.repeat(), "r"], ...(block ? [["write its rounds out", () => this.takeOut(), "w"]] : []),
+      ["reverse them", () => this.reverse(), "v"], ["move up (Alt ↑)", () => this.move(-1), "u"], ["move down (Alt ↓)", () => this.move(1), "d"],
+      ["delete", () => this.remove(), "x"],
+    ];
+  }
+}

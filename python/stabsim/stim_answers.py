@@ -1,0 +1,164 @@
+"""What Stim's commands write that the package has: `stim_commands` has their words."""
+
+import argparse
+import contextlib
+import pathlib
+import sys
+from collections.abc import Iterable, Iterator
+from typing import BinaryIO
+
+import numpy as np
+from numpy.typing import NDArray
+
+from stabsim import codes, formats, program
+from stabsim.diagrams import Kind
+from stabsim.measured import m2d
+from stabsim.models import ErrorModel, error_model
+from stabsim.stim_circuit import from_stim
+
+Bits = NDArray[np.bool_]
+
+# Codes and tasks of Stim's, as the codes that they are here, and the basis that is kept.
+TASKS = {
+    "repetition_code:memory": ("repetition_code", "Z"),
+    "surface_code:rotated_memory_x": ("surface_code", "X"), "surface_code:rotated_memory_z": ("surface_code", "Z"),
+    "surface_code:unrotated_memory_x": ("unrotated_surface_code", "X"), "surface_code:unrotated_memory_z": ("unrotated_surface_code", "Z"),
+}
+# Types of pictures, by Stim's names.
+KINDS: dict[str, Kind] = {
+    "timeline-svg": "timeline", "timeslice-svg": "timeslice", "time-slice-svg": "timeslice", "detslice-svg": "detslice",
+    "detector-slice-svg": "detslice", "matchgraph-svg": "matchgraph", "match-graph-svg": "matchgraph",
+}
+# How many shots are drawn together.
+TOGETHER = 8192
+
+
+def bytes_in(path: str | None) -> bytes:
+    """What a file has, or standard input."""
+    return pathlib.Path(path).read_bytes() if path else sys.stdin.buffer.read()
+
+
+def text_in(path: str | None) -> str:
+    return program.text_of(bytes_in(path))
+
+
+def write_out(path: str | None, data: bytes) -> None:
+    """Writes a file, or to standard output."""
+    if path:
+        pathlib.Path(path).write_bytes(data)
+    else:
+        sys.stdout.buffer.write(data)
+        sys.stdout.flush()
+
+
+def gen(given: argparse.Namespace) -> None:
+    """A circuit of a code."""
+    name = f"{given.code}:{given.task}"
+    if name not in TASKS:
+        raise ValueError(f"{name} is none of {', '.join(TASKS)}; python3 -m stabsim.codes --help has other codes, as colour_code")
+    noise = codes.Noise(before_round=given.before_round_data_depolarization, after_gate=given.after_clifford_depolarization,
+                        after_reset=given.after_reset_flip_probability, before_measurement=given.before_measure_flip_probability)
+    code, basis = TASKS[name]
+    write_out(given.out, codes.memory(code, given.distance, basis, noise).text(given.rounds).encode())
+
+
+def convert(given: argparse.Namespace) -> None:
+    """Which detectors are flipped against a run without noise, or without that their parities."""
+    circuit = from_stim(text_in(given.circuit)).circuit
+    data = np.frombuffer(bytes_in(given.input), dtype=np.uint8)
+    records = formats.READERS[given.in_format](data, formats.kinds_of(circuit.num_records, 0, 0))
+    both = m2d(circuit, records, separate_observables=True, flips=not given.skip_reference_sample)
+    write_shots(given, [both], given.append_observables)
+
+
+def write_shots(given: argparse.Namespace, shots: Iterable[tuple[Bits, Bits]], is_appended: bool = False) -> None:
+    """Writes detectors, perhaps with observables after them, and observables by themselves if a file is named for them."""
+    with contextlib.ExitStack() as files:
+        out: BinaryIO = files.enter_context(open(given.out, "wb")) if given.out else sys.stdout.buffer
+        alone = files.enter_context(open(given.obs_out, "wb")) if given.obs_out else None
+        for detectors, observables in shots:
+            shown = np.append(detectors, observables, axis=1) if is_appended else detectors
+            kinds = formats.kinds_of(0, detectors.shape[1], observables.shape[1] * is_appended)
+            out.write(formats.WRITERS[given.out_format](shown, kinds))
+            if alone:
+                alone.write(formats.WRITERS[given.obs_out_format](observables, formats.kinds_of(0, 0, observables.shape[1])))
+        out.flush()
+
+
+def analyze_errors(given: argparse.Namespace) -> None:
+    """The error model of a circuit."""
+    if given.approximate_disjoint_errors not in (0, 1):
+        raise ValueError("disjoint errors are approximated whatever their chances: --approximate_disjoint_errors takes no other chance than 1")
+    model = error_model(text_in(given.input), decompose=given.decompose_errors, ignore_decomposition_failures=given.ignore_decomposition_failures,
+                        approximate_disjoint_errors=bool(given.approximate_disjoint_errors))
+    write_out(given.out, model.dem.encode())
+
+
+def sample_dem(given: argparse.Namespace) -> None:
+    """Shots of an error model."""
+    model = ErrorModel.from_dem(text_in(given.input))
+    write_shots(given, model.iter_sample(given.shots, TOGETHER, seed=given.seed))
+
+
+def explain_errors(given: argparse.Namespace) -> None:
+    """Each mechanism of a circuit's error model, with the lines that make it."""
+    model = error_model(text_in(given.input), approximate_disjoint_errors=True)
+    wanted = None
+    if given.dem_filter:
+        only = ErrorModel.from_file(given.dem_filter)
+        wanted = {flips_of(only, it) for it in range(len(only))}
+    lines = [line for it in range(len(model)) if wanted is None or flips_of(model, it) in wanted for line in lines_of(model, it, given.single)]
+    write_out(given.out, "".join(f"{line}\n" for line in lines).encode())
+
+
+def flips_of(model: ErrorModel, mechanism: int) -> str:
+    """What a mechanism flips, as D3 L0."""
+    flipped = model.flipped(mechanism).tolist()
+    return " ".join(f"D{bit}" if bit < model.num_detectors else f"L{bit - model.num_detectors}" for bit in flipped)
+
+
+def lines_of(model: ErrorModel, mechanism: int, is_single: bool) -> Iterator[str]:
+    """A mechanism, and the errors that make it, or the first of them."""
+    yield f"error({model.chances[mechanism]}) {flips_of(model, mechanism)}"
+    for cause in model.explain(mechanism)[: 1 if is_single else None]:
+        rounds = f" in round {'/'.join(map(str, cause.rounds))}" if cause.rounds else ""
+        yield f"    line {cause.line}{rounds}: {cause.error} of {cause.name}, chance {cause.chance}"
+
+
+def diagram(given: argparse.Namespace) -> None:
+    """A picture of a circuit."""
+    noisy = from_stim(text_in(given.input))
+    kind, circuit = KINDS[given.type], noisy.circuit
+    is_of_ticks = kind in ("timeslice", "detslice")
+    ticks = ticks_of(given.tick) if given.tick else range(circuit.num_ticks + 1) if is_of_ticks else None
+    detectors = None
+    if given.filter_coords:
+        detectors = named_by(given.filter_coords, circuit.detector_coordinates())
+    drawn = circuit.diagram if given.remove_noise else noisy.diagram
+    picture = drawn(kind, tick=ticks, detectors=detectors)
+    if given.out:
+        picture.save(given.out)
+    else:
+        write_out(None, picture.svg().encode())
+
+
+def ticks_of(words: str) -> range:
+    """A tick, as 5, or several, as 5:10."""
+    first, _, end = words.partition(":")
+    try:
+        return range(int(first), int(end) if end else int(first) + 1)
+    except ValueError:
+        raise ValueError(f"{words} is no tick, as 5, and no range of them, as 5:10") from None
+
+
+def named_by(points: str, coordinates: NDArray[np.float64]) -> list[str]:
+    """The detectors and observables that points name, as D5, L0, or the first coordinates of detectors, as 2,4."""
+    found: list[str] = []
+    for point in points.split(":"):
+        if point[:1] in ("D", "L"):
+            found.append(point)
+        else:
+            wanted = np.array([float(number) for number in point.split(",")])
+            if len(wanted) <= coordinates.shape[1]:
+                found += [f"D{number}" for number in np.flatnonzero((coordinates[:, : len(wanted)] == wanted).all(axis=1))]
+    return found

@@ -1,0 +1,211 @@
+"""Sessions of circuits with noise: read, edited and written, a text is the edited text, line by line, and what is asked is of that."""
+
+import random
+
+import numpy as np
+import pytest
+import stabsim
+from stabsim import carrying, codes
+from stabsim.collecting import seed_of
+
+# Instructions as they are printed, with noise, and some that the program does not read or print so.
+LINES = [
+    "R 0 1 2", "H 0", "CX 0 1 1 2", "X 3", "I 0", "M 0 1", "M(0.25) 0 !1", "MR(0.125) 2", "MPP X0*X1 !Z2", "MPP(0.5) X0*Z1", "TICK", "TICK[~a]", "S[~] 1",
+    "X_ERROR(0.25) 0 1", "Z_ERROR[why](0.5) 2", "DEPOLARIZE1(0.125) 0", "DEPOLARIZE2(0.0625) 0 1 2 3", "PAULI_CHANNEL_1(0.1, 0, 0) 1",
+    "E(0.25) X0 Z1", "I_ERROR(0.5) 0", "ISWAP 0 1", "SQRT_XX 1 2", "MXX(0.25) 0 1", "MZZ 0 1 2 3", "MPAD 0 1", "MPAD(0.125) 1", "H_XY 0", "XCZ 0 1",
+    "SPP X0*Y1", "MPP X0*X0", "CZ 1 0", "C_NXYZ 2", "II 0 1", "DETECTOR(1, 2.5) rec[-1]", "OBSERVABLE_INCLUDE(0) rec[-1]", "QUBIT_COORDS(1, 2) 3",
+    "SHIFT_COORDS(1)", "CX rec[-1] 2", "CZ 2 rec[-1]", "M[tag] 1", "X[\\B\\n] 0", "DETECTOR", "E(0.5) Z2",
+]
+COMMENTS = ["# why", "#", "", "# ] \\ } {", "# ünï", "## REPEAT 3 {"]
+ENDS = ["", "", "", " # a comment", "  # ]\\n#", " #"]
+
+
+class Written:
+    """An item of a text: the lines above it, its own, and of a block its items, the lines below these, and what is after its brace."""
+
+    def __init__(self, numbers, depth=0):
+        self.above = numbers.choices(COMMENTS, k=numbers.choice([0, 0, 0, 1, 2]))
+        self.items, self.end = None, numbers.choice(ENDS)
+        if depth < 2 and numbers.random() < 0.15:
+            self.line = numbers.choice(["REPEAT 2 {", "REPEAT[~t] 3 {", "REPEAT 1 {"])
+            self.items = [Written(numbers, depth + 1) for _ in range(numbers.randint(1, 3))]
+            self.below = numbers.choices(COMMENTS, k=numbers.choice([0, 0, 1]))
+            self.closing = numbers.choice(ENDS)
+        else:
+            self.line = numbers.choice(LINES)
+
+    def lines(self, comments=True):
+        lines = [*(self.above if comments else []), self.line + (self.end if comments else "")]
+        if self.items is not None:
+            body = [line for item in self.items for line in item.lines(comments)] + (self.below if comments else [])
+            lines += [f"    {line}" if line else "" for line in body] + ["}" + (self.closing if comments else "")]
+        return lines
+
+
+def text_of(items, below=(), comments=True):
+    return "".join(f"{line}\n" for line in [*(line for item in items for line in item.lines(comments)), *(below if comments else ())])
+
+
+def place_in(items, numbers):
+    """A list, the path that leads to it, and a place in it."""
+    path = []
+    while True:
+        blocks = [place for place, item in enumerate(items) if item.items is not None]
+        if not blocks or numbers.random() < 0.5:
+            return items, path, numbers.randrange(len(items) + 1)
+        path.append(numbers.choice(blocks))
+        items = items[path[-1]].items
+
+
+def edited(session, items, numbers):
+    """Makes an edit in a session and in a text, if the session takes it; whether it did."""
+    places, path, at = place_in(items, numbers)
+    kind = numbers.choice(["insert", "replace", "delete"]) if at < len(places) else "insert"
+    new = Written(numbers, len(path))
+    try:
+        if kind == "delete":
+            session.delete([*path, at])
+        else:
+            getattr(session, kind)([*path, at], text_of([new]))
+    except stabsim.Refused:
+        return False
+    if kind == "replace":
+        # What is above an item stays above what comes in its place.
+        new.above = places[at].above + new.above
+    places[at : at + (kind != "insert")] = [new] * (kind != "delete")
+    return True
+
+
+def opened(numbers):
+    """A text that is read, as its items and what is below them, and its session."""
+    while True:
+        items, below = [Written(numbers) for _ in range(numbers.randint(1, 8))], numbers.choices(COMMENTS, k=numbers.choice([0, 1, 2]))
+        try:
+            return items, below, stabsim.from_stim(text_of(items, below)).edit(qubits=6)
+        except stabsim.Refused:
+            continue
+
+
+@pytest.mark.parametrize("seed", range(150))
+def test_a_text_that_is_edited_is_the_edited_text_line_by_line(seed):
+    numbers = random.Random(seed)
+    items, below, session = opened(numbers)
+    first, made = text_of(items, below), 0
+    with session:
+        assert session.circuit(comments=True) == first
+        for _ in range(12):
+            made += edited(session, items, numbers)
+            assert session.circuit(comments=True) == text_of(items, below)
+            assert session.circuit() == text_of(items, below, comments=False)
+        for _ in range(made):
+            assert session.undo()
+        assert session.circuit(comments=True) == first and not session.undo()
+        while session.redo():
+            made -= 1
+        assert session.circuit(comments=True) == text_of(items, below) and made == 0
+
+
+@pytest.mark.parametrize("seed", range(60))
+def test_what_a_session_answers_is_of_the_edited_text(seed):
+    numbers = random.Random(1000 + seed)
+    items, below, session = opened(numbers)
+    with session:
+        for _ in range(8):
+            edited(session, items, numbers)
+        text = session.circuit(comments=True)
+        read = stabsim.from_stim(text)
+        with read.circuit.edit(qubits=6) as other:
+            assert session.numbers() == other.numbers()
+            assert all(np.array_equal(*pair) for pair in zip(session.deterministic(), other.deterministic()))
+        options = {"approximate_disjoint_errors": True, "sure_only": True}
+        assert session.error_model(**options) == stabsim.error_model(text, **options)
+        # Each item is the user's at its path.
+        for item in read.walk():
+            assert session.item(item.path) == "".join(f"{line}\n" for line in str(item).splitlines())
+
+
+def test_what_rides_in_a_tag_is_any_text():
+    for text in ("# ]", "\\B]\\C\\", "~", "#~[]#\r\\n", "# REPEAT 3 {\n# }", "TICK[~\\]"):
+        assert carrying.unescaped(carrying.escaped(text)) == text and not set(carrying.escaped(text)) & set("]#\n\r")
+
+
+@pytest.mark.parametrize("item, said", [
+    ("X_ERROR(2) 0", "refused 2 BadArguments"), ("X_ERROR 0", "one chance in brackets"), ("DEPOLARIZE2(0.1) 0 0", "two different qubits"),
+    ("X_ERROR(0.1) 5000", "refused 6 QubitOutOfRange"), ("X_ERROR(0.1) a", "refused 3 BadTarget"), ("M(1.5) 0", "a number from 0 to 1"),
+    ("E(0.1) Q0", "takes Paulis"), ("NOPE 1", "refused 1 UnsupportedName"), ("ISWAP 0", "no partner"), ("M(0.1) 9", "refused 6"), ("CX 0", "refused 4"),
+])
+def test_an_item_that_is_refused_is_explained_and_changes_nothing(item, said):
+    text = "R 0\nX_ERROR(0.5) 0 # noise\nM 0\n"
+    with stabsim.from_stim(text).edit() as session:
+        for edit in (session.insert, session.replace):
+            with pytest.raises(stabsim.Refused) as told:
+                edit(1, item)
+            assert said in str(told.value)
+        with pytest.raises(stabsim.UnsupportedNoise):
+            session.insert(1, "HERALDED_ERASE(0.1) 0")
+        assert session.circuit(comments=True) == text and not session.undo()
+
+
+def test_an_error_that_may_happen_if_others_did_not_is_put_in_after_them():
+    with stabsim.from_stim("R 0\nE(0.25) X0\nM 0\nDETECTOR rec[-1]\n").edit() as session:
+        session.insert(2, "ELSE_CORRELATED_ERROR(0.5) X0")
+        # Both flip the same, so together they do so in 0.25 + 0.75 * 0.5 of all shots.
+        assert session.error_model().chances == pytest.approx([0.625])
+        session.delete(1)
+        with pytest.raises(stabsim.Refused, match="follows E"):
+            session.error_model()
+
+
+def test_the_loop_of_edit_model_and_rate():
+    text = codes.surface_code(3, 3, noise=codes.Noise.uniform(0.01))
+
+    def nothing(model):
+        return lambda detectors: np.zeros((len(detectors), model.num_observables), dtype=bool)
+
+    with stabsim.from_stim(text).edit() as session:
+        model = session.error_model()
+        assert model == stabsim.error_model(text) and session.error_model() is model
+        assert session.distance().distance == 3 and session.distance(2).distance is None
+        before = session.logical_error_rate(nothing, shots=2000, seed=3)
+        wrong = model.sample(2000, seed=seed_of("session", 3))[1].any(axis=1).sum()
+        assert before == stabsim.fit_rate(2000, int(wrong))
+        [last] = [item.path for item in stabsim.from_stim(session.circuit()) if item.name == "X_ERROR"][-1:]
+        session.replace(last, "X_ERROR(0.5) 1")
+        assert session.error_model() is not model and session.error_model() == stabsim.error_model(session.circuit())
+        assert session.logical_error_rate(nothing, shots=2000, seed=3).low > before.high
+        assert session.undo() and session.error_model() == model
+
+
+def test_errors_are_put_into_what_rides_and_stay_there():
+    text = "R 0 1\nX_ERROR(0.25) 0 1\nISWAP 0 1\nREPEAT 2 {\n    MXX(0.125) 0 1\n    M(0.25) 0 !1 # both\n}\n"
+    with stabsim.from_stim(text).edit() as session:
+        # After R 0 1 and the SWAP and CZ of ISWAP; in front of the second measured qubit of the second round; and a record that is wrong.
+        session.insert_errors([stabsim.CircuitError(4, "", ((1, "Z"),)), stabsim.CircuitError(11, "", ((0, "X"),)), stabsim.CircuitError(0, "", record=0)])
+        assert session.circuit(comments=True).splitlines() == [
+            "R 0 1", "X_ERROR(0.25) 0 1", "REPEAT 1 {", "    SWAP 0 1", "    CZ 0 1", "    Z 1", "    S 0 1", "}",
+            "REPEAT 1 {", "    MPP(0.125) !X0*X1", "    M(0.25) 0 !1 # both", "}",
+            "REPEAT 1 {", "    MXX(0.125) 0 1", "    M(0.25) 0", "    X 0", "    M(0.25) !1", "}"]
+        assert session.undo() and session.circuit(comments=True) == text
+
+
+def test_coins_and_errors_are_at_the_items_of_the_user():
+    with stabsim.from_stim("R 0 1\nX_ERROR(0.1) 0\nMXX 0 1\nH_XY 0\nMPAD 1\nMX 0\nDETECTOR rec[-1]").edit() as session:
+        assert [coin.path for coin in session.why("D0")] == ["5"]
+    with stabsim.from_stim("TICK\nISWAP 0 1\nM 1\nOBSERVABLE_INCLUDE(0) rec[-1]").edit() as session:
+        found = session.distance(1, everywhere=True)
+        assert found.distance == 1 and {error.path for error in found.errors} == {"1"}
+
+
+@pytest.mark.parametrize("edit", [
+    lambda session: session.insert(0, "M 1", keep_records=True),
+    lambda session: session.replace(1, "M 1", keep_records=True),
+    lambda session: session.delete(1, keep_records=True),
+    lambda session: session.move(1, 0, keep_records=True),
+    lambda session: session.retarget([("delete", 1)]),
+])
+def test_lookbacks_do_not_follow_their_records_where_lines_are_kept_as_written(edit):
+    text = "X_ERROR(0.125) 0\nM 0\nDETECTOR rec[-1]\n"
+    with stabsim.from_stim(text).edit() as session:
+        with pytest.raises(ValueError, match="without noise alone"):
+            edit(session)
+        assert session.circuit() == text

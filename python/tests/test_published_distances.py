@@ -1,0 +1,37 @@
+"""The page of exact distances has what the program answers."""
+
+import pathlib
+import re
+import subprocess
+import sys
+
+import pytest
+import stabsim
+
+PAGE = (pathlib.Path(__file__).resolve().parents[2] / "docs/use/distances.md").read_text(encoding="utf-8")
+ANSWERED = re.findall(r"^\| `([^`]+)` \| (all|X and Z) \| (\d+) \|", PAGE, re.MULTILINE)
+[(BOUNDED, MOST)] = re.findall(r"`([^`]+)` with 12 rounds, `--letters XZ --most (\d+)` answers `none up to \2`", PAGE)
+# Codes that are kept in X too.
+IN_X = ("surface_code", "unrotated_surface_code", "toric_code", "bivariate_bicycle_code")
+
+
+def circuit_of(words):
+    """What the command prints of a row's words."""
+    done = subprocess.run([sys.executable, "-m", "stabsim.codes", *words.split()], capture_output=True, text=True, check=True)
+    return stabsim.Circuit(done.stdout)
+
+
+def test_each_row_of_the_page_is_tried():
+    assert len(ANSWERED) == sum(line.startswith("| `") for line in PAGE.splitlines()) == 11
+
+
+@pytest.mark.parametrize("words, errors, distance", ANSWERED)
+def test_a_circuit_has_the_distance_of_its_row(words, errors, distance):
+    for basis in ["", " --basis X"] if words.startswith(IN_X) else [""]:
+        found = circuit_of(words + basis).distance(everywhere=True, letters="all" if errors == "all" else "XZ")
+        assert found.distance == int(distance) == len(found.errors)
+
+
+def test_six_errors_of_the_gross_code_do_not_go_unseen():
+    found = circuit_of(BOUNDED).distance(everywhere=True, letters="XZ", most=int(MOST))
+    assert (found.distance, found.most) == (None, int(MOST))
