@@ -16,7 +16,7 @@ pub(crate) const NOT_CLIFFORD: Sentences = Sentences {
 
 pub(crate) const PADDING: Sentences = Sentences {
     wrong: "Padding is not read: each record is that of a measurement.",
-    cure: "In place of MPAD 0 1 measure a qubit that no other line names, such as qubit 9:\n    M 9 !9",
+    cure: "In place of MPAD 0 1 measure a qubit that no other line names, such as qubit 9:\n    R 9\n    M 9 !9",
 };
 
 pub(crate) const UNKNOWN_NAME: Sentences = Sentences {

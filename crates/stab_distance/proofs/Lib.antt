@@ -9,6 +9,8 @@ pub mod CoverLemmas
 pub mod EndLemmas
 pub mod CertificateLemmas
 pub mod DistinctLemmas
+pub mod ClassLemmas
+pub mod EnoughLemmas
 pub mod ShortestLemmas
 pub mod PairLemmas
 pub mod FirstLemmas

@@ -49,9 +49,9 @@ told-on E count most has_none n last old now new r none same began on all = reco
 
 -- sizes after others
 
-pub later : (E F : Type 0) (t : ErrorTable) (first most : ℕ) (old now new : Option (List Heard)) (r : Result (Option (Vec ℕ)) F) → TellsSizes {E = E} t 0 first old now (Ok None)
-    → TellsSizes {E = F} t first most now new r → TellsSizes {E = F} t 0 most old new r
-later E F t first most old now new r before after = record {
+pub later : (E F : Type 0) (t : ErrorTable) (from first most : ℕ) (old now new : Option (List Heard)) (r : Result (Option (Vec ℕ)) F) → TellsSizes {E = E} t from first old now (Ok None)
+    → TellsSizes {E = F} t first most now new r → TellsSizes {E = F} t from most old new r
+later E F t from first most old now new r before after = record {
   last = after.last;
   none = after.none;
   heard = λ f said had. after.heard f said (subst (λ k. Hears f now (said ++ up_to k)) before.all (before.heard f said had));
@@ -59,42 +59,62 @@ later E F t first most old now new r before after = record {
 }
 
 -- of all sizes, what was found is of one more than the last that is excluded
-pub told-found : (E F : Type 0) (t : ErrorTable) (end most : ℕ) (old new : Option (List Heard)) (v : Vec ℕ) → TellsSizes {E = E} t 0 end old new (Ok (Some v)) → IsLogicalError t v.items
-    → TellsAnswer {E = F} t most old new (Ok (Least v))
-told-found E F t end most old new v tells logical =
+pub told-found : (E F : Type 0) (t : ErrorTable) (from end most : ℕ) (old new : Option (List Heard)) (v : Vec ℕ) → TellsSizes {E = E} t from end old new (Ok (Some v)) → IsLogicalError t v.items
+    → TellsAnswer {E = F} t from most old new (Ok (Least v))
+told-found E F t from end most old new v tells logical =
     let next : tells.last + 1 ≡ length v.items = omega (arith, tells.all, tells.none v.items logical) in
     record { last = tells.last; none = tells.none; heard = tells.heard; all = next }
 
 -- if there is one, but none was found, the last is the number that was asked for
 
-reached : (t : ErrorTable) (end most : ℕ) → end ≡ min most (length t.rows) → HasNoneWithin t end → HasSome t → end ≡ most
-reached t end most is none (errors, logical) = by_place (cases_lt (length t.rows) most)
+reached : (t : ErrorTable) (end most : ℕ) → min most (length t.rows) ≤ end → end ≤ most → HasNoneWithin t end → HasSome t → end ≡ most
+reached t end most is within none (errors, logical) = by_place (cases_lt (length t.rows) most)
   where
     by_place : (length t.rows < most) ⊎ (most ≤ length t.rows) → end ≡ most
-    by_place (inr few) = omega (arith, is, few)
+    by_place (inr few) = omega (arith, is, within, few)
     by_place (inl many) =
         let less : length errors < length errors = none-up_to t (length errors) end (omega (arith, is, many)) none errors logical in
         absurd (omega (arith, less))
 
-pub told-none : (E F : Type 0) (t : ErrorTable) (end most : ℕ) (old new : Option (List Heard)) → end ≡ min most (length t.rows) → HasSome t → TellsSizes {E = E} t 0 end old new (Ok None)
-    → TellsAnswer {E = F} t most old new (Ok NoneWithin)
-told-none E F t end most old new is some tells = record {
+pub told-none : (E F : Type 0) (t : ErrorTable) (from end most : ℕ) (old new : Option (List Heard)) → min most (length t.rows) ≤ end → end ≤ most → HasSome t
+    → TellsSizes {E = E} t from end old new (Ok None) → TellsAnswer {E = F} t from most old new (Ok NoneWithin)
+told-none E F t from end most old new is within some tells = record {
   last = tells.last;
   none = tells.none;
   heard = tells.heard;
-  all = tells.all ∙ reached t end most is (subst (HasNoneWithin t) tells.all tells.none) some;
+  all = tells.all ∙ reached t end most is within (subst (HasNoneWithin t) tells.all tells.none) some;
 }
 
-pub told-failed : (E F : Type 0) (P : F → Type 0) (t : ErrorTable) (end most : ℕ) (old new : Option (List Heard)) (r : Result (Option (Vec ℕ)) E) (failed : Result Answer F) → TellsSizes t 0 end old new r
-    → IsErrAnd failed P → TellsAnswer t most old new failed
-told-failed E F P t end most old new r failed tells is = record {
+pub told-failed : (E F : Type 0) (P : F → Type 0) (t : ErrorTable) (from end most : ℕ) (old new : Option (List Heard)) (r : Result (Option (Vec ℕ)) E) (failed : Result Answer F)
+    → TellsSizes t from end old new r → IsErrAnd failed P → TellsAnswer t from most old new failed
+told-failed E F P t from end most old new r failed tells is = record {
   last = tells.last;
   none = tells.none;
   heard = tells.heard;
   all = ok-of_err Answer F P (λ a. IsExcludedBy most a tells.last) failed is;
 }
 
--- what is told of a table's distinct rows is so of the table
-pub told-table : (E F : Type 0) (t part : ErrorTable) (most : ℕ) (old new : Option (List Heard)) (r : Result Answer E) (answer : Result Answer F)
-    → ((k : ℕ) → HasNoneWithin part k → HasNoneWithin t k) → (tells : TellsAnswer part most old new r) → IfOk answer (λ a. IsExcludedBy most a tells.last) → TellsAnswer t most old new answer
-told-table E F t part most old new r answer none tells all = record { last = tells.last; none = none tells.last tells.none; heard = tells.heard; all = all }
+-- what is told of errors that are enough is so of the table
+pub told-table : (E F : Type 0) (t part : ErrorTable) (from most : ℕ) (old new : Option (List Heard)) (r : Result Answer E) (answer : Result Answer F)
+    → ((k : ℕ) → HasNoneWithin part k → HasNoneWithin t k) → (tells : TellsAnswer part from most old new r) → IfOk answer (λ a. IsExcludedBy most a tells.last) → TellsAnswer t from most old new answer
+told-table E F t part from most old new r answer none tells all = record { last = tells.last; none = none tells.last tells.none; heard = tells.heard; all = all }
+
+-- a search that goes on after the first sizes
+pub told-after : (E F : Type 0) (t part : ErrorTable) (first most : ℕ) (old now new : Option (List Heard)) (r : Result Answer F) → TellsSizes {E = E} part 0 first old now (Ok None)
+    → TellsAnswer t first most now new r → TellsAnswer t 0 most old new r
+told-after E F t part first most old now new r before after = record {
+  last = after.last;
+  none = after.none;
+  heard = λ f said had. after.heard f said (subst (λ k. Hears f now (said ++ up_to k)) before.all (before.heard f said had));
+  all = after.all;
+}
+
+-- and one that ends with them
+pub told-early : (E F : Type 0) (P : F → Type 0) (t part : ErrorTable) (first most : ℕ) (old now : Option (List Heard)) (sizes : Result (Option (Vec ℕ)) E) (r : Result Answer F)
+    → ((k : ℕ) → HasNoneWithin part k → HasNoneWithin t k) → TellsSizes part 0 first old now sizes → IsErrAnd r P → TellsAnswer t 0 most old now r
+told-early E F P t part first most old now sizes r none tells is = record {
+  last = tells.last;
+  none = none tells.last tells.none;
+  heard = tells.heard;
+  all = ok-of_err Answer F P (λ a. IsExcludedBy most a tells.last) r is;
+}

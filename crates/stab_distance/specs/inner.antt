@@ -1,5 +1,6 @@
 pub mod Lists
 pub mod Errors
+pub mod Classes
 pub mod Ends
 pub mod Indexes
 pub mod Pairs

@@ -10,6 +10,9 @@ ghost use Rattle.stab_distance.specs.Tables.{odd, row};
 use crate::errors::Errors;
 use std::alloc::{AllocError, Global};
 
+/// The number of candidates for which memory is had at once.
+const USUAL_SIZE: usize = 32;
+
 /// Errors after the first one, of which each set of `left` errors has one that completes those chosen. `cover` is scratch, 0 between calls.
 ///
 /// They are all that flip one detector, or all that flip many: of `left` errors that flip N detectors back, one flips N / `left` of them.
@@ -116,7 +119,7 @@ fn rarest(errors: &Errors, first: usize, detectors: &[u32], cover: &[usize]) -> 
     let mut best = detectors[0];
     let mut fewest = usize::MAX;
     for d in detectors {
-        let count = live_count(errors.flipping(*d), first, cover);
+        let count = live_count(errors.flipping(*d), first, cover, fewest);
         if count < fewest {
             best = *d;
             fewest = count;
@@ -133,9 +136,13 @@ fn is_live(r: usize, first: usize, least: usize, cover: &[usize]) -> bool
     r > first && r < cover.len() && cover[r] >= least
 }
 
-fn live_count(rows: &[usize], first: usize, cover: &[usize]) -> usize {
+/// How many of these errors may be tried, if that is fewer than `end`.
+fn live_count(rows: &[usize], first: usize, cover: &[usize], end: usize) -> usize {
     let mut count: usize = 0;
     for r in rows {
+        if count >= end {
+            break;
+        }
         if is_live(*r, first, 1, cover) {
             count = count.saturating_add(1);
         }
@@ -153,7 +160,7 @@ fn live(
     ensures inside { IfOk result (λ v. Each (λ r. r < length cover.now) v.items) }
     ensures all { IfOk result (λ v. (e : ℕ) → has e rows.now ≡ true → first < e → e < length cover.now → 1 ≤ slice_index cover.now e → has e v.items ≡ true) }
 {
-    let mut found = Vec::new(alloc);
+    let mut found = Vec::with_capacity(alloc, rows.len())?;
     for r in rows {
         take_live(*r, first, 1, cover, &mut found)?;
     }
@@ -173,7 +180,7 @@ fn covering(
     ensures all { IfOk result (λ v. (e d : ℕ) → e < length cover.old → first < e → least ≤ slice_index cover.old e → has d detectors.now ≡ true → e < length errors.now.table.rows → odd d (row errors.now.table.rows e) ≡ true → has e v.items ≡ true) }
     ensures length { length cover.new ≡ length cover.old }
 {
-    let mut found = Vec::new(alloc);
+    let mut found = Vec::with_capacity(alloc, USUAL_SIZE)?;
     for d in detectors {
         take(errors.flipping(*d), first, least, cover, &mut found)?;
     }

@@ -4,7 +4,7 @@ ghost use Rattle.stab_distance.specs.Tables.{row};
 ghost use Rattle.stab_distance.specs.inner.Errors.{AreRowsOf, HasRow};
 
 use crate::index::{list, rows_at};
-use crate::row::{Row, end_of};
+use crate::row::Row;
 use crate::table::Table;
 use std::alloc::{AllocError, Global};
 
@@ -15,27 +15,86 @@ pub struct Distinct {
     pub numbers: Vec<usize>,
 }
 
-/// The rows of a table, each once. Those that flip an observable come first.
+impl Distinct {
+    ghost use Rattle.std.specs.Prelude.{◌≡◌, ◌<◌, ◌∷◌, [], ◌++◌, List, ℕ, length, OnOk};
+    ghost use Rattle.stab_distance.specs.Ascending.{IsAscending};
+    ghost use Rattle.stab_distance.specs.Tables.{row};
+    ghost use Rattle.stab_distance.specs.inner.Errors.{AreRowsOf, HasRow};
+
+    /// None.
+    pub fn new(alloc: Global) -> Distinct
+        ensures rows { result.rows.items ≡ [] }
+        ensures numbers { result.numbers.items ≡ [] }
+    {
+        Distinct {
+            rows: Vec::new(alloc),
+            numbers: Vec::new(alloc),
+        }
+    }
+
+    /// Adds row r of the table, which has these numbers, at the end.
+    pub fn add(&mut self, alloc: Global, numbers: &[u32], r: usize) -> Result<(), AllocError>
+        requires ascending { IsAscending numbers.now }
+        ensures rows { OnOk result ((rows : List (List ℕ)) → r < length rows → row rows r ≡ numbers.now → AreRowsOf rows self.old.rows.items self.old.numbers.items → AreRowsOf rows self.new.rows.items self.new.numbers.items) }
+        ensures added { OnOk result (self.new.rows.items ≡ self.old.rows.items ++ numbers.now ∷ []) }
+        ensures there { OnOk result (HasRow self.new.rows.items numbers.now) }
+        ensures others { OnOk result ((others : List ℕ) → HasRow self.old.rows.items others → HasRow self.new.rows.items others) }
+    {
+        let row = Row::copied(alloc, numbers)?;
+        self.numbers.push(r)?;
+        self.rows.push(row)?;
+        Ok(())
+    }
+}
+
+/// The first numbers of a row, by which rows are sorted.
+#[derive(Clone, Copy, PartialEq, Eq, PartialOrd, Ord)]
+struct Place {
+    start: [u32; 4],
+    row: usize,
+}
+
+/// The rows of a table, each once, sorted by their numbers.
 pub fn distinct_rows(alloc: Global, table: &Table) -> Result<Distinct, AllocError>
     ensures rows { IfOk result (λ x. AreRowsOf table.now.rows x.rows.items x.numbers.items) }
     ensures all { IfOk result (λ x. (r : ℕ) → r < length table.now.rows → HasRow x.rows.items (row table.now.rows r)) }
 {
-    let mut distinct = Distinct {
-        rows: Vec::new(alloc),
-        numbers: Vec::new(alloc),
-    };
+    let mut distinct = Distinct::new(alloc);
     let mut index = Vec::new(alloc);
     let size = table.len();
-    'observed: for r in 0..size {
-        let numbers = table.row(r);
-        if end_of(numbers) > table.detectors() {
-            take(alloc, &mut distinct, &mut index, numbers, r, size)?;
+    let places = sorted_places(alloc, table)?;
+    'sorted: for place in places.as_slice() {
+        let r = place.row;
+        if r < size {
+            take(alloc, &mut distinct, &mut index, table.row(r), r, size)?;
         }
     }
     'all: for r in 0..size {
         take(alloc, &mut distinct, &mut index, table.row(r), r, size)?;
     }
     Ok(distinct)
+}
+
+/// The rows by their first numbers. No proof rests on it: each row is taken in the end.
+fn sorted_places(alloc: Global, table: &Table) -> Result<Vec<Place>, AllocError> {
+    let mut places = Vec::with_capacity(alloc, table.len())?;
+    for r in 0..table.len() {
+        let start = start_of(table.row(r));
+        places.push(Place { start, row: r })?;
+    }
+    places.sort()?;
+    Ok(places)
+}
+
+/// The first numbers of a row, each one more than it is.
+fn start_of(numbers: &[u32]) -> [u32; 4] {
+    let mut start = [0; 4];
+    for k in 0..4 {
+        if k < numbers.len() {
+            start[k] = numbers[k].saturating_add(1);
+        }
+    }
+    start
 }
 
 /// Takes a row at the end, if no row is the same. `index` lists the rows by their hashes.
@@ -61,9 +120,7 @@ fn take(
         return Ok(());
     }
     list(alloc, index, place, distinct.rows.len())?;
-    let row = Row::copied(alloc, numbers)?;
-    distinct.numbers.push(r)?;
-    distinct.rows.push(row)?;
+    distinct.add(alloc, numbers, r)?;
     Ok(())
 }
 

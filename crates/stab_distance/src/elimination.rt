@@ -106,14 +106,17 @@ impl Echelon {
         Ok(sum)
     }
 
-    /// Notes which of the first pivots are added to a row. One that is noted twice cancels.
+    /// Notes which of the first pivots are added to a row, up to the detector that leads the next one, which is the row's own. One that
+    /// is noted twice cancels.
     fn note_added(&self, words: Vec<u64>, added: &mut [bool]) {
         let mut words = words;
         for d in 0..self.leads.len() {
             if has_bit(words.as_slice(), d)
                 && let Some(p) = self.leads[d]
-                && p < added.len()
             {
+                if p >= added.len() {
+                    break;
+                }
                 added[p] = !added[p];
                 self.add_pivot(p, words.as_mut_slice());
             }

@@ -124,6 +124,16 @@ impl Errors {
         self.keys.rows_with(key)
     }
 
+    /// The number of detectors up to the last that is flipped.
+    pub(crate) fn flipped_detectors(&self) -> usize {
+        self.numbers.len()
+    }
+
+    /// The number of a detector.
+    pub(crate) fn number(&self, d: u32) -> u64 {
+        number_at(self.numbers.as_slice(), d)
+    }
+
     /// Some errors, among them each that flips detector d.
     pub fn flipping(&self, d: u32) -> &[usize]
         ensures inside { Each (λ r. r < length self.now.table.rows) result.now }

@@ -85,7 +85,7 @@ impl Keys {
 }
 
 /// The least number of places for each row.
-const PLACES: u64 = 8;
+const PLACES: u64 = 4;
 
 /// The low bits of a key by which rows are listed: one less than a power of two, from 255 to 2^20 - 1.
 fn mask_for(rows: usize) -> u64 {

@@ -1,7 +1,8 @@
 //! The least number of errors that flip an observable and no detector: an exact search over a table of errors.
 //!
 //! - `row`, `table`: what each error flips. `answer`: the answers, and the trait that reports progress.
-//! - `least`: the call. `distinct`: errors that flip the same count once. `sets`: what is found, in order.
+//! - `least`: the call. `distinct`: errors that flip the same count once. `kept`: errors that are enough, of one of the `classes` of detectors
+//!   each. `sets`: what is found, in order.
 //! - `sizes`: one error is tried, then two, and so on. `searching`: the search itself. `merging`: what errors flip together.
 //! - `errors`: the errors ready for a search. `index`, `keys`: which errors to try. `candidates`: of which each set has one. `pairs`: which are never
 //!   tried together.
@@ -24,6 +25,7 @@ mod answer;
 mod bounds;
 mod candidates;
 mod certificate;
+mod classes;
 mod cycles;
 mod distinct;
 mod edges;
@@ -33,6 +35,7 @@ mod existence;
 mod graph;
 mod graphlike;
 mod index;
+mod kept;
 mod keys;
 mod labels;
 pub mod laws;

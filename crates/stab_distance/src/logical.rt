@@ -1,6 +1,8 @@
 ghost use Rattle.std.specs.Prelude.{◌≡◌, ℕ, ◌<◌, ◌≤◌, true, length, slice_index, IfOk, IfSome};
 ghost use Rattle.stab_distance.specs.Ascending.{IsAscending};
 ghost use Rattle.stab_distance.specs.LogicalErrors.{IsLogicalError};
+ghost use Rattle.stab_distance.specs.Tables.{odd, flips};
+ghost use Rattle.stab_distance.specs.inner.Lists.{Each};
 ghost use Rattle.stab_distance.specs.inner.Shortest.{IsLogicalSet};
 
 use crate::merging::merge_into;
@@ -49,19 +51,36 @@ pub fn is_logical(
 ) -> Result<bool, AllocError>
     ensures yes { IfOk result (λ b. b ≡ true → IsLogicalError (record { detectors = detectors; rows = rows.now }) errors.now) }
 {
+    let flipped = match flipped_by(alloc, rows, errors)? {
+        None => return Ok(false),
+        Some(flipped) => flipped,
+    };
+    let flips = flipped.as_slice();
+    if flips.is_empty() {
+        return Ok(false);
+    }
+    Ok(flips[0] as usize >= detectors)
+}
+
+/// What these rows flip together, if each is there.
+pub fn flipped_by(
+    alloc: Global,
+    rows: &[Row],
+    errors: &[usize],
+) -> Result<Option<Vec<u32>>, AllocError>
+    ensures inside { IfOk result (λ a. IfSome a (λ v. Each (λ r. r < length rows.now) errors.now)) }
+    ensures ascending { IfOk result (λ a. IfSome a (λ v. IsAscending v.items)) }
+    ensures odd { IfOk result (λ a. IfSome a (λ v. (i : ℕ) → odd i v.items ≡ flips rows.now errors.now i)) }
+{
     let mut flipped: Vec<u32> = Vec::new(alloc);
     'each: for r in errors {
         if *r >= rows.len() {
-            return Ok(false);
+            return Ok(None);
         }
         let mut next = Vec::new(alloc);
         let row = &rows[*r];
         merge_into(&mut next, flipped.as_slice(), row.numbers())?;
         flipped = next;
     }
-    let flips = flipped.as_slice();
-    if flips.is_empty() {
-        return Ok(false);
-    }
-    Ok(flips[0] as usize >= detectors)
+    Ok(Some(flipped))
 }

@@ -9,7 +9,7 @@ ghost use Rattle.stab_distance.specs.inner.Pairs.{IsLeftOut, ArePairs};
 
 use crate::errors::mixed;
 use crate::index::{list, rows_at};
-use crate::merging::merge_into;
+use crate::logical::flipped_by;
 use crate::row::Row;
 use std::alloc::{AllocError, Global};
 
@@ -49,34 +49,54 @@ fn sums_of(
     index: &[Vec<usize>],
     detectors: usize,
 ) -> Result<Vec<Sum>, AllocError> {
-    let mut keys = Vec::new(alloc);
-    for a in 0..rows.len() {
-        let row = &rows[a];
-        keys.push(whole_key(row.numbers()))?;
-    }
+    let keys = whole_keys(alloc, rows)?;
     let mut seen = vec![in alloc; usize::MAX; rows.len()]?;
     let mut sums = Vec::new(alloc);
     for a in 0..rows.len() {
-        sums.push(Sum {
-            key: key_at(keys.as_slice(), a),
-            a,
-            b: a,
-        })?;
+        let key = key_at(keys.as_slice(), a);
+        sums.push(Sum { key, a, b: a })?;
         let row = &rows[a];
-        for d in row.numbers() {
-            let d = *d as usize;
-            if d < detectors {
-                add_sums(
-                    keys.as_slice(),
-                    a,
-                    rows_at(index, d),
-                    seen.as_mut_slice(),
-                    &mut sums,
-                )?;
-            }
-        }
+        let seen = seen.as_mut_slice();
+        add_sums_at(
+            keys.as_slice(),
+            a,
+            row.numbers(),
+            index,
+            detectors,
+            seen,
+            &mut sums,
+        )?;
     }
     Ok(sums)
+}
+
+/// Adds the sums of error a, which flips these numbers, and each error after it that flips one of their detectors.
+fn add_sums_at(
+    keys: &[u64],
+    a: usize,
+    numbers: &[u32],
+    index: &[Vec<usize>],
+    detectors: usize,
+    seen: &mut [usize],
+    sums: &mut Vec<Sum>,
+) -> Result<(), AllocError> {
+    for d in numbers {
+        let d = *d as usize;
+        if d < detectors {
+            add_sums(keys, a, rows_at(index, d), seen, sums)?;
+        }
+    }
+    Ok(())
+}
+
+/// A key of all that each error flips.
+fn whole_keys(alloc: Global, rows: &[Row]) -> Result<Vec<u64>, AllocError> {
+    let mut keys = Vec::with_capacity(alloc, rows.len())?;
+    for r in 0..rows.len() {
+        let row = &rows[r];
+        keys.push(whole_key(row.numbers()))?;
+    }
+    Ok(keys)
 }
 
 /// A key of all that an error flips.
@@ -268,17 +288,10 @@ fn are_even(alloc: Global, rows: &[Row], numbers: &[usize]) -> Result<bool, Allo
     ensures inside { IfOk result (λ b. b ≡ true → Each (λ r. r < length rows.now) numbers.now) }
     ensures even { IfOk result (λ b. b ≡ true → (i : ℕ) → flips rows.now numbers.now i ≡ false) }
 {
-    let mut flipped = Vec::new(alloc);
-    for r in numbers {
-        if *r >= rows.len() {
-            return Ok(false);
-        }
-        let row = &rows[*r];
-        let mut next = Vec::new(alloc);
-        merge_into(&mut next, flipped.as_slice(), row.numbers())?;
-        flipped = next;
+    match flipped_by(alloc, rows, numbers)? {
+        None => Ok(false),
+        Some(flipped) => Ok(flipped.is_empty()),
     }
-    Ok(flipped.is_empty())
 }
 
 /// Lists two errors with each other.

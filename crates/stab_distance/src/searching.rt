@@ -43,7 +43,7 @@ pub fn search(
         return last_error(alloc, errors, first, path.as_slice(), flipped, key);
     }
     let next = candidates(alloc, errors, first, path.as_slice(), flipped, left, cover)?;
-    let mut merged = Vec::new(alloc);
+    let mut merged = Vec::with_capacity(alloc, flipped.len())?;
     'tries: for g in next.as_slice() {
         let found = try_error(
             alloc,

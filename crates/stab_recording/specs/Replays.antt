@@ -27,10 +27,10 @@ use Rattle.stab_recording.specs.LaidCheckpoints.{moved}
 abbrev pub step_among_new : Plan → Checkpoint → ℕ
 step_among_new p c = moved p.old_end p.new_end c.step
 
--- at least so far apart a replay lays copies: less than a stride K, if it is 8 or more, so that steps can be put in between two
+-- at least so far apart a replay lays copies: less than a stride K, if it is 4 or more, so that steps can be put in between two
 -- neighbours before these are more than a stride apart
 abbrev pub spacing_of : ℕ → ℕ
-spacing_of K = K - K / 8
+spacing_of K = K - K / 4
 
 -- where a replay may stop next: at the place of the old copy that may be met next where that is no more than a stride further, and else
 -- a spacing further, or after the last step if that comes first

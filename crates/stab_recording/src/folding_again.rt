@@ -21,6 +21,7 @@ use crate::checkpoint::Checkpoint;
 use crate::earlier::Earlier;
 use crate::folding::{give_again, part_between};
 use crate::framed_copies::{append_framed, lengths_propagated, pivot_again};
+use crate::meeting::are_fixed;
 use crate::other_coins::propagate_with_coins;
 use crate::replay::{Plan, Replay};
 use crate::rhythm::{block_at, end_of};
@@ -316,9 +317,17 @@ impl<'a> Replay<'a> {
         Ok(())
     }
 
+    /// Whether a coin decided since the copy before the last one.
+    fn has_decided(&self) -> bool {
+        let Some(number) = self.laid.len().checked_sub(2) else {
+            return false;
+        };
+        !are_fixed(self.outputs.free.as_slice(), self.laid[number].lengths.free)
+    }
+
     /// Goes on in a block by what the replay gave before, if it is as it was at a copy that it laid there: the same comes
-    /// again, as often as there is room before the end of the block, and before the old copy that may be met next. If it is so
-    /// except for a frame, the same comes again flipped.
+    /// again, as often as there is room before the end of the block, and before the old copy that may be met next. If coins decide there, it
+    /// never is quite so, and if it is so except for a frame, the same comes again flipped.
     ///
     /// Refusal `OutOfMemory` alone.
     pub(crate) fn come_again<C: Coins>(
@@ -359,7 +368,8 @@ impl<'a> Replay<'a> {
         if end.saturating_sub(self.step) < plan.spacing() {
             return Ok(());
         }
-        self.fold(alloc, circuit, block, true, plan.spacing(), end, coins)?;
+        let framed = self.has_decided();
+        self.fold(alloc, circuit, block, framed, plan.spacing(), end, coins)?;
         Ok(())
     }
 }

@@ -14,7 +14,7 @@ use stab_run::Outputs;
 
 /// If a block has this many periods left, in which copies may be alike, its rounds come again in less time than a frame of many
 /// letters takes from copy to copy.
-const MANY_PERIODS: usize = 16;
+const MANY_PERIODS: usize = 2;
 
 impl Plan {
     ghost use Rattle.std.specs.Prelude.{◌≡◌, ℕ, ◌<◌, ◌≤◌, IfSome, length, slice_get};

@@ -103,7 +103,18 @@ impl Plan {
         ensures above { 1 ≤ result }
         ensures within { result ≤ self.stride }
     {
-        self.stride - self.stride / 8
+        self.stride - self.stride / 4
+    }
+
+    /// Whether rounds come after what was changed, in which a replay may stand as it stood before.
+    fn has_rounds_ahead(self, repeats: &[Repeat]) -> bool {
+        for repeat in repeats {
+            let steps = repeat.rounds.saturating_mul(repeat.length);
+            if steps >= self.stride && repeat.first.saturating_add(steps) > self.new_end {
+                return true;
+            }
+        }
+        false
     }
 
     /// Where a replay that is at a step stops next, before the place of an old copy or at it.
@@ -316,8 +327,9 @@ impl<'a> Replay<'a> {
         let mut telling = 0;
         // What copies are expanded into, so that memory for it is asked for once at most.
         let mut spare: Option<Tableau> = None;
-        // Whether frames are propagated, which is so until a string is missing for one.
-        let mut leads = true;
+        // Whether frames are propagated, which is so until a string is missing for one. Where rounds lie ahead a state comes again
+        // in less time.
+        let mut leads = !plan.has_rounds_ahead(repeats);
         'following: loop {
             let reached = self.advance(alloc, repeats, copies, old, plan, next, coins)?;
             match self.arrive(alloc, copies, old, plan, reached, &mut spare, &mut telling)? {

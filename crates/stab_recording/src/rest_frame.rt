@@ -11,7 +11,6 @@ ghost use Rattle.stab_recording.specs.Replays.{BeginsAt, IsFramed};
 
 use crate::checkpoint::{Checkpoint, shifted};
 use crate::frames_between::frame_between;
-use crate::meeting::may_have_coin;
 use crate::replay::{Plan, Replay};
 use crate::rest_of_run::propagate_rest;
 use stab_edits::{Circuit, Cursor};
@@ -37,7 +36,7 @@ pub struct RestFrame {
 
 impl<'a> Replay<'a> {
     /// The frame by which the replay differs from the old copy with a number, if it is at the place of that and differs by one, and the
-    /// coins of the old run serve it from there on.
+    /// next coin has the same number.
     ///
     /// Refusal `OutOfMemory` alone.
     fn frame_at(
@@ -60,7 +59,7 @@ impl<'a> Replay<'a> {
         let copy = &copies[number];
         if copy.step < plan.old_end
             || shifted(plan.old_end, plan.new_end, copy.step) != self.step
-            || !may_have_coin(copy, old.free.as_slice(), self.outputs.free.len())
+            || copy.lengths.free != self.outputs.free.len()
         {
             return Ok(None);
         }

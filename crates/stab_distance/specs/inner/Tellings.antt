@@ -22,9 +22,9 @@ pub record TellsSizes {E : Type 0} (t : ErrorTable) (from most : ℕ) (old new :
   pub heard : HearsOn from last old new
   pub all : IfOk result (λ a. IsLast most a last)
 
--- a whole search does
-pub record TellsAnswer {E : Type 0} (t : ErrorTable) (most : ℕ) (old new : Option (List Heard)) (result : Result Answer E) : Type 0 where
+-- a search after `from` errors to the end does
+pub record TellsAnswer {E : Type 0} (t : ErrorTable) (from most : ℕ) (old new : Option (List Heard)) (result : Result Answer E) : Type 0 where
   pub last : ℕ
   pub none : HasNoneWithin t last
-  pub heard : HearsOn 0 last old new
+  pub heard : HearsOn from last old new
   pub all : IfOk result (λ a. IsExcludedBy most a last)

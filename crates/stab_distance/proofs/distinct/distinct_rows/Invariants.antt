@@ -1,8 +1,8 @@
 use Rattle.stab_distance.proofs.Names.{ℕ, ◌<◌, row, AreRowsOf, HasRow}
 use Rattle.stab_distance.proofs.distinct.distinct_rows.Given as goal
 
-abbrev pub invariant-observed : goal.invariant-observed
-invariant-observed l = AreRowsOf l.table.rows l.distinct.rows.items l.distinct.numbers.items
+abbrev pub invariant-sorted : goal.invariant-sorted
+invariant-sorted l = AreRowsOf l.table.rows l.distinct.rows.items l.distinct.numbers.items
 
 abbrev pub invariant-all : goal.invariant-all
 invariant-all l = record {

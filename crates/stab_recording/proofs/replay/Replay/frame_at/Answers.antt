@@ -1,11 +1,8 @@
-use Rattle.stab_recording.proofs.Names.{rules, Bool, true, IsTrue, inl, inr, ◌≡◌, refl, sym, ◌∙◌, ap, subst, Some, slice_get, IsSomeAnd, length, drop, arith, slice_get_read, IfSome_then, ones, output_of, BeginsAt, IsCheckpoint}
+use Rattle.stab_recording.proofs.Names.{inl, ◌≡◌, refl, sym, ◌∙◌, subst, Some, slice_get, IsSomeAnd, length, arith, slice_get_read, IfSome_then, output_of, BeginsAt, IsCheckpoint}
 use Rattle.stab_recording.proofs.RunCopyLemmas.{lengths-within}
 use Rattle.stab_recording.proofs.CursorPlaceLemmas.{at-number}
 use Rattle.stab_recording.proofs.replay.Replay.frame_at.Goals as goal
 use Rattle.stab_recording.proofs.replay.Replay.frame_at.Goals.{After-index-copies-number}
-
-is-true : (b : Bool) → b ≡ true → IsTrue b
-is-true b e = search rules
 
 here : (c : After-index-copies-number) → slice_get c.args.copies.now c.args.number ≡ Some c.index-copies-number.result
 here c = slice_get_read c.args.copies.now (length c.args.copies.now) c.args.number c.index-copies-number.result refl (omega (arith, c.if-number-copies.false)) c.index-copies-number.is
@@ -27,18 +24,11 @@ frame_between-requires-clause-records c =
 pub returns-clause-found : goal.returns-clause-found
 returns-clause-found c =
     let from = here ((goal.at.returns-clause-found c).After-index-copies-number) in
-    let served : c.may_have_coin.result ≡ true = grind (arith, c.if-not-may_have_coin.false) in
-    let coins = c.may_have_coin.ensures.value.0 (is-true c.may_have_coin.result served) in
-    let flags : c.as_slice.result.now ≡ c.args.old.now.free.items = c.as_slice.ensures.value in
     IfSome_then c.in_ok-found.found c.in_ok-found.ensures.propagation (λ w found.
     subst (λ m. IsSomeAnd m (BeginsAt c.args.plan c.args.self.now (output_of c.args.old.now) w)) (sym from) (record {
       behind = grind (arith, c.if-copy-plan.false);
       place = sym c.shifted.ensures.value ∙ grind (arith, c.if-shifted-self.false);
-      coin =
-          elim coins [
-            | inl same ↦ inl (sym c.args.self.now.outputs.free.ok.0 ∙ sym c.len.ensures ∙ same)
-            | inr none ↦ inr (ap (λ bits. ones (drop c.index-copies-number.result.lengths.free bits)) (sym flags) ∙ none)
-          ];
+      coin = inl (sym c.args.self.now.outputs.free.ok.0 ∙ sym c.len.ensures ∙ grind (arith, c.if-copy-len.false));
       within = c.requires.base;
       same = c.requires.same_records;
       frame = found;
