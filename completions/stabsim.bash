@@ -17,7 +17,7 @@ _stabsim() {
         ;;
     --out_format) choices="01 b8 r8 hits dets" ;;
     --letters) choices="all XZ" ;;
-    --shots | --first_shot | --seed | --coins | --qubits | --stride | --most) return ;;
+    --shots | --first_shot | --seed | --coins | --qubits | --stride | --most | --observable) return ;;
     *)
         case $command in
         sample) choices="--shots --first_shot --out_format --seed --coins --coins_in --in --out --help" ;;
@@ -28,7 +28,7 @@ _stabsim() {
         deterministic) choices="--out_format --explain --in --out --help" ;;
         faults) choices="--out_format --everywhere --deterministic_only --in --out --help" ;;
         coins) choices="--out_format --in --out --help" ;;
-        distance) choices="--everywhere --letters --most --graphlike --deterministic_only --progress --in --out --help" ;;
+        distance) choices="--everywhere --letters --most --graphlike --observable --table --deterministic_only --progress --in --out --help" ;;
         help) [ "$COMP_CWORD" -eq 2 ] && choices=$commands ;;
         esac
         [ "$COMP_CWORD" -eq 1 ] && choices="$commands help --help --version"

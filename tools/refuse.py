@@ -76,6 +76,8 @@ deterministic --explain --in parities.stim
 faults --in marked.stim
 faults --out_format 01 --in marked.stim
 distance --in marked.stim
+distance --observable 0 --in marked.stim
+distance --table --in marked.stim
 """
 
 Done = subprocess.CompletedProcess[bytes]

@@ -64,6 +64,8 @@ DRAWN: dict[str, Callable[[Random], Any]] = {
     "letters": lambda dice: dice.choice((None, "XZ")),
     "most": lambda dice: dice.choice((None, None, 1, 2, 3)),
     "graphlike": lambda dice: dice.random() < 0.4,
+    "observable": lambda dice: dice.choice((None, None, 0, 0, 1, 2, 4095)),
+    "table": lambda dice: dice.random() < 0.3,
 }
 OPTIONS = {
     "sample": ("seed", "coins", "shots", "out_format", "first_shot"),
@@ -73,7 +75,7 @@ OPTIONS = {
     "deterministic": ("out_format", "explain"),
     "faults": ("out_format", "everywhere", "deterministic_only"),
     "coins": ("out_format",),
-    "distance": ("letters", "most", "graphlike"),
+    "distance": ("letters", "most", "graphlike", "observable", "table"),
     "check": (),
 }
 
@@ -81,11 +83,13 @@ OPTIONS = {
 def random_case(dice: Random, command: str, text: bytes, script: bytes | None = None, **fixed: Any) -> Case:
     """A case with options by chance, except for those that are given."""
     settings = {name: DRAWN[name](dice) for name in OPTIONS[command]} | fixed
-    # A first shot is one of a seed, and not beside coins; and what is explained has no format.
+    # A first shot is one of a seed, and not beside coins; what is explained has no format; and a table is not beside what is about a search.
     if settings.get("coins") is not None:
         settings["first_shot"] = None
     if settings.get("explain"):
         settings["out_format"] = None
+    if settings.get("table"):
+        settings["most"] = settings["observable"] = None
     return Case(command, text, tuple(settings.items()), script)
 
 
@@ -178,10 +182,16 @@ def expected(case: Case) -> Ended | None:
 
 
 def distance(items: Items, case: Case, answer: Ended) -> Ended:
-    """The answer, if it is an unseen set of errors and no set of fewer is unseen, as far as all sets are tried; else what is wrong with it."""
-    found = Distance(items, case.setting("everywhere", False), case.setting("letters", "XYZ"), case.setting("graphlike", False))
-    wrong = found.wrong(answer[1], case.setting("most"))
+    """The answer, if it is the table of errors, or an unseen set of errors and no set of fewer is unseen, as far as all sets are tried; else what is wrong with it."""
+    observable = case.setting("observable")
+    found = Distance(items, case.setting("everywhere", False), case.setting("letters", "XYZ"), case.setting("graphlike", False), observable)
     told = b"" if case.setting("everywhere", False) else doubts.told(items)
+    if case.setting("table"):
+        is_none = not found.table and not case.setting("everywhere", False)
+        return 0, found.lines().encode(), told + is_none * (NO_LETTERS if case.setting("letters") else NO_MARKS)
+    wrong = found.wrong(answer[1], case.setting("most"))
+    if observable is not None and observable >= numbers.observables(items):
+        told += f"stabsim: the circuit has no L{observable}, observables: {numbers.observables(items)}\n".encode()
     # That nothing is marked, or no letter is left, is told last.
     last = answer[2].removeprefix(told)
     return 0, wrong.encode() if wrong else answer[1], told + (last if last in (NO_MARKS, NO_LETTERS) else b"")

@@ -105,11 +105,13 @@ class Distance:
     """The errors of a circuit, what each flips, and the smallest number of them that are unseen, if it is at most `MOST_ERRORS`.
 
     Of letters everywhere, or at marked places; `graphlike`: only of errors that flip at most two detectors, after any other gave way to
-    its parts; `deterministic_only`: of deterministic bits, or else `NotDeterministic` if a bit is not.
+    its parts; with an `observable`, of sets that flip this one; `deterministic_only`: of deterministic bits, or else `NotDeterministic` if
+    a bit is not.
     """
 
-    def __init__(self, items: Items, everywhere: bool, letters: str, graphlike: bool, deterministic_only: bool = False) -> None:
-        self.graphlike = graphlike
+    def __init__(self, items: Items, everywhere: bool, letters: str, graphlike: bool, observable: int | None = None,
+                 deterministic_only: bool = False) -> None:
+        self.graphlike, self.observable = graphlike, observable
         self.of_all = " of all errors everywhere" if everywhere else " of all marked errors"
         errors = list((errors_everywhere if everywhere else errors_marked)(items, letters))
         parts = [part for error in errors for part in parts_of(error)]
@@ -119,10 +121,10 @@ class Distance:
             self.sums.need_deterministic()
         flips = {letter: sum(flip << bit for bit, flip in enumerate(self.sums.flipped(number))) for number, letter in enumerate(placed)}
         rows = {error: reduce(xor, (flips[letter] for letter in error.letters)) for error in errors + parts}
-        self.rows = {error: rows[error] for error in errors}
-        if graphlike:
-            split = [part for error in self.rows if not self.is_graphlike(rows[error]) for part in parts_of(error)]
-            self.rows = {error: rows[error] for error in [*self.rows, *split] if self.is_graphlike(rows[error])}
+        # All errors, of which some flip more than two detectors, also as parts; and those that are searched.
+        self.table = [it for error in errors for it in ([error] if not graphlike or self.is_graphlike(rows[error]) else parts_of(error))]
+        self.all_rows = rows
+        self.rows = {error: rows[error] for error in self.table if not graphlike or self.is_graphlike(rows[error])}
         flipping = sorted(set(self.rows.values()) - {0})
         sizes = range(1, MOST_ERRORS + 1)
         self.least = next((size for size in sizes if any(self.is_unseen(reduce(xor, chosen)) for chosen in combinations(flipping, size))), None)
@@ -135,13 +137,18 @@ class Distance:
         return self.detectors(row) <= 2
 
     def is_unseen(self, row: int) -> bool:
-        """Whether a row has an observable and no detector."""
-        return row > 0 and self.detectors(row) == 0
+        """Whether a row has an observable that is asked for, and no detector."""
+        is_asked = row > 0 if self.observable is None else row >> len(self.sums.paths) + self.observable & 1 == 1
+        return is_asked and self.detectors(row) == 0
 
     def line(self, error: Error) -> str:
         """The line of an error."""
-        named = [self.sums.name(bit) for bit in range(len(self.sums.bits)) if self.rows[error] >> bit & 1]
+        named = [self.sums.name(bit) for bit in range(len(self.sums.bits)) if self.all_rows[error] >> bit & 1]
         return " ".join([str(error.before), error.path, error.name, *named])
+
+    def lines(self) -> str:
+        """The lines of all errors, in order."""
+        return "".join(f"{self.line(error)}\n" for error in self.table)
 
     def are_unseen(self, lines: Sequence[str]) -> bool:
         """Whether these are lines of errors that are unseen together."""
@@ -152,11 +159,12 @@ class Distance:
         """What is wrong of what the command `distance` wrote of up to this many errors, if anything is."""
         first, *lines = answer.decode().split("\n")[:-1]
         of_which = " of graph-like errors" if self.graphlike else ""
+        for_one = "" if self.observable is None else f" for L{self.observable}"
         is_least = len(lines) == self.least or self.least is None and len(lines) > MOST_ERRORS
         rights = {
-            f"none{of_which}": not lines and self.least is None,
-            f"none up to {most}{of_which}": not lines and most is not None and (self.least is None or self.least > most),
-            f"distance {len(lines)}{of_which or self.of_all}":
+            f"none{of_which}{for_one}": not lines and self.least is None,
+            f"none up to {most}{of_which}{for_one}": not lines and most is not None and (self.least is None or self.least > most),
+            f"distance {len(lines)}{of_which or self.of_all}{for_one}":
                 is_least and len(lines) <= (most or len(lines)) and self.are_unseen(lines),
         }
         return None if rights.get(first) else f"{first!r} with {lines}, but the least number of errors that are unseen is {self.least}"

@@ -135,6 +135,11 @@ DISTANCE_OF_TWICE = "distance 2 of all marked errors\n2 1 X0 D0\n3 1 X1 D0 L0\n"
     ("distance --everywhere", UNMARKED, "distance 1 of all errors everywhere\n1 0 X0 L0\n", ""),
     ("distance", MARKED, "distance 1 of all marked errors\n1 1 Y0 L0\n", ""),
     ("distance", TWICE, DISTANCE_OF_TWICE, ""),
+    ("distance --observable 0", TWICE, DISTANCE_OF_TWICE.replace("errors", "errors for L0"), ""),
+    ("distance --observable 1", TWICE, "none for L1\n", "stabsim: the circuit has no L1, observables: 1\n"),
+    ("distance --table", TWICE, "2 1 X0 D0\n3 1 X1 D0 L0\n", ""),
+    ("distance --table", UNMARKED, "", NO_MARKS),
+    ("distance --table --letters XZ", MARKED, "", NO_LETTERS),
     ("distance --progress", TWICE, DISTANCE_OF_TWICE, "distance: no set of 1\n"),
     ("distance --progress --most 1", TWICE, "none up to 1\n", "distance: no set of 1\n"),
 ])

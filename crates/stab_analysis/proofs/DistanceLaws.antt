@@ -1,5 +1,5 @@
 -- Laws of a distance: how a call goes on that finds none, or finds one and sends it.
-use Rattle.stab_analysis.proofs.Names.{◌≡◌, refl, sym, ap, subst, ℕ, Bool, List, Result, Ok, Err, Option, Some, None, inr, IsErrAnd, OutputView, Fault, Items, DistanceOptions, Random, Distance, SendsFound, FaultsRefused, GoesOn, fault_of, random_of, HearsDistance, Heard, IsDistanceOf, IsDistanceText, IsRefusedFor, answer_text, SendsAtOnce}
+use Rattle.stab_analysis.proofs.Names.{◌≡◌, refl, sym, ap, subst, ℕ, Bool, List, Result, Ok, Err, IfErr, Option, Some, None, inl, inr, IsErrAnd, OutputView, Fault, Items, DistanceOptions, Random, Distance, SendsFound, FaultsRefused, GoesOn, fault_of, random_of, HearsDistance, Heard, IsDistanceOf, IsDistanceText, IsRefusedFor, answer_text, SendsAtOnce}
 use Rattle.stab_analysis.proofs.FoundLaws.{found_at_once}
 
 -- a bit that is not deterministic, or lack of memory, ends the call before anything is written
@@ -24,3 +24,15 @@ pub heard_handed : {T : Type 0} (options : DistanceOptions) (items : Items) (e :
     → HearsDistance {T = T} options items old new (Err e.fault) → HearsDistance {T = T} options items old new (fault_of r)
 heard_handed options items e (Ok x) old new is heard = absurd is
 heard_handed options items e (Err y) old new is heard = heard
+
+-- a call that hands on why there is no answer is refused for the same
+pub refused_alike : {T : Type 0} (deterministic_only : Bool) (items : Items) (e : FaultsRefused) (r : Result T FaultsRefused) → IsErrAnd r (λ y. y ≡ e) → IsRefusedFor deterministic_only items e.random e.fault
+    → IfErr r (λ x. IsRefusedFor deterministic_only items x.random x.fault)
+refused_alike deterministic_only items e (Ok x) is refused = absurd is
+refused_alike deterministic_only items e (Err y) is refused = subst (λ (x : FaultsRefused). IsRefusedFor deterministic_only items x.random x.fault) (sym is) refused
+
+-- and nothing was heard of it, if it ended before a search
+pub unheard_handed : {T : Type 0} (options : DistanceOptions) (items : Items) (e : FaultsRefused) (r : Result T FaultsRefused) (old : Option (List Heard)) → IsErrAnd r (λ y. y ≡ e)
+    → HearsDistance options items old old (fault_of r)
+unheard_handed options items e (Ok x) old is = absurd is
+unheard_handed options items e (Err y) old is = inl refl

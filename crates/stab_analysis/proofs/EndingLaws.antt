@@ -6,6 +6,7 @@ use Rattle.stab_texts.specs.Endings.{GaveCircuit, Sends}
 use Rattle.stab_texts.specs.FaultTables.{EndsOrNames}
 use Rattle.stab_texts.specs.Distances.{TellsDistance}
 use Rattle.stab_texts.specs.DoubtLines.{TellsIfOk, Warns, doubts_of}
+use Rattle.stab_texts.specs.MissingObservables.{WarnsOf}
 use Rattle.stab_texts.proofs.WritingLaws.{took_some_none}
 
 -- memory was refused before anything was written
@@ -37,6 +38,10 @@ heard_on options i i' old new items r x gave heard is = subst (λ s. TellsDistan
 -- after a fault no mark is reported
 pub unwarned : {T : Type 0} (everywhere : Bool) (i i' : InputView) (e : OutputView) (r : Result T FaultsRefused) (x : FaultsRefused) → r ≡ Err x → Warns everywhere i i' e e (fault_of r)
 unwarned everywhere i i' e r x is = subst (λ s. Warns everywhere i i' e e (fault_of s)) (sym is) refl
+
+-- the same of a call that asks for an observable, or for none
+pub unwarned_of : {T : Type 0} (everywhere : Bool) (observable : Option ℕ) (i i' : InputView) (e : OutputView) (r : Result T FaultsRefused) (x : FaultsRefused) → r ≡ Err x → WarnsOf everywhere observable i i' e e (fault_of r)
+unwarned_of everywhere observable i i' e r x is = subst (λ s. WarnsOf everywhere observable i i' e e (fault_of s)) (sym is) refl
 
 -- `check`: memory was refused before anything was written
 pub check_unsent : {T : Type 0} (bytes : List ℕ) (o : OutputView) (f : Fault) (r : Result T Fault) → f ≡ whole OutOfMemory → IsErrAnd r (λ y. y ≡ f) → Sends bytes o o r

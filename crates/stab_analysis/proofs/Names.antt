@@ -8,6 +8,7 @@ pub use Rattle.std.proofs.lemmas.List.Elements.{All-nil, All-cons, All-take, All
 pub use Rattle.std.proofs.lemmas.Result.{err_from_is_err_and}
 pub use Rattle.std.specs.Global.{Vec}
 pub use Rattle.std.specs.List.{flat_map}
+pub use Rattle.std.specs.Prelude.{IfErr}
 pub use Rattle.std.specs.Result.{IsErrAnd}
 pub use Rattle.stab_edits.proofs.EditLemmas.{entries-listed}
 pub use Rattle.stab_edits.specs.Cursors.{step_shown, steps_shown, lookbacks_of}
@@ -96,7 +97,7 @@ pub use Rattle.stab_analysis.specs.Checks.{SendsSome, numbers_of, IsCountedBy, n
 pub use Rattle.stab_texts.specs.CoinTables.{coin_text, coins_text, whole_bits, whole_kinds}
 pub use Rattle.stab_texts.specs.Deciders.{checked_bits, deciders}
 pub use Rattle.stab_texts.specs.Deterministic.{IsDeterministicText}
-pub use Rattle.stab_texts.specs.Distances.{HearsDistance, IsDistanceOf, IsDistanceText, IsRefusedFor, answer_text, numbered_line, none_line, distance_line}
+pub use Rattle.stab_texts.specs.Distances.{AreErrorsOf, HearsDistance, IsDistanceOf, IsDistanceText, IsRefusedFor, IsSearchedText, answer_text, distance_line, if_graphlike, line_end, none_line, numbered_line, of_errors, error_lines, up_to}
 pub use Rattle.stab_texts.specs.Endings.{SendsFound, FlushesOrFault, SendsUnflushed}
 pub use Rattle.stab_texts.specs.FaultTables.{GoesOn, fault_of, random_of, set_all, IsFirstDecider, IsTableText, table_text}
 pub use Rattle.stab_texts.specs.Reasons.{bit_name, coordinates_at, decider_text, reason_line, reason_text, DeterministicHasNoDecider, has_bit, found_coordinates}

@@ -1,5 +1,5 @@
 //! The command that finds the least number of errors that flip an observable and no detector.
-ghost use Rattle.std.specs.Prelude.{◌≡◌, ℕ, None, IfOk, IfErr};
+ghost use Rattle.std.specs.Prelude.{◌≡◌, ℕ, ◌++◌, codes, None, IfOk, IfErr};
 ghost use Rattle.stab_io.specs.Devices.{WritesAll};
 ghost use Rattle.stab_io.specs.declared.refusal.Refusal.TheVariants.{OutOfMemory};
 ghost use Rattle.stab_circuit.specs.Items.{Items};
@@ -8,19 +8,19 @@ ghost use Rattle.stab_edits.specs.Views.{circuit_items};
 ghost use Rattle.stab_errors.specs.ErrorTables.{IsErrorTable, StepsInside};
 ghost use Rattle.stab_errors.specs.Unseen.{IsDistance, TellsUnseen};
 ghost use Rattle.stab_texts.specs.FaultTables.{GoesOn, fault_of, random_of};
-ghost use Rattle.stab_texts.specs.DoubtLines.{Warns};
-ghost use Rattle.stab_texts.specs.Distances.{EndsDistance, HearsDistance, IsDistanceOf, IsDistanceText, IsRefusedFor, answer_text, distance_line, if_graphlike, none_line, of_errors, TellsDistance};
+ghost use Rattle.stab_texts.specs.MissingObservables.{WarnsOf};
+ghost use Rattle.stab_texts.specs.Distances.{EndsDistance, HearsDistance, IsDistanceOf, IsDistanceText, IsRefusedFor, TellsDistance, answer_text, distance_line, if_graphlike, line_end, none_line, of_errors, up_to};
 ghost use Rattle.stab_analysis.specs.inner.Faults.{SendsAtOnce};
 
 use crate::deterministic::kinds_of;
 use crate::doubts::doubts_of;
-use crate::faults::refused_for;
+use crate::searched::searched_errors;
 use itoa::Buffer;
 use stab_circuit::{Circuit, read_circuit};
-use stab_errors::{Answer, ErrorTable, Progress, distance, errors, graphlike_distance};
+use stab_errors::{Answer, ErrorTable, Progress, distance, graphlike_distance};
 use stab_io::{Fault, Input, Output, Refusal};
 use stab_jobs::DistanceOptions;
-use stab_texts::{FaultsRefused, finish, tell_doubts, write_errors, write_texts};
+use stab_texts::{FaultsRefused, finish, tell_doubts, tell_missing, write_errors, write_texts};
 use std::alloc::Global;
 
 /// The errors of a circuit, and what a search found among them.
@@ -46,18 +46,19 @@ fn search<P: Progress>(
     options: DistanceOptions,
     progress: &mut P,
 ) -> Result<Answer, Refusal>
-    ensures distance { IfOk result (λ a. (n : ℕ) (items : Items) → IsErrorTable n items errors.now → IsDistance options.graphlike n items errors.now.errors options.most a) }
+    ensures distance { IfOk result (λ a. (n : ℕ) (items : Items) → IsErrorTable n items errors.now → IsDistance options.graphlike options.observable n items errors.now.errors options.most a) }
     ensures err { IfErr result (λ r. r ≡ OutOfMemory) }
-    ensures told { (n : ℕ) (items : Items) → IsErrorTable n items errors.now → TellsUnseen options.graphlike n items errors.now.errors options.most (P.heard progress.old) (P.heard progress.new) result }
+    ensures told { (n : ℕ) (items : Items) → IsErrorTable n items errors.now → TellsUnseen options.graphlike options.observable n items errors.now.errors options.most (P.heard progress.old) (P.heard progress.new) result }
 {
+    let observable = options.observable;
     if options.graphlike {
-        graphlike_distance(alloc, errors, options.most, progress)
+        graphlike_distance(alloc, errors, observable, options.most, progress)
     } else {
-        distance(alloc, errors, options.most, progress)
+        distance(alloc, errors, observable, options.most, progress)
     }
 }
 
-/// The least number of a circuit's errors that flip an observable and no detector.
+/// The least number of a circuit's errors that flip an observable, or the one that is asked for, and no detector.
 ///
 /// Refused with `NotDeterministic`, and the first detector or observable that is not the same for all
 /// random bits, if there is such a one and `deterministic_only` doesn't leave it out; else with `OutOfMemory` alone.
@@ -73,29 +74,9 @@ pub fn find_distance<P: Progress>(
     ensures refused { IfErr result (λ r. IsRefusedFor options.deterministic_only (circuit_items circuit.now) r.random r.fault) }
     ensures told { HearsDistance options (circuit_items circuit.now) (P.heard progress.old) (P.heard progress.new) (fault_of result) }
 {
-    let n = circuit.qubits();
-    let errors = errors(
-        alloc,
-        circuit,
-        n,
-        options.everywhere,
-        options.letters,
-        options.graphlike,
-    )?;
-    match refused_for(
-        alloc,
-        circuit,
-        errors.deterministic(),
-        options.deterministic_only,
-    ) {
-        Ok(None) => match search(alloc, &errors, options, progress) {
-            Ok(answer) => Ok(Distance { errors, answer }),
-            Err(refusal) => Err(FaultsRefused::from(Fault::whole(refusal))),
-        },
-        Ok(Some(random)) => Err(FaultsRefused {
-            fault: Fault::whole(Refusal::NotDeterministic),
-            random: Some(random),
-        }),
+    let errors = searched_errors(alloc, circuit, options)?;
+    match search(alloc, &errors, options, progress) {
+        Ok(answer) => Ok(Distance { errors, answer }),
         Err(refusal) => Err(FaultsRefused::from(Fault::whole(refusal))),
     }
 }
@@ -124,34 +105,62 @@ fn if_graphlike(graphlike: bool) -> &'static [u8]
     }
 }
 
+/// Writes the end of a first line: of which errors, and for which observable, if one was asked for.
+fn write_end<O: Output>(
+    out: &mut O,
+    errors: &[u8],
+    observable: Option<usize>,
+) -> Result<(), Refusal>
+    ensures writes { WritesAll (O.seen out.old) (O.seen out.new) (line_end errors.now observable) result }
+{
+    match observable {
+        None => write_texts(out, &[errors, b"\n"]),
+        Some(number) => {
+            let mut digits = Buffer::new();
+            let number = digits.format(number).as_bytes();
+            write_texts(out, &[errors, b" for L", number, b"\n"])
+        }
+    }
+}
+
 /// Writes the line of this number of errors.
 fn write_count<O: Output>(
     out: &mut O,
     count: usize,
-    graphlike: bool,
-    everywhere: bool,
+    options: DistanceOptions,
 ) -> Result<(), Refusal>
-    ensures writes { WritesAll (O.seen out.old) (O.seen out.new) (distance_line count graphlike everywhere) result }
+    ensures writes { WritesAll (O.seen out.old) (O.seen out.new) (distance_line count options.graphlike options.everywhere options.observable) result }
 {
     let mut digits = Buffer::new();
-    let count = digits.format(count).as_bytes();
-    let errors = of_errors(graphlike, everywhere);
-    write_texts(out, &[b"distance ", count, errors, b"\n"])
+    write_texts(out, &[b"distance ", digits.format(count).as_bytes()])?;
+    let errors = of_errors(options.graphlike, options.everywhere);
+    write_end(out, errors, options.observable)
 }
 
 /// Writes that there is no set, of at most this many errors if a number is given.
-fn write_none<O: Output>(out: &mut O, most: Option<usize>, graphlike: bool) -> Result<(), Refusal>
-    ensures writes { WritesAll (O.seen out.old) (O.seen out.new) (none_line most graphlike) result }
+fn write_none_within<O: Output>(out: &mut O, most: Option<usize>) -> Result<(), Refusal>
+    ensures writes { WritesAll (O.seen out.old) (O.seen out.new) (codes "none" ++ up_to most) result }
 {
-    let errors = if_graphlike(graphlike);
     match most {
-        None => write_texts(out, &[b"none", errors, b"\n"]),
+        None => write_texts(out, &[b"none"]),
         Some(most) => {
             let mut digits = Buffer::new();
             let most = digits.format(most).as_bytes();
-            write_texts(out, &[b"none", b" up to ", most, errors, b"\n"])
+            write_texts(out, &[b"none", b" up to ", most])
         }
     }
+}
+
+/// Writes the line that says so.
+fn write_none<O: Output>(
+    out: &mut O,
+    most: Option<usize>,
+    options: DistanceOptions,
+) -> Result<(), Refusal>
+    ensures writes { WritesAll (O.seen out.old) (O.seen out.new) (none_line most options.graphlike options.observable) result }
+{
+    write_none_within(out, most)?;
+    write_end(out, if_graphlike(options.graphlike), options.observable)
 }
 
 /// Writes an answer: `distance W of all marked errors` and a line for each of the errors, such as
@@ -172,11 +181,11 @@ pub fn write_distance<O: Output>(
     match &found.answer {
         Answer::Least(numbers) => {
             let kinds = kinds_of(circuit, found.errors.deterministic().len());
-            write_count(out, numbers.len(), options.graphlike, options.everywhere)?;
+            write_count(out, numbers.len(), options)?;
             write_errors(out, circuit, kinds, &found.errors, numbers.as_slice())
         }
-        Answer::NoneWithin => write_none(out, options.most, options.graphlike),
-        Answer::NoneAtAll => write_none(out, None, options.graphlike),
+        Answer::NoneWithin => write_none(out, options.most, options),
+        Answer::NoneAtAll => write_none(out, None, options),
     }
 }
 
@@ -221,20 +230,22 @@ fn send_distance<O: Output, P: Progress>(
 /// targets. With `everywhere` they are those letters after each gate and reset and before what is
 /// measured, all products after a gate on two qubits, and each record wrong by itself. Letters
 /// `XAndZ` leave out Y, and products that have both kinds. With `graphlike`, the X and the Z of its letters take
-/// the place of an error that flips more than two detectors, and only errors are taken that flip at most two.
+/// the place of an error that flips more than two detectors, and only errors are taken that flip at most two. With an
+/// `observable`, it is this one that is different.
 ///
 /// The first line is `distance W of all marked errors`, or `of all errors everywhere`, or `of graph-like errors`. Then each of the W errors
 /// has a line, such as `1207 3/0/2 X17*Z4 D24 L0`: the number of steps in front of it, the path of its item, its
 /// letters and qubits, or `M17` for a wrong record, and what it flips. If no set is unseen, there is one line,
 /// `none`; with `most`, if none of at most `most` errors is, `none up to W`. Both end in ` of graph-like errors`
-/// with `graphlike`.
+/// with `graphlike`, and each first line in ` for L0` with the observable 0.
 ///
 /// If a detector or observable is not the same for all random bits, refusal `NotDeterministic`, before anything
 /// is written or searched, names the first; `deterministic_only` leaves out such ones. Reading, the flush and the
 /// other faults are those of `run_faults`. `progress` hears of the number of errors, and then of each number of
 /// them that no unseen set has.
 ///
-/// Unless errors are `everywhere`, marks that may be meant in another way are reported on `err` after a call without a fault.
+/// After a call without a fault, marks that may be meant in another way are reported on `err` unless errors are `everywhere`, and so is an
+/// `observable` that the circuit lacks.
 pub fn run_distance<I: Input, O: Output, E: Output, P: Progress>(
     alloc: Global,
     input: &mut I,
@@ -245,11 +256,12 @@ pub fn run_distance<I: Input, O: Output, E: Output, P: Progress>(
 ) -> Result<(), FaultsRefused>
     ensures ends { EndsDistance options (I.seen input.old) (I.seen input.new) (O.seen out.old) (O.seen out.new) (fault_of result) (random_of result) }
     ensures told { TellsDistance options (I.seen input.old) (I.seen input.new) (P.heard progress.old) (P.heard progress.new) (fault_of result) }
-    ensures warns { Warns options.everywhere (I.seen input.old) (I.seen input.new) (E.seen err.old) (E.seen err.new) (fault_of result) }
+    ensures warns { WarnsOf options.everywhere options.observable (I.seen input.old) (I.seen input.new) (E.seen err.old) (E.seen err.new) (fault_of result) }
 {
     let circuit = read_circuit(alloc, input)?;
     let doubts = doubts_of(alloc, &circuit, options.everywhere)?;
     send_distance(alloc, &circuit, out, options, progress)?;
     tell_doubts(err, &circuit, doubts.as_slice());
+    tell_missing(err, options.observable, circuit.observables());
     Ok(())
 }

@@ -10,6 +10,7 @@
 //! - `coin_rows`: the rows of a table of coins.
 //! - `deciders`: the coins that decide each detector and observable.
 //! - `faults`: the command that writes which detectors and observables each fault flips.
+//! - `searched`: the errors that a distance is searched among, and the command that writes them.
 //! - `distance`: the command that finds the least number of errors that flip an observable and no detector.
 //! - `coins`: the command that writes which bits of a run each coin decides.
 //! - `reasons`: the command that names the coins which decide those that are not the same for all coins.
@@ -52,6 +53,7 @@ mod doubts;
 mod faults;
 pub mod laws;
 mod reasons;
+mod searched;
 
 pub use check::run_check;
 pub use coin_runs::CoinRuns;
@@ -60,5 +62,6 @@ pub use deterministic::run_deterministic;
 pub use distance::{Distance, find_distance, run_distance, write_distance};
 pub use faults::run_faults;
 pub use reasons::{has_bit, run_explain, write_why};
+pub use searched::run_searched_errors;
 pub use stab_errors::{Progress, Unwatched};
 pub use stab_jobs::{DistanceOptions, ErrorLetters, FaultLayout, Source};

@@ -13,12 +13,12 @@ use Rattle.stab_gates.specs.Limits.{most_qubits}
 use Rattle.stab_circuit.specs.Limits.{most_stride}
 use Rattle.stab_jobs.specs.Limits.{ShotRange, last_shot, most_shots, shots_of_seed}
 use Rattle.stab_args.specs.Coins.{coin_text}
-use Rattle.stab_args.specs.Options.{KeptNames, format_names, letter_names, most_errors, most_seed, stabsim}
+use Rattle.stab_args.specs.Options.{KeptNames, format_names, last_observable, letter_names, most_errors, most_seed, stabsim}
 use Rattle.stab_args.specs.declared.words.Usage.{Usage}
 use Rattle.stab_args.specs.declared.words.Usage.TheVariants.{Help, Fault, Memory}
 use Rattle.stab_jobs.specs.declared.job.Job.{Job}
 use Rattle.stab_jobs.specs.declared.job.Command.{Command}
-use Rattle.stab_jobs.specs.declared.job.Command.TheVariants.{Sample, Detect, Stabilisers, Check, Deterministic, Explain, Faults, Coins, Distance, Edit}
+use Rattle.stab_jobs.specs.declared.job.Command.TheVariants.{Sample, Detect, Stabilisers, Check, Deterministic, Explain, Faults, Coins, Distance, SearchedErrors, Edit}
 use Rattle.stab_jobs.specs.declared.job.DistanceOptions.{DistanceOptions}
 use Rattle.stab_jobs.specs.declared.job.ErrorLetters.{ErrorLetters}
 use Rattle.stab_jobs.specs.declared.job.ErrorLetters.TheVariants.{All as AllLetters, XAndZ}
@@ -96,9 +96,14 @@ pub record IsAskedDistance (options : List Row) (asked : DistanceOptions) : Type
   pub everywhere : IsSet (one_of (codes "everywhere") options) asked.everywhere
   pub letters : AreLetters (first_of (codes "letters") options) asked.letters
   pub graphlike : IsSet (one_of (codes "graphlike") options) asked.graphlike
+  pub observable : IsWrittenIfGiven 0 last_observable (one_of (codes "observable") options) asked.observable
   pub most : IsWrittenIfGiven 0 most_errors (one_of (codes "most") options) asked.most
   pub deterministic_only : IsSet (one_of (codes "deterministic_only") options) asked.deterministic_only
   pub progress : IsSet (one_of (codes "progress") options) asked.progress
+
+-- whether something is asked about a search: for one observable, up to a number of errors, or with its progress
+abbrev pub is_about_search : DistanceOptions → Bool
+is_about_search asked = is_some asked.observable || (is_some asked.most || asked.progress)
 
 -- the command of a name, with what its options say
 abbrev pub IsCommand : Text → List Row → Command → Type 0
@@ -112,7 +117,8 @@ IsCommand name options (Faults layout everywhere deterministic_only) =
     (name ≡ codes "faults") × IsLayout (first_of (codes "out_format") options) layout
     × IsSet (one_of (codes "everywhere") options) everywhere × IsSet (one_of (codes "deterministic_only") options) deterministic_only
 IsCommand name options (Coins layout) = (name ≡ codes "coins") × IsLayout (first_of (codes "out_format") options) layout
-IsCommand name options (Distance asked) = (name ≡ codes "distance") × IsAskedDistance options asked
+IsCommand name options (Distance asked) = (name ≡ codes "distance") × IsSet (one_of (codes "table") options) false × IsAskedDistance options asked
+IsCommand name options (SearchedErrors asked) = (name ≡ codes "distance") × IsSet (one_of (codes "table") options) true × IsAskedDistance options asked × (is_about_search asked ≡ false)
 IsCommand name options (Edit framed qubits stride) =
     (name ≡ codes "edit") × IsSet (one_of (codes "framed") options) framed × IsWrittenIfGiven 0 most_qubits (one_of (codes "qubits") options) qubits × IsWritten 1 most_stride (one_of (codes "stride") options) stride
 
@@ -150,6 +156,21 @@ RefusesShots options Memory = ⊤
 RefusesShots options (Fault line) = (string_bytes line ≡ beyond_fault) × (shots : ShotRange) × AreShots options shots × (shots_of_seed < shots.first + shots.number)
 RefusesShots options usage = ⊥
 
+-- the line for a table of errors beside what is about a search
+abbrev pub table_fault : Text
+table_fault = codes "stabsim: --table searches nothing, and is not beside --observable, --most or --progress\n"
+
+-- a table of errors is refused for lack of memory, or beside what is about a search
+abbrev pub RefusesTable : List Row → Usage → Type 0
+RefusesTable options Memory = ⊤
+RefusesTable options (Fault line) =
+    (string_bytes line ≡ table_fault) × IsSet (one_of (codes "table") options) true × ((asked : DistanceOptions) × IsAskedDistance options asked × (is_about_search asked ≡ true))
+RefusesTable options usage = ⊥
+
+-- a command is refused by its shots, or by its table of errors
+abbrev pub RefusesCommand : List Row → Usage → Type 0
+RefusesCommand options usage = RefusesShots options usage ⊎ RefusesTable options usage
+
 -- the line for a first shot beside coins
 abbrev pub beside_fault : Text
 beside_fault = codes "stabsim: --first_shot is of a seed, and not beside --coins or --coins_in\n"
@@ -160,10 +181,10 @@ RefusesFirst options Memory = ⊤
 RefusesFirst options (Fault line) = (string_bytes line ≡ beside_fault) × (first_beside_coins options ≡ true)
 RefusesFirst options usage = ⊥
 
--- options that the reader takes are refused by their shots, a first shot beside coins, or their coins
+-- options that the reader takes are refused by their shots, a table of errors beside what is about a search, a first shot beside coins, or their coins
 abbrev pub RefusesOptions : List Row → Usage → Type 0
 RefusesOptions options usage =
-    RefusesFirst options usage ⊎ (RefusesShots options usage ⊎ RefusesCoins (first_of (codes "coins") options) (first_of (codes "coins_in") options) usage)
+    RefusesFirst options usage ⊎ (RefusesCommand options usage ⊎ RefusesCoins (first_of (codes "coins") options) (first_of (codes "coins_in") options) usage)
 
 -- an error that is no answer to a question for help
 abbrev pub IsMistake : ErrorKind → Type 0

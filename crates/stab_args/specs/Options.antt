@@ -63,6 +63,10 @@ most_seed = 18446744073709551615
 abbrev pub most_errors : ℕ
 most_errors = 1000000000
 
+-- the number of the last observable
+abbrev pub last_observable : ℕ
+last_observable = 4095
+
 -- the options of every command: its files
 abbrev pub file_options : List Rule
 file_options = valued (codes "in") ∷ valued (codes "out") ∷ []
@@ -113,8 +117,8 @@ coins formats = record (new_shape (codes "coins")) { rules = one_name (codes "ou
 -- the command `distance`, which takes no coins
 abbrev pub distance : Kept → Shape
 distance letters = record (new_shape (codes "distance")) {
-  rules = flag (codes "everywhere") ∷ named (codes "letters") letters (codes "all") ∷ ranged (codes "most") 0 most_errors ∷ flag (codes "graphlike") ∷ deterministic_only
-      ∷ flag (codes "progress") ∷ file_options;
+  rules = flag (codes "everywhere") ∷ named (codes "letters") letters (codes "all") ∷ ranged (codes "most") 0 most_errors ∷ flag (codes "graphlike")
+      ∷ ranged (codes "observable") 0 last_observable ∷ flag (codes "table") ∷ deterministic_only ∷ flag (codes "progress") ∷ file_options;
 }
 
 -- the program without its commands, of which some command is wanted, and which says its version

@@ -1,11 +1,12 @@
 -- Laws of warnings: a call that reads no script refuses no line of it, and leaves the error output alike.
-use Rattle.std.proofs.Common.{◌≡◌, sym, subst, Bool}
+use Rattle.std.proofs.Common.{◌≡◌, sym, subst, ℕ, Bool, Option}
 use Rattle.std.specs.Prelude.{Result, Ok, Err}
 use Rattle.stab_io.specs.Devices.{InputView, OutputView}
 use Rattle.stab_io.specs.declared.refusal.Fault.{Fault}
 use Rattle.stab_texts.specs.DoubtLines.{Warns}
+use Rattle.stab_texts.specs.MissingObservables.{WarnsOf}
 use Rattle.stab_jobs.specs.declared.job.Command.{Command}
-use Rattle.stab_jobs.specs.declared.job.Command.TheVariants.{Sample, Detect, Stabilisers, Check, Deterministic, Explain, Coins, Faults, Distance, Edit}
+use Rattle.stab_jobs.specs.declared.job.Command.TheVariants.{Sample, Detect, Stabilisers, Check, Deterministic, Explain, Coins, Faults, Distance, SearchedErrors, Edit}
 use Rattle.stab_cli.specs.Jobs.{CommandWarns, refusing_none}
 
 -- what is left of the error output does not depend on the answer's value
@@ -15,6 +16,14 @@ warned everywhere i i' e e' (Err f) warns = warns
 
 pub warned_alike : (everywhere : Bool) (i i' : InputView) (e e' : OutputView) (answer : Result (Unit {0}) Fault) (r : Result Bool Fault) → r ≡ refusing_none answer → Warns everywhere i i' e e' answer → Warns everywhere i i' e e' r
 warned_alike everywhere i i' e e' answer r is warns = subst (λ s. Warns everywhere i i' e e' s) (sym is) (warned everywhere i i' e e' answer warns)
+
+-- the same of a call that asks for an observable, or for none
+warned_of : (everywhere : Bool) (observable : Option ℕ) (i i' : InputView) (e e' : OutputView) (answer : Result (Unit {0}) Fault) → WarnsOf everywhere observable i i' e e' answer → WarnsOf everywhere observable i i' e e' (refusing_none answer)
+warned_of everywhere observable i i' e e' (Ok x) warns = warns
+warned_of everywhere observable i i' e e' (Err f) warns = warns
+
+pub warned_alike_of : (everywhere : Bool) (observable : Option ℕ) (i i' : InputView) (e e' : OutputView) (answer : Result (Unit {0}) Fault) (r : Result Bool Fault) → r ≡ refusing_none answer → WarnsOf everywhere observable i i' e e' answer → WarnsOf everywhere observable i i' e e' r
+warned_alike_of everywhere observable i i' e e' answer r is warns = subst (λ s. WarnsOf everywhere observable i i' e e' s) (sym is) (warned_of everywhere observable i i' e e' answer warns)
 
 -- after a fault the error output is as it was
 pub untouched : (command : Command) (i i' : InputView) (e e' : OutputView) (f : Fault) → CommandWarns command i i' e e' (Err f) → e' ≡ e
@@ -27,4 +36,5 @@ untouched Explain i i' e e' f same = same
 untouched (Coins layout) i i' e e' f same = same
 untouched (Faults layout everywhere deterministic_only) i i' e e' f same = same
 untouched (Distance options) i i' e e' f same = same
+untouched (SearchedErrors options) i i' e e' f same = same
 untouched (Edit framed qubits stride) i i' e e' f same = same

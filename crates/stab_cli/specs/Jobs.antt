@@ -12,8 +12,9 @@ use Rattle.stab_texts.specs.Deterministic.{EndsDeterministic}
 use Rattle.stab_texts.specs.FaultTables.{EndsFaults}
 use Rattle.stab_texts.specs.CoinTables.{EndsCoins}
 use Rattle.stab_texts.specs.Reasons.{EndsExplain}
-use Rattle.stab_texts.specs.Distances.{EndsDistance, TellsDistance}
+use Rattle.stab_texts.specs.Distances.{EndsDistance, EndsSearched, TellsDistance}
 use Rattle.stab_texts.specs.DoubtLines.{Warns}
+use Rattle.stab_texts.specs.MissingObservables.{WarnsOf}
 use Rattle.stab_distance.specs.Progress.{Heard}
 use Rattle.stab_editor.specs.ScriptEndings.{EndsEdit}
 use Rattle.stab_editor.specs.ScriptTurns.{EditsInTurn}
@@ -21,7 +22,7 @@ use Rattle.stab_script.specs.Watchers.{Asked}
 use Rattle.stab_texts.specs.declared.random.Random.{Random}
 use Rattle.stab_jobs.specs.declared.job.Source.{Source}
 use Rattle.stab_jobs.specs.declared.job.Command.{Command}
-use Rattle.stab_jobs.specs.declared.job.Command.TheVariants.{Sample, Detect, Stabilisers, Check, Deterministic, Explain, Coins, Faults, Distance, Edit}
+use Rattle.stab_jobs.specs.declared.job.Command.TheVariants.{Sample, Detect, Stabilisers, Check, Deterministic, Explain, Coins, Faults, Distance, SearchedErrors, Edit}
 use Rattle.stab_jobs.specs.declared.job.Job.{Job}
 
 -- a call that reads no script refuses no line of it
@@ -47,6 +48,7 @@ EndsCommand (Deterministic format) source i i' s s' o o' r random = NamesNone (E
 EndsCommand Explain source i i' s s' o o' r random = NamesNone (EndsExplain i i' o o') r random
 EndsCommand (Coins layout) source i i' s s' o o' r random = NamesNone (EndsCoins layout i i' o o') r random
 EndsCommand (Faults layout everywhere deterministic_only) source i i' s s' o o' r random = RefusesNone (λ answer. EndsFaults layout everywhere deterministic_only i i' o o' answer random) r
+EndsCommand (SearchedErrors options) source i i' s s' o o' r random = RefusesNone (λ answer. EndsSearched options i i' o o' answer random) r
 EndsCommand (Distance options) source i i' s s' o o' r random = RefusesNone (λ answer. EndsDistance options i i' o o' answer random) r
 EndsCommand (Edit framed qubits stride) source i i' s s' o o' r random = (random ≡ None) × EndsEdit framed qubits source i i' s s' o o' r
 
@@ -67,11 +69,12 @@ status_of (Ok true) = 3
 status_of (Err f) = 1
 
 -- what the call of a command leaves of the error output: `check`, `faults` and `distance` report marks that may be meant in another way,
--- after a call without a fault; else it is untouched
+-- after a call without a fault, and `distance` then an observable that the circuit lacks; else it is untouched
 abbrev pub CommandWarns : Command → InputView → InputView → OutputView → OutputView → Result Bool Fault → Type 0
 CommandWarns Check i i' old new r = Warns false i i' old new r
 CommandWarns (Faults layout everywhere deterministic_only) i i' old new r = Warns everywhere i i' old new r
-CommandWarns (Distance options) i i' old new r = Warns options.everywhere i i' old new r
+CommandWarns (SearchedErrors options) i i' old new r = Warns options.everywhere i i' old new r
+CommandWarns (Distance options) i i' old new r = WarnsOf options.everywhere options.observable i i' old new r
 CommandWarns command i i' old new r = new ≡ old
 
 -- a run's fault is reported, with the bit that it names, if any; and without a fault the error output is as the call of the command leaves it

@@ -20,7 +20,7 @@ mod usage;
 
 pub use stab_analysis::{
     Progress, Unwatched, run_check, run_coins, run_deterministic, run_distance, run_explain,
-    run_faults,
+    run_faults, run_searched_errors,
 };
 pub use stab_args::{CoinsFault, NO_COINS, Usage, parse_words, read_coins};
 pub use stab_commands::{

@@ -2,16 +2,18 @@
 ghost use Rattle.std.specs.Prelude.{◌≡◌, ◌≤◌, IfSome, None, false};
 ghost use Rattle.stab_gates.specs.Limits.{most_qubits};
 ghost use Rattle.stab_texts.specs.FaultTables.{fault_of, random_of};
+ghost use Rattle.stab_editor.specs.ScriptEndings.{EndsEdit};
+ghost use Rattle.stab_editor.specs.ScriptTurns.{EditsInTurn};
 ghost use Rattle.stab_cli.specs.Jobs.{CommandInTurn, CommandTells, CommandWarns, EndsCommand, EndsJob, JobInTurn, JobTells, reads_script, refusing_none};
 
 use stab_analysis::{
     Progress, Unwatched, run_check, run_coins, run_deterministic, run_distance, run_explain,
-    run_faults,
+    run_faults, run_searched_errors,
 };
 use stab_commands::{run_detect_shots, run_sample_shots, run_stabilisers};
 use stab_editor::run_edit_watched;
 use stab_io::{Fault, Input, Output};
-use stab_jobs::{Command, Job, QubitCount};
+use stab_jobs::{Command, Job, QubitCount, Source, Stride};
 use stab_script::{NoWatcher, Watcher};
 use stab_texts::{FaultsRefused, write_refused};
 use std::alloc::Global;
@@ -57,6 +59,28 @@ fn plain_answer(answer: Result<(), Fault>) -> Result<bool, FaultsRefused>
     refuses_none(names_none(answer))
 }
 
+/// Edits a circuit by a script, on this many qubits or on as many as it names, and says whether a line was refused.
+fn run_script<I: Input, S: Input, O: Output, W: Watcher<S, O>>(
+    alloc: Global,
+    input: &mut I,
+    script: &mut S,
+    out: &mut O,
+    framed: bool,
+    qubits: Option<QubitCount>,
+    stride: Stride,
+    source: &Source,
+) -> Result<bool, FaultsRefused>
+    ensures ends { EndsEdit framed qubits source.now (I.seen input.old) (I.seen input.new) (S.seen script.old) (S.seen script.new) (O.seen out.old) (O.seen out.new) (fault_of result) }
+    ensures none { random_of result ≡ None }
+    ensures turns { EditsInTurn framed qubits source.now (I.seen input.old) (I.seen input.new) (S.seen script.old) (S.seen script.new) (O.seen out.old) (O.seen out.new) (W.log script.old) (W.log script.new) (fault_of result) }
+{
+    let qubits = number_of(qubits);
+    let stride = stride.steps();
+    names_none(run_edit_watched::<I, S, O, W>(
+        alloc, input, script, out, framed, qubits, stride, source,
+    ))
+}
+
 /// Runs the command of a job, and says whether a line of the script was refused.
 fn run_command<I: Input, S: Input, O: Output, E: Output, W: Watcher<S, O>, P: Progress>(
     alloc: Global,
@@ -93,16 +117,11 @@ fn run_command<I: Input, S: Input, O: Output, E: Output, W: Watcher<S, O>, P: Pr
         Command::Faults {
             layout,
             everywhere,
-            deterministic_only,
-        } => refuses_none(run_faults(
-            alloc,
-            input,
-            out,
-            err,
-            layout,
-            everywhere,
-            deterministic_only,
-        )),
+            deterministic_only: only,
+        } => refuses_none(run_faults(alloc, input, out, err, layout, everywhere, only)),
+        Command::SearchedErrors(options) => {
+            refuses_none(run_searched_errors(alloc, input, out, err, options))
+        }
         Command::Distance(options) => {
             refuses_none(run_distance(alloc, input, out, err, options, progress))
         }
@@ -110,13 +129,7 @@ fn run_command<I: Input, S: Input, O: Output, E: Output, W: Watcher<S, O>, P: Pr
             framed,
             qubits,
             stride,
-        } => {
-            let qubits = number_of(qubits);
-            let stride = stride.steps();
-            names_none(run_edit_watched::<I, S, O, W>(
-                alloc, input, script, out, framed, qubits, stride, source,
-            ))
-        }
+        } => run_script::<I, S, O, W>(alloc, input, script, out, framed, qubits, stride, source),
     }
 }
 

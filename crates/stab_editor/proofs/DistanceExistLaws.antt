@@ -1,5 +1,5 @@
 -- Laws of distances that exist: whatever distance a script asks for, up to a number of errors, it has an answer.
-use Rattle.stab_editor.proofs.Names.{◌≡◌, ◌<◌, ◌⊎◌, ◌^◌, ℕ, zero, suc, Bool, true, false, List, [], ◌∷◌, length, get_or, refl, subst, Some, inl, inr, arith, All, BadCommand, NotDeterministic, Items, unroll, qubits_of, detectors_of, StepFits, AreDeterministic, IsDeterministic, bits_in, CoinsHaveRows, IsCoinTable, table_of, errors_of, IsErrorTable, CircuitsHaveDistances, IsDistance, Bit, Decider, Random, Distance, deciders, IsFirstDecider, IsFirstRandom, bit_of, path_of_bit, path_of_coin, DeterministicHasNoDecider, IsDistanceText, answer_text, first_random_is, deterministic_before, all_deterministic, reply_text, Held, Answer, IsDistanceAnswer, options_asked, replying, refusing}
+use Rattle.stab_editor.proofs.Names.{◌≡◌, ◌<◌, ◌⊎◌, ◌^◌, ℕ, zero, suc, Bool, true, false, List, [], ◌∷◌, length, get_or, refl, subst, Some, None, inl, inr, arith, All, BadCommand, NotDeterministic, Items, unroll, qubits_of, detectors_of, StepFits, AreDeterministic, IsDeterministic, bits_in, CoinsHaveRows, IsCoinTable, table_of, errors_of, IsErrorTable, CircuitsHaveDistances, IsDistance, Bit, Decider, Random, Distance, deciders, IsFirstDecider, IsFirstRandom, bit_of, path_of_bit, path_of_coin, DeterministicHasNoDecider, IsDistanceText, answer_text, first_random_is, deterministic_before, all_deterministic, reply_text, Held, Answer, IsDistanceAnswer, options_asked, replying, refusing}
 use Rattle.stab_jobs.specs.declared.job.ErrorLetters.TheVariants as letters
 
 -- the first bit that is not set
@@ -66,12 +66,12 @@ module _ (rows : CoinsHaveRows) (none : DeterministicHasNoDecider) (distances : 
       let found = distances (qubits_of items) everywhere letters.All items most fits few in
       by_bits (record { errors = found.0; answer = found.1 }) found.2 found.3 found.4 (first_unset found.0.deterministic)
     where
-      by_bits : (d : Distance) → d.errors.errors ≡ errors_of everywhere letters.All items → IsErrorTable (qubits_of items) items d.errors → IsDistance false (qubits_of items) items d.errors.errors (Some most) d.answer
+      by_bits : (d : Distance) → d.errors.errors ≡ errors_of everywhere letters.All items → IsErrorTable (qubits_of items) items d.errors → IsDistance false None (qubits_of items) items d.errors.errors (Some most) d.answer
           → ((k : ℕ) × IsFirstUnset d.errors.deterministic k) ⊎ AreSet d.errors.deterministic → ((text : List ℕ) × IsDistanceText (options_asked everywhere most) items text) ⊎ ((u : Random) × IsFirstRandom items u)
       by_bits d errors table distance (inl (k, first)) = inr (random_found rows none items d.errors.deterministic k fits table.are_deterministic first)
       by_bits d errors table distance (inr all) = inl (
         answer_text (options_asked everywhere most) items d.errors d.answer,
-        (d.errors, d.answer, record { errors = errors; table = table; distance = distance; all_deterministic = λ asked. all_deterministic (qubits_of items) items d.errors.deterministic table.are_deterministic all }, refl),
+        (d.errors, d.answer, record { are = record { errors = errors; table = table; all_deterministic = λ asked. all_deterministic (qubits_of items) items d.errors.deterministic table.are_deterministic all }; distance = distance }, refl),
       )
 
   -- so a script has an answer

@@ -70,6 +70,7 @@ fn options_asked(everywhere: bool, most: usize) -> DistanceOptions
         everywhere,
         letters: ErrorLetters::All,
         graphlike: false,
+        observable: None,
         most: Some(most),
         deterministic_only: false,
         progress: false,

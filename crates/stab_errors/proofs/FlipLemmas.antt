@@ -1,5 +1,5 @@
 -- Flips: what an error flips of a run, by the rows of a table of faults.
-use Rattle.stab_errors.proofs.Names.{◌≡◌, ℕ, zero, suc, ◌+◌, ◌<◌, ◌≤◌, ◌⊎◌, inl, inr, refl, sym, ap, ◌∙◌, subst, Bool, true, false, List, [], ◌∷◌, map, length, drop, arith, All, ◌==◌, ◌&&◌, None, slice_index_or, if◌then◌else◌, cases_lt, ne_eqb, get_or-map, get_or_past, length-map, drop-drop, All-nil, All-cons, All-head, All-tail, Letter, ◌⊕◌, letters_anticommute, parity-false, letter_of_string, one_letter-anticommute, Items, unroll, detectors_of, StepFits, row, bits_at, parity_region, FaultPlace, in_front, fault_on, faults_of, fault_at, numbers_where, bits_in, IsDeterministic, IsFaultTable, flips, flipped, FaultFits, flips_together, FaultsAdd, DeterministicParities, PlacesFlipDeterministicParities, bits-letter, long-parity, ascending-is, ascends-below, where-same, fault-fits, odd-where, row-names, faults_in, letter_at, fault_shown, error_shown, IsErrorTable, flip_together, flipped_by, Stands, ErrorStands, letter_names, error_names, IsRowOf, AreRowsOf, Place, PlacedLetter, ErrorValue, observables_of}
+use Rattle.stab_errors.proofs.Names.{◌≡◌, ℕ, zero, suc, ◌+◌, ◌<◌, ◌≤◌, ◌⊎◌, inl, inr, refl, sym, ap, ◌∙◌, subst, Bool, true, false, List, [], ◌∷◌, map, length, drop, arith, All, ◌&&◌, None, slice_index_or, if◌then◌else◌, cases_lt, ne_eqb, get_or-map, get_or_past, length-map, drop-drop, All-nil, All-cons, All-head, All-tail, Letter, ◌⊕◌, letters_anticommute, parity-false, letter_of_string, one_letter-anticommute, Items, unroll, detectors_of, StepFits, row, bits_at, parity_region, FaultPlace, in_front, fault_on, faults_of, fault_at, numbers_where, bits_in, IsDeterministic, IsFaultTable, flips, flipped, FaultFits, flips_together, FaultsAdd, DeterministicParities, PlacesFlipDeterministicParities, bits-letter, long-parity, ascending-is, ascends-below, where-same, fault-fits, odd-where, row-names, faults_in, letter_at, fault_shown, error_shown, IsErrorTable, flip_together, flipped_by, Stands, ErrorStands, letter_names, error_names, IsRowOf, AreRowsOf, Place, PlacedLetter, ErrorValue, observables_of}
 use Rattle.std.specs.Prelude.{Some}
 use Rattle.stab_gates.specs.declared.letter.Letter.TheVariants as letter
 use Rattle.stab_regions.specs.Rows.{odd}

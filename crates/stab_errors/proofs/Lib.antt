@@ -10,6 +10,7 @@ mod PlaceFitLemmas
 mod WrongRecordLemmas
 mod LandingLemmas
 mod ListedLemmas
+mod ObservedLemmas
 mod FlipLemmas
 mod UnseenLemmas
 mod AnswerLemmas

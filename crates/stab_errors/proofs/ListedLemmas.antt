@@ -1,5 +1,5 @@
 -- Listed errors: where a letter lands there are errors that flip what it flips: one of all letters, or some that have X or Z alone.
-use Rattle.stab_errors.proofs.Names.{◌≡◌, ℕ, ◌+◌, ◌≤◌, ◌<◌, ◌⊎◌, inl, inr, refl, sym, ap, ◌∙◌, subst, Bool, true, false, List, [], ◌∷◌, ◌++◌, length, take, drop, take-append-drop, length-take-le, arith, All, Contains, All-nil, All-cons, All-head, All-tail, All-append, All-drop, All-weaker, All-contains, flat_map, flat_map-append, Letter, I, X, Y, Z, ◌⊕◌, parity-false, Items, unroll, records_of, detectors_of, observables_of, Step, StepFits, FaultPlace, Site, fault_on, bits_in, IsDeterministic, flips, FaultFits, flips_together, FaultsAdd, DeterministicParities, PlacesFlipDeterministicParities, and-left, diagonal, parity_region, parity_kept, parity_flips, parity_deterministic, none-flips, y-flips, kept-last, count-behind, Error, letter, letters, faults_in, letters_asked, pairs_asked, each_letter, product_at, errors_from, errors_of, letter_parts, ErrorLetters, flip_together, FlipAlike}
+use Rattle.stab_errors.proofs.Names.{◌≡◌, ℕ, ◌+◌, ◌≤◌, ◌<◌, ◌⊎◌, inl, inr, refl, sym, ap, ◌∙◌, subst, Bool, true, false, List, [], ◌∷◌, ◌++◌, length, take, drop, take-append-drop, length-take-le, arith, All, Contains, All-nil, All-cons, All-head, All-tail, All-append, All-drop, All-weaker, All-contains, flat_map, flat_map-append, Letter, I, X, Y, Z, ◌⊕◌, parity-false, Items, unroll, records_of, detectors_of, observables_of, Step, StepFits, FaultPlace, Site, fault_on, bits_in, IsDeterministic, flips, FaultFits, flips_together, FaultsAdd, DeterministicParities, PlacesFlipDeterministicParities, and-left, diagonal, parity_region, parity_kept, parity_flips, parity_deterministic, none-flips, y-flips, kept-last, count-behind, Error, letter, faults_in, letters_asked, pairs_asked, each_letter, product_at, errors_from, errors_of, letter_parts, ErrorLetters, flip_together, FlipAlike}
 use Rattle.stab_jobs.specs.declared.job.ErrorLetters.TheVariants as letters_of
 use Rattle.stab_errors.proofs.FitLemmas.{Fits, together-append}
 use Rattle.stab_errors.proofs.PlaceFitLemmas.{errors-fit}

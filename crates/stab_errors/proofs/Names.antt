@@ -1,15 +1,17 @@
 -- What the proofs of this crate take from std, from crates below and from its definitions.
-pub use Rattle.std.proofs.Common.{◌≡◌, ℕ, ◌+◌, refl, sym, ap, ◌∙◌, subst, List, [], ◌∷◌, ◌++◌, append_assoc, append-nil, map, take, drop, get_or, length, ◌<◌, Option, Some, false, arith, ◌*◌, ◌≤◌, Bool, true, zero, suc, ◌⊎◌, ◌≢◌, inl, inr, take-append-drop, ◌-◌, not, lt-ltb, le-ltb}
+pub use Rattle.std.proofs.Common.{◌≡◌, ℕ, ◌+◌, refl, sym, ap, ◌∙◌, subst, List, [], ◌∷◌, ◌++◌, append_assoc, append-nil, map, take, drop, get_or, length, ◌<◌, Option, Some, false, arith, rules, ◌*◌, ◌≤◌, Bool, true, zero, suc, ◌⊎◌, ◌≢◌, inl, inr, take-append-drop, ◌-◌, not, true≢false, Ok, Err}
 pub use Rattle.std.proofs.Math.Seq.{drop-append_seam}
-pub use Rattle.std.proofs.lemmas.Bool.{cases_lt, ne_eqb, cases_eq, eqb-true}
+pub use Rattle.std.proofs.lemmas.Bool.{cases_lt, ne_eqb, cases_eq, eqb-true, eq-eqb, lt-ltb, le-ltb}
 pub use Rattle.std.proofs.lemmas.Bool.Decides.{nat_tests}
 pub use Rattle.std.proofs.lemmas.List.{map-append, drop-drop, take_more, get_or-map, get_or_past, length-map, length-append, drop_more, get_or_default, take_all, drop_all, length-take-le}
 pub use Rattle.std.proofs.lemmas.List.Concat.{flat_map-append}
 pub use Rattle.std.proofs.lemmas.List.Elements.{All-append, All-cons, All-nil, All-head, All-tail, All-contains, All-drop, All-weaker, All-map, Contains-get_or, Contains-append_left, Contains-append_right}
+pub use Rattle.std.proofs.lemmas.Fn.{filter_same}
 pub use Rattle.std.proofs.lemmas.Result.{IfOk-weaker}
 pub use Rattle.std.specs.List.{flat_map}
 pub use Rattle.std.specs.Option.{unwrap_or}
-pub use Rattle.std.specs.Prelude.{All, None, Result, IfOk, IfSome, Contains, ◌&&◌, slice_index_or, ◌==◌, if◌then◌else◌, bytes_eq, codes}
+pub use Rattle.std.specs.Result.{IsErrAnd}
+pub use Rattle.std.specs.Prelude.{All, None, Result, IfOk, IfSome, Contains, ◌&&◌, ◌||◌, slice_index_or, ◌==◌, if◌then◌else◌, bytes_eq, codes}
 pub use Rattle.stab_edits.specs.Cursors.{step_shown}
 pub use Rattle.stab_circuit.specs.Items.{Items, OneItem, next, block, join}
 pub use Rattle.stab_circuit.specs.Steps.{Step, one, two, controlled, collapse, product, detector, observable, makes, records_of, IsApart, unroll, detectors_of, steps_of, rounds, controlled_step, measured, measured_product, check_of, most_steps, observables_of}
@@ -66,7 +68,7 @@ pub use Rattle.stab_errors.specs.Errors.{Error, each_letter, each_product, error
 pub use Rattle.stab_errors.specs.EverywhereLaws.{inverted_once, with_inverted, FlipAlike}
 pub use Rattle.stab_errors.specs.Parts.{letter_parts, IsSplit, AreSplit, AreSearched, parts_of, fault_parts}
 pub use Rattle.stab_errors.specs.Placed.{letter_at, error_shown, fault_shown, faults_shown}
-pub use Rattle.stab_errors.specs.Unseen.{IsDistance, AreUnseen, FlipsTwo, AreUnseenOf, AreLeastUnseen, error_at, errors_at_numbers, NoneUnseen, NoneUnseenWithin, SomeUnseen, IsWithin, IsLeastSet, TellsUnseen}
+pub use Rattle.stab_errors.specs.Unseen.{IsDistance, AreUnseen, FlipsTwo, AreUnseenOf, AreLeastUnseen, error_at, errors_at_numbers, NoneUnseen, NoneUnseenWithin, SomeUnseen, IsWithin, IsAskedFor, IsLeastSet, TellsUnseen}
 pub use Rattle.stab_errors.specs.declared.marks.Marks.{Marks as MarksValue}
 pub use Rattle.stab_errors.specs.declared.placed.Error.{Error as ErrorValue}
 pub use Rattle.stab_errors.specs.declared.placed.Place.{Place}
@@ -76,3 +78,4 @@ pub use Rattle.stab_errors.specs.inner.ErrorRows.{letter_names, error_names, IsR
 pub use Rattle.stab_errors.specs.inner.Everywhere.{factor_errors, factor_faults, measured_errors, back_of, reset_errors, step_faults}
 pub use Rattle.stab_errors.specs.inner.Marked.{target_faults, marked_faults, marks_shown}
 pub use Rattle.stab_errors.specs.inner.RowParts.{IsSplitByRow, SplitByRows, AreSplitByRows, AreSearchedByRows}
+pub use Rattle.stab_errors.specs.inner.Observed.{is_kept, kept_row, with_observable, IsLogicalOf}

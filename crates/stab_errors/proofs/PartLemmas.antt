@@ -1,5 +1,5 @@
 -- Parts: which errors give way to theirs, by rows and by runs.
-use Rattle.stab_errors.proofs.Names.{◌≡◌, ℕ, ◌⊎◌, inl, inr, refl, sym, ap, ◌∙◌, subst, Bool, true, false, List, [], ◌∷◌, ◌++◌, append_assoc, append-nil, map, arith, All, All-nil, All-cons, All-head, All-tail, Items, unroll, detectors_of, StepFits, FaultPlace, faults_of, IsFaultTable, FaultsAdd, DeterministicParities, PlacesFlipDeterministicParities, IsGraphlike, Error, ErrorTableState, IsErrorTable, IsSplit, AreSplit, AreSearched, parts_of, error_shown, Adds, ErrorStands, IsRowOf, IsSplitByRow, SplitByRows, AreSplitByRows, AreSearchedByRows, ErrorValue}
+use Rattle.stab_errors.proofs.Names.{None, ◌≡◌, ℕ, ◌⊎◌, inl, inr, refl, sym, ap, ◌∙◌, subst, Bool, true, false, List, [], ◌∷◌, ◌++◌, append_assoc, append-nil, map, arith, All, All-nil, All-cons, All-head, All-tail, Items, unroll, detectors_of, StepFits, FaultPlace, faults_of, IsFaultTable, FaultsAdd, DeterministicParities, PlacesFlipDeterministicParities, IsGraphlike, Error, ErrorTableState, IsErrorTable, IsSplit, AreSplit, AreSearched, parts_of, error_shown, Adds, ErrorStands, IsRowOf, IsSplitByRow, SplitByRows, AreSplitByRows, AreSearchedByRows, ErrorValue}
 use Rattle.stab_errors.proofs.FlipLemmas.{table-is}
 use Rattle.stab_errors.proofs.GraphlikeLemmas.{row-two, two-row}
 
@@ -49,8 +49,8 @@ module _ (n : ℕ) (everywhere : Bool) (items : Items) (deterministic : List Boo
   row-split e given stands (row, is, kept) = by_row kept
     where
       by_row : (IsGraphlike detectors row × (given ≡ error_shown e ∷ [])) ⊎ ((IsGraphlike detectors row → ⊥) × (given ≡ parts_of (error_shown e))) → IsSplit n items (error_shown e) given
-      by_row (inl stays) = inl (row-two n items (alone e row) (alone-is e row stands is) 0 (omega arith) stays.0, stays.1)
-      by_row (inr goes) = inr (λ two. goes.0 (two-row n items (alone e row) (alone-is e row stands is) 0 (omega arith) two), goes.1)
+      by_row (inl stays) = inl (row-two n items None (alone e row) (alone-is e row stands is) 0 (omega arith) stays.0, stays.1)
+      by_row (inr goes) = inr (λ two. goes.0 (two-row n items None (alone e row) (alone-is e row stands is) 0 (omega arith) two), goes.1)
 
   rows-split : (whole : List ErrorValue) (given : List Error) → All Stand whole → SplitByRows rows detectors whole given → AreSplit n items (map error_shown whole) given
   rows-split [] given stand is = is

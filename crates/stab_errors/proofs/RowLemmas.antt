@@ -3,13 +3,13 @@ use Rattle.stab_errors.proofs.Names.{◌≡◌, ℕ, zero, suc, ◌+◌, ◌<◌
 use Rattle.stab_gates.specs.declared.letter.Letter.TheVariants as letter
 use Rattle.stab_errors.specs.declared.placed.Error.{Error}
 
-weaker : (from more : ℕ) (ks : List ℕ) → from ≤ more → AscendsFrom more ks → AscendsFrom from ks
-weaker from more [] le a = tt
-weaker from more (k ∷ ks) le a = (omega (arith, le, a.0), a.1)
+pub ascends-weaker : (from more : ℕ) (ks : List ℕ) → from ≤ more → AscendsFrom more ks → AscendsFrom from ks
+ascends-weaker from more [] le a = tt
+ascends-weaker from more (k ∷ ks) le a = (omega (arith, le, a.0), a.1)
 
 ascends-step : (b : Bool) (i : ℕ) (rest : List ℕ) → AscendsFrom (i + 1) rest → AscendsFrom i (if b then i ∷ rest else rest)
 ascends-step true i rest a = (omega arith, a)
-ascends-step false i rest a = weaker i (i + 1) rest (omega arith) a
+ascends-step false i rest a = ascends-weaker i (i + 1) rest (omega arith) a
 
 where-ascends : (f : ℕ → Bool) (i k : ℕ) → AscendsFrom i (numbers_where f i k)
 where-ascends f i zero = tt

@@ -1,13 +1,14 @@
 -- Unseen sets: logical errors of a table of errors are sets of errors that are unseen together, and the other way round.
-use Rattle.stab_errors.proofs.Names.{◌≡◌, ℕ, ◌+◌, ◌-◌, ◌<◌, ◌≤◌, ◌⊎◌, inl, inr, refl, sym, ap, ◌∙◌, subst, Bool, true, false, List, [], ◌∷◌, length, arith, Option, Some, None, Result, IfOk, unwrap_or, All, Contains, ◌&&◌, slice_index_or, flat_map, cases_lt, get_or-map, get_or_default, length-map, All-nil, All-cons, All-head, All-tail, All-map, All-weaker, Contains-get_or, ◌⊕◌, Items, unroll, detectors_of, I, bits_in, IsDeterministic, fault_on, in_front, odd-where, IsLogicalError, IsLeast, HasNoneWithin, HasNone, HasSome, Answer, Heard, begins, Hears, up_to, IsExcludedBy, TellsSearch, Error, letter, faults_in, ErrorTableState, IsErrorTable, flip_together, flipped_by, flip_each, AreUnseen, FlipsTwo, AreUnseenOf, AreLeastUnseen, NoneUnseen, NoneUnseenWithin, SomeUnseen, IsWithin, IsLeastSet, TellsUnseen, error_at, errors_at_numbers}
+use Rattle.stab_errors.proofs.Names.{◌≡◌, ℕ, ◌+◌, ◌<◌, ◌≤◌, ◌⊎◌, inl, inr, refl, sym, ap, ◌∙◌, subst, Bool, true, false, List, [], ◌∷◌, length, arith, Option, Some, None, Result, Ok, Err, IfOk, IsErrAnd, unwrap_or, All, Contains, ◌&&◌, slice_index_or, flat_map, cases_lt, get_or-map, get_or_default, length-map, All-nil, All-cons, All-head, All-tail, All-map, All-weaker, Contains-get_or, ◌⊕◌, Items, unroll, detectors_of, I, bits_in, fault_on, in_front, odd-where, IsLogicalError, IsLeast, HasNoneWithin, HasNone, HasSome, Answer, Heard, begins, Hears, up_to, IsExcludedBy, TellsSearch, Error, letter, faults_in, ErrorTableState, IsErrorTable, flip_together, flipped_by, flip_each, AreUnseen, FlipsTwo, AreUnseenOf, NoneUnseen, NoneUnseenWithin, SomeUnseen, IsWithin, IsLeastSet, TellsUnseen, error_at, errors_at_numbers, with_observable, IsLogicalOf}
 use Rattle.stab_regions.specs.Rows.{odd}
-use Rattle.stab_distance.specs.Tables.{row, flips}
+use Rattle.stab_distance.specs.Tables.{ErrorTable, row, flips}
+use Rattle.stab_errors.proofs.ObservedLemmas.{as-many-kept, from-kept, to-kept}
 use Rattle.stab_errors.proofs.FlipLemmas.{odd-without, set, unset}
 
 false-or-true : (b : Bool) → b ≡ true → b ≡ false → ⊥
 false-or-true b is other = cc
 
-module _ (n : ℕ) (items : Items) (t : ErrorTableState) (table : IsErrorTable n items t) where
+module _ (n : ℕ) (items : Items) (observable : Option ℕ) (t : ErrorTableState) (table : IsErrorTable n items t) where
   abbrev pub rows : List (List ℕ)
   rows = t.table.rows
 
@@ -83,25 +84,22 @@ module _ (n : ℕ) (items : Items) (t : ErrorTableState) (table : IsErrorTable n
 
   -- logical errors are unseen
 
-  pub logical-unseen : (graphlike : Bool) (ks : List ℕ) → IsLogicalError t.table ks → (graphlike ≡ true → All (FlipsTwo n items) (errors_at_numbers t.errors ks))
-      → AreUnseenOf graphlike n items t.errors (errors_at_numbers t.errors ks)
+  pub logical-unseen : (graphlike : Bool) (ks : List ℕ) → IsLogicalOf observable t.table ks → (graphlike ≡ true → All (FlipsTwo n items) (errors_at_numbers t.errors ks))
+      → AreUnseenOf graphlike observable n items t.errors (errors_at_numbers t.errors ks)
   logical-unseen graphlike ks logical two =
-      let o = logical.observed.0 in
-      let past_detectors : D ≤ o = subst (λ d. d ≤ o) table.detectors logical.observed.1 in
-      let is = deterministic-number ks o logical.inside logical.observed.2 in
-      let o_is : D + (o - D) ≡ o = omega (arith, past_detectors) in
+      let named : flips rows ks (D + logical.number) ≡ true = subst (λ d. flips rows ks (d + logical.number) ≡ true) table.detectors logical.flipped in
+      let is = deterministic-number ks (D + logical.number) logical.inside named in
       record {
         of = numbers-of ks logical.inside;
         unseen = record {
           detectors = λ coins d less same.
               let inside : d < bits_in items = omega (arith, less) in
               together coins ks d logical.inside inside ((table.are_deterministic.exact d inside).1 same) ∙ logical.undetected d (omega (arith, less, table.detectors));
-          number = o - D;
-          in_range = omega (arith, is.0, past_detectors);
-          deterministic = subst (IsDeterministic n items) (sym o_is) ((table.are_deterministic.exact o is.0).0 is.1);
-          observable = λ coins.
-              subst (λ i. flip_together n items coins (flat_map faults_in (errors_at_numbers t.errors ks)) i ≡ true) (sym o_is)
-              (together coins ks o logical.inside is.0 is.1 ∙ logical.observed.2);
+          number = logical.number;
+          asked = logical.asked;
+          in_range = omega (arith, is.0);
+          deterministic = (table.are_deterministic.exact (D + logical.number) is.0).0 is.1;
+          flipped = λ coins. together coins ks (D + logical.number) logical.inside is.0 is.1 ∙ named;
         };
         two = two;
       }
@@ -125,17 +123,17 @@ module _ (n : ℕ) (items : Items) (t : ErrorTableState) (table : IsErrorTable n
 
   -- unseen errors are logical errors
 
-  pub logical-of : (ks : List ℕ) → All Inside ks → AreUnseen n items (errors_at_numbers t.errors ks) → IsLogicalError t.table ks
+  pub logical-of : (ks : List ℕ) → All Inside ks → AreUnseen n items observable (errors_at_numbers t.errors ks) → IsLogicalOf observable t.table ks
   logical-of ks less unseen = record {
     inside = less;
     undetected = λ d before. by_bit d (subst (λ e. d < e) table.detectors before) (slice_index_or t.deterministic d false) refl;
-    observed =
-        let inside : D + unseen.number < bits_in items = omega (arith, unseen.in_range) in (
-          D + unseen.number,
-          omega (arith, table.detectors),
-          sym (together coins ks (D + unseen.number) less inside ((table.are_deterministic.exact (D + unseen.number) inside).1 unseen.deterministic))
-              ∙ unseen.observable coins,
-        );
+    number = unseen.number;
+    asked = unseen.asked;
+    flipped =
+        let inside : D + unseen.number < bits_in items = omega (arith, unseen.in_range) in
+        subst (λ d. flips rows ks (d + unseen.number) ≡ true) (sym table.detectors)
+        (sym (together coins ks (D + unseen.number) less inside ((table.are_deterministic.exact (D + unseen.number) inside).1 unseen.deterministic))
+        ∙ unseen.flipped coins);
   }
     where
       coins : ℕ → Bool
@@ -148,10 +146,17 @@ module _ (n : ℕ) (items : Items) (t : ErrorTableState) (table : IsErrorTable n
           ∙ unseen.detectors coins d before ((table.are_deterministic.exact d inside).0 e)
       by_bit d before false e = none ks d less (λ inside. e)
 
-  unseen-logical : (errors : List Error) → AreUnseenOf false n items t.errors errors → (ks : List ℕ) × IsLogicalError t.table ks × (length ks ≡ length errors)
+  -- the table that is searched
+  abbrev pub sought : ErrorTable
+  sought = with_observable observable t.table
+
+  pub as-many-sought : length sought.rows ≡ length rows
+  as-many-sought = as-many-kept t.table observable
+
+  unseen-logical : (errors : List Error) → AreUnseenOf false observable n items t.errors errors → (ks : List ℕ) × IsLogicalError sought ks × (length ks ≡ length errors)
   unseen-logical errors unseen =
       let numbers = numbers-at errors unseen.of in
-      (numbers.0, logical-of numbers.0 numbers.1 (subst (AreUnseen n items) (sym numbers.2) unseen.unseen), numbers.3)
+      (numbers.0, to-kept t.table observable numbers.0 (logical-of numbers.0 numbers.1 (subst (AreUnseen n items observable) (sym numbers.2) unseen.unseen)), numbers.3)
 
   -- answers
 
@@ -159,37 +164,62 @@ module _ (n : ℕ) (items : Items) (t : ErrorTableState) (table : IsErrorTable n
   within-asked (Some w) bound k e le = omega (arith, e, le)
   within-asked None bound k e le = tt
 
-  pub least-unseen : (most : Option ℕ) (bound : ℕ) (ks : List ℕ) → bound ≡ unwrap_or most (length rows) → IsLeast t.table bound ks → IsLeastSet false n items t.errors most ks
+  pub least-unseen : (most : Option ℕ) (bound : ℕ) (ks : List ℕ) → bound ≡ unwrap_or most (length rows) → IsLeast sought bound ks → IsLeastSet false observable n items t.errors most ks
   least-unseen most bound ks e least = record {
     ascending = least.ascending;
     within = within-asked most bound (length ks) e least.within;
-    inside = All-weaker Inside (λ k. k < length t.errors) (λ k less. omega (arith, less, as-many)) ks least.logical.inside;
+    inside = All-weaker Inside (λ k. k < length t.errors) (λ k less. omega (arith, less, as-many)) ks (from-kept t.table observable ks least.logical).inside;
     least = record {
-      unseen = logical-unseen false ks least.logical (λ asked. absurd (cc));
+      unseen = logical-unseen false ks (from-kept t.table observable ks least.logical) (λ asked. absurd (cc));
       least = λ others are.
           let numbers = unseen-logical others are in
           omega (arith, least.least numbers.0 numbers.1, numbers.2, length-map ks (error_at t.errors));
     };
   }
 
-  pub some-unseen : HasSome t.table → SomeUnseen false n items t.errors
-  some-unseen (ks, logical) = (errors_at_numbers t.errors ks, logical-unseen false ks logical (λ asked. absurd (cc)))
+  pub some-unseen : HasSome sought → SomeUnseen false observable n items t.errors
+  some-unseen (ks, logical) = (errors_at_numbers t.errors ks, logical-unseen false ks (from-kept t.table observable ks logical) (λ asked. absurd (cc)))
 
-  pub none-unseen-within : (most : ℕ) → HasNoneWithin t.table most → NoneUnseenWithin false n items t.errors most
+  pub none-unseen-within : (most : ℕ) → HasNoneWithin sought most → NoneUnseenWithin false observable n items t.errors most
   none-unseen-within most none others are = let numbers = unseen-logical others are in omega (arith, none numbers.0 numbers.1, numbers.2)
 
-  pub none-unseen : HasNone t.table → NoneUnseen false n items t.errors
+  pub none-unseen : HasNone sought → NoneUnseen false observable n items t.errors
   none-unseen none others are = let numbers = unseen-logical others are in none numbers.0 numbers.1
 
   -- what is heard
 
-  pub heard-unseen : {E : Type 0} (graphlike : Bool) (has_none : ℕ → Type 0) → ((k : ℕ) → has_none k → NoneUnseenWithin graphlike n items t.errors k)
+  pub heard-unseen : {E : Type 0} (graphlike : Bool) (has_none : ℕ → Type 0) → ((k : ℕ) → has_none k → NoneUnseenWithin graphlike observable n items t.errors k)
       → (most : Option ℕ) (bound : ℕ) (old new : Option (List Heard)) (r : Result Answer E) → bound ≡ unwrap_or most (length rows)
-      → TellsSearch (length rows) bound has_none old new r → TellsUnseen graphlike n items t.errors most old new r
-  heard-unseen graphlike has_none none most bound old new r e tells =
-      let same : bound ≡ unwrap_or most (length t.errors) = e ∙ ap (λ k. unwrap_or most k) as-many in record {
-        last = tells.last;
-        none = none tells.last tells.none;
-        heard = subst (λ k. Hears old new (begins k ∷ up_to tells.last)) as-many tells.heard;
-        all = subst (λ k. IfOk r (λ a. IsExcludedBy k a tells.last)) same tells.all;
-      }
+      → TellsSearch (length sought.rows) bound has_none old new r → TellsUnseen graphlike observable n items t.errors most old new r
+  heard-unseen {E} graphlike has_none none most bound old new r e tells = by_observable observable r searched
+    where
+      searched : TellsSearch (length t.errors) (unwrap_or most (length t.errors)) (NoneUnseenWithin graphlike observable n items t.errors) old new r
+      searched =
+          let same : bound ≡ unwrap_or most (length t.errors) = e ∙ ap (λ k. unwrap_or most k) as-many in record {
+            last = tells.last;
+            none = none tells.last tells.none;
+            heard = subst (λ k. Hears old new (begins k ∷ up_to tells.last)) (as-many-sought ∙ as-many) tells.heard;
+            all = subst (λ k. IfOk r (λ a. IsExcludedBy k a tells.last)) same tells.all;
+          }
+
+      by_observable : (o : Option ℕ) (x : Result Answer E) → TellsSearch (length t.errors) (unwrap_or most (length t.errors)) (NoneUnseenWithin graphlike o n items t.errors) old new x
+          → TellsUnseen graphlike o n items t.errors most old new x
+      by_observable None x is = is
+      by_observable (Some j) (Ok a) is = is
+      by_observable (Some j) (Err x) is = inr is
+
+-- what is heard of a search of a table in which an observable counts, or any
+pub heard-of : {E : Type 0} (t : ErrorTableState) (asked observable most : Option ℕ) (bound : ℕ) (searched : ErrorTable) (old new : Option (List Heard)) (r : Result Answer E)
+    → asked ≡ observable → bound ≡ unwrap_or most (length t.table.rows) → searched ≡ with_observable observable t.table
+    → TellsSearch (length searched.rows) bound (HasNoneWithin searched) old new r
+    → (n : ℕ) (items : Items) → IsErrorTable n items t → TellsUnseen false asked n items t.errors most old new r
+heard-of t asked observable most bound searched old new r same e is tells n items table =
+    subst (λ o. TellsUnseen false o n items t.errors most old new r) (sym same)
+    (heard-unseen n items observable t table false (HasNoneWithin (with_observable observable t.table)) (none-unseen-within n items observable t table) most bound old new r e
+    (subst (λ (s : ErrorTable). TellsSearch (length s.rows) bound (HasNoneWithin s) old new r) is tells))
+
+-- nothing is heard of a search for one observable, if memory was refused before it began
+pub unheard-of : {E : Type 0} (graphlike : Bool) (t : ErrorTableState) (asked : Option ℕ) (j : ℕ) (most : Option ℕ) (heard : Option (List Heard)) (r : Result Answer E) (x : E) → asked ≡ Some j → IsErrAnd r (λ y. y ≡ x)
+    → (n : ℕ) (items : Items) → IsErrorTable n items t → TellsUnseen graphlike asked n items t.errors most heard heard r
+unheard-of graphlike t asked j most heard (Ok a) x same is n items table = absurd is
+unheard-of graphlike t asked j most heard (Err y) x same is n items table = subst (λ o. TellsUnseen graphlike o n items t.errors most heard heard (Err y)) (sym same) (inl refl)

@@ -1,6 +1,6 @@
 -- Laws of errors: each circuit has a table of errors, and an answer to how few of them are unseen together.
 -- Source: this project's own.
-use Rattle.std.specs.Prelude.{◌≡◌, ℕ, ◌<◌, ◌^◌, Bool, false, All, Some}
+use Rattle.std.specs.Prelude.{◌≡◌, ℕ, ◌<◌, ◌^◌, Bool, false, All, Some, None}
 use Rattle.stab_circuit.specs.Items.{Items}
 use Rattle.stab_circuit.specs.Steps.{unroll}
 use Rattle.stab_run.specs.ProgramStates.{StepFits}
@@ -14,4 +14,4 @@ use Rattle.stab_errors.specs.Unseen.{IsDistance}
 abbrev pub CircuitsHaveDistances : Type 0
 CircuitsHaveDistances =
     (n : ℕ) (everywhere : Bool) (letters : ErrorLetters) (items : Items) (most : ℕ) → All (StepFits n) (unroll items) → most < 2 ^ 63 →
-    (t : ErrorTableState) × (a : Answer) × (t.errors ≡ errors_of everywhere letters items) × IsErrorTable n items t × IsDistance false n items t.errors (Some most) a
+    (t : ErrorTableState) × (a : Answer) × (t.errors ≡ errors_of everywhere letters items) × IsErrorTable n items t × IsDistance false None n items t.errors (Some most) a

@@ -3,3 +3,4 @@ pub mod Marked
 pub mod Everywhere
 pub mod ErrorRows
 pub mod RowParts
+pub mod Observed

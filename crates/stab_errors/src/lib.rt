@@ -12,7 +12,8 @@
 //! - `rows`: what an error flips, by the table of faults.
 //! - `parts`: the parts of errors that flip more than two detectors.
 //! - `error_table`: the errors of a circuit, and their table.
-//! - `search`: the least number of errors that are unseen; of all, or of those alone that flip at most two detectors.
+//! - `observed`: the table in which one observable alone counts.
+//! - `search`: the least number of errors that are unseen; of all, or of those alone that flip at most two detectors; with any observable, or with one.
 //! - `laws`: each circuit has a table of errors and a distance.
 //! - `everywhere_laws`: a record wrong by itself is one more `!`; errors everywhere leave no Pauli out.
 //!
@@ -34,6 +35,7 @@ pub mod laws;
 mod letters;
 mod marked;
 mod marks;
+mod observed;
 mod parts;
 mod placed;
 mod rows;

@@ -42,7 +42,7 @@ fn by_z(table: &FaultTable, place: Place) -> &[u32]
 }
 
 /// A copy of a row.
-fn copied(alloc: Global, row: &[u32]) -> Result<Vec<u32>, AllocError>
+pub(crate) fn copied(alloc: Global, row: &[u32]) -> Result<Vec<u32>, AllocError>
     ensures value { IfOk result (λ v. v.items ≡ row.now) }
 {
     let mut numbers = Vec::with_capacity(alloc, row.len())?;

@@ -29,6 +29,8 @@ pub struct DistanceOptions {
     pub letters: ErrorLetters,
     /// Only those errors that flip at most two detectors.
     pub graphlike: bool,
+    /// The observable that they are to flip; any, if none is given.
+    pub observable: Option<usize>,
     /// Up to how many errors.
     pub most: Option<usize>,
     /// Detectors and observables that are not the same for all random bits are left out, and not refused.
@@ -84,6 +86,8 @@ pub enum Command {
     },
     /// Writes the least number of errors that flip an observable and no detector, and that many such errors.
     Distance(DistanceOptions),
+    /// Writes the errors that `Distance` searches, a line each, and what each flips.
+    SearchedErrors(DistanceOptions),
     /// Edits the circuit by a script, on this many qubits or on as many as it names, and writes the
     /// replies, framed if a program is to read them.
     Edit {

@@ -338,7 +338,7 @@ IsDeterministicAnswer true held a = (text : List ℕ) × IsDeterministicText F01
 
 -- what a script asks about a distance: all errors, up to this many, if each bit is the same for all random bits
 abbrev pub options_asked : (everywhere : Bool) → (most : ℕ) → DistanceOptions
-options_asked everywhere most = record { everywhere = everywhere; letters = All; graphlike = false; most = Some most; deterministic_only = false; progress = false }
+options_asked everywhere most = record { everywhere = everywhere; letters = All; graphlike = false; observable = None; most = Some most; deterministic_only = false; progress = false }
 
 -- the answer to what asks for a distance, as the command `distance` does: a framed script is shown it, or refused for a bit that is not the
 -- same for all random bits

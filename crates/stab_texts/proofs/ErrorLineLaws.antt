@@ -1,5 +1,5 @@
 -- Laws of error lines: the parts that are written of an error, one after another.
-use Rattle.stab_texts.proofs.Names.{◌≡◌, refl, sym, ap, ◌∙◌, ℕ, ◌<◌, Bool, false, List, [], ◌∷◌, ◌++◌, length, get_or, append_assoc, append-nil, codes, decimal, Some, get_or_default, length-map, letter_text, Items, Path, path_text, Kinds, FaultPlace, row, Error, first_fault, ErrorTableState, IsErrorTable, error_at, kinds_of, path_at, texts_joined, letter_name, where_text, what_text, numbered_line, if_graphlike, none_line}
+use Rattle.stab_texts.proofs.Names.{◌≡◌, ◌+◌, ◌-◌, suc, arith, flat_map, range_with_len, refl, sym, ap, ◌∙◌, ℕ, ◌<◌, false, List, [], ◌∷◌, ◌++◌, length, get_or, append_assoc, append-nil, codes, decimal, Some, get_or_default, length-map, letter_text, Items, Path, path_text, Kinds, FaultPlace, row, Error, first_fault, ErrorTableState, IsErrorTable, error_at, kinds_of, path_at, texts_joined, letter_name, where_text, what_text, numbered_line, line_end, up_to, missing_line}
 
 -- a letter and its qubit, by their two parts
 pub joined-letter : (f : FaultPlace) (symbol digits : List ℕ) → symbol ≡ letter_text f.letter → digits ≡ decimal f.qubit → texts_joined (symbol ∷ digits ∷ []) ≡ letter_name f
@@ -16,10 +16,22 @@ joined-letters f g symbol digits other others is_symbol is_digits is_other is_ot
 pub joined-record : (number : ℕ) (digits : List ℕ) → digits ≡ decimal number → texts_joined (codes "M" ∷ digits ∷ []) ≡ codes "M" ++ decimal number
 joined-record number digits is = rw (is, append-nil (decimal number)) refl
 
--- that there is no set of at most this many errors, by its five parts
-pub joined-none : (most : ℕ) (graphlike : Bool) (digits errors : List ℕ) → digits ≡ decimal most → errors ≡ if_graphlike graphlike
-    → texts_joined (codes "none" ∷ codes " up to " ∷ digits ∷ errors ∷ codes "\n" ∷ []) ≡ none_line (Some most) graphlike
-joined-none most graphlike digits errors is_digits is_errors = rw (is_digits, is_errors) refl
+-- how many errors a least set has, by its two parts
+pub joined-count : (count : ℕ) (digits : List ℕ) → digits ≡ decimal count → texts_joined (codes "distance " ∷ digits ∷ []) ≡ codes "distance " ++ decimal count
+joined-count count digits is = rw (is, append-nil (decimal count)) refl
+
+-- up to how many errors there is no set, by its three parts
+pub joined-none : (most : ℕ) (digits : List ℕ) → digits ≡ decimal most → texts_joined (codes "none" ∷ codes " up to " ∷ digits ∷ []) ≡ codes "none" ++ up_to (Some most)
+joined-none most digits is = rw (is, append-nil (decimal most)) refl
+
+-- the end of a first line that names an observable, by its four parts
+pub joined-end : (errors : List ℕ) (observable : ℕ) (digits : List ℕ) → digits ≡ decimal observable → texts_joined (errors ∷ codes " for L" ∷ digits ∷ codes "\n" ∷ []) ≡ line_end errors (Some observable)
+joined-end errors observable digits is = rw is refl
+
+-- the line of an observable that a circuit lacks, by its five parts
+pub joined-missing : (observable count : ℕ) (digits others : List ℕ) → digits ≡ decimal observable → others ≡ decimal count
+    → texts_joined (codes "stabsim: the circuit has no L" ∷ digits ∷ codes ", observables: " ∷ others ∷ codes "\n" ∷ []) ≡ missing_line observable count
+joined-missing observable count digits others is_digits is_others = rw (is_digits, is_others) refl
 
 -- where an error is, by its first part
 pub joined-where : (before : ℕ) (path : Path) (front : List ℕ) → front ≡ decimal before → texts_joined (front ∷ codes " " ∷ []) ++ (path_text path ++ codes " ") ≡ where_text before path
@@ -42,3 +54,10 @@ found_error errors k e less is = is ∙ get_or_default errors k _ _ less
 -- a table has a row for each error
 pub rows_counted : (n : ℕ) (items : Items) (t : ErrorTableState) → IsErrorTable n items t → length t.table.rows ≡ length t.errors
 rows_counted n items t is = ap length (is.are_flipped (λ _. false)) ∙ length-map t.errors _
+
+-- the texts of the numbers from one on: its own, and those of the numbers after it
+pub flat-range : (text : ℕ → List ℕ) (k n : ℕ) → k < n → flat_map text (range_with_len k (n - k)) ≡ text k ++ flat_map text (range_with_len (k + 1) (n - (k + 1)))
+flat-range text k n less = ap (λ m. flat_map text (range_with_len k m)) more
+  where
+    more : n - k ≡ suc (n - (k + 1))
+    more = omega (arith, less)

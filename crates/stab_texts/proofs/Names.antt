@@ -7,7 +7,7 @@ pub use Rattle.std.proofs.lemmas.List.{length-append, length-map, length-replica
 pub use Rattle.std.proofs.lemmas.List.Elements.{All-nil, All-cons}
 pub use Rattle.std.proofs.lemmas.Option.{slice_get_within, get_or_from_slice_get, slice_get_past}
 pub use Rattle.std.proofs.lemmas.Result.{err_from_is_err_and}
-pub use Rattle.std.specs.List.{flat_map, slice_get}
+pub use Rattle.std.specs.List.{flat_map, range_with_len, slice_get}
 pub use Rattle.std.specs.Result.{IsErrAnd}
 pub use Rattle.stab_edits.specs.Cursors.{step_shown}
 pub use Rattle.stab_circuit.specs.Items.{Items}
@@ -41,7 +41,8 @@ pub use Rattle.stab_texts.specs.Places.{path_at, bit_of, adds_to, steps_before_a
 pub use Rattle.stab_texts.specs.Texts.{row_head, texts_joined, placed_coin, texts_from}
 pub use Rattle.stab_texts.specs.declared.random.Random.{Random}
 pub use Rattle.stab_texts.specs.Deterministic.{kinds_of}
-pub use Rattle.stab_texts.specs.Distances.{letter_name, where_text, what_text, numbered_line, if_graphlike, none_line, error_name}
+pub use Rattle.stab_texts.specs.Distances.{letter_name, where_text, what_text, numbered_line, line_end, error_lines, up_to, error_name}
+pub use Rattle.stab_texts.specs.MissingObservables.{missing_line}
 pub use Rattle.stab_texts.specs.declared.fault_sites.Site.{Site as SiteValue}
 pub use Rattle.stab_texts.specs.declared.random.Bit.{Bit}
 pub use Rattle.stab_texts.specs.declared.random.Bit.TheVariants.{Detector, Observable}

@@ -1,7 +1,7 @@
 -- Distances: what `distance` writes of the errors of a circuit, and how a call of it ends.
 -- Source: this project's own.
 use Rattle.std.specs.Prelude.{◌≡◌, ℕ, ◌<◌, Bool, true, false, List, [], ◌++◌, length, codes, decimal, Option, Some, None, Result, Ok, Err, IfOk, ◌⊎◌}
-use Rattle.std.specs.List.{flat_map}
+use Rattle.std.specs.List.{flat_map, range_with_len}
 use Rattle.stab_io.specs.Devices.{InputView, OutputView}
 use Rattle.stab_io.specs.declared.refusal.Refusal.{Refusal}
 use Rattle.stab_io.specs.declared.refusal.Refusal.TheVariants.{OutOfMemory, NotDeterministic}
@@ -61,9 +61,14 @@ of_errors true everywhere = codes " of graph-like errors"
 of_errors false false = codes " of all marked errors"
 of_errors false true = codes " of all errors everywhere"
 
+-- the end of a first line: of which errors, and for which observable, if one was asked for
+abbrev pub line_end : (errors : List ℕ) → (observable : Option ℕ) → List ℕ
+line_end errors None = errors ++ codes "\n"
+line_end errors (Some j) = errors ++ (codes " for L" ++ (decimal j ++ codes "\n"))
+
 -- the line of this number of errors
-abbrev pub distance_line : (count : ℕ) → (graphlike everywhere : Bool) → List ℕ
-distance_line count graphlike everywhere = codes "distance " ++ (decimal count ++ (of_errors graphlike everywhere ++ codes "\n"))
+abbrev pub distance_line : (count : ℕ) → (graphlike everywhere : Bool) → (observable : Option ℕ) → List ℕ
+distance_line count graphlike everywhere observable = (codes "distance " ++ decimal count) ++ line_end (of_errors graphlike everywhere) observable
 
 -- the number of errors up to which no set was found, and of which errors
 abbrev pub up_to : (most : Option ℕ) → List ℕ
@@ -74,26 +79,41 @@ abbrev pub if_graphlike : (graphlike : Bool) → List ℕ
 if_graphlike false = []
 if_graphlike true = of_errors true true
 
-abbrev pub none_line : (most : Option ℕ) → (graphlike : Bool) → List ℕ
-none_line most graphlike = codes "none" ++ (up_to most ++ (if_graphlike graphlike ++ codes "\n"))
+abbrev pub none_line : (most : Option ℕ) → (graphlike : Bool) → (observable : Option ℕ) → List ℕ
+none_line most graphlike observable = (codes "none" ++ up_to most) ++ line_end (if_graphlike graphlike) observable
 
 -- what is written of an answer: the number of errors and a line for each, or that there is no such set
 abbrev pub answer_text : DistanceOptions → Items → ErrorTableState → Answer → List ℕ
-answer_text options items t (Least numbers) = distance_line (length numbers.items) options.graphlike options.everywhere ++ flat_map (numbered_line items t) numbers.items
-answer_text options items t NoneWithin = none_line options.most options.graphlike
-answer_text options items t NoneAtAll = none_line None options.graphlike
+answer_text options items t (Least numbers) = distance_line (length numbers.items) options.graphlike options.everywhere options.observable ++ flat_map (numbered_line items t) numbers.items
+answer_text options items t NoneWithin = none_line options.most options.graphlike options.observable
+answer_text options items t NoneAtAll = none_line None options.graphlike options.observable
 
--- the errors of a circuit that are asked for, on its own qubits, split if graph-like ones are, with their table and an answer about them;
--- and each bit is deterministic, unless those that are not are left out
-pub record IsDistanceOf (options : DistanceOptions) (items : Items) (t : ErrorTableState) (answer : Answer) : Type 0 where
+-- each bit of a circuit is deterministic, unless those that are not are left out
+abbrev pub IsAllDeterministic : DistanceOptions → Items → Type 0
+IsAllDeterministic options items = options.deterministic_only ≡ false → (i : ℕ) → i < bits_in items → IsDeterministic (qubits_of items) items i
+
+-- the errors of a circuit that are asked for, on its own qubits, split if graph-like ones are, with their table
+pub record AreErrorsOf (options : DistanceOptions) (items : Items) (t : ErrorTableState) : Type 0 where
   pub errors : AreSearched options.graphlike (qubits_of items) items (errors_of options.everywhere options.letters items) t.errors
   pub table : IsErrorTable (qubits_of items) items t
-  pub distance : IsDistance options.graphlike (qubits_of items) items t.errors options.most answer
-  pub all_deterministic : options.deterministic_only ≡ false → (i : ℕ) → i < bits_in items → IsDeterministic (qubits_of items) items i
+  pub all_deterministic : IsAllDeterministic options items
+
+-- these errors, and an answer about them
+pub record IsDistanceOf (options : DistanceOptions) (items : Items) (t : ErrorTableState) (answer : Answer) : Type 0 where
+  pub are : AreErrorsOf options items t
+  pub distance : IsDistance options.graphlike options.observable (qubits_of items) items t.errors options.most answer
 
 -- the bytes are those of an answer
 abbrev pub IsDistanceText : DistanceOptions → Items → List ℕ → Type 0
 IsDistanceText options items bytes = (t : ErrorTableState) × (answer : Answer) × IsDistanceOf options items t answer × (bytes ≡ answer_text options items t answer)
+
+-- the lines of all errors
+abbrev pub error_lines : Items → ErrorTableState → List ℕ
+error_lines items t = flat_map (numbered_line items t) (range_with_len 0 (length t.errors))
+
+-- the bytes are those of these errors
+abbrev pub IsSearchedText : DistanceOptions → Items → List ℕ → Type 0
+IsSearchedText options items bytes = (t : ErrorTableState) × AreErrorsOf options items t × (bytes ≡ error_lines items t)
 
 -- why there is no answer: a bit that is not deterministic, or memory that was refused
 abbrev pub IsRefusedFor : (deterministic_only : Bool) → Items → Option Random → Fault → Type 0
@@ -104,13 +124,16 @@ IsRefusedFor deterministic_only items None fault = fault ≡ whole OutOfMemory
 abbrev pub EndsDistance : {T : Type 0} → DistanceOptions → InputView → InputView → OutputView → OutputView → Result T Fault → Option Random → Type 0
 EndsDistance options i i' o o' r random = EndsOrNames (IsDistanceText options) options.deterministic_only i i' o o' r random
 
+-- How a call ends that writes the errors that are searched.
+abbrev pub EndsSearched : {T : Type 0} → DistanceOptions → InputView → InputView → OutputView → OutputView → Result T Fault → Option Random → Type 0
+EndsSearched options i i' o o' r random = EndsOrNames (IsSearchedText options) options.deterministic_only i i' o o' r random
+
 -- what is heard of a search among the errors of a circuit that are asked for, and what it found
 pub record HearsSearch (options : DistanceOptions) (items : Items) (old new : Option (List Heard)) (result : Result Answer Refusal) : Type 0 where
   pub t : ErrorTableState
-  pub errors : AreSearched options.graphlike (qubits_of items) items (errors_of options.everywhere options.letters items) t.errors
-  pub table : IsErrorTable (qubits_of items) items t
-  pub found : IfOk result (IsDistance options.graphlike (qubits_of items) items t.errors options.most)
-  pub told : TellsUnseen options.graphlike (qubits_of items) items t.errors options.most old new result
+  pub are : AreErrorsOf options items t
+  pub found : IfOk result (IsDistance options.graphlike options.observable (qubits_of items) items t.errors options.most)
+  pub told : TellsUnseen options.graphlike options.observable (qubits_of items) items t.errors options.most old new result
 
 -- what is heard of a call with the items of a circuit: nothing, if it ended before its search, or what its search reports
 abbrev pub HearsDistance : {T : Type 0} → DistanceOptions → Items → Option (List Heard) → Option (List Heard) → Result T Fault → Type 0

@@ -10,6 +10,7 @@ pub mod Places
 pub mod FaultTables
 pub mod Distances
 pub mod DoubtLines
+pub mod MissingObservables
 pub mod CoinTables
 pub mod Reasons
 pub mod inner

@@ -7,7 +7,7 @@ ghost use Rattle.stab_edits.specs.Views.{circuit_items};
 ghost use Rattle.stab_errors.specs.ErrorTables.{StepsInside};
 ghost use Rattle.stab_errors.specs.Placed.{error_shown};
 ghost use Rattle.stab_texts.specs.Deterministic.{kinds_of};
-ghost use Rattle.stab_texts.specs.Distances.{error_name, numbered_line, what_text, where_text};
+ghost use Rattle.stab_texts.specs.Distances.{error_name, numbered_line, error_lines, what_text, where_text};
 
 use crate::writing::write_texts;
 use itoa::Buffer;
@@ -105,6 +105,25 @@ pub fn write_errors<O: Output>(
 {
     'numbers: for number in numbers {
         write_error(out, circuit, kinds, errors, *number)?;
+    }
+    Ok(())
+}
+
+/// Writes the lines of all errors, in order.
+pub fn write_all_errors<O: Output>(
+    out: &mut O,
+    circuit: &Circuit,
+    kinds: Kinds,
+    errors: &ErrorTable,
+) -> Result<(), Refusal>
+    requires checked { check_of (circuit_items circuit.now) ≡ None }
+    requires kinds { kinds ≡ kinds_of (circuit_items circuit.now) }
+    requires rows { length errors.now.table.rows ≡ length errors.now.errors }
+    requires steps { StepsInside (circuit_items circuit.now) errors.now.errors }
+    ensures writes { WritesAll (O.seen out.old) (O.seen out.new) (error_lines (circuit_items circuit.now) errors.now) result }
+{
+    'errors: for number in 0..errors.len() {
+        write_error(out, circuit, kinds, errors, number)?;
     }
     Ok(())
 }

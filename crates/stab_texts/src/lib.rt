@@ -9,10 +9,12 @@
 //! - `fault_lines`, `fault_bits`: a table of faults as lines, and as shots.
 //! - `error_lines`: errors as lines.
 //! - `doubt_lines`: marks that may be meant in another way, as lines.
+//! - `missing_observable`: an observable that the circuit lacks, as a line.
 //!
 //! `specs/` says what each reply is, for `stab_analysis`, which finds it, and for `stab_script`, which asks for it: how a
 //! call ends (`Endings`), rows of a group (`Rows`), which bits are the same for all random bits (`Deterministic`), what
-//! faults flip (`FaultTables`), distances (`Distances`), marks that may be meant in another way (`DoubtLines`), coins that decide (`Deciders`, `CoinTables`, `Reasons`).
+//! faults flip (`FaultTables`), distances (`Distances`), marks that may be meant in another way (`DoubtLines`), observables that
+//! are asked for but not there (`MissingObservables`), coins that decide (`Deciders`, `CoinTables`, `Reasons`).
 //!
 //! Source: this project's own.
 //!
@@ -25,13 +27,15 @@ mod fault_bits;
 mod fault_line;
 mod fault_lines;
 mod fault_sites;
+mod missing_observable;
 mod random;
 mod writing;
 
 pub use doubt_lines::tell_doubts;
-pub use error_lines::write_errors;
+pub use error_lines::{write_all_errors, write_errors};
 pub use fault_bits::{write_row, write_shots};
 pub use fault_line::{write_decider, write_fault, write_refused};
 pub use fault_lines::write_lines;
+pub use missing_observable::tell_missing;
 pub use random::{Bit, Decider, FaultsRefused, Random};
 pub use writing::{finish, write_head, write_texts};

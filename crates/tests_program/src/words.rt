@@ -85,10 +85,12 @@ stabsim faults --deterministic_only|Faults { layout: Lines, everywhere: false, d
 stabsim deterministic --explain --out_format=b8 --out=b.txt|Explain Seed(0) None Some("b.txt")
 stabsim coins --in a.stim|Coins { layout: Lines } Seed(0) Some("a.stim") None
 stabsim coins --out_format hits|Coins { layout: Shots(Hits) } Seed(0) None None
-stabsim distance|Distance(DistanceOptions { everywhere: false, letters: All, graphlike: false, most: None, deterministic_only: false, progress: false }) Seed(0) None None
-stabsim distance --everywhere --letters=XZ --most 1000000000 --in=a.stim|Distance(DistanceOptions { everywhere: true, letters: XAndZ, graphlike: false, most: Some(1000000000), deterministic_only: false, progress: false }) Seed(0) Some("a.stim") None
-stabsim distance --most=0 --graphlike --progress --deterministic_only --letters all|Distance(DistanceOptions { everywhere: false, letters: All, graphlike: true, most: Some(0), deterministic_only: true, progress: true }) Seed(0) None None
-stabsim distance --sure_only|Distance(DistanceOptions { everywhere: false, letters: All, graphlike: false, most: None, deterministic_only: true, progress: false }) Seed(0) None None"#;
+stabsim distance|Distance(DistanceOptions { everywhere: false, letters: All, graphlike: false, observable: None, most: None, deterministic_only: false, progress: false }) Seed(0) None None
+stabsim distance --everywhere --letters=XZ --most 1000000000 --in=a.stim|Distance(DistanceOptions { everywhere: true, letters: XAndZ, graphlike: false, observable: None, most: Some(1000000000), deterministic_only: false, progress: false }) Seed(0) Some("a.stim") None
+stabsim distance --most=0 --graphlike --progress --deterministic_only --letters all|Distance(DistanceOptions { everywhere: false, letters: All, graphlike: true, observable: None, most: Some(0), deterministic_only: true, progress: true }) Seed(0) None None
+stabsim distance --observable 4095|Distance(DistanceOptions { everywhere: false, letters: All, graphlike: false, observable: Some(4095), most: None, deterministic_only: false, progress: false }) Seed(0) None None
+stabsim distance --table --everywhere|SearchedErrors(DistanceOptions { everywhere: true, letters: All, graphlike: false, observable: None, most: None, deterministic_only: false, progress: false }) Seed(0) None None
+stabsim distance --sure_only|Distance(DistanceOptions { everywhere: false, letters: All, graphlike: false, observable: None, most: None, deterministic_only: true, progress: false }) Seed(0) None None"#;
 
 #[test]
 fn words_ask_for_a_job(rt: HostRuntime) -> Result<(), Fail> {

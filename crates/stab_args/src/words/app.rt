@@ -1,7 +1,7 @@
 //! The commands of the program and their options, as the command line reader is given them.
 ghost use Rattle.std.specs.Prelude.{IfOk};
 ghost use Rattle.clap.specs.Words.{App, Rule, new_app, with_rule, with_subcommand};
-ghost use Rattle.stab_args.specs.Options.{alone, bare, check, coins, detect, deterministic, deterministic_only, distance, edit, faults, flag, most_errors, named, numbered, one_name, ranged, shot_command, stabilisers, stabsim, valued};
+ghost use Rattle.stab_args.specs.Options.{alone, bare, check, coins, detect, deterministic, deterministic_only, distance, edit, faults, flag, last_observable, most_errors, named, numbered, one_name, ranged, shot_command, stabilisers, stabsim, valued};
 ghost use Rattle.stab_args.specs.inner.Parts.{IsApp, IsOption, with_common, with_files};
 
 use crate::words::help;
@@ -15,6 +15,9 @@ pub(crate) static FORMATS: [&str; 5] = ["01", "b8", "r8", "hits", "dets"];
 
 /// The names of the letters of errors.
 pub(crate) static LETTERS: [&str; 2] = ["all", "XZ"];
+
+/// The number of the last observable.
+pub(crate) const LAST_OBSERVABLE: u64 = 4095;
 
 /// The greatest number of errors up to which a distance is asked for.
 pub(crate) const MOST_ERRORS: u64 = 1_000_000_000;
@@ -266,6 +269,11 @@ fn distance_command<'a>(alloc: Global, letters: &'a [&'a str]) -> Result<Command
     );
     let command = with_option(command, ranged(alloc, "most", 0, MOST_ERRORS, help::MOST));
     let command = with_option(command, flag(alloc, "graphlike", help::GRAPHLIKE));
+    let command = with_option(
+        command,
+        ranged(alloc, "observable", 0, LAST_OBSERVABLE, help::OBSERVABLE),
+    );
+    let command = with_option(command, flag(alloc, "table", help::TABLE));
     let command = with_option(command, only);
     let command = with_option(command, flag(alloc, "progress", help::PROGRESS));
     with_files(alloc, command, help::IN)

@@ -4,14 +4,14 @@ ghost use Rattle.clap.specs.Words.{IsUnsignedIn, first_of, found_of, has_subcomm
 ghost use Rattle.stab_gates.specs.Limits.{most_qubits};
 ghost use Rattle.stab_circuit.specs.Limits.{most_stride};
 ghost use Rattle.stab_jobs.specs.Limits.{last_shot, most_shots, shots_of_seed};
-ghost use Rattle.stab_args.specs.Asked.{AreLetters, AreShots, IsAskedDistance, IsCommand, IsFirst, IsJob, IsLayout, IsNamed, IsSet, IsSource, IsWritten, IsWrittenIfGiven, RefusesCoins, RefusesOptions, RefusesShots, first_beside_coins};
-ghost use Rattle.stab_args.specs.Options.{most_errors, most_seed};
+ghost use Rattle.stab_args.specs.Asked.{AreLetters, AreShots, IsAskedDistance, IsCommand, IsFirst, IsJob, IsLayout, IsNamed, IsSet, IsSource, IsWritten, IsWrittenIfGiven, RefusesCoins, RefusesCommand, RefusesOptions, RefusesShots, RefusesTable, first_beside_coins, is_about_search};
+ghost use Rattle.stab_args.specs.Options.{last_observable, most_errors, most_seed};
 ghost use Rattle.stab_args.specs.declared.words.Usage.{Usage};
 ghost use Rattle.stab_args.specs.inner.Parts.{IsCommandName};
 
 use crate::coins::{NO_COINS, coins_of};
 use crate::words::Usage;
-use crate::words::app::MOST_ERRORS;
+use crate::words::app::{LAST_OBSERVABLE, MOST_ERRORS};
 use clap::ArgMatches;
 use stab_jobs::{
     Command, DistanceOptions, ErrorLetters, FaultLayout, Job, QubitCount, Shots, Source, Stride,
@@ -28,6 +28,10 @@ const SHOTS_BEYOND: &str = "stabsim: the last shot of a seed is shot 18446744073
 // What is said of a first shot beside coins.
 const FIRST_BESIDE_COINS: &str =
     "stabsim: --first_shot is of a seed, and not beside --coins or --coins_in\n";
+
+// What is said of a table of errors beside what is about a search.
+const TABLE_BESIDE_SEARCH: &str =
+    "stabsim: --table searches nothing, and is not beside --observable, --most or --progress\n";
 
 /// What the words say to an option, or its default.
 fn text<'a>(options: &ArgMatches<'a>, id: &str) -> Option<&'a str>
@@ -145,12 +149,12 @@ fn letters(options: &ArgMatches) -> ErrorLetters
     }
 }
 
-/// The number of `--most`, if it is given. The command line reader takes no other number.
-fn most(options: &ArgMatches) -> Option<usize>
-    ensures written { IsWrittenIfGiven 0 most_errors (one_of (codes "most") (rows_of (found_of options.now))) result }
+/// The number of an option that may be left out, at most this one. The command line reader takes no other number.
+fn number_up_to(options: &ArgMatches, id: &str, most: u64) -> Option<usize>
+    ensures written { IsWrittenIfGiven 0 most (one_of id.now (rows_of (found_of options.now))) result }
 {
-    match number(options, "most") {
-        Some(number) if number <= MOST_ERRORS => Some(number as usize),
+    match number(options, id) {
+        Some(number) if number <= most => Some(number as usize),
         _ => None,
     }
 }
@@ -195,25 +199,49 @@ fn deterministic(options: &ArgMatches) -> Command
     }
 }
 
-/// What `distance` is asked for.
-fn distance(options: &ArgMatches) -> DistanceOptions
+/// What a distance is asked for.
+fn distance_options(options: &ArgMatches) -> DistanceOptions
     ensures asked { IsAskedDistance (rows_of (found_of options.now)) result }
 {
     DistanceOptions {
         everywhere: flag(options, "everywhere"),
         letters: letters(options),
         graphlike: flag(options, "graphlike"),
-        most: most(options),
+        observable: number_up_to(options, "observable", LAST_OBSERVABLE),
+        most: number_up_to(options, "most", MOST_ERRORS),
         deterministic_only: flag(options, "deterministic_only"),
         progress: flag(options, "progress"),
     }
+}
+
+/// Whether something is asked about a search: for one observable, up to a number of errors, or with its progress.
+fn is_about_search(asked: DistanceOptions) -> bool
+    ensures value { result ≡ is_about_search asked }
+{
+    asked.observable.is_some() || asked.most.is_some() || asked.progress
+}
+
+/// What `distance` is asked for.
+fn distance(alloc: Global, options: &ArgMatches) -> Result<Command, Usage>
+    ensures command { IfOk result (IsCommand (codes "distance") (rows_of (found_of options.now))) }
+    ensures refused { IfErr result (RefusesTable (rows_of (found_of options.now))) }
+{
+    let asked = distance_options(options);
+    if !flag(options, "table") {
+        return Ok(Command::Distance(asked));
+    }
+    if is_about_search(asked) {
+        let told = String::from_str(alloc, TABLE_BESIDE_SEARCH)?;
+        return Err(Usage::Fault(told));
+    }
+    Ok(Command::SearchedErrors(asked))
 }
 
 /// The command of a name, with its own options.
 fn command(alloc: Global, name: &str, options: &ArgMatches) -> Result<Command, Usage>
     requires named { IsCommandName name.now }
     ensures command { IfOk result (IsCommand name.now (rows_of (found_of options.now))) }
-    ensures refused { IfErr result (RefusesShots (rows_of (found_of options.now))) }
+    ensures refused { IfErr result (RefusesCommand (rows_of (found_of options.now))) }
 {
     let command = match name {
         "sample" => Command::Sample {
@@ -236,7 +264,7 @@ fn command(alloc: Global, name: &str, options: &ArgMatches) -> Result<Command, U
         "coins" => Command::Coins {
             layout: layout(options),
         },
-        "distance" => Command::Distance(distance(options)),
+        "distance" => distance(alloc, options)?,
         _ => Command::Edit {
             framed: flag(options, "framed"),
             qubits: qubits(options),

@@ -1,44 +1,44 @@
-use Rattle.stab_analysis.proofs.Names.{◌≡◌, ◌<◌, ℕ, inr, Err, false, IfNone, subst, circuit_items, qubits_of, IsDeterministic, bits_in, errors_of, IsErrorTable, AreSearched}
+use Rattle.stab_analysis.proofs.Names.{Err, inr, circuit_items, qubits_of}
+use Rattle.stab_analysis.proofs.DistanceLaws.{refused_alike, unheard_handed}
 use Rattle.stab_analysis.proofs.distance.find_distance.Goals as goal
+
+pub returns-in_err-errors-clause-refused : goal.returns-in_err-errors-clause-refused
+returns-in_err-errors-clause-refused g c =
+    refused_alike c.args.options.deterministic_only (circuit_items c.args.circuit.now) c.in_err-errors.field-0.0 c.from_residual.result c.from_residual.ensures.1 c.in_err-errors.ensures.refused
+
+pub returns-in_err-errors-clause-told : goal.returns-in_err-errors-clause-told
+returns-in_err-errors-clause-told g c =
+    unheard_handed c.args.options (circuit_items c.args.circuit.now) c.in_err-errors.field-0.0 c.from_residual.result (g.P.Progress.heard c.args.progress.now) c.from_residual.ensures.1
 
 pub returns-in-Ok-clause-found : goal.returns-in-Ok-clause-found
 returns-in-Ok-clause-found g c =
-    let options = c.args.options in
     let items = circuit_items c.args.circuit.now in
-    let table = subst (λ n. IsErrorTable n items c.in_ok-errors.errors) c.qubits-n.ensures.value c.in_ok-errors.ensures.table in record {
-      errors = subst (λ n. AreSearched options.graphlike n items (errors_of options.everywhere options.letters items) c.in_ok-errors.errors.errors) c.qubits-n.ensures.value c.in_ok-errors.ensures.errors;
-      table = table;
-      distance = c.in-Ok.ensures.distance (qubits_of items) items table;
-      all_deterministic = subst (λ o. IfNone o (options.deterministic_only ≡ false → (i : ℕ) → i < bits_in items → IsDeterministic (qubits_of items) items i)) c.in-Ok-None.field-0-is c.in-Ok-None.ensures.none;
-    }
+    let are = c.in_ok-errors.ensures.found in
+    record { are = are; distance = c.in-Ok.ensures.distance (qubits_of items) items are.table }
 
 pub returns-in-Ok-clause-told : goal.returns-in-Ok-clause-told
 returns-in-Ok-clause-told g c =
-    let options = c.args.options in
     let items = circuit_items c.args.circuit.now in
-    let table = subst (λ n. IsErrorTable n items c.in_ok-errors.errors) c.qubits-n.ensures.value c.in_ok-errors.ensures.table in (
+    let are = c.in_ok-errors.ensures.found in (
       c.in-Ok.answer,
       record {
         t = c.in_ok-errors.errors;
-        errors = subst (λ n. AreSearched options.graphlike n items (errors_of options.everywhere options.letters items) c.in_ok-errors.errors.errors) c.qubits-n.ensures.value c.in_ok-errors.ensures.errors;
-        table = table;
-        found = c.in-Ok.ensures.distance (qubits_of items) items table;
-        told = c.in-Ok.ensures.told (qubits_of items) items table;
+        are = are;
+        found = c.in-Ok.ensures.distance (qubits_of items) items are.table;
+        told = c.in-Ok.ensures.told (qubits_of items) items are.table;
       },
     )
 
-pub returns-in-Err-search-clause-told : goal.returns-in-Err-search-clause-told
-returns-in-Err-search-clause-told g c =
-    let options = c.args.options in
+pub returns-in-Err-clause-told : goal.returns-in-Err-clause-told
+returns-in-Err-clause-told g c =
     let items = circuit_items c.args.circuit.now in
-    let table = subst (λ n. IsErrorTable n items c.in_ok-errors.errors) c.qubits-n.ensures.value c.in_ok-errors.ensures.table in
+    let are = c.in_ok-errors.ensures.found in
     inr (
-      Err c.in-Err-search.refusal,
+      Err c.in-Err.refusal,
       record {
         t = c.in_ok-errors.errors;
-        errors = subst (λ n. AreSearched options.graphlike n items (errors_of options.everywhere options.letters items) c.in_ok-errors.errors.errors) c.qubits-n.ensures.value c.in_ok-errors.ensures.errors;
-        table = table;
+        are = are;
         found = tt;
-        told = c.in-Err-search.ensures.told (qubits_of items) items table;
+        told = c.in-Err.ensures.told (qubits_of items) items are.table;
       },
     )

@@ -1,12 +1,13 @@
 use Rattle.stab_analysis.proofs.Names.{◌∙◌, err_from_is_err_and, refl, inl, sym, subst, All, ◌<◌, length, unroll, circuit_items, IsDistanceText}
-use Rattle.stab_analysis.proofs.EndingLaws.{heard_on, refusal_handed, unheard, unsent, unwarned}
+use Rattle.stab_analysis.proofs.EndingLaws.{heard_on, refusal_handed, unheard, unsent, unwarned_of}
 use Rattle.stab_texts.specs.DoubtLines.{TellsDoubts}
+use Rattle.stab_texts.specs.MissingObservables.{TellsMissing}
 use Rattle.stab_analysis.proofs.distance.run_distance.Goals as goal
 
 pub returns-in_err-circuit-clause-warns : goal.returns-in_err-circuit-clause-warns
 returns-in_err-circuit-clause-warns g c =
     let told = err_from_is_err_and c.from_residual.result c.from_residual.ensures.1 in
-    unwarned c.args.options.everywhere (g.I.Input.seen c.args.input.now) (g.I.Input.seen c.read_circuit.new.input) (g.E.Output.seen c.args.err.now) c.from_residual.result told.0 told.1
+    unwarned_of c.args.options.everywhere c.args.options.observable (g.I.Input.seen c.args.input.now) (g.I.Input.seen c.read_circuit.new.input) (g.E.Output.seen c.args.err.now) c.from_residual.result told.0 told.1
 
 pub returns-in_err-circuit-clause-told : goal.returns-in_err-circuit-clause-told
 returns-in_err-circuit-clause-told g c =
@@ -33,7 +34,7 @@ returns-in_err-doubts-clause-ends g c =
 pub returns-in_err-doubts-clause-warns : goal.returns-in_err-doubts-clause-warns
 returns-in_err-doubts-clause-warns g c =
     let told = err_from_is_err_and c.from_residual-in_err-doubts.result c.from_residual-in_err-doubts.ensures.1 in
-    unwarned c.args.options.everywhere (g.I.Input.seen c.args.input.now) (g.I.Input.seen c.read_circuit.new.input) (g.E.Output.seen c.args.err.now) c.from_residual-in_err-doubts.result told.0 told.1
+    unwarned_of c.args.options.everywhere c.args.options.observable (g.I.Input.seen c.args.input.now) (g.I.Input.seen c.read_circuit.new.input) (g.E.Output.seen c.args.err.now) c.from_residual-in_err-doubts.result told.0 told.1
 
 pub returns-in_err-send_distance-clause-ends : goal.returns-in_err-send_distance-clause-ends
 returns-in_err-send_distance-clause-ends g c =
@@ -43,7 +44,7 @@ returns-in_err-send_distance-clause-ends g c =
 pub returns-in_err-send_distance-clause-warns : goal.returns-in_err-send_distance-clause-warns
 returns-in_err-send_distance-clause-warns g c =
     let told = err_from_is_err_and c.from_residual-in_err-send_distance.result c.from_residual-in_err-send_distance.ensures.1 in
-    unwarned c.args.options.everywhere (g.I.Input.seen c.args.input.now) (g.I.Input.seen c.read_circuit.new.input) (g.E.Output.seen c.args.err.now) c.from_residual-in_err-send_distance.result told.0 told.1
+    unwarned_of c.args.options.everywhere c.args.options.observable (g.I.Input.seen c.args.input.now) (g.I.Input.seen c.read_circuit.new.input) (g.E.Output.seen c.args.err.now) c.from_residual-in_err-send_distance.result told.0 told.1
 
 pub tell_doubts-requires-clause-inside : goal.tell_doubts-requires-clause-inside
 tell_doubts-requires-clause-inside g c =
@@ -59,4 +60,5 @@ pub returns-clause-warns : goal.returns-clause-warns
 returns-clause-warns g c =
     let items = circuit_items c.in_ok-circuit.circuit in
     let tells = subst (λ ms. TellsDoubts items ms (g.E.Output.seen c.args.err.now) (g.E.Output.seen c.tell_doubts.new.err)) (c.as_slice.ensures.value ∙ c.in_ok-doubts.ensures.value) c.tell_doubts.ensures.tells in
-    (items, c.in_ok-circuit.ensures.reads, tells)
+    let missing = subst (λ k. TellsMissing c.args.options.observable k (g.E.Output.seen c.tell_doubts.new.err) (g.E.Output.seen c.tell_missing.new.err)) c.observables.ensures.value c.tell_missing.ensures.tells in
+    (items, c.in_ok-circuit.ensures.reads, (g.E.Output.seen c.tell_doubts.new.err, tells, missing))

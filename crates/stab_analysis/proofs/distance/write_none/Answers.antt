@@ -1,10 +1,12 @@
-use Rattle.stab_analysis.proofs.Names.{◌∙◌, ap, sym, subst, WritesAll, none_line}
-use Rattle.stab_texts.proofs.ErrorLineLaws.{joined-none}
+use Rattle.stab_analysis.proofs.Names.{◌++◌, codes, failed_on, failed_within, if_graphlike, line_end, none_line, up_to}
 use Rattle.stab_analysis.proofs.distance.write_none.Goals as goal
 
-pub returns-in-Some : goal.returns-in-Some
-returns-in-Some g c =
-    let line = joined-none c.in-Some.most c.args.graphlike c.as_bytes-most.result.now c.if_graphlike-errors.result.now (c.as_bytes-most.ensures.value ∙ c.format.ensures.text) c.if_graphlike-errors.ensures.value in record {
-      writes = subst (λ l. WritesAll (g.O.Output.seen c.args.out.now) (g.O.Output.seen c.write_texts-in-Some.new.out) l c.write_texts-in-Some.result)
-          (line ∙ ap (λ o. none_line o c.args.graphlike) (sym c.in-Some.is)) c.write_texts-in-Some.ensures.writes;
+pub returns-in_err-write_none_within : goal.returns-in_err-write_none_within
+returns-in_err-write_none_within g c =
+    let options = c.args.options in
+    let old = g.O.Output.seen c.args.out.now in
+    let new = g.O.Output.seen c.write_none_within.new.out in record {
+      writes = failed_on old new (none_line c.args.most options.graphlike options.observable) c.in_err-write_none_within.field-0.0 c.from_residual.result c.from_residual.ensures.1
+          c.in_err-write_none_within.ensures.writes.0
+          (failed_within (codes "none" ++ up_to c.args.most) (line_end (if_graphlike options.graphlike) options.observable) c.in_err-write_none_within.ensures.writes.1);
     }

@@ -1,15 +1,22 @@
 use Rattle.std.proofs.Common.{false, subst, sym}
-use Rattle.stab_texts.specs.Distances.{EndsDistance}
+use Rattle.stab_texts.specs.Distances.{EndsDistance, EndsSearched}
 use Rattle.stab_texts.specs.FaultTables.{EndsFaults, fault_of}
-use Rattle.stab_cli.proofs.WarningLaws.{warned_alike}
+use Rattle.stab_cli.proofs.WarningLaws.{warned_alike, warned_alike_of}
 use Rattle.stab_cli.proofs.status.run_command.Goals as goal
 
 pub returns-in-Faults-clause-ends : goal.returns-in-Faults-clause-ends
 returns-in-Faults-clause-ends g c =
     let ends = subst
-    (λ u. EndsFaults c.in-Faults.layout c.in-Faults.everywhere c.in-Faults.deterministic_only (g.I.Input.seen c.args.input.now) (g.I.Input.seen c.run_faults.new.input) (g.O.Output.seen c.args.out.now) (g.O.Output.seen c.run_faults.new.out) (fault_of c.run_faults.result) u)
+    (λ u. EndsFaults c.in-Faults.layout c.in-Faults.everywhere c.in-Faults.only (g.I.Input.seen c.args.input.now) (g.I.Input.seen c.run_faults.new.input) (g.O.Output.seen c.args.out.now) (g.O.Output.seen c.run_faults.new.out) (fault_of c.run_faults.result) u)
     (sym c.refuses_none.ensures.same) c.run_faults.ensures.ends in
     rw c.in-Faults.is (fault_of c.run_faults.result, ends, c.refuses_none.ensures.value)
+
+pub returns-in-SearchedErrors-clause-ends : goal.returns-in-SearchedErrors-clause-ends
+returns-in-SearchedErrors-clause-ends g c =
+    let ends = subst
+    (λ u. EndsSearched c.in-SearchedErrors.options (g.I.Input.seen c.args.input.now) (g.I.Input.seen c.run_searched_errors.new.input) (g.O.Output.seen c.args.out.now) (g.O.Output.seen c.run_searched_errors.new.out) (fault_of c.run_searched_errors.result) u)
+    (sym c.refuses_none-in-SearchedErrors.ensures.same) c.run_searched_errors.ensures.ends in
+    rw c.in-SearchedErrors.is (fault_of c.run_searched_errors.result, ends, c.refuses_none-in-SearchedErrors.ensures.value)
 
 pub returns-in-Distance-clause-ends : goal.returns-in-Distance-clause-ends
 returns-in-Distance-clause-ends g c =
@@ -33,4 +40,8 @@ returns-in-Faults-clause-warns g c =
 
 pub returns-in-Distance-clause-warns : goal.returns-in-Distance-clause-warns
 returns-in-Distance-clause-warns g c =
-    rw c.in-Distance.is (warned_alike c.in-Distance.options.everywhere (g.I.Input.seen c.args.input.now) (g.I.Input.seen c.run_distance.new.input) (g.E.Output.seen c.args.err.now) (g.E.Output.seen c.run_distance.new.err) (fault_of c.run_distance.result) (fault_of c.refuses_none-in-Distance.result) c.refuses_none-in-Distance.ensures.value c.run_distance.ensures.warns)
+    rw c.in-Distance.is (warned_alike_of c.in-Distance.options.everywhere c.in-Distance.options.observable (g.I.Input.seen c.args.input.now) (g.I.Input.seen c.run_distance.new.input) (g.E.Output.seen c.args.err.now) (g.E.Output.seen c.run_distance.new.err) (fault_of c.run_distance.result) (fault_of c.refuses_none-in-Distance.result) c.refuses_none-in-Distance.ensures.value c.run_distance.ensures.warns)
+
+pub returns-in-SearchedErrors-clause-warns : goal.returns-in-SearchedErrors-clause-warns
+returns-in-SearchedErrors-clause-warns g c =
+    rw c.in-SearchedErrors.is (warned_alike c.in-SearchedErrors.options.everywhere (g.I.Input.seen c.args.input.now) (g.I.Input.seen c.run_searched_errors.new.input) (g.E.Output.seen c.args.err.now) (g.E.Output.seen c.run_searched_errors.new.err) (fault_of c.run_searched_errors.result) (fault_of c.refuses_none-in-SearchedErrors.result) c.refuses_none-in-SearchedErrors.ensures.value c.run_searched_errors.ensures.warns)

@@ -1,4 +1,4 @@
-use Rattle.stab_errors.proofs.Names.{refl, Some, errors_of}
+use Rattle.stab_errors.proofs.Names.{refl, Some, None, errors_of}
 use Rattle.stab_errors.proofs.AnswerLemmas.{answer-is}
 use Rattle.stab_errors.proofs.FitLemmas.{table-found}
 use Rattle.stab_errors.proofs.PlaceFitLemmas.{errors-fit}
@@ -11,5 +11,5 @@ returns c = record {
       table-found n items fits c.deterministic_parities.ensures.law c.faults_flip_parities.ensures.places c.faults_add.ensures.law (errors_of everywhere letters items)
       (errors-fit n items everywhere letters fits) in
       let found = c.tables_have_answers.ensures.law table.0.table most few in
-      (table.0, found.0, table.1, table.2, answer-is n items table.0 table.2 (Some most) most found.0 refl found.1);
+      (table.0, found.0, table.1, table.2, answer-is n items None table.0 table.2 (Some most) most found.0 refl found.1);
 }

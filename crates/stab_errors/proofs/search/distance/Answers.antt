@@ -1,22 +1,32 @@
-use Rattle.stab_errors.proofs.Names.{◌∙◌, false, ap, length, subst, unwrap_or, IfOk-weaker, IsAnswer, HasNoneWithin, TellsSearch}
-use Rattle.stab_errors.proofs.AnswerLemmas.{answer-is}
-use Rattle.stab_errors.proofs.UnseenLemmas.{none-unseen-within, heard-unseen}
+use Rattle.stab_errors.proofs.Names.{◌∙◌, ap, false, length, Some, None, unwrap_or, with_observable}
+use Rattle.stab_errors.proofs.AnswerLemmas.{answers-are}
+use Rattle.stab_errors.proofs.UnseenLemmas.{heard-of, unheard-of}
 use Rattle.stab_errors.proofs.search.distance.Goals as goal
 
-pub returns-clause-distance : goal.returns-clause-distance
-returns-clause-distance g c =
-    IfOk-weaker c.least_logical_error.result _ _
-    (λ a is n items table.
-    answer-is n items c.args.errors.now table c.args.most c.unwrap_or-bound.result a
+pub returns-in-None-clause-distance : goal.returns-in-None-clause-distance
+returns-in-None-clause-distance g c =
+    answers-are c.args.errors.now c.args.observable None c.args.most c.unwrap_or-bound.result c.table-table.result.now c.least_logical_error.result c.in-None.is
     (c.unwrap_or-bound.ensures ∙ ap (λ k. unwrap_or c.args.most k) (c.len.ensures.value ∙ ap (λ t. length t.rows) c.table-table.ensures.value))
-    (subst (λ t. IsAnswer t c.unwrap_or-bound.result a) c.table-table.ensures.value is))
-    c.least_logical_error.ensures.answer
+    c.table-table.ensures.value c.least_logical_error.ensures.answer
 
-pub returns-clause-told : goal.returns-clause-told
-returns-clause-told g c = λ n items table.
-    let t = c.args.errors.now in
-    let old = g.P.Progress.heard c.args.progress.now in
-    let new = g.P.Progress.heard c.least_logical_error.new.progress in
-    heard-unseen n items t table false (HasNoneWithin t.table) (none-unseen-within n items t table) c.args.most c.unwrap_or-bound.result old new c.least_logical_error.result
-    (c.unwrap_or-bound.ensures ∙ ap (λ k. unwrap_or c.args.most k) (c.len.ensures.value ∙ ap (λ x. length x.rows) c.table-table.ensures.value))
-    (subst (λ x. TellsSearch (length x.rows) c.unwrap_or-bound.result (HasNoneWithin x) old new c.least_logical_error.result) c.table-table.ensures.value c.least_logical_error.ensures.told)
+pub returns-in-None-clause-told : goal.returns-in-None-clause-told
+returns-in-None-clause-told g c =
+    heard-of c.args.errors.now c.args.observable None c.args.most c.unwrap_or-bound.result c.table-table.result.now (g.P.Progress.heard c.args.progress.now) (g.P.Progress.heard c.least_logical_error.new.progress) c.least_logical_error.result c.in-None.is
+    (c.unwrap_or-bound.ensures ∙ ap (λ k. unwrap_or c.args.most k) (c.len.ensures.value ∙ ap (λ t. length t.rows) c.table-table.ensures.value))
+    c.table-table.ensures.value c.least_logical_error.ensures.told
+
+pub returns-in_ok-kept-in-Some-clause-distance : goal.returns-in_ok-kept-in-Some-clause-distance
+returns-in_ok-kept-in-Some-clause-distance g c =
+    answers-are c.args.errors.now c.args.observable (Some c.in-Some.observable) c.args.most c.unwrap_or-bound.result c.in_ok-kept-in-Some.kept c.least_logical_error-in-Some.result c.in-Some.is
+    (c.unwrap_or-bound.ensures ∙ ap (λ k. unwrap_or c.args.most k) (c.len.ensures.value ∙ ap (λ t. length t.rows) c.table-table.ensures.value))
+    (c.in_ok-kept-in-Some.ensures.value ∙ ap (with_observable (Some c.in-Some.observable)) c.table-table.ensures.value) c.least_logical_error-in-Some.ensures.answer
+
+pub returns-in_ok-kept-in-Some-clause-told : goal.returns-in_ok-kept-in-Some-clause-told
+returns-in_ok-kept-in-Some-clause-told g c =
+    heard-of c.args.errors.now c.args.observable (Some c.in-Some.observable) c.args.most c.unwrap_or-bound.result c.in_ok-kept-in-Some.kept (g.P.Progress.heard c.args.progress.now) (g.P.Progress.heard c.least_logical_error-in-Some.new.progress) c.least_logical_error-in-Some.result c.in-Some.is
+    (c.unwrap_or-bound.ensures ∙ ap (λ k. unwrap_or c.args.most k) (c.len.ensures.value ∙ ap (λ t. length t.rows) c.table-table.ensures.value))
+    (c.in_ok-kept-in-Some.ensures.value ∙ ap (with_observable (Some c.in-Some.observable)) c.table-table.ensures.value) c.least_logical_error-in-Some.ensures.told
+
+pub returns-in_err-kept-in-Some-clause-told : goal.returns-in_err-kept-in-Some-clause-told
+returns-in_err-kept-in-Some-clause-told g c =
+    unheard-of false c.args.errors.now c.args.observable c.in-Some.observable c.args.most (g.P.Progress.heard c.args.progress.now) c.from_residual.result c.in_err-kept-in-Some.field-0.0 c.in-Some.is c.from_residual.ensures.1

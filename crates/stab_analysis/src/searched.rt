@@ -1,0 +1,105 @@
+//! The errors that a distance is searched among, and the command that writes them.
+ghost use Rattle.std.specs.Prelude.{◌≡◌, None, IfOk, IfErr};
+ghost use Rattle.stab_circuit.specs.Steps.{check_of, qubits_of};
+ghost use Rattle.stab_edits.specs.Views.{circuit_items};
+ghost use Rattle.stab_errors.specs.ErrorTables.{IsErrorTable, StepsInside};
+ghost use Rattle.stab_texts.specs.FaultTables.{GoesOn, fault_of, random_of};
+ghost use Rattle.stab_texts.specs.DoubtLines.{Warns};
+ghost use Rattle.stab_texts.specs.Distances.{AreErrorsOf, EndsSearched, IsRefusedFor, IsSearchedText, error_lines};
+ghost use Rattle.stab_analysis.specs.inner.Faults.{SendsAtOnce};
+
+use crate::deterministic::kinds_of;
+use crate::doubts::doubts_of;
+use crate::faults::refused_for;
+use stab_circuit::{Circuit, read_circuit};
+use stab_errors::{ErrorTable, errors};
+use stab_io::{Fault, Input, Output, Refusal};
+use stab_jobs::DistanceOptions;
+use stab_texts::{FaultsRefused, finish, tell_doubts, write_all_errors};
+use std::alloc::Global;
+
+/// The errors of a circuit that are searched as the options ask for, and what each flips.
+///
+/// Refused with `NotDeterministic`, and the first detector or observable that is not the same for all
+/// random bits, if there is such a one and `deterministic_only` doesn't leave it out; else with `OutOfMemory` alone.
+pub(crate) fn searched_errors(
+    alloc: Global,
+    circuit: &Circuit,
+    options: DistanceOptions,
+) -> Result<ErrorTable, FaultsRefused>
+    requires checked { check_of (circuit_items circuit.now) ≡ None }
+    ensures found { IfOk result (AreErrorsOf options (circuit_items circuit.now)) }
+    ensures steps { IfOk result (λ t. StepsInside (circuit_items circuit.now) t.errors) }
+    ensures refused { IfErr result (λ r. IsRefusedFor options.deterministic_only (circuit_items circuit.now) r.random r.fault) }
+{
+    let n = circuit.qubits();
+    let errors = errors(
+        alloc,
+        circuit,
+        n,
+        options.everywhere,
+        options.letters,
+        options.graphlike,
+    )?;
+    match refused_for(
+        alloc,
+        circuit,
+        errors.deterministic(),
+        options.deterministic_only,
+    ) {
+        Ok(None) => Ok(errors),
+        Ok(Some(random)) => Err(FaultsRefused {
+            fault: Fault::whole(Refusal::NotDeterministic),
+            random: Some(random),
+        }),
+        Err(refusal) => Err(FaultsRefused::from(Fault::whole(refusal))),
+    }
+}
+
+/// Writes errors and what they flip, a line each, and flushes.
+fn send_errors<O: Output>(out: &mut O, circuit: &Circuit, errors: &ErrorTable) -> Result<(), Fault>
+    requires checked { check_of (circuit_items circuit.now) ≡ None }
+    requires table { IsErrorTable (qubits_of (circuit_items circuit.now)) (circuit_items circuit.now) errors.now }
+    requires steps { StepsInside (circuit_items circuit.now) errors.now.errors }
+    ensures sends { SendsAtOnce (error_lines (circuit_items circuit.now) errors.now) (O.seen out.old) (O.seen out.new) result }
+{
+    let kinds = kinds_of(circuit, errors.deterministic().len());
+    write_all_errors(out, circuit, kinds, errors).map_err(Fault::whole)?;
+    finish(out)
+}
+
+/// Writes the errors of a circuit, and flushes; or names a bit that is not deterministic.
+fn send_searched_errors<O: Output>(
+    alloc: Global,
+    circuit: &Circuit,
+    out: &mut O,
+    options: DistanceOptions,
+) -> Result<(), FaultsRefused>
+    requires checked { check_of (circuit_items circuit.now) ≡ None }
+    ensures goes_on { GoesOn (IsSearchedText options (circuit_items circuit.now)) options.deterministic_only (circuit_items circuit.now) (random_of result) (O.seen out.old) (O.seen out.new) (fault_of result) }
+{
+    let errors = searched_errors(alloc, circuit, options)?;
+    Ok(send_errors(out, circuit, &errors)?)
+}
+
+/// Reads a circuit, and writes the errors that `run_distance` searches with these options, a line each in its form, such as
+/// `1207 3/0/2 X17*Z4 D24 L0`. The errors of a set flip together what an odd number of their lines name.
+///
+/// The options `observable`, `most` and `progress` change nothing. Faults are those of `run_distance`. Unless errors are `everywhere`,
+/// marks that may be meant in another way are reported on `err` after a call without a fault.
+pub fn run_searched_errors<I: Input, O: Output, E: Output>(
+    alloc: Global,
+    input: &mut I,
+    out: &mut O,
+    err: &mut E,
+    options: DistanceOptions,
+) -> Result<(), FaultsRefused>
+    ensures ends { EndsSearched options (I.seen input.old) (I.seen input.new) (O.seen out.old) (O.seen out.new) (fault_of result) (random_of result) }
+    ensures warns { Warns options.everywhere (I.seen input.old) (I.seen input.new) (E.seen err.old) (E.seen err.new) (fault_of result) }
+{
+    let circuit = read_circuit(alloc, input)?;
+    let doubts = doubts_of(alloc, &circuit, options.everywhere)?;
+    send_searched_errors(alloc, &circuit, out, options)?;
+    tell_doubts(err, &circuit, doubts.as_slice());
+    Ok(())
+}
