@@ -1,5 +1,5 @@
 use super::Session;
-use crate::paulis::difference;
+use crate::change::{Change, change_of};
 use crate::pending::{begin, finish, take_back};
 use stab_circuit::{Edit, Refused};
 use stab_io::Fault;
@@ -55,8 +55,15 @@ impl<C: Coins> Session<C> {
             Ok(begun) => begun,
             Err(refused) => return Err(refused),
         };
-        let paulis = match difference(self.alloc, &self.circuit, n, &pending) {
-            Ok(paulis) => paulis,
+        let Change { paulis, rounds } = match change_of(
+            self.alloc,
+            &self.circuit,
+            n,
+            &pending,
+            span,
+            self.rounds.as_slice(),
+        ) {
+            Ok(change) => change,
             Err(refusal) => {
                 let item = take_back(&mut self.circuit, pending);
                 return Err(Refused {
@@ -68,6 +75,7 @@ impl<C: Coins> Session<C> {
         match self.recording.follow(
             self.alloc,
             &self.circuit,
+            rounds.as_slice(),
             span,
             paulis,
             self.stride,
@@ -76,6 +84,7 @@ impl<C: Coins> Session<C> {
         ) {
             Ok(followed) => {
                 finish(&mut self.circuit, pending);
+                self.rounds = rounds;
                 Ok(Report {
                     applied: followed.applied as usize,
                     framed: (followed.framed + followed.tried) as usize,
