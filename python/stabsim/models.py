@@ -205,7 +205,7 @@ class ErrorModel:
         return found if self.causes is None else replace(found, errors=tuple(self.error_of(it, self.causes) for it in found.mechanisms))
 
     def shortest_error_sat_problem(self) -> str:
-        """The same question as a text for MaxSAT solvers, in their format `p wcnf`: an assignment that breaks W of the clauses of weight 1,
+        r"""The same question as a text for MaxSAT solvers, in their format `p wcnf`: an assignment that breaks W of the clauses of weight 1,
         and no other, is a set of W mechanisms that flip an observable and no detector, and each such set is one. Variable k says that the
         k-th mechanism that has a chance happens.
 
