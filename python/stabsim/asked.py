@@ -10,15 +10,10 @@ from stabsim import bits, checking, coins, faults, program
 from stabsim.coins import CoinTable
 from stabsim.coordinates import detector_coordinates
 from stabsim.distances import Distance, Letters, distance_of, of_marks, option_words
-from stabsim.errors import Refused
 from stabsim.faults import FaultTable
 from stabsim.random_bits import RandomBit, bit_of
 from stabsim.sampling import Sampled
 from stabsim.sure import Sure, deterministic_of
-
-# What `check` says of noise, and what is added to that.
-WITHOUT_NOISE = "stabsim.without_noise"
-WITH_NOISE = "With its noise stabsim.from_stim(text) is the circuit: it samples, and has an error model."
 
 
 @dataclass(frozen=True)
@@ -51,14 +46,13 @@ class Asked(Sampled):
 
     @functools.cached_property
     def known_numbers(self) -> Numbers:
-        """What `check` says, which is asked for once."""
-        try:
-            lines = program.run(["check"], self.asked).decode().split("\n")
-        except Refused as refused:
-            if WITHOUT_NOISE not in refused.explanation:
-                raise
-            raise Refused(refused.number, refused.name, refused.line, f"{refused.explanation}\n{WITH_NOISE}") from None
+        """The same, which is asked for once."""
+        lines = self.checked().decode().split("\n")
         return Numbers(**{name: int(number) for name, _, number in (line.partition(": ") for line in lines if line)})
+
+    def checked(self) -> bytes:
+        """What `check` says."""
+        return program.run(["check"], self.asked)
 
     def widths(self) -> tuple[int, int, int]:
         """How many records, detectors and observables there are, as the program counts them."""

@@ -16,7 +16,6 @@ from stabsim.written import Written
 if TYPE_CHECKING:
     from stabsim.circuit import Circuit
     from stabsim.noise_models import NoiseModel
-    from stabsim.stim_circuit import StimCircuit
 
 
 @dataclass(frozen=True, eq=False)
@@ -34,7 +33,7 @@ class Described(Written, Questioned):
 
         return Circuit(judging.without_noise(self.text))
 
-    def with_noise(self, model: "NoiseModel", *, data: Iterable[int] | None = None) -> "StimCircuit":
+    def with_noise(self, model: "NoiseModel", *, data: Iterable[int] | None = None) -> "Circuit":
         """This circuit, which has no noise, with that of a model: `NoiseModel.on` of it.
 
         >>> import stabsim

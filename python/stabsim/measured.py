@@ -12,7 +12,6 @@ from stabsim.circuit import Circuit
 from stabsim.combining import Numbers, odd
 from stabsim.names import MEASUREMENTS
 from stabsim.reading import Block, Instruction, Item, items_of
-from stabsim.stim_circuit import StimCircuit
 
 Bits = NDArray[np.bool_]
 Packed = NDArray[np.uint8]
@@ -22,20 +21,20 @@ TOGETHER = 8192
 
 
 @overload
-def m2d(circuit: Circuit | StimCircuit, records: Bits | Packed, *, separate_observables: Literal[False] = ...,
+def m2d(circuit: Circuit, records: Bits | Packed, *, separate_observables: Literal[False] = ...,
         flips: bool = ...) -> Bits: ...
 
 
 @overload
-def m2d(circuit: Circuit | StimCircuit, records: Bits | Packed, *, separate_observables: Literal[True],
+def m2d(circuit: Circuit, records: Bits | Packed, *, separate_observables: Literal[True],
         flips: bool = ...) -> tuple[Bits, Bits]: ...
 
 
-def m2d(circuit: Circuit | StimCircuit, records: Bits | Packed, *, separate_observables: bool = False,
+def m2d(circuit: Circuit, records: Bits | Packed, *, separate_observables: bool = False,
         flips: bool = False) -> Bits | tuple[Bits, Bits]:
     """The detectors of given records, bool (shots, detectors), as of a machine that ran the circuit: raw parities, as those of `detect`.
 
-    circuit: one of `from_stim` is taken without its noise. records: bool (shots, records), or packed as `read_shots` gives them, uint8
+    circuit: it is taken without its noise. records: bool (shots, records), or packed as `read_shots` gives them, uint8
     (shots, (records + 7) // 8). With separate_observables a pair: that array, and the observables, bool (shots, observables). If a detector
     is 1 without noise, so is it here. flips: what was flipped alone, as decoders take it; stabsim.Refused names a bit that coins decide.
 
@@ -44,9 +43,8 @@ def m2d(circuit: Circuit | StimCircuit, records: Bits | Packed, *, separate_obse
     >>> stabsim.m2d(circuit, numpy.array([[0, 0], [0, 1], [1, 1]], dtype=bool)).astype(int).tolist()
     [[0], [1], [0]]
     """
-    if isinstance(circuit, StimCircuit):
-        circuit = circuit.circuit
-    has = checking.of_kind("circuit", circuit, Circuit, "a circuit, as stabsim.Circuit(text) or stabsim.from_stim(text)").numbers()
+    circuit = checking.of_kind("circuit", circuit, Circuit, "a circuit, as stabsim.Circuit(text)").circuit
+    has = circuit.numbers()
     table = bits.table_of(records, has.records, "records")
     sums = sums_of(items_of(circuit.text))
     rows = np.append(sums.of_detectors[:, 0], has.detectors + sums.of_observables[:, 0])

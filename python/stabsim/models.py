@@ -12,8 +12,8 @@ import numpy as np
 from numpy.typing import NDArray
 
 from stabsim import bits, checking, chunks, combining, dem, drawing, program, sparse
+from stabsim.asked import Asked
 from stabsim.causes import Cause, Causes
-from stabsim.circuit import Circuit
 from stabsim.circuit_errors import CircuitError
 from stabsim.coordinates import detector_rows, places_of
 from stabsim.decomposing import Parts, parts_of
@@ -27,7 +27,7 @@ from stabsim.profile import Profile
 from stabsim.seeds import SeededBits, SeededBytes, drawn_seed, seeded
 
 if TYPE_CHECKING:
-    from stabsim.stim_circuit import StimCircuit
+    from stabsim.circuit import Circuit
 
 Bits = NDArray[np.bool_]
 Packed = NDArray[np.uint8]
@@ -317,10 +317,9 @@ class ErrorModel:
         return (self.sample(count, seed=seed, first_shot=first) for first, count in parts)
 
 
-def error_model(circuit: "str | Circuit | StimCircuit", *, decompose: bool = False, ignore_decomposition_failures: bool = False,
+def error_model(circuit: "str | Circuit", *, decompose: bool = False, ignore_decomposition_failures: bool = False,
                 approximate_disjoint_errors: bool = False, sure_only: bool = False) -> ErrorModel:
-    """The detector error model of a circuit of Stim's with noise: of its text, or what `from_stim` made of it. That of a `Circuit`, which has
-    no noise, has no mechanisms; ValueError if its file had some.
+    """The detector error model of a circuit with noise, or of its text. One without noise has no mechanisms.
 
     The circuit's noise may be X_ERROR, Y_ERROR, Z_ERROR, DEPOLARIZE1, DEPOLARIZE2, PAULI_CHANNEL_1, PAULI_CHANNEL_2, E with perhaps
     ELSE_CORRELATED_ERROR after it, and a chance of a wrong record, as M(0.01), on all measurements; stabsim.UnsupportedNoise names
@@ -347,27 +346,24 @@ def error_model(circuit: "str | Circuit | StimCircuit", *, decompose: bool = Fal
     return replace(model, parts=Parts.of_mechanisms(numbered, model.indptr, model.indices))
 
 
-def profile_of(circuit: "str | Circuit | StimCircuit") -> Profile:
+def profile_of(circuit: "str | Circuit") -> Profile:
     """What a circuit becomes for the program, with its noise beside it."""
-    if isinstance(circuit, Circuit):
-        if circuit.left_out:
-            raise ValueError(f"circuit is {circuit!r}: give what stabsim.from_stim reads, which keeps its noise")
-        circuit = circuit.text
-    if not isinstance(getattr(circuit, "profile", None), Profile):
-        circuit = checking.of_kind("circuit", circuit, str, "a text of a circuit, or what stabsim.from_stim(text) reads")
-    return judged(circuit) if isinstance(circuit, str) else circuit.profile
+    if isinstance(circuit, Asked) and isinstance(getattr(circuit, "profile", None), Profile):
+        found: Profile = circuit.profile
+        return found
+    return judged(checking.of_kind("circuit", circuit, str, "a text of a circuit, or a stabsim.Circuit"))
 
 
 def faults_of(profile: Profile, approximate: bool, sure_only: bool) -> tuple[Marked, FaultTable]:
     """The circuit of a text with noise, with marks, and the table of its faults."""
     circuit = marked(profile.noisy.items(), approximate)
     try:
-        return circuit, Circuit(circuit.text).faults(sure_only=sure_only)
+        return circuit, Asked(circuit.text).faults(sure_only=sure_only)
     except Refused as refused:
         # Its places are those of the text with marks. What a coin decides is refused of the judged text too, by the user's items.
         if refused.name == "NotDeterministic":
             try:
-                Circuit(profile.judged.text).faults()
+                Asked(profile.judged.text).faults()
             except Refused as again:
                 raise in_users_words(again, profile) from None
         raise Refused(refused.number, refused.name, None, MARKS_COUNT if refused.name == "TooManySteps" else "") from None

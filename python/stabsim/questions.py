@@ -121,7 +121,7 @@ class Questioned(Asked):
 
 def checked(other: Questioned) -> Questioned:
     """The circuit that another is compared with."""
-    return checking.of_kind("other", other, Questioned, "a circuit without noise, as stabsim.Circuit(text), or stabsim.from_stim(text).circuit")
+    return checking.of_kind("other", other, Questioned, "a circuit, as stabsim.Circuit(text)")
 
 
 def some_qubits(qubits: Iterable[int] | None) -> list[int] | None:

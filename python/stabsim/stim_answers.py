@@ -11,10 +11,10 @@ import numpy as np
 from numpy.typing import NDArray
 
 from stabsim import codes, formats, program
+from stabsim.circuit import from_stim
 from stabsim.diagrams import Kind
 from stabsim.measured import m2d
 from stabsim.models import ErrorModel, error_model
-from stabsim.stim_circuit import from_stim
 
 Bits = NDArray[np.bool_]
 
