@@ -5,6 +5,7 @@ from dataclasses import dataclass
 from typing import get_args
 
 import numpy as np
+from numpy.typing import NDArray
 
 from stabsim import bits, checking, coins, faults, program
 from stabsim.coins import CoinTable
@@ -104,12 +105,31 @@ class Asked(Sampled):
         >>> print(table, table.paths, table.numbers, table.flipped(0), table.constants())
         <stabsim.CoinTable: 1 coins, 2 records, 1 detectors, 0 observables> ['3'] [0] [0 1 2] [False  True  True]
         """
-        widths = self.widths()
-        words = [["sample"], ["detect", "--append_observables"]]
-        parts = [program.run([*its, "--coins", "", "--out_format", "b8"], self.asked) for its in words]
-        counts = (widths[0], widths[1] + widths[2])
-        constants = np.concatenate([bits.of_b8(part, 1, count)[0] for part, count in zip(parts, counts)])
-        return coins.table_of(program.run(["coins"], self.asked), widths, constants)
+        constants = np.concatenate([self.reference_sample(), *self.reference_signs()])
+        return coins.table_of(program.run(["coins"], self.asked), self.widths(), constants)
+
+    def reference_sample(self) -> NDArray[np.bool_]:
+        """The records of the run without noise in which each random outcome is 0, bool (records,).
+
+        >>> import stabsim
+        >>> stabsim.Circuit("X 0\\nX_ERROR(1) 0\\nM 0\\nMX 1").reference_sample().tolist()
+        [True, False]
+        """
+        records, _, _ = self.widths()
+        found: NDArray[np.bool_] = bits.of_b8(program.run(["sample", "--coins", "", "--out_format", "b8"], self.asked), 1, records)[0]
+        return found
+
+    def reference_signs(self) -> tuple[NDArray[np.bool_], NDArray[np.bool_]]:
+        """The detectors, bool (detectors,), and observables, bool (observables,), of the run of `reference_sample`.
+
+        >>> import stabsim
+        >>> stabsim.Circuit("X 0\\nM 0\\nDETECTOR rec[-1]\\nOBSERVABLE_INCLUDE(0)").reference_signs()
+        (array([ True]), array([False]))
+        """
+        _, detectors, observables = self.widths()
+        both = program.run(["detect", "--append_observables", "--coins", "", "--out_format", "b8"], self.asked)
+        found: NDArray[np.bool_] = bits.of_b8(both, 1, detectors + observables)[0]
+        return found[:detectors], found[detectors:]
 
     def explain(self) -> list[RandomBit]:
         """Why detectors and observables are random: for each that is not the same for all random bits, which coins decide it.
