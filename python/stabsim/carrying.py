@@ -9,11 +9,14 @@ a TICK after these. So the program edits and prints noise as it does all else, a
 import functools
 import re
 from collections.abc import Callable, Iterator, Sequence
+from dataclasses import replace
 
 from stabsim.profile import Made, made_of, spare_qubit
-from stabsim.reading import SPACING, Block, Instruction, Item, Line, content_of, headed, lines_of, parts_of, walk
+from stabsim.reading import SPACING, Block, Instruction, Item, Line, Parts, content_of, headed, lines_of, parts_of, walk
+from stabsim.written import printed
 
 MARK = "~"
+MARKED = f"[{MARK}"
 ESCAPES = {"\\": "\\B", "]": "\\C", "#": "\\H", "\n": "\\n", "\r": "\\r"}
 ESCAPED = {letters[1]: letter for letter, letters in ESCAPES.items()}
 # A line with what rides in its tag; and what rides with a block of the user's, less the number of rounds.
@@ -48,9 +51,33 @@ def carried(text: str, comments: bool = True, before: str = "") -> str:
         if not line.content:
             above += [line.text.strip(SPACING)] if comments else []
             continue
-        lines += list(carried_line(line, above, before, comments, spare))
+        lines += list(carried_line(line, above, comments, functools.partial(made_of, before=before, spare=spare)))
         above, before = [], line.parts.name if line.parts else ""
     return "\n".join([*lines, *trailing(above), ""])
+
+
+def with_comments(text: str) -> str:
+    """A text in which only comments and blank lines ride: instructions stay as they are. Other lines than those are not looked at."""
+    if not text:
+        return ""
+    lines: list[str] = []
+    above: list[str] = []
+    for number, written in enumerate(text.removesuffix("\n").split("\n"), start=1):
+        if not above and "#" not in written and MARKED not in written and written.strip(SPACING):
+            lines.append(written)
+            continue
+        line = Line(number, written, content_of(written))
+        if line.content:
+            lines += list(carried_line(line, above, True, made_of_itself))
+            above = []
+        else:
+            above.append(written.strip(SPACING))
+    return "\n".join([*lines, *trailing(above), ""])
+
+
+def made_of_itself(line: Line, parts: Parts) -> Made:
+    """What a line becomes that stays as it is."""
+    return Made([line.text], [line.text], [line.text])
 
 
 def trailing(above: Sequence[str]) -> list[str]:
@@ -58,8 +85,8 @@ def trailing(above: Sequence[str]) -> list[str]:
     return [ridden("TICK", above)] if above else []
 
 
-def carried_line(line: Line, above: Sequence[str], before: str, comments: bool, spare: Callable[[], int]) -> Iterator[str]:
-    """What a line becomes with the comments above it; before: the name of the instruction on the line before it."""
+def carried_line(line: Line, above: Sequence[str], comments: bool, make: Callable[[Line, Parts], Made]) -> Iterator[str]:
+    """What a line becomes with the comments above it; make: what an instruction becomes by itself."""
     written = line.text.strip(SPACING) if comments else line.content
     has_comment = written != line.content
     if line.closes:
@@ -71,11 +98,13 @@ def carried_line(line: Line, above: Sequence[str], before: str, comments: bool, 
     if parts is None or line.opens:
         yield line.content if is_plain or parts is None else carried_head(line, above, written)
         return
-    made = made_of(line, parts, before, spare)
+    made = make(line, parts)
     if is_plain and made.circuit == [line.text]:
         yield line.content
     else:
-        yield from carried_instruction([*above, written], made)
+        # As the program prints it, which it does of all else.
+        as_printed = Instruction(line.number, parts.name, parts.tag, parts.arguments, tuple(map(printed, parts.targets)))
+        yield from carried_instruction([*above, str(as_printed) + written[len(line.content):]], made)
 
 
 def carried_head(line: Line, above: Sequence[str], written: str) -> str:
@@ -103,9 +132,10 @@ def carried_instruction(riding: Sequence[str], made: Made) -> Iterator[str]:
         yield CLOSING
 
 
-def written_back(text: str, comments: bool = True) -> str:
-    """The text of Stim's that one of the program's carries; comments: with those that ride along."""
-    if f"[{MARK}" not in text:
+def written_back(text: str, comments: bool = True, anew: bool = False) -> str:
+    """The text of Stim's that one of the program's carries; comments: with those that ride along; anew: of `with_comments`, whose
+    instructions have other targets by now than those that ride along."""
+    if MARKED not in text:
         return text
     lines: list[str] = []
     is_skipped, closing = False, ""
@@ -127,8 +157,32 @@ def written_back(text: str, comments: bool = True) -> str:
         is_skipped = name == "REPEAT" and not own
         if name == "TICK" and riding[-1].startswith(CLOSING):
             closing = riding.pop()[1:] if comments else riding.pop()[:0]
+        elif anew and name != "REPEAT":
+            riding[-1] = renewed(riding[-1], line.strip(SPACING))
         lines += [(indentation + it).rstrip(SPACING) for it in (riding if comments else filter(None, map(content_of, riding)))]
     return "\n".join([*lines, ""])
+
+
+def renewed(written: str, line: str) -> str:
+    """A line as it was written, with the targets of a line that carries it, if they are others."""
+    content = content_of(written)
+    was, now = parts_of(content), parts_of(line)
+    if was is None or now is None or was == now._replace(tag=was.tag):
+        return written
+    return str(Instruction(0, *now._replace(tag=was.tag))) + written[len(content):]
+
+
+def below_comments(old: Item, new: Item) -> Item:
+    """An item of `with_comments` in the place of another, below the comments of that."""
+    above = riding_of(old)[:-1]
+    return replace(new, tag=MARK + escaped("\n".join([*above, *riding_of(new)]))) if above else new
+
+
+def riding_of(item: Item) -> list[str]:
+    """The lines that ride with an item, its own line the last; of a block, without its rounds."""
+    if item.tag.startswith(MARK):
+        return unescaped(item.tag[1:]).split("\n")
+    return [f"{headed(item.name, item.tag)}{{" if isinstance(item, Block) else str(item)]
 
 
 def above_in(text: str) -> list[str]:

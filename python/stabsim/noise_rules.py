@@ -5,9 +5,9 @@ from collections.abc import Callable, Iterable, Iterator
 from dataclasses import dataclass
 
 from stabsim import checking, names
+from stabsim.circuit import Circuit, circuit_text, from_stim
 from stabsim.noise_placing import number_text, products_of
 from stabsim.reading import Instruction, Line, headed, lines_of
-from stabsim.stim_circuit import StimCircuit, circuit_text, from_stim
 from stabsim.targets import qubits_of
 
 # How many targets a channel has that is on single qubits or pairs.
@@ -42,7 +42,7 @@ class Channel:
 Rule = Callable[[Channel], float | Iterable[float]]
 
 
-def with_chances(circuit: str | StimCircuit, rule: Rule) -> StimCircuit:
+def with_chances(circuit: str | Circuit, rule: Rule) -> Circuit:
     """A noisy circuit whose chances are those that a rule gives of each channel; all else stays.
 
     circuit: any of Stim's, perhaps as text. rule: a function of a channel to its chance, or to all of its chances. One of 0 has no line.

@@ -42,6 +42,27 @@ class Copy:
         return items_of(Line(origin, line, content_of(line)) for line, origin in zip(self.lines, self.origins))
 
 
+@dataclass
+class Unchanged:
+    """A text as a copy of itself, whose lines are looked at if they are asked for."""
+
+    text: str
+
+    @functools.cached_property
+    def lines(self) -> list[str]:
+        """Its lines."""
+        return self.text.split("\n")
+
+    @functools.cached_property
+    def origins(self) -> list[int]:
+        """The number of each."""
+        return list(range(1, len(self.lines) + 1))
+
+    def items(self) -> tuple[Item, ...]:
+        """Its items."""
+        return items_of(self.text)
+
+
 class Made(NamedTuple):
     """What one line becomes in each text of a profile, and what is left out of it, if it has noise."""
 
@@ -56,27 +77,28 @@ class Profile:
     """The texts that one of Stim's becomes.
 
     text: Stim's; circuit: without noise; noisy: with the channels and chances that do something; judged: as the circuit, with lines that name the
-    qubits of channels and do nothing, so that the program judges these too; left_out: what is left out of each line of noise.
+    qubits of channels and do nothing, so that the program judges these too; left_out: what is left out of each line of noise; said: what
+    `check` says of the text, if the program reads it as it is.
     """
 
     text: str
-    circuit: Copy = field(default_factory=Copy)
-    noisy: Copy = field(default_factory=Copy)
-    judged: Copy = field(default_factory=Copy)
+    circuit: Copy | Unchanged = field(default_factory=Copy)
+    noisy: Copy | Unchanged = field(default_factory=Copy)
+    judged: Copy | Unchanged = field(default_factory=Copy)
     left_out: dict[int, str] = field(default_factory=dict)
+    said: bytes | None = None
 
     @classmethod
-    def of_read(cls, text: str) -> "Profile":
+    def of_read(cls, text: str, said: bytes) -> "Profile":
         """The profile of a text that the program reads, which stays as it is."""
-        lines = text.split("\n")
-        copy = Copy(lines, list(range(1, len(lines) + 1)))
-        return cls(text, copy, copy, copy)
+        copy = Unchanged(text)
+        return cls(text, copy, copy, copy, said=said)
 
     def add(self, origin: int, made: Made) -> None:
         """Adds what one line becomes in each text."""
-        self.circuit.add(made.circuit, origin)
-        self.noisy.add(made.noisy, origin)
-        self.judged.add(made.judged, origin)
+        for copy, lines in ((self.circuit, made.circuit), (self.noisy, made.noisy), (self.judged, made.judged)):
+            assert isinstance(copy, Copy), "the program does not read the text as it is"
+            copy.add(lines, origin)
         if made.left_out:
             self.left_out[origin] = made.left_out
 

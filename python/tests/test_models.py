@@ -388,12 +388,9 @@ def test_models_of_other_chances_have_other_fingerprints():
     assert one.fingerprint == stabsim.error_model("R 0\nX_ERROR(0.10) 0\nM 0\nDETECTOR rec[-1]\n").fingerprint
 
 
-def test_a_circuit_without_noise_has_a_model_without_mechanisms(tmp_path):
-    text = "R 0\nX_ERROR(0.25) 0\nM 0\nDETECTOR rec[-1]\n"
-    quiet = stabsim.from_stim(text).circuit
-    with pytest.raises(ValueError, match="give what stabsim.from_stim reads, which keeps its noise"):
-        stabsim.error_model(quiet)
-    assert stabsim.error_model(stabsim.Circuit(quiet.text)).dem == "detector D0\n"
+def test_a_circuit_without_noise_has_a_model_without_mechanisms():
+    noisy = stabsim.Circuit("R 0\nX_ERROR(0.25) 0\nM 0\nDETECTOR rec[-1]\n")
+    assert stabsim.error_model(noisy.circuit).dem == "detector D0\n" and stabsim.error_model(noisy).dem == "error(0.25) D0\ndetector D0\n"
 
 
 MODEL = stabsim.ErrorModel.from_dem("error(0.25) D0 L0\n")

@@ -60,11 +60,13 @@ def place_in(items, numbers):
 def edited(session, items, numbers):
     """Makes an edit in a session and in a text, if the session takes it; whether it did."""
     places, path, at = place_in(items, numbers)
-    kind = numbers.choice(["insert", "replace", "delete"]) if at < len(places) else "insert"
-    new = Written(numbers, len(path))
+    kind = numbers.choice(["insert", "replace", "delete", "move"]) if at < len(places) else "insert"
+    new, to = Written(numbers, len(path)), numbers.randrange(len(places) + 1)
     try:
         if kind == "delete":
             session.delete([*path, at])
+        elif kind == "move":
+            session.move([*path, at], [*path, to])
         else:
             getattr(session, kind)([*path, at], text_of([new]))
     except stabsim.Refused:
@@ -72,7 +74,11 @@ def edited(session, items, numbers):
     if kind == "replace":
         # What is above an item stays above what comes in its place.
         new.above = places[at].above + new.above
-    places[at : at + (kind != "insert")] = [new] * (kind != "delete")
+    if kind == "move":
+        new = places.pop(at)
+        places.insert(to - (to > at), new)
+    else:
+        places[at : at + (kind != "insert")] = [new] * (kind != "delete")
     return True
 
 
@@ -196,16 +202,23 @@ def test_coins_and_errors_are_at_the_items_of_the_user():
         assert found.distance == 1 and {error.path for error in found.errors} == {"1"}
 
 
-@pytest.mark.parametrize("edit", [
-    lambda session: session.insert(0, "M 1", keep_records=True),
-    lambda session: session.replace(1, "M 1", keep_records=True),
-    lambda session: session.delete(1, keep_records=True),
-    lambda session: session.move(1, 0, keep_records=True),
-    lambda session: session.retarget([("delete", 1)]),
-])
-def test_lookbacks_do_not_follow_their_records_where_lines_are_kept_as_written(edit):
-    text = "X_ERROR(0.125) 0\nM 0\nDETECTOR rec[-1]\n"
-    with stabsim.from_stim(text).edit() as session:
-        with pytest.raises(ValueError, match="without noise alone"):
-            edit(session)
-        assert session.circuit() == text
+def test_lookbacks_follow_their_records_past_noise_and_comments():
+    text = "# a record\nM(0.25) 0 # wrong at times\nX_ERROR(0.125) 0\nMXX(0.5) 0 1\n# of both\nDETECTOR(1) rec[-1] rec[-2] # why\nYCZ 0 rec[-2]\n"
+    with stabsim.Circuit(text).edit(qubits=4) as session:
+        # Two records between them and what names them.
+        session.insert(4, "MZZ(0.1) 0 1 2 3  # between", keep_records=True)
+        assert session.circuit(comments=True) == (
+            "# a record\nM(0.25) 0 # wrong at times\nX_ERROR(0.125) 0\nMXX(0.5) 0 1\n# of both\n"
+            "DETECTOR(1) rec[-1] rec[-2] # why\nMZZ(0.1) 0 1 2 3  # between\nYCZ 0 rec[-4]\n")
+        session.move(4, 0, keep_records=True)
+        assert session.circuit(comments=True).splitlines()[-2:] == ["DETECTOR(1) rec[-1] rec[-2] # why", "YCZ 0 rec[-2]"]
+        session.delete(3, keep_records=True)
+        assert session.circuit(comments=True).splitlines()[-3:] == ["# of both", "DETECTOR(1) rec[-1] # why", "YCZ 0 rec[-1]"]
+        session.replace(1, "M(0.25) 1 0", keep_records=True)
+        assert session.circuit(comments=True).splitlines()[1:3] == ["# a record", "M(0.25) 1 0"] and session.circuit().endswith("YCZ 0 rec[-1]\n")
+        made = session.retarget([("delete", 1)])
+        assert made.lost == ("D0",) and session.circuit(comments=True) == made.text
+        assert made.text == "MZZ(0.1) 0 1 2 3  # between\nX_ERROR(0.125) 0\n# of both\nDETECTOR(1) # why\n"
+        for _ in range(5):
+            assert session.undo()
+        assert session.circuit(comments=True) == text and not session.undo()
