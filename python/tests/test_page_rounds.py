@@ -69,6 +69,34 @@ def test_ticks_are_chosen_on_the_timeline_copied_and_put_in(page):
     page.wait(lambda: page.circuit() == CODE)
 
 
+def exchange_lines(page, *paths):
+    """Clicks lines with Ctrl."""
+    page.settle()
+    chain = ActionChains(page.browser, duration=0).key_down(Keys.CONTROL)
+    for path in paths:
+        page.point_at(f"#text .row[data-path='{path}'] .name", chain=chain).click()
+    chain.key_up(Keys.CONTROL).perform()
+
+
+def test_lines_that_are_apart_are_chosen_by_ctrl_copied_and_taken_out(page):
+    page.choose("0")
+    exchange_lines(page, "2", "5", "7", "5")
+    page.wait(lambda: chosen_rows(page) == ["0", "2", "7"])
+    offer(page, "reverse")
+    page.wait(lambda: page.find("message").text == "the chosen lines are apart: choose some that follow each other")
+    page.focus("#text")
+    page.press("c", held=[Keys.CONTROL])
+    page.press(Keys.DELETE)
+    page.wait(lambda: lines(page) == ["TICK", "TICK", "M 1", "DETECTOR rec[-1]", "TICK", "OBSERVABLE_INCLUDE(0)"])
+    assert page.history() == ["opened", "delete 3 lines"]
+    page.choose("0")
+    page.press("v", held=[Keys.CONTROL])
+    page.wait(lambda: lines(page)[:4] == ["R 0 1", "CX 0 1", "M 0", "TICK"])
+    # A click alone chooses one line again.
+    page.choose("3")
+    page.wait(lambda: chosen_rows(page) == ["3"])
+
+
 def test_lines_are_moved_with_their_records(page):
     page.choose("7")
     page.press(Keys.ARROW_UP, Keys.ARROW_UP, Keys.ARROW_DOWN, held=[Keys.SHIFT])

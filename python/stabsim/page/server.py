@@ -155,7 +155,7 @@ class Server:
 
     async def answer_to(self, tab: Tab, question: Message) -> Message:
         asked = question["ask"]
-        if asked in ("edit", "split", "open", "go", "lines", "text"):
+        if asked in ("edit", "split", "open", "go", "step", "lines", "text"):
             return await self.changed_by(question)
         if asked == "mark":
             await self.tell_of(self.board.mark)
@@ -192,6 +192,8 @@ class Server:
             return await self.change(self.board.open, source, not question.get("unsaved"))
         if asked == "go":
             return await self.change(self.board.go, int(question["position"]))
+        if asked == "step":
+            return await self.change(self.board.step, int(question["by"]))
         if asked == "text":
             source = await asyncio.to_thread(opened, str(question["text"]))
             return {**await self.change(self.board.edit_text, source), "said": source.notice}

@@ -10,7 +10,7 @@ import { drawingOf } from "../../stabsim/page/static/drawing.js";
 import { moveTo, putIn, putQubits, takeOut, withQubits } from "../../stabsim/page/static/editing.js";
 import { elementsOf, hull } from "../../stabsim/page/static/glyphs.js";
 import { facesOf, neighboursOf } from "../../stabsim/page/static/knowledge.js";
-import { momentAt } from "../../stabsim/page/static/moments.js";
+import { actedOften, momentAt } from "../../stabsim/page/static/moments.js";
 import { neighbourOf, placesOf } from "../../stabsim/page/static/places.js";
 import { lookbacksOf, nameOfRecord, putDetector } from "../../stabsim/page/static/records.js";
 import { countRows, numberOfRow, rowsBetween } from "../../stabsim/page/static/rows.js";
@@ -118,9 +118,31 @@ test("names are completed as far as they are the same", () => {
 test("a gate joins the one in front of it, but an error is by itself", () => {
   const items = parseCircuit("H 0\nTICK\n");
   assert.deepEqual(putIn(items, 0, "H", [1, 2]).edits, [{ kind: "replace", place: "0", item: "H 0 1 2" }]);
-  assert.deepEqual(putIn(items, 0, "H", [0]).edits, [{ kind: "insert", place: "1", item: "H 0" }]);
+  assert.deepEqual(putIn(items, 0, "H", [0], false, true).edits, [{ kind: "insert", place: "1", item: "H 0" }]);
   assert.deepEqual(putIn(items, 0, "X", [1]).edits, [{ kind: "insert", place: "1", item: "X 1" }]);
   assert.ok(putIn(items, 0, "CX", [1]).why);
+});
+
+test("a gate takes the place of what acts on its qubits, and leaves others and errors where they are", () => {
+  const made = (text, ...words) => putIn(parseCircuit(text), 0, ...words);
+  const told = ({ edits, shown }) => [edits.map(({ kind, place, item }) => `${kind} ${place} ${item ?? ""}`.trim()), shown.path.join("/")];
+  assert.deepEqual(told(made("M 0\nTICK\n", "MX", [0])), [["replace 0 MX 0"], "0"]);
+  assert.deepEqual(told(made("CX 0 1 2 3\nX 0\nTICK\n", "H", [0])), [["insert 2 H 0", "replace 0 CX 2 3"], "2"]);
+  assert.deepEqual(told(made("H 1\nS 0 2\nR 3\nTICK\n", "H", [0, 2, 3])), [["replace 0 H 1 0 2 3", "delete 2", "delete 1"], "0"]);
+  assert.deepEqual(told(made("S 0\nR 1\nM 2\nTICK\n", "H", [0, 1])), [["insert 3 H 0 1", "delete 1", "delete 0"], "1"]);
+  assert.deepEqual(told(made("H 0 1\nS 2\nTICK\n", "H", [0, 2])), [["replace 0 H 0 1 2", "delete 1"], "0"]);
+  assert.deepEqual(told(made("CX 0 1\nTICK\n", "CX", [1, 0])), [["replace 0 CX 1 0"], "0"]);
+  assert.deepEqual(told(made("H 0\nTICK\n", "X", [0])), [["insert 1 X 0"], "1"]);
+  assert.match(made("CX 0 1\nH 2\nTICK\n", "CX", [0, 1]).why, /acts there already/);
+  assert.deepEqual(told(made("H 0\nREPEAT 2 {\n    H 1\n    TICK\n}\n", "S", [1, 0])), [["replace 1/0 S 1 0"], "1/0"]);
+});
+
+test("what acts several times in a tick is counted, and errors and their marks are not", () => {
+  const often = (text, moment) => [...actedOften(parseCircuit(text), moment)];
+  assert.deepEqual(often("H 0 1\nS 0\nX 1\nM 0\nTICK\nH 0\n", 0), [[0, 3]]);
+  assert.deepEqual(often("H 0 1\nS 0\nTICK\nH 0\n", 2), []);
+  assert.deepEqual(often("I 0\nH 0\nX 0\nTICK\n", 0), []);
+  assert.deepEqual(often("H 0\nH 0\n", 0), []);
 });
 
 test("what is put into one round alone has the places that it has once the round is split off", () => {

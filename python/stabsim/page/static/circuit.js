@@ -1,3 +1,4 @@
+// @ts-check
 // A circuit as a tree of items, with the counts that the views ask for.
 //
 // An item is {text, name, targets} for one line, or {text, count, items, once} for a block. Each has its counts (counts.js), a block
@@ -17,6 +18,7 @@ const DECLARING = new Set(["DETECTOR", "OBSERVABLE_INCLUDE"]);
 const WITHOUT_STEPS = new Set(["TICK", "QUBIT_COORDS", "SHIFT_COORDS"]);
 
 // The items of a circuit's text.
+/** @param {string} text @returns {import("./types.js").Item[]} */
 export function parse(text) {
   const outermost = [];
   const open = [];
@@ -36,6 +38,7 @@ export function parse(text) {
 }
 
 // The items of a whole circuit, cut into moments.
+/** @param {string} text @returns {import("./types.js").Item[]} */
 export function parseCircuit(text) {
   const items = parse(text);
   cutList(items);
@@ -96,6 +99,7 @@ export function itemOf(text) {
 }
 
 // The text of an item, each line indented as deep as it is.
+/** @param {import("./types.js").Item} item @returns {string} */
 export function textOf(item, depth = 0) {
   const margin = "    ".repeat(depth);
   if (!item.items) return margin + item.text;
@@ -106,14 +110,17 @@ export function textOf(item, depth = 0) {
 // The list that has a path's last place.
 const listAt = (items, path) => blocksAround(items, path).at(-1)?.items ?? items;
 
+/** @param {import("./types.js").Item[]} items @param {import("./types.js").Path} path @returns {import("./types.js").Item | undefined} */
 export function itemAt(items, path) {
   return listAt(items, path)[path.at(-1)];
 }
 
+/** @param {string} text @returns {import("./types.js").Path} */
 export const pathOf = (text) => text.split("/").map(Number);
 
 // Makes an edit that the session has accepted. Answers {kind, at, more, before, after}: at which path, how many items its list has more, and
 // the items that were and are there.
+/** @param {import("./types.js").Item[]} items @param {import("./types.js").Edit} edit @returns {import("./types.js").Move} */
 export function applyEdit(items, edit) {
   const path = pathOf(edit.place);
   const list = listAt(items, path);
@@ -140,6 +147,7 @@ function partsOf(block, round) {
 }
 
 // The blocks around a path, the outermost first.
+/** @param {import("./types.js").Item[]} items @param {import("./types.js").Path} path @returns {import("./types.js").Item[]} */
 export function blocksAround(items, path) {
   const blocks = [];
   let list = items;

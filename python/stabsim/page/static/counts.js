@@ -1,3 +1,4 @@
+// @ts-check
 // How many ticks, moments, records, detectors, steps and coins items have, their rounds written out. Each target that is measured or
 // reset has a coin, whether or not that decides anything.
 

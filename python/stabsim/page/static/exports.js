@@ -1,3 +1,4 @@
+// @ts-check
 // What is given out: the circuit, the edits as a script, and what is seen as SVG.
 
 import { colourOf } from "./colours.js";

@@ -1,7 +1,9 @@
+// @ts-check
 // What was chosen before an update of the circuit, and is still there after it.
 
 // The path of what a path led to before an edit, which was made at a place of a list that it made `more` items longer. What was taken out
 // leaves its path to what came in its place.
+/** @param {import("./types.js").Path} path @param {import("./types.js").Move} move @returns {import("./types.js").Path} */
 export function pathAfter(path, { kind, at, more }) {
   const deep = at.length - 1;
   if (path.length <= deep || at.slice(0, deep).some((place, i) => place !== path[i])) return path;
@@ -10,6 +12,7 @@ export function pathAfter(path, { kind, at, more }) {
 }
 
 // A path as far as it leads to something: to an item, or to the end of the outermost list.
+/** @param {import("./types.js").Item[]} items @param {import("./types.js").Path} path @returns {import("./types.js").Path} */
 export function pathThere(items, path) {
   const found = [];
   let list = items;

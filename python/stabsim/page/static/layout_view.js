@@ -1,3 +1,4 @@
+// @ts-check
 // The qubits at one moment, on a canvas in a pane, zoomed and panned.
 
 import { CanvasPen } from "./canvas_pen.js";

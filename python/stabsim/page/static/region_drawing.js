@@ -1,3 +1,4 @@
+// @ts-check
 // What is drawn of detectors in a moment: the faces of checks, the chosen region with its letters or the coins that decide the bit,
 // regions beside it, and errors.
 

@@ -1,3 +1,4 @@
+// @ts-check
 // What the views are given of what is shown: the picture of a moment (drawing.js), and time (timeline_view.js).
 
 import { qubitsOfCoins } from "./coins.js";
@@ -6,12 +7,13 @@ import { momentsOf } from "./moments.js";
 import { nameOfRecord } from "./records.js";
 import { mapOf } from "./regions.js";
 
-// `shown` has state, moment, instructions, chosen, waiting and set; `followed` is what followed.js has; `known` has {faces, neighbours}.
-export function sceneOf({ state, moment, instructions, chosen, waiting, set }, followed, { faces, neighbours }) {
+// `shown` has state, moment, instructions, often, chosen, waiting and set; `followed` is what followed.js has; `known` has {faces, neighbours}.
+export function sceneOf({ state, moment, instructions, often, chosen, waiting, set }, followed, { faces, neighbours }) {
   return {
     ...state.placement,
     ancillas: state.ancillas,
     instructions,
+    often,
     recordName: ({ path }, target) => nameOfRecord(state.items, moment, path, Number(/-?\d+/.exec(target)[0])),
     faces,
     region: mapOf(followed.region[moment]),

@@ -1,3 +1,4 @@
+// @ts-check
 // Items of the text that have some words in them.
 
 // The path of the next item from one on, or with -1 of the one before, that has some words in its text or is at that path; null if none has.

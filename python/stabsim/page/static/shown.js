@@ -1,17 +1,17 @@
+// @ts-check
 // What this tab shows of the circuit: a moment, the qubits and the detector that are chosen, and the tool at hand; drawn by the views.
 
+import { by } from "./by_id.js";
 import { blocksAround, itemAt, pathOf } from "./circuit.js";
 import { placesOfCoins } from "./coins.js";
 import { Followed } from "./followed.js";
 import { acts, qubitsOf } from "./instructions.js";
 import { pathThere, stillThere } from "./keeping.js";
 import { areFaces } from "./knowledge.js";
-import { endOf, momentAt, momentOf, momentsOf, momentsOfDetectors } from "./moments.js";
+import { actedOften, endOf, momentAt, momentOf, momentsOf, momentsOfDetectors } from "./moments.js";
 import { sayNumbers, sayRandom } from "./numbers.js";
 import { aboutBit, sayMoment, saySeen } from "./saying.js";
 import { sceneOf, timeOf } from "./scene.js";
-
-const by = (id) => document.getElementById(id);
 
 // How long, in milliseconds, a moment is shown before all regions there are asked for.
 const PAUSE = 30;
@@ -30,6 +30,8 @@ export class Shown {
   since = "edit";
   hasFaces = true;
   instructions = [];
+  // The qubits on which several items act in the tick, with how many do.
+  often = new Map();
   // The errors of a set that flips an observable unseen, at their places (fault_set.js).
   set = [];
   #views;
@@ -214,6 +216,7 @@ export class Shown {
 
   #look(isFresh, isEdited) {
     this.instructions = momentAt(this.state.items, this.moment);
+    this.often = actedOften(this.state.items, this.moment);
     this.#views.text.mark(this.instructions.filter(({ item }) => acts(item.name)).map(({ path }) => path));
     this.drawLayout(isFresh);
     this.#drawTime(isEdited);
@@ -260,7 +263,7 @@ export class Shown {
   // Shows the faces of checks, or none.
   takeFaces(hasFaces) {
     this.hasFaces = hasFaces;
-    by("faces").ariaPressed = hasFaces;
+    by("faces").ariaPressed = String(hasFaces);
     this.drawLayout();
   }
 
@@ -293,12 +296,12 @@ export class Shown {
     const at = qubit === null ? null : this.state.qubitCoordinates[qubit];
     inspector.qubit(qubit === null ? null : {
       qubit, kind: this.state.ancillas.has(qubit) ? "ancilla" : "data", at: at?.length ? at : null, name: found?.item.name, path: found?.path,
-      more: this.#hovered === null ? this.chosen.length - 1 : 0,
+      count: this.often.get(qubit), more: this.#hovered === null ? this.chosen.length - 1 : 0,
     }, this.where);
     const { coins, set } = this.scene();
     saySeen(this.where, qubit, {
       name: found?.item.name, letter: this.#followed.region[this.moment]?.[qubit], hasCoin: coins.has(qubit),
-      error: set.find((it) => it.qubit === qubit && it.isHere)?.letter,
+      error: set.find((it) => it.qubit === qubit && it.isHere)?.letter, count: this.often.get(qubit),
     });
     if (qubit === null) return void inspector.errors(null, null);
     const { moment } = this;

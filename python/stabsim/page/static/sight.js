@@ -1,3 +1,4 @@
+// @ts-check
 // Where places of the grid are seen on a picture: all of them fitted in, or zoomed and panned.
 
 const MARGIN = { left: 48, right: 40, top: 44, bottom: 34 };
@@ -103,11 +104,13 @@ export class Sight {
   }
 
   // Where a place is seen.
+  /** @param {import("./types.js").Spot} place @returns {import("./types.js").Spot} */
   seen([x, y]) {
     return [this.#at[0] + x * this.#scale, this.#at[1] + y * this.#scale];
   }
 
   // The whole place that is nearest to a spot.
+  /** @param {import("./types.js").Spot} spot @returns {import("./types.js").Spot} */
   placeAt([x, y]) {
     return [Math.round((x - this.#at[0]) / this.#scale), Math.round((y - this.#at[1]) / this.#scale)];
   }

@@ -1,3 +1,4 @@
+// @ts-check
 // What all views show of the circuit: the server's events alone change it.
 
 import { applyEdit, blocksAround, parseCircuit } from "./circuit.js";
@@ -11,6 +12,30 @@ const ENCODER = new TextEncoder();
 const bitsOf = (line) => ENCODER.encode(line).map((letter) => letter & 1);
 
 export class State {
+  age = 0;
+  name = "";
+  /** @type {import("./types.js").Item[]} */
+  items = [];
+  numbers = { qubits: 0, steps: 0, records: 0, detectors: 0, observables: 0 };
+  /** @type {Uint8Array | null} */
+  deterministic = null;
+  /** @type {{text: string, changed: string[], seconds: number}[]} */
+  entries = [];
+  position = 0;
+  markedAt = 0;
+  savedAt = 0;
+  /** @type {Set<string>} */
+  flipped = new Set();
+  /** @type {Set<string>} */
+  marked = new Set();
+  uses = new Uses();
+  /** @type {import("./types.js").Placement | null} */
+  placement = null;
+  /** @type {Map<number, import("./types.js").Spot>} */
+  arranged = new Map();
+  /** The last edits, as applyEdit answers them. @type {import("./types.js").Move[]} */
+  moves = [];
+
   constructor(event) {
     Object.assign(this, {
       age: event.age,
@@ -24,11 +49,6 @@ export class State {
       savedAt: event.saved_at,
       flipped: new Set(event.flipped),
       marked: new Set(event.marked),
-      uses: new Uses(),
-      placement: null,
-      arranged: new Map(),
-      // The last edits, as applyEdit answers them.
-      moves: [],
     });
     this.uses.count(this.items, 1);
     this.#takeBits(event);

@@ -1,3 +1,4 @@
+// @ts-check
 // The drawing of a timeline, as layers of elements (glyphs.js).
 //
 // A sheet says what is shown and where: {line, shown, width, height, step, first, last, aim, gap, x(moment), at(bit), rowHeight, ground},
@@ -109,6 +110,7 @@ function thread({ shown: { bit, region }, first, last, x, at, step, height }) {
   const moments = Object.keys(region).map(Number);
   if (bit === null || !moments.length) return [];
   const [end, y] = bit.startsWith("D") ? at(bit) : [x(moments.at(-1)), height - 26];
+  /** @type {import("./types.js").Element[]} */
   const elements = [{ path: [["M", x(moments[0]) - step / 2, y], ["L", end, y]], stroke: "ink", width: 1.5 }];
   for (const moment of moments) {
     if (moment < first || moment > last) continue;
@@ -155,6 +157,7 @@ export function groundOf(sheet) {
 }
 
 function observables({ shown, at }, width, height) {
+  /** @type {import("./types.js").Element[]} */
   const elements = [{ path: box(0, height - 22, width, 22), fill: "sheet" }];
   shown.observables.forEach((_, number) => {
     const [x, y] = at(`L${number}`);
