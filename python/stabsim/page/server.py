@@ -171,6 +171,8 @@ class Server:
             await self.distances.ask(self.call, self.board)
         elif asked == "end distance":
             self.distances.end()
+        elif asked == "written":
+            return {"text": await self.call(self.board.written)}
         elif asked == "script":
             return {"text": await self.call(self.board.script)}
         elif asked == "save":

@@ -98,7 +98,7 @@ const editor = new Editor(shown, {
   number: (words, offered) => asking.number(words, offered),
 });
 const lines = new LineEditor({ shown, text: views.text, send, ask, say, number: (...words) => asking.number(...words) });
-const source = new SourceView({ text: circuitText, send: (text) => ask({ ask: "text", text }), say, leave: () => views.text.focus() });
+const source = new SourceView({ text: writtenText, send: (text) => ask({ ask: "text", text }), say, leave: () => views.text.focus() });
 const carrier = new Carrier({ shown, editor, timeline: views.timeline, tip: showWords, say });
 new Keyboard({ shown, editor, menu, layout: views.layout, timeline: views.timeline, openMenu, chooseBit, panes, press: (id) => by(id).click() });
 
@@ -336,13 +336,19 @@ by("search-words").addEventListener("keydown", (event) => {
   if (event.key === "Enter") search(event.shiftKey ? -1 : 1);
 });
 
-const share = () => shared(circuitText()).then(say, (fault) => say(fault.message, true));
+// The circuit as it was written, with its comments; without the server as this tab has it.
+async function writtenText() {
+  const answer = link.isOpen ? await link.ask({ ask: "written" }).catch(() => ({})) : {};
+  return answer.text ?? circuitText();
+}
+
+const share = () => writtenText().then(shared).then(say, (fault) => say(fault.message, true));
 
 function openKind(kind) {
   if (views.text.selected !== null) write(kind, pathOf(views.text.selected), views.text.item);
 }
 
-const exports = exportsOf({ ask, name: () => shown.state.name, text: circuitText, layout: views.layout });
+const exports = exportsOf({ ask, name: () => shown.state.name, written: writtenText, layout: views.layout });
 const clicks = {
   undo: () => ask({ ask: "step", by: -1 }),
   redo: () => ask({ ask: "step", by: 1 }),

@@ -13,7 +13,7 @@ export function nextWith(items, words, from, direction) {
 function* pathsWith(items, words, above) {
   for (let place = 0; place < items.length; place += 1) {
     const path = [...above, place];
-    if (items[place].text.toLowerCase().includes(words) || path.join("/") === words) yield path;
+    if (`${items[place].text} ${items[place].written?.text ?? ""}`.toLowerCase().includes(words) || path.join("/") === words) yield path;
     if (items[place].items) yield* pathsWith(items[place].items, words, path);
   }
 }

@@ -9,7 +9,7 @@ const MOST_LETTERS = 2_000_000;
 export class SourceView {
   #act;
 
-  // `act` has text(), which is the circuit's; send(text), which answers {refused, explanation} if it was refused; say(words, isBad); and
+  // `act` has text(), which answers the circuit's; send(text), which answers {refused, explanation} if it was refused; say(words, isBad); and
   // leave(), which is called once it is closed.
   constructor(act) {
     this.#act = act;
@@ -28,8 +28,8 @@ export class SourceView {
     else this.open();
   }
 
-  open() {
-    const text = this.#act.text();
+  async open() {
+    const text = await this.#act.text();
     if (text.length > MOST_LETTERS) return void this.#act.say("the text is too long to be edited as one", true);
     by("source").hidden = false;
     by("as-text").ariaPressed = "true";

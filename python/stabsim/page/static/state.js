@@ -1,7 +1,7 @@
 // @ts-check
 // What all views show of the circuit: the server's events alone change it.
 
-import { applyEdit, blocksAround, parseCircuit } from "./circuit.js";
+import { applyEdit, blocksAround, itemAt, parseCircuit, pathOf } from "./circuit.js";
 import { isPair, isRecord, pairsOf, qubitOf, qubitsOf } from "./instructions.js";
 import { placesOf } from "./places.js";
 import { Uses } from "./uses.js";
@@ -51,6 +51,7 @@ export class State {
       marked: new Set(event.marked),
     });
     this.uses.count(this.items, 1);
+    this.#takeWritten(event.written);
     this.#takeBits(event);
     this.#place();
   }
@@ -59,6 +60,7 @@ export class State {
   take(event) {
     const used = [...this.uses.acting].join();
     this.moves = event.edits.map((edit) => this.#make(edit));
+    if (event.written) this.#takeWritten(event.written);
     if (event.entries.length) this.entries.splice(event.position - event.entries.length, Infinity, ...event.entries);
     // A mark that has moved counts from where the history goes on.
     if (event.marked_at !== this.markedAt) this.marked.clear();
@@ -71,6 +73,14 @@ export class State {
     if (event.detectors === undefined) event.flipped.forEach((name) => this.#flip(name));
     else this.#takeBits(event);
     if (isMoved) this.#place();
+  }
+
+  // Notes at items which line was given for them: [the path of the first, how many they are, the line] of each.
+  #takeWritten(written) {
+    for (const [place, count, text] of written) {
+      const path = pathOf(place);
+      for (let part = 0; part < count; part += 1) itemAt(this.items, [...path.slice(0, -1), path.at(-1) + part]).written = { text, count, part };
+    }
   }
 
   #make(edit) {

@@ -5,7 +5,7 @@ import { blocksAround, pathOf } from "./circuit.js";
 import { before } from "./counts.js";
 import { pathAfter, pathThere } from "./keeping.js";
 import { keyOf } from "./keys.js";
-import { foldOf, marksOf, saidOf } from "./row_parts.js";
+import { foldOf, marksOf, saidOf, writtenOf } from "./row_parts.js";
 import { countRows, numberOfRow, rowsBetween } from "./rows.js";
 import { TextRows } from "./text_rows.js";
 
@@ -229,9 +229,10 @@ export class TextView {
     const flag = this.#flag(path, item, run);
     const refusal = this.#refusal?.place === path.join("/") && !run ? this.#refusal.words : "";
     const within = item?.items ? `${item.items.length} ${item.detectors}` : "";
+    const written = item?.written && writtenOf(blocksAround(this.#items, path).at(-1)?.items ?? this.#items, path.at(-1));
     return {
-      ...row, said: [item?.text, run, within, path.length, isOpen, flag, refusal].join("\n"),
-      parts: () => [foldOf(item, run, isOpen), ...saidOf(item, run, isOpen, path.length - 1), ...marksOf(flag, refusal)],
+      ...row, said: [item?.text, run, within, path.length, isOpen, flag, refusal, written?.text].join("\n"),
+      parts: () => [foldOf(item, run, isOpen), ...saidOf(item, run, isOpen, path.length - 1, written), ...marksOf(flag, refusal)],
       place: (line) => this.#placeRow(line, row, isSelected),
     };
   }

@@ -6,7 +6,10 @@
  * @typedef {{ticks?: number, bounds?: number, records?: number, detectors?: number, steps?: number, coins?: number}} Counts
  *
  * A line of a circuit, or a block with its items (circuit.js). `on` has the qubits on which it acts, once they were asked for.
- * @typedef {Counts & {text: string, cut: boolean, name?: string, targets?: string[], on?: number[], count?: number, items?: Item[], once?: Counts}} Item
+ * @typedef {Counts & {text: string, cut: boolean, written?: Written, name?: string, targets?: string[], on?: number[], count?: number, items?: Item[], once?: Counts}} Item
+ *
+ * The line that was given for some items that follow each other, of which this is one: how many they are, and which it is.
+ * @typedef {{text: string, count: number, part: number}} Written
  *
  * The place of an item in the outermost list, then in the block there, and so on; and the round of each block around it.
  * @typedef {number[]} Path
