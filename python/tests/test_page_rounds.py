@@ -115,13 +115,18 @@ def test_gates_are_reversed(open_page):
     assert page.history() == ["opened", "reverse 4 lines"]
 
 
+def open_text(page):
+    page.click("#as-text")
+    page.wait(lambda: page.focused() == "source-text")
+
+
 def write_text(page, text):
     page.browser.execute_script("const it = document.getElementById('source-text'); it.value = arguments[0]; it.focus();", text)
     page.press(Keys.ENTER, held=[Keys.CONTROL])
 
 
 def test_the_text_is_edited_as_one_and_applied_as_one_step(page):
-    page.click("#as-text")
+    open_text(page)
     assert page.browser.execute_script("return document.getElementById('source-text').value") == CODE
     page.click("#wrap")
     write_text(page, CODE.replace("CX 0 1", "CX 0 1\n  H 0").replace("M 1\n", "M 1 2\n"))
@@ -133,7 +138,7 @@ def test_the_text_is_edited_as_one_and_applied_as_one_step(page):
 
 
 def test_a_text_that_is_refused_stays_and_the_word_at_fault_is_chosen(page):
-    page.click("#as-text")
+    open_text(page)
     write_text(page, CODE.replace("CX 0 1", "CX 0 1\n   BADGATE 3"))
     page.wait(lambda: page.find("source-said").text.startswith("No instruction has this name"))
     selected = "const it = document.getElementById('source-text'); return it.value.slice(it.selectionStart, it.selectionEnd)"

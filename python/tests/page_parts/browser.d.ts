@@ -18,4 +18,5 @@ interface Element {
 }
 interface Array<T> {
   findLast(test: (value: T, index: number) => unknown): T | undefined;
+  with(index: number, value: T): T[];
 }

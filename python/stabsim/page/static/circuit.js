@@ -118,8 +118,8 @@ export function itemAt(items, path) {
 /** @param {string} text @returns {import("./types.js").Path} */
 export const pathOf = (text) => text.split("/").map(Number);
 
-// Makes an edit that the session has accepted. Answers {kind, at, more, before, after}: at which path, how many items its list has more, and
-// the items that were and are there.
+// Makes an edit that the session has accepted. Answers {kind, at, more, round, before, after}: at which path, how many items its list has more,
+// the round of a split, and the items that were and are there.
 /** @param {import("./types.js").Item[]} items @param {import("./types.js").Edit} edit @returns {import("./types.js").Move} */
 export function applyEdit(items, edit) {
   const path = pathOf(edit.place);
@@ -134,17 +134,21 @@ export function applyEdit(items, edit) {
   // What cuts a block depends on what is before it, so all is cut anew from the outermost list on.
   const [first, end] = cutList(items, path[0], path[0] + (edit.kind === "split" ? 3 : 1));
   recountPart(items, first, end, items.length - count);
-  return { kind: edit.kind, at: path, more: list.length - length, before: item, after: list[place] };
+  return { kind: edit.kind, at: path, more: list.length - length, round: edit.kind === "split" ? Number(edit.item) : undefined, before: item, after: list[place] };
 }
 
-// The blocks that a block becomes if a round is split off: the rounds before it, that round, and the rounds after it.
+// The blocks that a block becomes if a round is split off: the rounds before it, that round, and the rounds after it. The longest keeps the items.
 function partsOf(block, round) {
-  return [round, 1, block.count - round - 1].filter(Boolean).map((count) => {
-    const part = { ...block, text: block.text.replace(/\d+$/, count), count, items: structuredClone(block.items) };
-    recount(part);
-    return part;
+  const counts = [round, 1, block.count - round - 1].filter(Boolean);
+  const longest = counts.indexOf(Math.max(...counts));
+  return counts.map((count, part) => {
+    const items = part === longest ? block.items : block.items.map(copyOf);
+    return { ...block, text: block.text.replace(/\d+$/, String(count)), count, items };
   });
 }
+
+// A copy of an item; lines share their targets.
+const copyOf = (item) => (item.items ? { ...item, items: item.items.map(copyOf) } : { ...item });
 
 // The blocks around a path, the outermost first.
 /** @param {import("./types.js").Item[]} items @param {import("./types.js").Path} path @returns {import("./types.js").Item[]} */

@@ -115,8 +115,14 @@ export class Editor {
     return isDone;
   }
 
-  // Puts a gate, measurement or reset on qubits at the end of the moment. What an error flips is then chosen, with its region.
+  // Puts a gate, measurement or reset on qubits at the end of the moment. What an error flips is then chosen, with its region. With a layer of
+  // marks at hand an error is a mark, and no edit.
   async put(name, qubits, alone = this.#isAlone(name), isAdded = false) {
+    const { layers, state, moment: now } = this.#shown;
+    if (PAULIS.includes(name) && layers.at !== null) {
+      layers.put(name, qubits, state.items, now);
+      return true;
+    }
     const made = await this.make(({ items }, moment) => editing.putIn(items, moment, name, qubits, alone, isAdded));
     if (made && PAULIS.includes(name)) this.#shown.chooseBit([...this.#shown.state.flipped][0] ?? null);
     return made;
@@ -196,8 +202,8 @@ export class Editor {
   }
 
   #remove() {
-    const { chosen } = this.#shown;
-    if (!chosen.length) return undefined;
+    const { chosen, layers } = this.#shown;
+    if (!chosen.length || (layers.at !== null && layers.takeOut(chosen, this.#shown.moment))) return undefined;
     return this.make(({ items, uses }, moment) => editing.takeOut(items, moment, chosen, this.#isAlone(""), (qubit) => uses.acting.has(qubit)));
   }
 
@@ -235,6 +241,8 @@ export class Editor {
       offers.push(["turn the chosen by a quarter", () => this.replace(ours, turned)], ["mirror them left to right", () => this.replace(ours, (all) => mirrored(all, false))],
         ["mirror them upside down", () => this.replace(ours, (all) => mirrored(all, true))]);
     }
+    const layer = this.#shown.layers.at ?? this.#shown.layers.used.at(-1) ?? 0;
+    offers.push([`${this.#shown.layers.at === null ? "take up" : "let go of"} marks ${layer} (Shift-${layer})`, () => this.#shown.layers.take(layer)]);
     offers.push(["Stabilised by Z?", () => askSign(`Z${qubit}`)], ["Stabilised by X?", () => askSign(`X${qubit}`)]);
     return offers;
   }

@@ -49,6 +49,18 @@ export class Inspector {
     })]);
   }
 
+  // The marks of layers, and what those of each flip together; `name(moment)` is what a moment is called.
+  marks(layers, name) {
+    const shown = layers.used.map((layer) => [layer, layers.marks.filter((mark) => mark.layer === layer), layers.flips(layer)]);
+    fillOnce(this.#boxes.marks, [shown, layers.at], () => (shown.length ? [title("Marks flip"), ...shown.map(([layer, marks, flips]) => {
+      const said = marks.map(({ letter, qubit, moment }) => `${letter}${qubit} at ${name(moment)}`).join(", ");
+      const row = line(link(String(layer), () => layers.take(layer)), " ", ...this.#names(flips, "not known yet"), " ", quiet(said, "span"), " ", link("clear", () => layers.clear(layer)));
+      row.dataset.layer = String(layer);
+      row.className = layer === layers.at ? "mark-row now" : "mark-row";
+      return row;
+    })] : []));
+  }
+
   #names(names, why) {
     if (!names) return [quiet(why, "span")];
     if (!names.length) return [quiet("nothing", "span")];

@@ -11,6 +11,18 @@ export function pathAfter(path, { kind, at, more }) {
   return isMoved ? [...path.slice(0, deep), path[deep] + more, ...path.slice(deep + 1)] : path;
 }
 
+// Where a place in some rounds is after an edit: a round that is split off has a block of its own.
+/** @param {import("./types.js").Where} where @param {import("./types.js").Move} move @returns {import("./types.js").Where} */
+export function whereAfter({ path, rounds }, move) {
+  const deep = move.at.length - 1;
+  const isInside = move.kind === "split" && path.length > deep + 1 && move.at.every((place, i) => place === path[i]);
+  if (!isInside) return { path: pathAfter(path, move), rounds };
+  const round = rounds[deep];
+  const before = move.round > 0 ? 1 : 0;
+  const [further, now] = round < move.round ? [0, round] : round === move.round ? [before, 0] : [before + 1, round - move.round - 1];
+  return { path: path.with(deep, path[deep] + further), rounds: rounds.with(deep, now) };
+}
+
 // A path as far as it leads to something: to an item, or to the end of the outermost list.
 /** @param {import("./types.js").Item[]} items @param {import("./types.js").Path} path @returns {import("./types.js").Path} */
 export function pathThere(items, path) {

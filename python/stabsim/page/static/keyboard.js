@@ -2,7 +2,7 @@
 // The keys of the whole page: each pane is one tab stop, and arrows move within it.
 
 import { buttonBy, by, dialogBy } from "./by_id.js";
-import { ALL_KEYS, commandOf, isField, keyOf, letterOf, letterWithAlt } from "./keys.js";
+import { ALL_KEYS, commandOf, isField, keyOf, layerOf, letterOf, letterWithAlt } from "./keys.js";
 import { momentAt, momentsOf } from "./moments.js";
 import { neighbourOf } from "./places.js";
 import { Roving } from "./roving.js";
@@ -134,6 +134,9 @@ export class Keyboard {
 
   #onChosen(event) {
     if (event.altKey) return this.#page.editor.add(letterWithAlt(event));
+    const layer = layerOf(event);
+    if (layer !== null) this.#page.shown.layers.take(layer);
+    if (layer !== null) return true;
     const letter = letterOf(event);
     return letter !== "" && this.#page.editor.key(letter);
   }
@@ -142,6 +145,7 @@ export class Keyboard {
   #letGo() {
     const { shown } = this.#page;
     if (shown.tool !== "pick" || shown.waiting.length) shown.takeTool("pick");
+    else if (shown.layers.at !== null) shown.layers.take(shown.layers.at);
     else if (shown.bit !== null) shown.chooseBit(null);
     else if (shown.set.length) shown.showSet([]);
     else shown.choose(null);

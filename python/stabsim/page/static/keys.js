@@ -19,6 +19,12 @@ export function letterWithAlt({ repeat, ctrlKey, metaKey, altKey, key, code, shi
   return shiftKey ? letter.toUpperCase() : letter;
 }
 
+// The number of a layer that Shift and a digit ask for, or null.
+export function layerOf({ code, shiftKey, ctrlKey, altKey, metaKey, repeat }) {
+  const digit = /^Digit(\d)$/.exec(code);
+  return digit && shiftKey && !(ctrlKey || altKey || metaKey || repeat) ? Number(digit[1]) : null;
+}
+
 // What a key asks for together with Ctrl, or with Meta on a Mac: "undo", "redo", "save", "open", "all" or "".
 export function commandOf(event) {
   if (event.repeat || event.altKey || !(event.ctrlKey || event.metaKey)) return "";
@@ -43,7 +49,7 @@ export const ALL_KEYS = [
   ["Ctrl-C X V", "copy what acts on them, cut it, put it in at another tick"], [", .", "the detector before, the next"], ["↑ ↓", "on the timeline: the nearest detector that way; with Shift ← → too"],
   ["d D", "a detector of the chosen records; one for each, with the record before"], ["o", "the chosen records go into an observable"], ["/", "look for an item of the text"],
   ["Shift, Ctrl", "in the text and on the timeline: choose several lines, several ticks; with Ctrl lines that are apart"], ["Alt-↑ ↓", "in the text: move the chosen lines"],
-  ["q", "put qubits on the grid"], ["Alt-drag, Alt-arrow", "move the chosen qubits"], ["Enter", "what else there is for a qubit"],
+  ["Shift-0 … 9", "marks of errors by x y z, in this layer, no part of the circuit"], ["q", "put qubits on the grid"], ["Alt-drag, Alt-arrow", "move the chosen qubits"], ["Enter", "what else there is for a qubit"],
   ["+ - 0", "greater, smaller, all; the wheel zooms"], ["Ctrl-drag", "pan; also by the right button, or Ctrl and an arrow"],
   ["Ctrl-Z Ctrl-Y", "undo, redo"], ["Ctrl-O Ctrl-S", "open, save"],
   ["i a", "in the text: put an item in before, after"], ["F6", "the next pane"],

@@ -74,7 +74,7 @@ const views = {
     goTo: (moment) => shown.goTo(moment), range: (moment) => lines.chooseTicks(shown.moment, moment), choose: chooseBit, tip: showTip, say: showWords,
     moveTick: (moment, to, gap) => editor.moveTick(moment, to, gap),
   }),
-  inspector: new Inspector({ qubit: by("about-qubit"), errors: by("about-errors"), detector: by("about-detector") }, {
+  inspector: new Inspector({ qubit: by("about-qubit"), errors: by("about-errors"), marks: by("about-marks"), detector: by("about-detector") }, {
     choose: chooseBit, select: (path) => shown.select(path), goTo,
   }),
   distance: new DistanceView(by("about-distance"), {
@@ -358,6 +358,7 @@ const clicks = {
   export: () => menu.open(by("export"), { left: by("export").getBoundingClientRect().left, top: 40 }, exports.offers),
   save: () => (by("save").dataset.writes === "true" && link.isOpen ? ask({ ask: "save" }) : exports.circuit()),
   theme: () => { exchangeThemes(); redraw(); },
+  layer: () => shown.layers.take(shown.layers.at),
   follow: () => { by("follow").ariaPressed = String(by("follow").ariaPressed !== "true"); },
   faces: () => shown.takeFaces(by("faces").ariaPressed !== "true"),
   replace: () => openKind("replace"),

@@ -7,8 +7,8 @@ import { momentsOf } from "./moments.js";
 import { nameOfRecord } from "./records.js";
 import { mapOf } from "./regions.js";
 
-// `shown` has state, moment, instructions, often, chosen, waiting and set; `followed` is what followed.js has; `known` has {faces, neighbours}.
-export function sceneOf({ state, moment, instructions, often, chosen, waiting, set }, followed, { faces, neighbours }) {
+// `shown` has state, moment, instructions, often, chosen, waiting, set and layers; `followed` is what followed.js has; `known` has {faces, neighbours}.
+export function sceneOf({ state, moment, instructions, often, chosen, waiting, set, layers }, followed, { faces, neighbours }) {
   return {
     ...state.placement,
     ancillas: state.ancillas,
@@ -19,6 +19,7 @@ export function sceneOf({ state, moment, instructions, often, chosen, waiting, s
     region: mapOf(followed.region[moment]),
     coins: qubitsOfCoins(followed.coins ?? [], moment),
     set: lettersAt(set, moment),
+    marks: layers.marks.map((mark) => ({ ...mark, isHere: mark.moment === moment })),
     neighbours,
     chosen,
     waiting,
@@ -26,9 +27,10 @@ export function sceneOf({ state, moment, instructions, often, chosen, waiting, s
 }
 
 // `flips` has the bits that are drawn as flipped.
-export function timeOf({ state, moment, set }, { bit, region, coins }, flips) {
+export function timeOf({ state, moment, set, layers }, { bit, region, coins }, flips) {
   return {
-    items: state.items, moments: momentsOf(state.items), moment, bit, region, coins, set: lettersByMoments(set),
+    items: state.items, moments: momentsOf(state.items), moment, bit, region, coins, set: lettersByMoments([...set, ...layers.marks.map((mark) => ({ moment: mark.moment, letters: new Map([[mark.qubit, mark.letter]]) }))]),
+    hit: layers.at === null ? [] : layers.flips(layers.at) ?? [],
     observables: state.observables, coordinates: state.coordinates,
     kindOf: (it) => state.kindOf(it, flips), toldBetween: (first, end) => state.toldBetween(first, end, flips),
   };

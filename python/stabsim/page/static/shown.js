@@ -8,7 +8,8 @@ import { Followed } from "./followed.js";
 import { acts, qubitsOf } from "./instructions.js";
 import { pathThere, stillThere } from "./keeping.js";
 import { areFaces } from "./knowledge.js";
-import { actedOften, endOf, momentAt, momentOf, momentsOf, momentsOfDetectors } from "./moments.js";
+import { Layers } from "./layers.js";
+import { actedOften, endOf, momentAt, momentOf, momentsOf, momentsOfDetectors, nameOf } from "./moments.js";
 import { sayNumbers, sayRandom } from "./numbers.js";
 import { aboutBit, sayMoment, saySeen } from "./saying.js";
 import { sceneOf, timeOf } from "./scene.js";
@@ -47,6 +48,7 @@ export class Shown {
   constructor(views, knowledge) {
     this.#views = views;
     this.#knowledge = knowledge;
+    this.layers = new Layers((moment, qubit) => knowledge.flips(moment, qubit), () => this.#showLayers());
     this.#followed = new Followed(knowledge, {
       changed: () => this.#drawAll(), isRandom: (bit) => this.state.isRandom(bit), placesOfCoins: (numbers) => placesOfCoins(this.state.items, numbers),
     });
@@ -66,6 +68,7 @@ export class Shown {
       this.#views.text.show(state.items, (first, behind) => this.#flagOf(first, behind));
       this.#showEntry(kind === "opened");
       sayNumbers(state);
+      this.#sayLayers();
       this.#look(kind === "opened", true);
       this.chooseBit(this.bit);
     } else {
@@ -81,7 +84,10 @@ export class Shown {
   // What was chosen stays so if it is still there; of another circuit nothing is.
   #keep(isOther) {
     const { state } = this;
-    if (isOther) [this.chosen, this.waiting, this.#faces] = [[], [], []];
+    if (isOther) {
+      [this.chosen, this.waiting, this.#faces] = [[], [], []];
+      this.layers.letGo();
+    } else this.layers.keep(state);
     const kept = stillThere({ ...this, hovered: this.#hovered, bit: this.bit }, state, momentsOf(state.items));
     [this.moment, this.chosen, this.waiting, this.#hovered] = [kept.moment, kept.chosen, kept.waiting, kept.hovered];
     this.#followed.take(kept.bit);
@@ -168,6 +174,19 @@ export class Shown {
     return done;
   }
 
+  #showLayers() {
+    if (!this.state) return;
+    this.#sayLayers();
+    this.#drawAll();
+  }
+
+  #sayLayers() {
+    const { layers } = this;
+    by("layer").hidden = layers.at === null;
+    by("layer").textContent = `marks ${layers.at}`;
+    this.#views.inspector.marks(layers, (moment) => nameOf(this.state.items, moment).name);
+  }
+
   // Shows a set of errors, or with an empty one none.
   showSet(set) {
     this.set = set;
@@ -183,6 +202,7 @@ export class Shown {
   // The table of faults has come.
   known() {
     this.#followed.known();
+    this.layers.learn();
     this.learn();
     this.#inspect();
   }

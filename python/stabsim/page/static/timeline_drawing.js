@@ -143,7 +143,12 @@ function dots(sheet) {
     return { ...dotOf(kind), x, y, side: kind === "bit1" ? size : Math.max(9, size), isLate: kind !== "bit1" };
   });
   const chosen = shown.bit?.startsWith("D") ? [{ path: circle(...at(shown.bit), 8), stroke: "accent", width: 2 }] : [];
-  return [...marks.filter(({ isLate }) => !isLate), ...marks.filter(({ isLate }) => isLate), ...chosen];
+  return [...marks.filter(({ isLate }) => !isLate), ...marks.filter(({ isLate }) => isLate), ...hits(sheet), ...chosen];
+}
+
+// A dark ring round each bit that the marks of the layer at hand flip.
+function hits({ shown: { hit = [], observables: { length } }, at }) {
+  return hit.filter((name) => name.startsWith("D") || Number(name.slice(1)) < length).map((name) => ({ path: circle(...at(name), 7), stroke: "ink", width: 2 }));
 }
 
 // All detectors as they are if nothing is known of them.

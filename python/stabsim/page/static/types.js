@@ -22,7 +22,7 @@
  * @typedef {{edits?: Edit[], round?: {place: string, number: number} | null, shown?: Where | null, name?: string, why?: string, qubits?: number[]}} Made
  *
  * An edit that was made (circuit.js): at which path, how many items its list has more, the round of a split, and the items that were and are there.
- * @typedef {{kind: string, at: Path, more: number, before?: Item, after?: Item}} Move
+ * @typedef {{kind: string, at: Path, more: number, round?: number, before?: Item, after?: Item}} Move
  *
  * A place of the grid, or a spot of a picture.
  * @typedef {[number, number]} Spot
