@@ -36,7 +36,7 @@ export class LayoutView {
     this.#act = act;
     this.#gestures = new Gestures(pane, this, act);
     new ResizeObserver(() => {
-      this.#sight.resize([pane.clientWidth, pane.clientHeight]);
+      this.#sight.resize([pane.clientWidth, pane.clientHeight], parseFloat(getComputedStyle(pane).getPropertyValue("--below")));
       this.#zoomed();
     }).observe(pane);
   }
