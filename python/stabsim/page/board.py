@@ -137,7 +137,7 @@ class Board:
         return self._edited(made, [], any(entry.moves_bits for entry in passed))
 
     def step(self, by: int) -> Message:
-        """Undoes so many edits, or redoes them, of the history as it is by then: a person may ask again before the first is done."""
+        """Undoes a number of edits, or with a positive one redoes them, of the history as it is by then: a person may ask again before the first is done."""
         position = max(0, min(len(self.entries), self.position + by))
         if position == self.position:
             raise ValueError("nothing is left to be undone" if by < 0 else "nothing is left to be done again")
