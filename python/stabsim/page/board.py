@@ -306,8 +306,8 @@ class Board:
             return self.opened()
         self.marked ^= set(made.changed)
         # What comes back by the history is as it was written again.
-        written = {"written": self._shown()} if self.kept_text.rewritten and not entries else {}
-        told = {"event": "edited", **written, "edits": [edit.message() for edit in made.forth], "entries": [entry.message() for entry in entries]}
+        written: Message = {"written": self._shown()} if self.kept_text.rewritten and not entries else {}
+        told: Message = {"event": "edited", **written, "edits": [edit.message() for edit in made.forth], "entries": [entry.message() for entry in entries]}
         return told | self._now() | (self._bits(self.session.circuit()) if moves_bits else {})
 
     def _now(self) -> Message:

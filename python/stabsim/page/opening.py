@@ -69,8 +69,8 @@ def opened(given: str, name: str = UNNAMED) -> Opened:
         stabsim.Circuit(given).numbers()
         return Opened(given, name)
     read = stabsim.from_stim(given)
-    given = Given(read.text, read.profile.circuit, frozenset(read.profile.left_out))
-    return Opened(read.circuit.text, name, tuple(rewritten_of(read)), tuple(read.left_out), given)
+    kept = Given(read.text, read.profile.circuit, frozenset(read.profile.left_out))
+    return Opened(read.circuit.text, name, tuple(rewritten_of(read)), tuple(read.left_out), kept)
 
 
 def rewritten_of(read: stabsim.StimCircuit) -> Iterator[str]:
