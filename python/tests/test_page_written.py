@@ -61,7 +61,7 @@ def test_lines_beside_an_edit_stay_as_they_were_given(board):
     board.edit([Edit("delete", "4/1")])
     assert "  # each round\n    SWAP 0 1\n    S 0 1\n    X 1\n  MXX 0  1 # a parity\n" in board.written()
     board.go(0)
-    assert board.written() == TEXT and board._shown() == board.opened()["written"]
+    assert board.written() == TEXT and board.opened()["written"][0] == ("2", 2, "H_XY 0")
 
 
 def test_noise_is_left_out_and_its_lines_stay_else_as_they_were_given():

@@ -80,7 +80,7 @@ class Board:
         """All that a tab has to know when it opens."""
         return {
             "event": "opened", "name": self.source.name, "notice": self.source.notice,
-            "notes": [*self.source.rewritten, *self.source.left_out], "written": self._shown(), "deterministic": self.deterministic,
+            "notes": [*self.source.rewritten, *self.source.left_out], "written": shown_of(self.kept_text, self.session.circuit()), "deterministic": self.deterministic,
             "entries": [entry.message() for entry in self.entries],
             "marked": sorted(self.marked, key=place_of), "saves": self.save_to is not None, **self._now(), **self.whole(),
         }
@@ -161,9 +161,6 @@ class Board:
     def written(self) -> str:
         """The circuit as it is now, with comments, and the lines that were given where their items are as they were."""
         return self.kept_text.given.written(self.session.circuit())
-
-    def _shown(self) -> list[tuple[str, int, str]]:
-        return self.kept_text.given.shown(self.session.circuit()) if self.kept_text.rewritten else []
 
     def script(self) -> str:
         """An edit script that makes the edits made so far, of the circuit that was opened last."""
@@ -305,9 +302,7 @@ class Board:
             self.marked, self.marked_at = set(), self.position
             return self.opened()
         self.marked ^= set(made.changed)
-        # What comes back by the history is as it was written again.
-        written: Message = {"written": self._shown()} if self.kept_text.rewritten and not entries else {}
-        told: Message = {"event": "edited", **written, "edits": [edit.message() for edit in made.forth], "entries": [entry.message() for entry in entries]}
+        told = {"event": "edited", "edits": [edit.message() for edit in made.forth], "entries": [entry.message() for entry in entries]}
         return told | self._now() | (self._bits(self.session.circuit()) if moves_bits else {})
 
     def _now(self) -> Message:
@@ -321,6 +316,11 @@ class Board:
             "qubit_coordinates": lists_of(qubit_rows(places, self.session.numbers().qubits)),
             "detector_coordinates": lists_of(detector_rows(places)),
         }
+
+
+def shown_of(kept: Opened, circuit: str) -> list[tuple[str, int, str]]:
+    """Which items of a circuit are shown as lines of a text that is kept, as `Given.shown` says."""
+    return kept.given.shown(circuit) if kept.rewritten else []
 
 
 def deterministic_line(text: str) -> str:

@@ -113,6 +113,7 @@ function hear(event) {
     if (event.age !== state.age + 1) return void ask({ ask: "all" });
     state.take(event);
   } else if (state && event.event === "deterministic" && event.age === state.age) state.takeDeterministic(event.deterministic);
+  else if (state && event.event === "written" && event.age === state.age) state.takeWritten(event.written);
   else if (state && event.event === "marked") state.mark(event.position);
   else if (state && event.event === "saved") state.savedAt = event.position;
   else {

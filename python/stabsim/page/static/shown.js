@@ -77,7 +77,7 @@ export class Shown {
       if (kind === "deterministic") this.#followed.explain();
       sayRandom(state.deterministic);
     }
-    if (kind !== "deterministic") this.#views.history.show(state.entries, state.position, state.markedAt);
+    if (kind !== "deterministic" && kind !== "written") this.#views.history.show(state.entries, state.position, state.markedAt);
     this.#sayBit();
   }
 

@@ -35,6 +35,8 @@ export class State {
   arranged = new Map();
   /** The last edits, as applyEdit answers them. @type {import("./types.js").Move[]} */
   moves = [];
+  // The items that have a line which was given for them.
+  #noted = [];
 
   constructor(event) {
     Object.assign(this, {
@@ -51,7 +53,7 @@ export class State {
       marked: new Set(event.marked),
     });
     this.uses.count(this.items, 1);
-    this.#takeWritten(event.written);
+    this.takeWritten(event.written);
     this.#takeBits(event);
     this.#place();
   }
@@ -60,7 +62,6 @@ export class State {
   take(event) {
     const used = [...this.uses.acting].join();
     this.moves = event.edits.map((edit) => this.#make(edit));
-    if (event.written) this.#takeWritten(event.written);
     if (event.entries.length) this.entries.splice(event.position - event.entries.length, Infinity, ...event.entries);
     // A mark that has moved counts from where the history goes on.
     if (event.marked_at !== this.markedAt) this.marked.clear();
@@ -76,10 +77,16 @@ export class State {
   }
 
   // Notes at items which line was given for them: [the path of the first, how many they are, the line] of each.
-  #takeWritten(written) {
+  takeWritten(written) {
+    for (const item of this.#noted) delete item.written;
+    this.#noted = [];
     for (const [place, count, text] of written) {
       const path = pathOf(place);
-      for (let part = 0; part < count; part += 1) itemAt(this.items, [...path.slice(0, -1), path.at(-1) + part]).written = { text, count, part };
+      for (let part = 0; part < count; part += 1) {
+        const item = itemAt(this.items, [...path.slice(0, -1), path.at(-1) + part]);
+        item.written = { text, count, part };
+        this.#noted.push(item);
+      }
     }
   }
 
