@@ -85,7 +85,9 @@ class Hands:
     def press_layer(self):
         """A layer of marks is taken in hand, or let go of."""
         digit = self.random.randrange(10)
-        self.press(")!@#$%^&*("[digit], 48 + digit, SHIFT, code=f"Digit{digit}")
+        values = {"key": ")!@#$%^&*("[digit], "code": f"Digit{digit}", "modifiers": SHIFT, "windowsVirtualKeyCode": 48 + digit}
+        self.send("Key", type="rawKeyDown", **values)
+        self.send("Key", type="keyUp", **values)
 
     def place(self, name=None):
         """A random place of a pane, of one that can be seen."""

@@ -2,6 +2,7 @@
 
 import difflib
 import functools
+import os.path
 from collections.abc import Iterable, Iterator, Sequence
 from dataclasses import dataclass
 
@@ -150,12 +151,8 @@ def key_of(line: str) -> Key:
 
 def matched(before: list[Key], after: list[Key]) -> list[int | None]:
     """For each line of one text the place of the same line in the text before it, or None; they come in the same order."""
-    first, end = 0, 0
-    least = min(len(before), len(after))
-    while first < least and before[first] == after[first]:
-        first += 1
-    while end < least - first and before[-1 - end] == after[-1 - end]:
-        end += 1
+    first = len(os.path.commonprefix([before, after]))
+    end = len(os.path.commonprefix([before[first:][::-1], after[first:][::-1]]))
     found: list[int | None] = [*range(first), *[None] * (len(after) - first - end), *range(len(before) - end, len(before))]
     middle = difflib.SequenceMatcher(None, before[first:len(before) - end], after[first:len(after) - end])
     for was, now, size in middle.get_matching_blocks():

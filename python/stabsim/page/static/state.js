@@ -80,13 +80,14 @@ export class State {
   takeWritten(written) {
     for (const item of this.#noted) delete item.written;
     this.#noted = [];
-    for (const [place, count, text] of written) {
-      const path = pathOf(place);
-      for (let part = 0; part < count; part += 1) {
-        const item = itemAt(this.items, [...path.slice(0, -1), path.at(-1) + part]);
-        item.written = { text, count, part };
-        this.#noted.push(item);
-      }
+    for (const [place, count, text] of written) this.#note(pathOf(place), count, text);
+  }
+
+  #note(path, count, text) {
+    for (let part = 0; part < count; part += 1) {
+      const item = itemAt(this.items, [...path.slice(0, -1), path.at(-1) + part]);
+      item.written = { text, count, part };
+      this.#noted.push(item);
     }
   }
 
