@@ -16,7 +16,10 @@ import { lookbacksOf, nameOfRecord, putDetector } from "../../stabsim/page/stati
 import { countRows, numberOfRow, rowsBetween } from "../../stabsim/page/static/rows.js";
 import { svgOf } from "../../stabsim/page/static/svg_pen.js";
 import { areApart } from "../../stabsim/page/static/faces.js";
-import { pathAfter, pathThere } from "../../stabsim/page/static/keeping.js";
+import { pathAfter, pathThere, whereAfter } from "../../stabsim/page/static/keeping.js";
+import { layerOf, letterWithAlt } from "../../stabsim/page/static/keys.js";
+import { sumOf } from "../../stabsim/page/static/layers.js";
+import { writtenOf } from "../../stabsim/page/static/row_parts.js";
 
 const VIEW = { scale: 60, x: 50, y: 50, width: 400, height: 300, near: 1 };
 
@@ -143,6 +146,35 @@ test("what acts several times in a tick is counted, and errors and their marks a
   assert.deepEqual(often("H 0 1\nS 0\nTICK\nH 0\n", 2), []);
   assert.deepEqual(often("I 0\nH 0\nX 0\nTICK\n", 0), []);
   assert.deepEqual(often("H 0\nH 0\n", 0), []);
+});
+
+test("with Alt the key itself counts where it would type another letter, and a layer is asked for by the place of its digit", () => {
+  const alone = { repeat: false, ctrlKey: false, metaKey: false, shiftKey: false, altKey: true };
+  assert.equal(letterWithAlt({ ...alone, key: "˙", code: "KeyH" }), "h");
+  assert.equal(letterWithAlt({ ...alone, key: "X", code: "KeyX", shiftKey: true }), "X");
+  assert.equal(letterWithAlt({ ...alone, key: "h", code: "KeyH", ctrlKey: true }), "");
+  assert.equal(layerOf({ ...alone, altKey: false, key: "/", code: "Digit7", shiftKey: true }), 7);
+  assert.equal(layerOf({ ...alone, altKey: false, key: "7", code: "Digit7" }), null);
+});
+
+test("where a place is after a round is split off its block, its round has a block of its own", () => {
+  const split = (round) => ({ kind: "split", at: [1], more: 2, round });
+  const after = (rounds, round) => whereAfter({ path: [1, 4], rounds: [rounds] }, split(round));
+  assert.deepEqual([0, 2, 4].map((round) => after(round, 2)), [{ path: [1, 4], rounds: [0] }, { path: [2, 4], rounds: [0] }, { path: [3, 4], rounds: [1] }]);
+  assert.deepEqual([0, 3].map((round) => after(round, 0)), [{ path: [1, 4], rounds: [0] }, { path: [2, 4], rounds: [2] }]);
+  assert.deepEqual(whereAfter({ path: [2], rounds: [] }, split(2)), { path: [4], rounds: [] });
+});
+
+test("marks of a layer flip what an odd number of them does", () => {
+  assert.deepEqual(sumOf([["D2", "L0"], ["D10", "D2"], [], ["D1", "L0", "L1"]]), ["D1", "D10", "L1"]);
+});
+
+test("items that were one line are shown as that while all of them are beside each other", () => {
+  const items = parseCircuit("SWAP 0 1\nCZ 0 1\nS 0 1\n");
+  items.forEach((item, part) => { item.written = { text: "ISWAP 0 1", count: 3, part }; });
+  assert.deepEqual([0, 1, 2].map((place) => writtenOf(items, place)?.part), [0, 1, 2]);
+  items.splice(1, 0, ...parseCircuit("H 0\n"));
+  assert.deepEqual([0, 1, 2, 3].map((place) => writtenOf(items, place)), [undefined, undefined, undefined, undefined]);
 });
 
 test("what is put into one round alone has the places that it has once the round is split off", () => {
