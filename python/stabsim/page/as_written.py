@@ -3,15 +3,17 @@
 import difflib
 import functools
 import os.path
+import re
 from collections.abc import Iterable, Iterator, Sequence
 from dataclasses import dataclass
 
 from stabsim import names
 from stabsim.profile import Copy, profile_of
-from stabsim.reading import Line, content_of, lines_of, parts_of
+from stabsim.reading import ALIASES, Instruction, Line, content_of, lines_of, parts_of
 
-# What a line says, however it is spaced: two lines of the same key are one item.
-Key = tuple[str, ...]
+# A line as a session writes it, which most are: a name in capitals, tag, arguments and targets, or what opens or closes a block.
+PLAIN = re.compile(r"[A-Z][A-Z0-9_]*(?:\[[^\]]*\])?(?:\([^(), ]+(?:, [^(), ]+)*\))?(?: [^ \ta-z]+| rec\[-\d+\])*(?: \{)?|\}")
+NAME = re.compile(r"\w*")
 
 
 @dataclass(frozen=True)
@@ -48,9 +50,9 @@ class Given:
         return list(lines_of(self.text.removesuffix("\n"))) if self.text else []
 
     @functools.cached_property
-    def said(self) -> list[tuple[Key, int, str]]:
-        """The lines that the program reads and that say something: each with its key, the given line, and its text."""
-        return [(key_of(line), origin, line) for line, origin in zip(self.copy.lines, self.copy.origins) if content_of(line)]
+    def said(self) -> list[tuple[str, int, str]]:
+        """The lines that the program reads and that say something: each as a session writes it, the given line, and its text."""
+        return [(plain(content), origin, line) for line, origin in zip(self.copy.lines, self.copy.origins) if (content := content_of(line))]
 
     @functools.cached_property
     def runs(self) -> dict[int, tuple[int, int]]:
@@ -64,8 +66,8 @@ class Given:
     def is_rewritten(self, origin: int) -> bool:
         """Whether the program reads others in the place of a given line."""
         first, count = self.runs[origin]
-        parts = parts_of(self.lines[origin - 1].content)
-        return count != 1 or parts is not None and parts.name != self.said[first][0][0]
+        given, (key, _, text) = self.lines[origin - 1], self.said[first]
+        return count != 1 or (given.text != text and name_of(plain(given.content)) != name_of(key))
 
     def line(self, origin: int) -> str:
         """A given line without its noise."""
@@ -81,7 +83,7 @@ class Given:
 
     def pieces(self, now: Sequence[str]) -> Iterator[Piece]:
         """The lines of a circuit, as a session writes it, in pieces that were given as one line, and single ones that were not."""
-        was_at = matched([key for key, *_ in self.said], [key_of(line) for line in now])
+        was_at = matched([key for key, *_ in self.said], [line.strip() for line in now])
         place = 0
         while place < len(now):
             at = was_at[place]
@@ -102,7 +104,7 @@ class Given:
         pieces = list(self.pieces(now))
         text = self.text_of(now, pieces)
         # A known record has a qubit of its own, which another circuit may need: then no line stays that is read as others.
-        if self.has_rewritten and keys_read(text) != [key_of(line) for line in now]:
+        if self.has_rewritten and plain_lines(text) != [line.strip() for line in now]:
             return self.text_of(now, [it for piece in pieces for it in (self.apart(piece) if piece.origin and self.is_rewritten(piece.origin) else [piece])])
         return text
 
@@ -135,21 +137,28 @@ class Given:
                 if piece.origin and self.is_rewritten(piece.origin)]
 
 
-def keys_read(text: str) -> list[Key]:
-    """The keys of the lines that the program reads of a text."""
-    return [key_of(line) for line in profile_of(text)[0].circuit.lines if content_of(line)]
+def plain_lines(text: str) -> list[str]:
+    """The lines that the program reads of a text, as a session writes them."""
+    return [plain(content) for line in profile_of(text)[0].circuit.lines if (content := content_of(line))]
 
 
-def key_of(line: str) -> Key:
-    """What a line says, with its name and targets in capitals, as a session writes them."""
-    content = content_of(line)
+def name_of(line: str) -> str:
+    """The name of an instruction as a session writes it."""
+    return NAME.match(line)[0]  # type: ignore[index] # it matches anything
+
+
+def plain(content: str) -> str:
+    """A line without its comment as a session writes it."""
+    if PLAIN.fullmatch(content) and name_of(content) not in ALIASES:
+        return content
     parts = parts_of(content)
     if parts is None:
-        return (content,)
-    return (parts.name, parts.tag, *parts.arguments, "", *(target.upper() for target in parts.targets))
+        return content
+    targets = (target if target.startswith("rec") else target.upper() for target in parts.targets)
+    return str(Instruction(0, parts.name, parts.tag, parts.arguments, tuple(targets))) + (" {" if content.endswith("{") else "")
 
 
-def matched(before: list[Key], after: list[Key]) -> list[int | None]:
+def matched(before: list[str], after: list[str]) -> list[int | None]:
     """For each line of one text the place of the same line in the text before it, or None; they come in the same order."""
     first = len(os.path.commonprefix([before, after]))
     end = len(os.path.commonprefix([before[first:][::-1], after[first:][::-1]]))
