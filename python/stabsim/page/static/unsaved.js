@@ -1,3 +1,4 @@
+// @ts-check
 // Work that is not saved, in the storage of the browser: a page that is opened again offers it.
 
 import { packed, unpacked } from "./files.js";
