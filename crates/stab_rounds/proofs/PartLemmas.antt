@@ -41,7 +41,7 @@ rounds-within j k n l ss xs len is le =
     ∙ ap (λ i. take (k * i) (drop (j * i) (rounds n ss))) (sym len)
     ∙ some-rounds j k n ss le
 
--- rounds, and more of them behind these
+-- rounds, and more of them after these
 pub rounds-joined : (m n l : ℕ) (ss xs : List Step) → length ss ≡ l → take (m * l) xs ≡ rounds m ss → take (n * l) (drop (m * l) xs) ≡ rounds n ss
     → take ((m + n) * l) xs ≡ rounds (m + n) ss
 rounds-joined m n l ss xs len is more =

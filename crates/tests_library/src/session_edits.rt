@@ -134,7 +134,7 @@ type Item = (Option<usize>, usize, &'static str);
 // follow; and if it looks back to all, at none. A frame passes all of that, and no step is carried out.
 //
 // Two square roots of X do the same, and are no Pauli gates: steps are carried out up to the first copy, before
-// step 11, where both runs agree if nothing looks back. If a detector does, the first record tells them apart, so the
+// step 11, where both runs agree if nothing looks back. If a detector does, the first records differ there, so the
 // other old copies in the block are passed, and its rounds come again by themselves. If the detector looks back to 15
 // records, the state before step 29, after 26 records, is as it was before step 20, after 17: the next nine steps are
 // given again, and the last five carried out. If it looks back to all, no round comes again.
