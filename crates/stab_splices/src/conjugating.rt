@@ -387,15 +387,6 @@ impl Recording {
                 return Ok(followed);
             }
         }
-        self.replay(
-            alloc,
-            circuit,
-            repeats,
-            span,
-            stride,
-            coins,
-            spare,
-            tried,
-        )
+        self.replay(alloc, circuit, repeats, span, stride, coins, spare, tried)
     }
 }

@@ -16,5 +16,5 @@ returns c =
     record {
       is = λ xs ys is span.
           before-span xs ys c.args.span (record r { rounds = k }) span (front-repeat xs r k is few many)
-              (omega (arith, c.saturating_sub.ensures, most, less, some, c.requires.some));
+          (omega (arith, c.saturating_sub.ensures, most, less, some, c.requires.some));
     }

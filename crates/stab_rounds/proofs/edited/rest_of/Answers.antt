@@ -32,5 +32,5 @@ returns c =
     record {
       is = λ xs ys is span.
           after-span xs ys c.args.span (record r { first = r.first + j * r.length; rounds = k }) span
-              (part-repeat xs r j k is (omega (arith, two)) (omega (arith, two))) after;
+          (part-repeat xs r j k is (omega (arith, two)) (omega (arith, two))) after;
     }

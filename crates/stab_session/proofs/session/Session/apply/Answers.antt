@@ -36,20 +36,19 @@ invariant_of-self-in-Ok-follow g c =
     let ran = c.in-Ok-follow.ensures {u = tt} in
     let coins = ap (λ (s : SessionState g.row.C.Denot). g.C.Coins.sequence s.coins) c.self.view_is in
     let run = followed c.len-n.result c.self.inside.recording.tableau.qubits _ _ c.self.inside.stride _ _ c.follow.new.self c.len-n.ensures.value coins ran.kept in
-    let recorded = c.self.invariant.0 in
-    (
+    let recorded = c.self.invariant.0 in (
       edited-recorded g.C.Coins.sequence c.args.edit c.args.self.now c.len-n.result c.self.inside.circuit c.begin.new.circuit c.in-Ok.begun.0 c.in-Ok.begun.1 begun.begun
-      (ap (λ (s : SessionState g.row.C.Denot). s.items) (sym c.self.view_is))
-      (ap (λ (s : SessionState g.row.C.Denot). s.qubits) (sym c.self.view_is) ∙ sym c.len-n.ensures.value)
-      c.finish.new.circuit c.finish.ensures.value c.self.inside.stride c.follow.new.coins c.follow.new.self
-      (ap (λ (s : SessionState g.row.C.Denot). s.stride) c.self.view_is) (ran.same_coins ∙ coins) run
-      ran.apart (subst (λ n. n ≤ 1024) (sym c.len-n.ensures.value) recorded.few) recorded.stride_above recorded.stride_within,
+          (ap (λ (s : SessionState g.row.C.Denot). s.items) (sym c.self.view_is))
+          (ap (λ (s : SessionState g.row.C.Denot). s.qubits) (sym c.self.view_is) ∙ sym c.len-n.ensures.value)
+          c.finish.new.circuit c.finish.ensures.value c.self.inside.stride c.follow.new.coins c.follow.new.self
+          (ap (λ (s : SessionState g.row.C.Denot). s.stride) c.self.view_is) (ran.same_coins ∙ coins) run
+          ran.apart (subst (λ n. n ≤ 1024) (sym c.len-n.ensures.value) recorded.few) recorded.stride_above recorded.stride_within,
       edited-repeats g.C.Coins.sequence c.args.edit c.args.self.now c.len-n.result c.self.inside.circuit c.begin.new.circuit c.in-Ok.begun.0 c.in-Ok.begun.1 begun.begun
-      (ap (λ (s : SessionState g.row.C.Denot). s.items) (sym c.self.view_is))
-      (ap (λ (s : SessionState g.row.C.Denot). s.qubits) (sym c.self.view_is) ∙ sym c.len-n.ensures.value)
-      c.finish.new.circuit c.finish.ensures.value c.self.inside.stride c.follow.new.coins c.follow.new.self
-      (ap (λ (s : SessionState g.row.C.Denot). s.stride) c.self.view_is) (ran.same_coins ∙ coins) run
-      c.in-Ok-change_of.change.rounds.items (c.in-Ok-change_of.ensures {u = tt}).rounds,
+          (ap (λ (s : SessionState g.row.C.Denot). s.items) (sym c.self.view_is))
+          (ap (λ (s : SessionState g.row.C.Denot). s.qubits) (sym c.self.view_is) ∙ sym c.len-n.ensures.value)
+          c.finish.new.circuit c.finish.ensures.value c.self.inside.stride c.follow.new.coins c.follow.new.self
+          (ap (λ (s : SessionState g.row.C.Denot). s.stride) c.self.view_is) (ran.same_coins ∙ coins) run
+          c.in-Ok-change_of.change.rounds.items (c.in-Ok-change_of.ensures {u = tt}).rounds,
     )
 
 pub returns-in-Ok-follow-clause-statement : goal.returns-in-Ok-follow-clause-statement
