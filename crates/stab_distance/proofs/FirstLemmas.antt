@@ -1,5 +1,5 @@
 -- The first error of a set, after which a search looks for the others.
-use Rattle.stab_distance.proofs.Names.{◌≡◌, ℕ, ◌+◌, ◌≤◌, ◌<◌, ◌⊎◌, inl, inr, refl, sym, ◌∙◌, ap, subst, arith, Bool, true, false, ◌||◌, List, [], ◌∷◌, length, cases_lt, false≢true, ne_eqb, ◌⊕◌, parity-comm, parity-twice, parity-false, AscendsFrom, IsAscending, ErrorTable, odd, row, flips, IsLogicalError, HasNoneWithin, Each, has, Vec, Ends, NoEnds, HasBefore, BeginsBefore, ArePairs}
+use Rattle.stab_distance.proofs.Names.{◌≡◌, ℕ, ◌+◌, ◌≤◌, ◌<◌, ◌⊎◌, inl, inr, sym, ◌∙◌, ap, subst, arith, Bool, true, false, ◌||◌, List, [], ◌∷◌, length, cases_lt, false≢true, ne_eqb, ◌⊕◌, parity-comm, parity-twice, parity-false, AscendsFrom, IsAscending, ErrorTable, odd, row, flips, IsLogicalError, HasNoneWithin, Each, has, Vec, Ends, NoEnds, HasBefore, BeginsBefore, ArePairs}
 use Rattle.stab_distance.proofs.ListLemmas.{each-map, each-all, each-above, each-has, has-here, has-there}
 use Rattle.stab_distance.proofs.ShortestLemmas.{gathering, gathered-logical}
 use Rattle.stab_distance.proofs.PairLemmas.{Unpaired, among, before-gathering, last-set}

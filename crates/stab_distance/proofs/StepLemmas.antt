@@ -1,5 +1,5 @@
 -- Steps: an error of each shortest logical error can be one that no step moves down, since the others can all be moved.
-use Rattle.stab_distance.proofs.Names.{◌≡◌, ◌≢◌, ℕ, zero, suc, ◌+◌, ◌≤◌, ◌<◌, ◌⊎◌, inl, inr, refl, sym, ◌∙◌, ap, subst, arith, Bool, true, false, List, [], ◌∷◌, length, get_or, ◌==◌, cases_lt, false≢true, eqb-true, eqb-false, eq-eqb, ne_eqb, ◌⊕◌, ErrorTable, odd, row, flips, IsLogicalError, Each, has, FlipNoObservable, IsMoved, AreMoved, MoveDown, HasBefore, BeginsBefore, listed, Vec, ArePairs}
+use Rattle.stab_distance.proofs.Names.{◌≡◌, ◌≢◌, ℕ, zero, suc, ◌+◌, ◌≤◌, ◌<◌, ◌⊎◌, inl, inr, refl, sym, ◌∙◌, ap, arith, false, List, [], ◌∷◌, length, ◌==◌, cases_lt, false≢true, eqb-true, eqb-false, eq-eqb, ne_eqb, ◌⊕◌, ErrorTable, odd, row, flips, IsLogicalError, Each, FlipNoObservable, IsMoved, AreMoved, MoveDown, HasBefore, BeginsBefore, Vec, ArePairs}
 use Rattle.stab_distance.proofs.ListLemmas.{by-bit, each-all, all-each, has-here, has-there}
 
 -- a list has a number before another, or none

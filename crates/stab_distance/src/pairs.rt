@@ -177,7 +177,9 @@ fn compare(
     } else if second.a == second.b {
         leave_three(alloc, rows, firsts, first.a, first.b, second.a, pairs)
     } else {
-        leave_four(alloc, rows, firsts, first.a, first.b, second.a, second.b, pairs)
+        leave_four(
+            alloc, rows, firsts, first.a, first.b, second.a, second.b, pairs,
+        )
     }
 }
 

@@ -1,4 +1,4 @@
-use Rattle.stab_distance.proofs.Names.{◌≡◌, ◌<◌, ◌∙◌, ℕ, List, length, ap, subst, slice_index, row, ErrorTable, AreRowsOf, HasRow}
+use Rattle.stab_distance.proofs.Names.{◌≡◌, ◌<◌, ◌∙◌, ℕ, List, length, ap, subst, slice_index, row, AreRowsOf, HasRow}
 use Rattle.stab_distance.proofs.DistinctLemmas.{distinct-enough}
 use Rattle.stab_distance.proofs.EnoughLemmas.{enough-enough}
 use Rattle.stab_distance.proofs.kept.put_in_order.Goals as goal

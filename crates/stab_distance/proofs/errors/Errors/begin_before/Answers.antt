@@ -1,4 +1,4 @@
-use Rattle.stab_distance.proofs.Names.{sym, subst, arith, ErrorTable, MoveDown, Keyed}
+use Rattle.stab_distance.proofs.Names.{sym, subst, arith, MoveDown, Keyed}
 use Rattle.stab_distance.proofs.StepLemmas.{no_pairs, moving-begins}
 use Rattle.stab_distance.proofs.errors.Errors.begin_before.Goals as goal
 

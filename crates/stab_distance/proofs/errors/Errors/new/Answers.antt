@@ -1,4 +1,4 @@
-use Rattle.stab_distance.proofs.Names.{rules, subst, arith, List, ℕ, BeginsBefore}
+use Rattle.stab_distance.proofs.Names.{rules, subst, List, ℕ, BeginsBefore}
 use Rattle.stab_distance.proofs.StepLemmas.{no_pairs}
 use Rattle.stab_distance.proofs.errors.Errors.new.Goals as goal
 
