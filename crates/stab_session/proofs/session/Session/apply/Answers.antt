@@ -1,4 +1,4 @@
-use Rattle.stab_session.proofs.Names.{ap, sym, ◌∙◌, subst, ◌+◌, ◌-◌, ◌≤◌, arith, whole, IsCallFault, listed, unroll, observables_of, SessionState, checkpoint_steps}
+use Rattle.stab_session.proofs.Names.{ap, sym, ◌∙◌, subst, ◌+◌, ◌-◌, ◌≤◌, arith, whole, IsCallFault, listed, unroll, observables_of, SessionState, checkpoint_steps, AreRepeats}
 use Rattle.stab_session.proofs.SessionLemmas.{statement, few-checkpoints}
 use Rattle.stab_session.proofs.EditedLemmas.{session-verdict, run-fault, followed, agreed, counted_same, few-steps, new-run, edited-recorded, edited-repeats, session-edited, edited-applied, edited-tried, edited-counted, edited-early, refused-asks}
 use Rattle.stab_session.proofs.session.Session.apply.Goals as goal
@@ -203,5 +203,8 @@ returns-in-Err-follow-clause-item g c =
 
 pub change_of-requires-clause-old : goal.change_of-requires-clause-old
 change_of-requires-clause-old g c =
-    let begun = c.in-Ok.ensures {u = tt} in
-    (unroll (listed c.self.inside.circuit), c.self.invariant.1, (c.self.invariant.0.run.few, begun.begun.span.span))
+    let begun = c.in-Ok.ensures {u = tt} in (
+      unroll (listed c.self.inside.circuit),
+      subst (AreRepeats 0 (unroll (listed c.self.inside.circuit))) (sym c.as_slice.ensures.value) c.self.invariant.1,
+      (c.self.invariant.0.run.few, begun.begun.span.span),
+    )
