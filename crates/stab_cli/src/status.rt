@@ -93,16 +93,8 @@ fn run_command<I: Input, S: Input, O: Output, E: Output, W: Watcher<S, O>, P: Pr
         Command::Faults {
             layout,
             everywhere,
-            deterministic_only,
-        } => refuses_none(run_faults(
-            alloc,
-            input,
-            out,
-            err,
-            layout,
-            everywhere,
-            deterministic_only,
-        )),
+            deterministic_only: only,
+        } => refuses_none(run_faults(alloc, input, out, err, layout, everywhere, only)),
         Command::Distance(options) => {
             refuses_none(run_distance(alloc, input, out, err, options, progress))
         }
