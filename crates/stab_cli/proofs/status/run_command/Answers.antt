@@ -7,7 +7,7 @@ use Rattle.stab_cli.proofs.status.run_command.Goals as goal
 pub returns-in-Faults-clause-ends : goal.returns-in-Faults-clause-ends
 returns-in-Faults-clause-ends g c =
     let ends = subst
-    (λ u. EndsFaults c.in-Faults.layout c.in-Faults.everywhere c.in-Faults.deterministic_only (g.I.Input.seen c.args.input.now) (g.I.Input.seen c.run_faults.new.input) (g.O.Output.seen c.args.out.now) (g.O.Output.seen c.run_faults.new.out) (fault_of c.run_faults.result) u)
+    (λ u. EndsFaults c.in-Faults.layout c.in-Faults.everywhere c.in-Faults.only (g.I.Input.seen c.args.input.now) (g.I.Input.seen c.run_faults.new.input) (g.O.Output.seen c.args.out.now) (g.O.Output.seen c.run_faults.new.out) (fault_of c.run_faults.result) u)
     (sym c.refuses_none.ensures.same) c.run_faults.ensures.ends in
     rw c.in-Faults.is (fault_of c.run_faults.result, ends, c.refuses_none.ensures.value)
 
