@@ -173,4 +173,4 @@ def number_of(argument: str) -> float | str:
 def printed(target: str) -> str:
     """A target as the program prints it."""
     without_zeros = LEADING_ZEROS.sub("", target)
-    return without_zeros if target.startswith("rec") else without_zeros.upper()
+    return without_zeros if target.startswith(("rec", "sweep")) else without_zeros.upper()

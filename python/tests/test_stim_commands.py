@@ -144,7 +144,7 @@ def test_each_code_and_task_that_gen_names_is_made(run, wrote):
 
 
 @pytest.mark.parametrize("words, status, said", [
-    (["m2d", "--circuit", "noisy.stim", "--in_format", "01", "--sweep", "x.b8"], 2, "--sweep: a circuit has no sweep bits here"),
+    (["m2d", "--circuit", "noisy.stim", "--in_format", "01", "--sweep", "x.b8"], 2, "--sweep: sweep bits are those of a circuit here"),
     (["sample_dem", "--err_out", "x"], 2, "--err_out: errors that flip the same are one here"),
     (["gen", "--code", "color_code", "--task", "memory_xyz", "--distance", "3", "--rounds", "2"], 1, "stabsim gen: color_code:memory_xyz is none of"),
     (["gen", "--code", "repetition_code", "--task", "memory", "--distance", "1", "--rounds", "2"], 1, "stabsim gen: distance is 1: give a whole number from 2 to 512"),
