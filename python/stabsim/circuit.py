@@ -281,7 +281,8 @@ class Circuit(Described):
         (2, 0)
         """
         try:
-            return Session(self.text, qubits=qubits, seed=seed, stride=stride)
+            # What the program reads need not be judged first.
+            return Session(self.text, qubits=qubits, seed=seed, stride=stride, profile=vars(self).get("profile"))
         except Refused as refused:
             # If the text itself is at fault, this raises the same in words.
             self.numbers()

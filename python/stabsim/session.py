@@ -67,16 +67,20 @@ class Session(PlainSession):
     none of all errors
     """
 
-    def __init__(self, text: str, *, qubits: int | None = None, seed: int = 0, stride: int | None = None) -> None:
+    def __init__(self, text: str, *, qubits: int | None = None, seed: int = 0, stride: int | None = None, profile: Profile | None = None) -> None:
+        """The session of a circuit's text, which is judged if no profile of it is given."""
         # The models of the circuit as it is, and the last ones of what it was.
         self.models: dict[Options, ErrorModel] = {}
         self.models_before: dict[Options, ErrorModel] = {}
-        try:
-            super().__init__(with_comments(text), qubits=qubits, seed=seed, stride=stride)
-        except Refused:
-            if judged(text).said is not None:
-                raise
-            super().__init__(carried(text), qubits=qubits, seed=seed, stride=stride)
+        if profile is None:
+            try:
+                super().__init__(with_comments(text), qubits=qubits, seed=seed, stride=stride)
+                return
+            except Refused:
+                profile = judged(text)
+                if profile.said is not None:
+                    raise
+        super().__init__(carried(text) if profile.said is None else with_comments(text), qubits=qubits, seed=seed, stride=stride)
 
     # Edits. A path is a number, or numbers that lead into blocks, as 3/0/2.
 
