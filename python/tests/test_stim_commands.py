@@ -92,6 +92,8 @@ def test_analyze_errors_prints_the_model(tmp_path, wrote):
     assert wrote(*words, given=text.encode()).decode() == stabsim.error_model(text, decompose=True).dem
     disjoint = b"R 0\nPAULI_CHANNEL_1(0.1, 0.1, 0) 0\nM 0\nDETECTOR rec[-1]\nMX 0\n"
     assert wrote("analyze_errors", "--approximate_disjoint_errors", given=disjoint).decode().splitlines()[1].startswith("error(0.18")
+    coin = b"H 0\nCX 0 1\nM 0 1\nDETECTOR rec[-1]\nDETECTOR rec[-2]\n"
+    assert wrote("analyze_errors", "--allow_gauge_detectors", given=coin) == b"error(0.5) D0 D1\ndetector D0\ndetector D1\n"
 
 
 def test_sample_dem_writes_the_shots_of_the_model(tmp_path, wrote):
