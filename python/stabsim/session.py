@@ -177,7 +177,7 @@ class Session(PlainSession):
         """
         given = [[*edit[:2], *(with_comments(text) if isinstance(text, str) and edit[0] != "move" else text for text in edit[2:])] for edit in edits]
         made = of_items(items_of(with_comments(self.circuit(comments=True))), given, below_comments)
-        found = tuple((kind, at, *(words if kind == "split" else [written_back(item, anew=True) for item in words])) for kind, at, *words in made.edits)
+        found = tuple((kind, at, *(words if kind == "split" else [written_back(item) for item in words])) for kind, at, *words in made.edits)
         with self.one_step():
             for kind, at, *words in found:
                 if kind == "insert":
@@ -188,7 +188,7 @@ class Session(PlainSession):
                     self.split(at, int(words[0]))
                 else:
                     self.delete(at)
-        return dataclasses.replace(made, text=written_back(made.text, anew=True), edits=found)
+        return dataclasses.replace(made, text=written_back(made.text), edits=found)
 
     def split(self, path: Path, round_number: int) -> None:
         """Splits a round, counted from 0, off the block at the path, so that it can be edited by itself: the rounds before it
