@@ -22,6 +22,9 @@ ESCAPED = {letters[1]: letter for letter, letters in ESCAPES.items()}
 # A line with what rides in its tag; and what rides with a block of the user's, less the number of rounds.
 RIDDEN = re.compile(rf"([ \t]*)([A-Z_0-9]+)\[{MARK}([^\]]*)\](.*)")
 OWN_BLOCK = re.compile(r"(REPEAT(?:\[[^\]]*\])?)\{(.*)", re.DOTALL)
+# What rides with an instruction that the program has as it is, less its arguments and targets, in whose place this sign is.
+OWN = "&"
+OWN_LINE = re.compile(rf"([A-Z_0-9]+(?:\[[^\]]*\])?){OWN}(.*)", re.DOTALL)
 CLOSING = "}"
 
 
@@ -102,9 +105,11 @@ def carried_line(line: Line, above: Sequence[str], comments: bool, make: Callabl
     if is_plain and made.circuit == [line.text]:
         yield line.content
     else:
-        # As the program prints it, which it does of all else.
-        as_printed = Instruction(line.number, parts.name, parts.tag, parts.arguments, tuple(map(printed, parts.targets)))
-        yield from carried_instruction([*above, str(as_printed) + written[len(line.content):]], made)
+        own = f"{headed(parts.name, parts.tag)}{OWN}"
+        if made.circuit != [line.text]:
+            # As the program prints it, which it does of all else.
+            own = str(Instruction(line.number, parts.name, parts.tag, parts.arguments, tuple(map(printed, parts.targets))))
+        yield from carried_instruction([*above, own + written[len(line.content):]], made)
 
 
 def carried_head(line: Line, above: Sequence[str], written: str) -> str:
@@ -132,9 +137,8 @@ def carried_instruction(riding: Sequence[str], made: Made) -> Iterator[str]:
         yield CLOSING
 
 
-def written_back(text: str, comments: bool = True, anew: bool = False) -> str:
-    """The text of Stim's that one of the program's carries; comments: with those that ride along; anew: of `with_comments`, whose
-    instructions have other targets by now than those that ride along."""
+def written_back(text: str, comments: bool = True) -> str:
+    """The text of Stim's that one of the program's carries; comments: with those that ride along."""
     if MARKED not in text:
         return text
     lines: list[str] = []
@@ -151,25 +155,14 @@ def written_back(text: str, comments: bool = True, anew: bool = False) -> str:
             continue
         indentation, name, tag, rest = found.groups()
         riding = unescaped(tag).split("\n")
-        own = OWN_BLOCK.fullmatch(riding[-1]) if name == "REPEAT" else None
+        own = (OWN_BLOCK if name == "REPEAT" else OWN_LINE).fullmatch(riding[-1])
         if own:
             riding[-1] = f"{own[1]}{rest}{own[2]}"
         is_skipped = name == "REPEAT" and not own
         if name == "TICK" and riding[-1].startswith(CLOSING):
             closing = riding.pop()[1:] if comments else riding.pop()[:0]
-        elif anew and name != "REPEAT":
-            riding[-1] = renewed(riding[-1], line.strip(SPACING))
         lines += [(indentation + it).rstrip(SPACING) for it in (riding if comments else filter(None, map(content_of, riding)))]
     return "\n".join([*lines, ""])
-
-
-def renewed(written: str, line: str) -> str:
-    """A line as it was written, with the targets of a line that carries it, if they are others."""
-    content = content_of(written)
-    was, now = parts_of(content), parts_of(line)
-    if was is None or now is None or was == now._replace(tag=was.tag):
-        return written
-    return str(Instruction(0, *now._replace(tag=was.tag))) + written[len(content):]
 
 
 def below_comments(old: Item, new: Item) -> Item:
@@ -182,7 +175,7 @@ def riding_of(item: Item) -> list[str]:
     """The lines that ride with an item, its own line the last; of a block, without its rounds."""
     if item.tag.startswith(MARK):
         return unescaped(item.tag[1:]).split("\n")
-    return [f"{headed(item.name, item.tag)}{{" if isinstance(item, Block) else str(item)]
+    return [headed(item.name, item.tag) + ("{" if isinstance(item, Block) else OWN)]
 
 
 def above_in(text: str) -> list[str]:
@@ -200,9 +193,11 @@ def original_of(item: Instruction) -> Instruction:
     """The instruction that a carried one was, or itself."""
     if not item.tag.startswith(MARK):
         return item
-    parts = parts_of(content_of(unescaped(item.tag[1:]).split("\n")[-1]))
+    riding = unescaped(item.tag[1:]).split("\n")[-1]
+    own = OWN_LINE.fullmatch(riding)
+    parts = parts_of(content_of(own[1] if own else riding))
     assert parts, "an instruction rides in its own tag"
-    return Instruction(item.line, *parts, item.path)
+    return replace(item, tag=parts.tag) if own else Instruction(item.line, *parts, item.path)
 
 
 def cut_path(path: str, made: frozenset[str]) -> str:

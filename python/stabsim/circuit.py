@@ -281,7 +281,8 @@ class Circuit(Described):
         (2, 0)
         """
         try:
-            return Session(self.text, qubits=qubits, seed=seed, stride=stride)
+            # What the program reads need not be judged first.
+            return Session(self.text, qubits=qubits, seed=seed, stride=stride, profile=vars(self).get("profile"))
         except Refused as refused:
             # If the text itself is at fault, this raises the same in words.
             self.numbers()
@@ -305,21 +306,20 @@ def from_stim(text: str) -> Circuit:
     """Reads a circuit of Stim's, with its noise, and judges it: what `Circuit` does of a text once it is asked something.
 
     Instructions that the program does not read become those that it reads. Raises stabsim.Refused, with the user's line, if
-    something can't be: sweep bits, Pauli targets of observables, over 1,024 qubits, or what Stim refuses too; and
-    stabsim.UnsupportedNoise at heralded errors, which make records.
+    something can't be: Pauli targets of observables, over 1,024 qubits, or what Stim refuses too; and
+    stabsim.UnsupportedNoise at heralded errors, which make records. Sweep bits are 0: `with_sweep_bits` gives others.
 
     >>> import stabsim
     >>> print(stabsim.from_stim("ISWAP 3 5").circuit)
     SWAP 3 5
     CZ 3 5
     S 3 5
-    >>> stabsim.from_stim("CX sweep[0] 1")
+    >>> stabsim.from_stim("ISWAP 3")
     Traceback (most recent call last):
-    stabsim.errors.Refused: line 1: refused 3 BadTarget
-    1: CX sweep[0] 1
-          ^^^^^^^^
-    A run has no sweep bits.
-    Write a qubit's number or a record rec[-k], or take the pair out.
+    stabsim.errors.Refused: line 1: refused 4 BadPairing
+    1: ISWAP 3
+             ^
+    ISWAP takes pairs of qubits: this one has no partner.
     """
     circuit = Circuit(text)
     # It is judged here and now.

@@ -7,7 +7,7 @@ from typing import TYPE_CHECKING, Self
 import numpy as np
 from numpy.typing import NDArray
 
-from stabsim import checking, coordinates, flattening, inverting, judging
+from stabsim import checking, coordinates, flattening, inverting, judging, sweeping
 from stabsim.parities import Parity, detector_lines
 from stabsim.questions import Questioned
 from stabsim.reading import closed_text
@@ -45,6 +45,28 @@ class Described(Written, Questioned):
         from stabsim.noise_models import NoiseModel
 
         return checking.of_kind("model", model, NoiseModel, "a NoiseModel, as stabsim.NoiseModel.sd6(0.001)").on(self.text, data=data)
+
+    @property
+    def num_sweep_bits(self) -> int:
+        """One more than the greatest sweep bit that is named; 0 if none is."""
+        self.numbers()
+        return sweeping.number_of_bits(self.text)
+
+    def with_sweep_bits(self, bits: Iterable[bool]) -> Self:
+        """This circuit with a Pauli, or nothing, in the place of each that a sweep bit decides about; the circuit itself is that of bits 0.
+
+        bits: one for each sweep bit, or more.
+
+        >>> import stabsim
+        >>> c = stabsim.Circuit("CX sweep[0] 0 sweep[1] 1\\nM 0 1")
+        >>> print(c.with_sweep_bits([False, True]), c.sample(1).tolist(), c.with_sweep_bits([False, True]).sample(1).tolist())
+        X 1
+        M 0 1 [[False, False]] [[False, True]]
+        """
+        given = list(checking.several("bits", bits, "[True, False]"))
+        if len(given) < self.num_sweep_bits:
+            raise ValueError(f"bits is {checking.shown(given)}: give {self.num_sweep_bits} bits, one for each sweep bit")
+        return self.of_text(sweeping.with_bits(self.text, given))
 
     def flattened(self) -> Self:
         """This circuit with blocks written out and coordinates shifted, so without REPEAT and SHIFT_COORDS; comments are left out. ValueError

@@ -22,10 +22,11 @@ from stabsim.errors import Refused
 from stabsim.faults import FaultTable
 from stabsim.gauges import Basis, gauges_of, table_with_gauges, with_gauges
 from stabsim.judging import in_users_words, judged
-from stabsim.marking import Marked, Source, marked
+from stabsim.marking import Marked, marked
 from stabsim.model_distance import distance_of_model, sat_problem_of_model
 from stabsim.profile import Profile
 from stabsim.seeds import SeededBits, SeededBytes, drawn_seed, seeded
+from stabsim.sourced import errors_of
 
 if TYPE_CHECKING:
     from stabsim.circuit import Circuit
@@ -347,9 +348,12 @@ def error_model(circuit: "str | Circuit", *, decompose: bool = False, ignore_dec
     model = model_of(marks, table, detector_rows(places_of(profile.circuit.items())), profile)
     if basis:
         model = with_gauges(model, basis)
-    if not decompose:
-        return model
-    numbered = parts_of(model.chances, model.indptr, model.indices, model.num_detectors, ignore_decomposition_failures)
+    return decomposed(model, ignore_decomposition_failures) if decompose else model
+
+
+def decomposed(model: ErrorModel, ignore_failures: bool) -> ErrorModel:
+    """A model with parts, of mechanisms of which no two flip the same."""
+    numbered = parts_of(model.chances, model.indptr, model.indices, model.num_detectors, ignore_failures)
     return replace(model, parts=Parts.of_mechanisms(numbered, model.indptr, model.indices))
 
 
@@ -388,20 +392,4 @@ def model_of(circuit: Marked, table: FaultTable, coordinates: NDArray[np.float64
         np.concatenate(nothing + [columns for _, _, columns in parts]),
     )
     return ErrorModel(joined.chances, joined.indptr, joined.indices, table.num_detectors, table.num_observables, coordinates, circuit.approximated,
-                      causes=Causes(tuple(circuit.sources), joined.mechanisms.astype(np.int32), profile.noisy.items(), profile.text))
-
-
-def errors_of(source: Source, table: FaultTable) -> tuple[NDArray[np.float64], NDArray[np.int64], NDArray[np.int64]]:
-    """The errors of a source: the chance of each, and pairs of an error and what it flips, ascending."""
-    marks = source.all_marks()
-    rows = []
-    errors = []
-    for place, letter in enumerate(source.letters):
-        # X of a mark is an even line of the table, and Z the odd one after it; Y is both.
-        for second in [0] * (letter in "XY") + [1] * (letter in "ZY"):
-            rows.append(2 * marks[:, place] + second)
-            errors.append(np.arange(len(marks)))
-    of_row, columns = combining.rows_of(np.concatenate(rows), table.indptr, table.indices)
-    width = table.num_detectors + table.num_observables
-    sets, columns = combining.odd(np.concatenate(errors)[of_row], columns, width)
-    return np.full(len(marks), source.chance), sets, columns
+                      causes=Causes(tuple(circuit.sources), joined.mechanisms.astype(np.int32), profile.text))

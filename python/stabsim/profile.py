@@ -11,8 +11,9 @@ from typing import NamedTuple
 from stabsim import names, quoting
 from stabsim.errors import Refused, UnsupportedNoise
 from stabsim.noise_lines import check_channel, check_measurement
-from stabsim.reading import Instruction, Item, Line, Parts, content_of, items_of, lines_of
+from stabsim.reading import Instruction, Item, Line, Parts, content_of, is_number, items_of, lines_of
 from stabsim.rewriting import WrongWord, rewritten
+from stabsim.sweeping import is_swept
 from stabsim.targets import LONG_NUMBER, qubits_of
 
 MOST_QUBITS = 1024
@@ -159,7 +160,9 @@ def instruction(line: Line, parts: Parts, spare: Callable[[], int]) -> Made:
     noisy, quiet = ([line.indentation + it for it in lines] for lines in (written, without))
     if quiet and hash_sign:
         quiet[0] += f" #{comment}"
-    return Made(quiet, noisy, quiet, left_out)
+    # Qubits about which sweep bits decide are judged too.
+    swept = [" ".join(["QUBIT_COORDS", *filter(is_number, parts.targets)])] if is_swept(parts) else []
+    return Made(quiet, noisy, [*quiet, *swept], left_out)
 
 
 def spare_qubit(text: str) -> int:

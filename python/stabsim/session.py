@@ -14,13 +14,14 @@ from stabsim.explaining import explaining
 from stabsim.history import Change, Request
 from stabsim.inserting import put_in
 from stabsim.judging import in_users_words, judged
-from stabsim.models import ErrorModel, error_model
+from stabsim.models import ErrorModel, decomposed, error_model
 from stabsim.names import ELSE, FIRST
 from stabsim.plain_session import PlainSession
 from stabsim.profile import Profile, profile_of
 from stabsim.random_bits import DecidingCoin
 from stabsim.rates import Rate, fit_rate
 from stabsim.reading import Instruction, Item, content_of, items_of, parts_of
+from stabsim.renewing import renewed
 from stabsim.retargeting import Retargeted, of_items
 from stabsim.rounds import longest_part, parts_of_block, place_behind
 from stabsim.script import Path, edit_lines, item_text, path_text
@@ -66,14 +67,20 @@ class Session(PlainSession):
     none of all errors
     """
 
-    def __init__(self, text: str, *, qubits: int | None = None, seed: int = 0, stride: int | None = None) -> None:
+    def __init__(self, text: str, *, qubits: int | None = None, seed: int = 0, stride: int | None = None, profile: Profile | None = None) -> None:
+        """The session of a circuit's text, which is judged if no profile of it is given."""
+        # The models of the circuit as it is, and the last ones of what it was.
         self.models: dict[Options, ErrorModel] = {}
-        try:
-            super().__init__(with_comments(text), qubits=qubits, seed=seed, stride=stride)
-        except Refused:
-            if judged(text).said is not None:
-                raise
-            super().__init__(carried(text), qubits=qubits, seed=seed, stride=stride)
+        self.models_before: dict[Options, ErrorModel] = {}
+        if profile is None:
+            try:
+                super().__init__(with_comments(text), qubits=qubits, seed=seed, stride=stride)
+                return
+            except Refused:
+                profile = judged(text)
+                if profile.said is not None:
+                    raise
+        super().__init__(carried(text) if profile.said is None else with_comments(text), qubits=qubits, seed=seed, stride=stride)
 
     # Edits. A path is a number, or numbers that lead into blocks, as 3/0/2.
 
@@ -170,7 +177,7 @@ class Session(PlainSession):
         """
         given = [[*edit[:2], *(with_comments(text) if isinstance(text, str) and edit[0] != "move" else text for text in edit[2:])] for edit in edits]
         made = of_items(items_of(with_comments(self.circuit(comments=True))), given, below_comments)
-        found = tuple((kind, at, *(words if kind == "split" else [written_back(item, anew=True) for item in words])) for kind, at, *words in made.edits)
+        found = tuple((kind, at, *(words if kind == "split" else [written_back(item) for item in words])) for kind, at, *words in made.edits)
         with self.one_step():
             for kind, at, *words in found:
                 if kind == "insert":
@@ -181,7 +188,7 @@ class Session(PlainSession):
                     self.split(at, int(words[0]))
                 else:
                     self.delete(at)
-        return dataclasses.replace(made, text=written_back(made.text, anew=True), edits=found)
+        return dataclasses.replace(made, text=written_back(made.text), edits=found)
 
     def split(self, path: Path, round_number: int) -> None:
         """Splits a round, counted from 0, off the block at the path, so that it can be edited by itself: the rounds before it
@@ -248,7 +255,8 @@ class Session(PlainSession):
 
     def error_model(self, *, decompose: bool = False, ignore_decomposition_failures: bool = False, approximate_disjoint_errors: bool = False,
                     sure_only: bool = False) -> ErrorModel:
-        """`stabsim.error_model` of the circuit as it is now, made anew after an edit alone. Lines of it are those of `circuit()`.
+        """`stabsim.error_model` of the circuit as it is now. After an edit of noise alone it is renewed, which takes far less time than to make
+        it; without an edit it is the same. Lines of it are those of `circuit()`.
 
         >>> import stabsim
         >>> with stabsim.Circuit("R 0\\nM 0\\nDETECTOR rec[-1]").edit() as session:
@@ -258,11 +266,18 @@ class Session(PlainSession):
         """
         options = (decompose, ignore_decomposition_failures, approximate_disjoint_errors, sure_only)
         if options not in self.models:
-            self.models[options] = error_model(
-                self.circuit(), decompose=decompose, ignore_decomposition_failures=ignore_decomposition_failures,
-                approximate_disjoint_errors=approximate_disjoint_errors, sure_only=sure_only,
-            )
+            if decompose:
+                whole = self.error_model(approximate_disjoint_errors=approximate_disjoint_errors, sure_only=sure_only)
+                self.models[options] = decomposed(whole, ignore_decomposition_failures)
+            else:
+                self.models[options] = self.model_now(options, approximate_disjoint_errors, sure_only)
         return self.models[options]
+
+    def model_now(self, options: Options, approximate: bool, sure_only: bool) -> ErrorModel:
+        """The model of the circuit as it is now: that from before the edits, renewed, or made anew."""
+        text, before = self.circuit(), self.models_before.get(options)
+        found = renewed(before, text, sure_only) if before else None
+        return found or error_model(text, approximate_disjoint_errors=approximate, sure_only=sure_only)
 
     def distance(self, most: int | None = None, *, everywhere: bool = False) -> Distance:
         """The least number of errors of the noise that flip an observable and no detector, as `Circuit.distance`; or of a circuit without
@@ -300,6 +315,7 @@ class Session(PlainSession):
 
     def carry_out(self, requests: tuple[Request, ...]) -> None:
         """Makes edits in their order, after which models are others."""
+        self.models_before.update(self.models)
         self.models.clear()
         super().carry_out(requests)
 

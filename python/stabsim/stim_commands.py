@@ -19,7 +19,7 @@ from stabsim import stim_answers
 from stabsim.errors import StabsimError
 from stabsim.formats import WRITERS
 
-SWEEPS = "a circuit has no sweep bits here"
+SWEEPS = "sweep bits are those of a circuit here, by with_sweep_bits, and not of shots"
 SINGLE = "errors that flip the same are one here, so files of single errors are neither written nor read"
 
 # What runs a command.

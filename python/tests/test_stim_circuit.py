@@ -155,8 +155,12 @@ def test_a_text_that_the_program_reads_is_the_same():
 
 
 @pytest.mark.parametrize("text, number, line, said", [
-    ("M 0\nCX sweep[0] 1\n", 3, 2, "2: CX sweep[0] 1\n      ^^^^^^^^\nA run has no sweep bits."),
-    ("M 0\nCZ 1 sweep[0]\n", 3, 2, "2: CZ 1 sweep[0]\n        ^^^^^^^^\nA run has no sweep bits."),
+    ("M 0\nCX 0 sweep[0]\n", 3, 2, "2: CX 0 sweep[0]\n        ^^^^^^^^\nCX takes pairs, of which a sweep bit, as sweep[0], may decide about a qubit."),
+    ("M 0\nCY sweep[0] 1 sweep[1]\n", 3, 2, "2: CY sweep[0] 1 sweep[1]\n                 ^^^^^^^^\nCY takes pairs"),
+    ("M 0\nCX sweep[0] 5000\n", 6, 2, "2: CX sweep[0] 5000\n               ^^^^\n"),
+    ("M 0\nXCZ sweep[0] 1\n", 3, 2, "2: XCZ sweep[0] 1\n       ^^^^^^^^\nXCZ takes pairs"),
+    ("M 0\nCX sweep[x] 1\n", 3, 2, "2: CX sweep[x] 1\n      ^^^^^^^^\n"),
+    ("M 0\nSWAP sweep[0] 1\n", 3, 2, "2: SWAP sweep[0] 1\n        ^^^^^^^^\n"),
     ("M 0\n\nOBSERVABLE_INCLUDE(0) rec[-1] X1\n", 3, 3, "3: OBSERVABLE_INCLUDE(0) rec[-1] X1\n                                 ^^\nThis is a Pauli target"),
     ("ISWAP 0 1\nSQRT_XX 0 1 2 1024\n", 6, 2, "2: SQRT_XX 0 1 2 1024\n                 ^^^^\n"),
     ("ISWAP 0 1\nREPEAT 2 {\n    MYY(0.1) 0 1 !7 5000\n}\n", 6, 3, "3:     MYY(0.1) 0 1 !7 5000\n                       ^^^^\n"),
