@@ -140,6 +140,9 @@ class Server:
             if question["ask"] in QUESTIONS and "id" in question:
                 self.start(self.look_up(tab, question))
                 return
+            if question["ask"] == "written" and "id" in question:
+                self.start(self.tell_written(tab, question))
+                return
             answer = await self.answer_to(tab, question)
         except stabsim.Refused as refused:
             answer = {"refused": "refused" if refused.explanation else f"refused: {plain(refused.name)}", "explanation": refused.explanation}
@@ -152,6 +155,15 @@ class Server:
         """Answers a question to the table of faults, for which no edit waits; if the circuit was changed meanwhile, nothing is known."""
         age, answer = self.board.age, await self.known.answer_to(question)
         tab.tell_text(answer if age == self.board.age else self.known.nothing(question))
+
+    async def tell_written(self, tab: Tab, question: Message) -> None:
+        """Answers with the circuit as it was written, for which no edit waits."""
+        try:
+            text, kept = await self.call(lambda: (self.board.text(), self.board.kept_text))
+            answer = {"text": await self.in_background(kept.given.written, text)}
+        except stabsim.StabsimError as fault:
+            answer = {"refused": str(fault)}
+        tab.tell({**answer, "id": question["id"]})
 
     async def answer_to(self, tab: Tab, question: Message) -> Message:
         asked = question["ask"]
@@ -171,8 +183,6 @@ class Server:
             await self.distances.ask(self.call, self.board)
         elif asked == "end distance":
             self.distances.end()
-        elif asked == "written":
-            return {"text": await self.call(self.board.written)}
         elif asked == "script":
             return {"text": await self.call(self.board.script)}
         elif asked == "save":

@@ -41,6 +41,8 @@ import { Unsaved } from "./unsaved.js";
 
 // The most notes on lines that became others that are listed.
 const MOST_NOTES = 200;
+// With how many items of its outermost list a circuit is given out as it was written, since lines are compared for that.
+const MOST_ITEMS = 200_000;
 // The greatest text that is read, in bytes.
 const MOST_BYTES = 2 ** 25;
 const STRANGE = "The address lacks the token that the server printed: open that address.";
@@ -180,7 +182,7 @@ async function openFile(file, more = {}) {
 function sayWhetherSaved() {
   const { state } = shown;
   document.title = `${state.isUnsaved ? "● " : ""}${state.name} · stabsim`;
-  unsaved.keep(() => (shown.state.isUnsaved ? { name: shown.state.name, text: circuitText() } : null));
+  unsaved.keep(async () => (shown.state.isUnsaved ? { name: shown.state.name, text: await writtenText() } : null));
 }
 
 async function offerUnsaved() {
@@ -337,9 +339,9 @@ by("search-words").addEventListener("keydown", (event) => {
   if (event.key === "Enter") search(event.shiftKey ? -1 : 1);
 });
 
-// The circuit as it was written, with its comments; without the server as this tab has it.
+// The circuit as it was written, with its comments; without the server, or if it is very long, as this tab has it.
 async function writtenText() {
-  const answer = link.isOpen ? await link.ask({ ask: "written" }).catch(() => ({})) : {};
+  const answer = link.isOpen && shown.state.items.length < MOST_ITEMS ? await link.ask({ ask: "written" }).catch(() => ({})) : {};
   return answer.text ?? circuitText();
 }
 
