@@ -15,7 +15,7 @@ from numpy.typing import NDArray
 import stabsim
 from stabsim.coordinates import coordinates_of, detector_rows, qubit_rows
 from stabsim.page.edits import Edit, name_of, undoing
-from stabsim.page.explaining import explained
+from stabsim.page.explaining import explained, refuse_unread
 from stabsim.page.following import following
 from stabsim.page.lines import LineEdits, between
 from stabsim.page.opening import Opened
@@ -275,6 +275,8 @@ class Board:
         return undoing(edit, old)
 
     def _apply(self, edit: Edit) -> None:
+        if edit.kind in ("insert", "replace"):
+            refuse_unread(edit.item)
         if edit.kind == "insert":
             self.session.insert(edit.place, edit.item)
         elif edit.kind == "replace":

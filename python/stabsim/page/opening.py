@@ -2,7 +2,6 @@
 
 import base64
 import binascii
-import contextlib
 import functools
 import itertools
 import operator
@@ -14,6 +13,7 @@ from dataclasses import dataclass
 import stabsim
 from stabsim import program
 from stabsim.page.as_written import Given
+from stabsim.profile import Copy
 
 # What a circuit is called that came from nowhere.
 UNNAMED = "circuit.stim"
@@ -64,12 +64,13 @@ def lines_said(notes: tuple[str, ...]) -> str:
 def opened(given: str, name: str = UNNAMED) -> Opened:
     """A text of Stim's as a circuit that the program reads, without its noise. A refusal names the line that was given. Raises
     stabsim.UnsupportedNoise at noise that can't be left out."""
-    with contextlib.suppress(stabsim.Refused):
-        # What the program reads has no noise, and is opened as it is; to look for some would take longer.
-        stabsim.Circuit(given).numbers()
-        return Opened(given, name)
     read = stabsim.from_stim(given)
-    kept = Given(read.text, read.profile.circuit, frozenset(read.profile.left_out))
+    if read.circuit is read:
+        # The program reads it as it is.
+        return Opened(given, name)
+    copy = read.profile.circuit
+    assert isinstance(copy, Copy), "the program does not read it as it is"
+    kept = Given(read.text, copy, frozenset(read.profile.left_out))
     return Opened(read.circuit.text, name, tuple(rewritten_of(read)), tuple(read.left_out), kept)
 
 
