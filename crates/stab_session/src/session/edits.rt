@@ -1,8 +1,7 @@
 use super::Session;
 use crate::change::{Change, change_of};
-use crate::pending::{begin, finish, take_back};
+use crate::pending::{begin, finish, refused};
 use stab_circuit::{Edit, Refused};
-use stab_io::Fault;
 use stab_run::Coins;
 
 /// What an edit cost, from the last copy of the state before it to the step at which the old run is the new one again.
@@ -64,13 +63,7 @@ impl<C: Coins> Session<C> {
             self.rounds.as_slice(),
         ) {
             Ok(change) => change,
-            Err(refusal) => {
-                let item = take_back(&mut self.circuit, pending);
-                return Err(Refused {
-                    fault: Fault::whole(refusal),
-                    item,
-                });
-            }
+            Err(refusal) => return Err(refused(&mut self.circuit, pending, refusal)),
         };
         match self.recording.follow(
             self.alloc,
@@ -92,10 +85,7 @@ impl<C: Coins> Session<C> {
                     checkpoints: self.recording.checkpoints.len(),
                 })
             }
-            Err(refusal) => Err(Refused {
-                fault: Fault::whole(refusal),
-                item: take_back(&mut self.circuit, pending),
-            }),
+            Err(refusal) => Err(refused(&mut self.circuit, pending, refusal)),
         }
     }
 }

@@ -172,7 +172,7 @@ returns-in-Err-change_of-clause-refused g c =
     run-fault g.C.Coins.sequence c.args.edit c.args.self.now c.len-n.result c.self.inside.circuit c.begin.new.circuit c.in-Ok.begun.0 c.in-Ok.begun.1 begun.begun
     (ap (λ (s : SessionState g.row.C.Denot). s.items) (sym c.self.view_is))
     (ap (λ (s : SessionState g.row.C.Denot). s.qubits) (sym c.self.view_is) ∙ sym c.len-n.ensures.value)
-    c.whole.result (c.whole.ensures.value ∙ ap whole told.err)
+    c.refused.result.fault (c.refused.ensures.fault ∙ ap whole told.err)
 
 pub returns-in-Err-follow-clause-refused : goal.returns-in-Err-follow-clause-refused
 returns-in-Err-follow-clause-refused g c =
@@ -181,7 +181,7 @@ returns-in-Err-follow-clause-refused g c =
     run-fault g.C.Coins.sequence c.args.edit c.args.self.now c.len-n.result c.self.inside.circuit c.begin.new.circuit c.in-Ok.begun.0 c.in-Ok.begun.1 begun.begun
     (ap (λ (s : SessionState g.row.C.Denot). s.items) (sym c.self.view_is))
     (ap (λ (s : SessionState g.row.C.Denot). s.qubits) (sym c.self.view_is) ∙ sym c.len-n.ensures.value)
-    c.whole-in-Err-follow.result (c.whole-in-Err-follow.ensures.value ∙ ap whole ran.err)
+    c.refused-in-Err-follow.result.fault (c.refused-in-Err-follow.ensures.fault ∙ ap whole ran.err)
 
 pub returns-in-Err-follow-clause-refused_asks : goal.returns-in-Err-follow-clause-refused_asks
 returns-in-Err-follow-clause-refused_asks g c =
@@ -199,7 +199,7 @@ returns-in-Err-follow-clause-refused_asks g c =
 pub returns-in-Err-follow-clause-item : goal.returns-in-Err-follow-clause-item
 returns-in-Err-follow-clause-item g c =
     let begun = c.in-Ok.ensures {u = tt} in
-    c.take_back.ensures.item ∙ begun.begun.item
+    c.refused-in-Err-follow.ensures.item ∙ begun.begun.item
 
 pub change_of-requires-clause-old : goal.change_of-requires-clause-old
 change_of-requires-clause-old g c =
