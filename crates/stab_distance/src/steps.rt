@@ -7,10 +7,10 @@ ghost use Rattle.stab_distance.specs.inner.Steps.{IsMoved, AreMoved, MovesDown, 
 use crate::errors::Errors;
 use std::alloc::{AllocError, Global};
 
-/// A step is given up where this many more errors stay than move.
-const SLACK: usize = 32;
+/// Of how many errors at most it is tried whether a step moves them down.
+const TRIED: usize = 64;
 
-/// A step that moves down most of the errors, if there is one.
+/// A step that moves down most of the errors, as far as some tell, if there is one.
 pub(crate) fn find_step(errors: &Errors) -> Option<usize> {
     for step in 1..errors.flipped_detectors() {
         if most_move_down(errors, step) {
@@ -20,21 +20,21 @@ pub(crate) fn find_step(errors: &Errors) -> Option<usize> {
     None
 }
 
-/// Whether a step moves down most of the errors, from the last one on: the first ones have none before them.
+/// Whether a step moves down most of some errors, taken evenly from all.
 fn most_move_down(errors: &Errors, step: usize) -> bool {
+    let apart = errors.len() / TRIED + 1;
+    let mut tried: usize = 0;
     let mut moved: usize = 0;
-    let mut stayed: usize = 0;
-    for k in 0..errors.len() {
-        if moves_down(errors, errors.len() - 1 - k, step) {
-            moved = moved.saturating_add(1);
-        } else {
-            stayed = stayed.saturating_add(1);
-        }
-        if stayed > moved.saturating_add(SLACK) {
-            return false;
+    for k in 0..TRIED {
+        let r = k.saturating_mul(apart);
+        if r < errors.len() {
+            tried = tried.saturating_add(1);
+            if moves_down(errors, r, step) {
+                moved = moved.saturating_add(1);
+            }
         }
     }
-    stayed < moved
+    moved > tried / 2
 }
 
 /// Errors in order, of which the first ones are moved down by no step.
