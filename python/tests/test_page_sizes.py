@@ -154,8 +154,10 @@ def test_the_history_has_the_room_that_is_left_whatever_is_chosen(open_page):
     for choose in (lambda: None, lambda: page.choose_qubit(10), lambda: page.click_bit("D3")):
         choose()
         page.settle()
+        # What is being computed has a line until it is there.
+        page.wait(lambda: page.box("#edits")[3] > 300)
         _, top, _, height = page.box("#edits")
-        assert height > 300 and top + height == pytest.approx(foot, abs=1)
+        assert top + height == pytest.approx(foot, abs=1)
 
 
 def test_what_says_nothing_takes_no_room(open_page):
