@@ -1,7 +1,7 @@
 """An editing session of a circuit, noise and comments too."""
 
 import dataclasses
-from collections.abc import Iterable, Sequence
+from collections.abc import Callable, Iterable, Sequence
 
 from stabsim import checking, program
 from stabsim.carrying import above_in, below_comments, carried, cut_path, original_of, paths_made, with_comments, written_back
@@ -101,7 +101,7 @@ class Session(PlainSession):
         if keep_records:
             self.retarget([("insert", at, item_text(text))])
             return
-        item = carried_item(item_text(text))
+        item = carried_item(item_text(text), self.circuit)
         with explaining(text):
             self.change(Change.of_one(edit_lines(f"insert {at}", item), delete_line(at)))
 
@@ -119,7 +119,7 @@ class Session(PlainSession):
             self.retarget([("replace", at, item_text(text))])
             return
         old = self.old_item(at)
-        self.put(at, old, carried_item("\n".join([*above_in(old), item_text(text)])), text)
+        self.put(at, old, carried_item("\n".join([*above_in(old), item_text(text)]), self.circuit), text)
 
     def put(self, path: str, old: str, item: str, text: str) -> None:
         """Puts an item of the program's in the place of an old one; text: as the user wrote it."""
@@ -183,7 +183,7 @@ class Session(PlainSession):
                 if kind == "insert":
                     self.insert(at, words[0])
                 elif kind == "replace":
-                    self.put(at, self.old_item(at), carried_item(words[0]), words[0])
+                    self.put(at, self.old_item(at), carried_item(words[0], self.circuit), words[0])
                 elif kind == "split":
                     self.split(at, int(words[0]))
                 else:
@@ -371,8 +371,8 @@ def lines_of_block(words: str, block: str) -> bytes:
     return program.bytes_of(f"{words} {block.strip()}\n")
 
 
-def carried_item(text: str) -> str:
-    """An item of Stim's as the program's. Raises stabsim.Refused and stabsim.UnsupportedNoise as `from_stim` does."""
+def carried_item(text: str, circuit: Callable[[], str]) -> str:
+    """An item of Stim's as the program's; circuit: answers the text that it comes into. Raises stabsim.Refused as `from_stim` does."""
     parts = parts_of(content_of(text))
     if parts and parts.name == ELSE:
         # It may come after another, which is judged with the whole circuit.
@@ -382,7 +382,7 @@ def carried_item(text: str) -> str:
         raise fault
     if profile.left_out:
         judge(profile)
-    return carried(text)
+    return carried(text, others=circuit)
 
 
 def judge(profile: Profile) -> None:
