@@ -165,14 +165,19 @@ def instruction(line: Line, parts: Parts, spare: Callable[[], int]) -> Made:
     return Made(quiet, noisy, [*quiet, *swept], left_out)
 
 
-def spare_qubit(text: str) -> int:
-    """The qubit next to the greatest that a text names, or if there is none the lowest that it does not name."""
+def qubits_named(text: str, *, noise: bool = True) -> set[int]:
+    """The qubits that a text names; noise: those that channels alone name too."""
     named: set[int] = set()
     for line in lines_of(text):
-        if line.parts and not line.opens and line.parts.name != "MPAD":
+        if line.parts and not line.opens and line.parts.name != "MPAD" and (noise or line.parts.name not in names.UNREAD_NOISE):
             named.update(*(qubits_of(target) for target in line.parts.targets if "[" not in target))
     # A greater one is refused.
-    named &= set(range(MOST_QUBITS))
+    return named & set(range(MOST_QUBITS))
+
+
+def spare_qubit(text: str) -> int:
+    """The qubit next to the greatest that a text names, or if there is none the lowest that it does not name."""
+    named = qubits_named(text)
     beyond = max(named, default=-1) + 1
     candidates: list[int] = [beyond, *range(beyond)]
     for qubit in candidates:

@@ -137,3 +137,67 @@ def test_a_page_saves_the_records_of_heralded_errors_without_their_noise(tmp_pat
     assert "The noise of 1 line is left out" in opened["notice"]
     assert opened["circuit"] == "R 0\nS 1\nY 1\nR 2\nMR 2\nMR 2\nM 0\n"
     assert written == "R 0\nH_XY 1\nR 2\nMR 2\nMR 2\nM 0 # last\n"
+
+
+# Circuits in which qubit 1 makes the records of item 0, with that item as a refusal names it.
+SPARES = {"MPAD 0\nM 0\n": "item 0, MPAD 0:", "HERALDED_ERASE(0.25) 0\nM 0\n": "item 0, HERALDED_ERASE(0.25) 0:"}
+NAMING = {
+    "put in": lambda session: session.insert(2, "X 1"), "in a block": lambda session: session.insert(1, "REPEAT 2 {\n    CX 0 1\n}"),
+    "in a product": lambda session: session.insert(2, "MPP X0*Z1"), "after noise": lambda session: session.insert(1, "M(0.5) 1"),
+    "in place": lambda session: session.replace(1, "M !1 # other"), "records kept": lambda session: session.insert(2, "M 1", keep_records=True),
+    "in place, records kept": lambda session: session.replace(1, "M 1", keep_records=True),
+    "the last of several": lambda session: session.retarget([("insert", 1, "X 0"), ("insert", 3, "X 1")]),
+}
+
+
+@pytest.mark.parametrize("text", SPARES)
+@pytest.mark.parametrize("edit", NAMING)
+def test_an_edit_that_names_a_spare_qubit_is_refused_and_changes_nothing(text, edit):
+    with stabsim.Circuit(text).edit(qubits=3) as session:
+        session.insert(2, "X 0")
+        session.insert(3, "X 2")
+        session.undo()
+        with pytest.raises(stabsim.Refused) as refused:
+            NAMING[edit](session)
+        said = refused.value.explanation
+        assert "Qubit 1 " in said and SPARES[text] in said and "open a new session" in said and "\n" not in said
+        assert session.circuit() == f"{text}X 0\n" and session.records().tolist() == [False, False]
+        assert session.redo() and session.circuit() == f"{text}X 0\nX 2\n"
+        assert session.undo() and session.undo() and session.circuit() == text and not session.undo()
+
+
+@pytest.mark.parametrize("text", SPARES)
+def test_other_qubits_than_the_spare_one_work_as_before(text):
+    with stabsim.Circuit(text).edit(qubits=4) as session:
+        session.insert(2, "X 0 2")
+        session.insert(3, "M 0 2")
+        session.insert(0, "MPAD 1 1", keep_records=True)
+        session.insert(0, "X_ERROR(0.5) 1")
+        assert session.records().tolist() == [True, True, False, False, True, True]
+
+
+@pytest.mark.parametrize("text", SPARES)
+def test_a_spare_qubit_is_free_once_its_item_is_gone(text):
+    for take_out in (lambda session: session.delete(0), lambda session: session.replace(0, "M 1"), lambda session: session.replace(0, "I 0")):
+        with stabsim.Circuit(text).edit(qubits=3) as session:
+            take_out(session)
+            session.insert(0, "X 1")
+            session.insert(1, "M 1")
+            assert session.records()[0]
+
+
+def test_a_spare_qubit_that_an_edit_brought_is_refused_until_undo_takes_it_out():
+    with stabsim.Circuit("M 0\n").edit(qubits=3) as session:
+        session.insert(0, "REPEAT 2 {\n    MPAD 1\n}")
+        with pytest.raises(stabsim.Refused, match="item 0/0, MPAD 1:"):
+            session.insert(1, "X 1")
+        session.undo()
+        session.insert(1, "X 1")
+        assert session.circuit() == "M 0\nX 1\n"
+
+
+def test_errors_of_padding_are_put_in_beside_other_padding():
+    with stabsim.Circuit("MPAD 0\nMPAD 1\nM 0\n").edit() as session:
+        session.insert_errors([stabsim.CircuitError(0, "", record=0)])
+        assert session.records().tolist() == [True, True, False]
+        assert stabsim.Circuit(session.circuit()).edit().records().tolist() == [True, True, False]
