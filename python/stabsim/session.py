@@ -108,7 +108,7 @@ class Session(PlainSession):
         if keep_records:
             self.retarget([("insert", at, item_text(text))])
             return
-        self.keep_spares(item_text(text))
+        self.keep_spares([("insert", at, item_text(text))])
         self.insert_item(at, text)
 
     def replace(self, path: Path, text: str, *, keep_records: bool = False) -> None:
@@ -124,7 +124,7 @@ class Session(PlainSession):
         if keep_records:
             self.retarget([("replace", at, item_text(text))])
             return
-        self.keep_spares(item_text(text), at)
+        self.keep_spares([("replace", at, item_text(text))])
         self.replace_item(at, text)
 
     def insert_item(self, path: str, text: str) -> None:
@@ -195,16 +195,14 @@ class Session(PlainSession):
         """
         given = [[*edit[:2], *(with_comments(text) if isinstance(text, str) and edit[0] != "move" else text for text in edit[2:])] for edit in edits]
         made = of_items(items_of(with_comments(self.circuit(comments=True))), given, below_comments)
-        for kind, at, *words in given:
-            if kind in ("insert", "replace"):
-                self.keep_spares(str(words[0]), path_text(at) if kind == "replace" else None)  # type: ignore[arg-type]
+        self.keep_spares(given)
         found = tuple((kind, at, *(words if kind == "split" else [written_back(item) for item in words])) for kind, at, *words in made.edits)
         with self.one_step():
             for kind, at, *words in found:
                 if kind == "insert":
                     self.insert(at, words[0])
                 elif kind == "replace":
-                    self.keep_spares(words[0], at)
+                    self.keep_spares([(kind, at, *words)])
                     self.put(at, self.old_item(at), words[0], words[0])
                 elif kind == "split":
                     self.split(at, int(words[0]))
@@ -347,11 +345,13 @@ class Session(PlainSession):
         self.spares.update(spare.qubit for spare in spares_of(item))
         return item
 
-    def keep_spares(self, text: str, replaced: str | None = None) -> None:
-        """`refuse_spares` of an item's text, in the circuit as it is now. Channels do nothing to its records, so they are let be."""
-        named = self.spares and self.spares & qubits_named(text, noise=False)
-        if named:
-            refuse_spares(named, spares_of(self.printed()), replaced)
+    def keep_spares(self, edits: Iterable[Sequence[object]]) -> None:
+        """`refuse_spares` of edits, in the circuit as it is now. Channels do nothing to its records, so they are let be."""
+        for kind, path, *words in edits:
+            puts_in = self.spares and kind in ("insert", "replace")
+            named = self.spares & qubits_named(str(words[0]), noise=False) if puts_in else None
+            if named:
+                refuse_spares(named, spares_of(self.printed()), path_text(path) if kind == "replace" else None)  # type: ignore[arg-type]
 
     def made(self) -> frozenset[str]:
         """The paths of the blocks that stand for one instruction."""
