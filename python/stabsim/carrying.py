@@ -8,9 +8,10 @@ a TICK after these. So the program edits and prints noise as it does all else, a
 
 import functools
 import re
-from collections.abc import Callable, Iterator, Sequence
+from collections.abc import Callable, Iterable, Iterator, Sequence
 from dataclasses import replace
 
+from stabsim.names import NOISE
 from stabsim.profile import Made, made_of, spare_qubit
 from stabsim.reading import SPACING, Block, Instruction, Item, Line, Parts, content_of, headed, lines_of, parts_of, walk
 from stabsim.written import printed
@@ -43,11 +44,12 @@ def ridden(name: str, riding: Sequence[str], arguments: Sequence[str] = (), targ
     return str(Instruction(0, name, MARK + escaped("\n".join(riding)), tuple(arguments), tuple(targets)))
 
 
-def carried(text: str, comments: bool = True, before: str = "") -> str:
-    """A text of Stim's that was judged, as the program's; comments: whether they ride along; before: the name of the instruction before it."""
+def carried(text: str, comments: bool = True, before: str = "", others: Callable[[], str] = lambda: "") -> str:
+    """A text of Stim's that was judged, as the program's; comments: whether they ride along; before: the name of the instruction before it;
+    others: answers a text whose qubits known records leave alone too."""
     if not text:
         return ""
-    spare = functools.cache(lambda: spare_qubit(text))
+    spare = functools.cache(lambda: spare_qubit(f"{others()}\n{text}"))
     lines: list[str] = []
     above: list[str] = []
     for line in lines_of(text.removesuffix("\n")):
@@ -129,12 +131,21 @@ def carried_instruction(riding: Sequence[str], made: Made) -> Iterator[str]:
         yield ridden(quiet[0].name, riding, quiet[0].arguments, quiet[0].targets)
     else:
         yield f"{ridden('REPEAT', riding, targets=['1'])} {{"
-        for parts, line in zip(quiet, made.noisy):
-            assert parts, "what is made are instructions"
-            noisy = content_of(line)
-            is_noisy = parts_of(noisy) != parts
-            yield ridden(parts.name, [noisy], parts.arguments, parts.targets) if is_noisy else noisy
+        yield from carried_gates(quiet, map(content_of, made.noisy))
         yield CLOSING
+
+
+def carried_gates(quiet: Sequence[Parts | None], noisy: Iterable[str]) -> Iterator[str]:
+    """What the lines that one instruction becomes are by themselves; quiet: those of them that are no channels, without noise."""
+    without = iter(quiet)
+    for line in noisy:
+        own = parts_of(line)
+        assert own, "what is made are instructions"
+        parts = None if own.name in NOISE else next(without)
+        if parts is None:
+            yield ridden("TICK", [line])
+        else:
+            yield line if own == parts else ridden(parts.name, [line], parts.arguments, parts.targets)
 
 
 def written_back(text: str, comments: bool = True) -> str:

@@ -18,7 +18,7 @@ from stabsim.described import Described
 from stabsim.detecting import regions_by_name
 from stabsim.diagrams import Diagram, Kind, Ticks, diagram_of, model_diagram, ticks_of_detectors
 from stabsim.distances import Distance, Letters
-from stabsim.errors import Refused
+from stabsim.errors import Refused, UnsupportedNoise
 from stabsim.explaining import in_words
 from stabsim.faults import FaultTable
 from stabsim.judging import judged
@@ -137,8 +137,11 @@ class Circuit(Described):
         """The channels that do something, and measurements with the chance of a wrong record: with the user's lines and paths."""
         if not self.profile.left_out:
             return ()
-        paths = {item.line: item.path for item in self.walk()}
-        return tuple(replace(item, path=paths[item.line]) for item in walk(self.noisy_items()) if is_noise(item))
+        written = {item.line: item for item in self.walk() if isinstance(item, Instruction)}
+        heralded = {item.line: item for item in written.values() if item.name in names.HERALDED}
+        others = [replace(item, path=written[item.line].path) for item in walk(self.noisy_items())
+                  if is_noise(item) and item.line not in heralded]
+        return tuple(sorted([*heralded.values(), *others], key=lambda item: item.line))
 
     def noisy_items(self) -> tuple[Item, ...]:
         """The items of the circuit with its noise, each with the user's line that it comes from."""
@@ -184,10 +187,21 @@ class Circuit(Described):
         shots, first_shot = chunks.checked(shots, first_shot)
         # Without noise all shots are the same, if no coin decides them.
         quiet = bits.unpacked(self.packed("detect_both" if both else "detect", width, 1, seed, 0, None, 1), width)
-        # The model has what is flipped, and none is made if coins decide a bit.
-        flipped = np.concatenate(self.known_model.sample(shots, seed=seed, first_shot=first_shot), axis=1)[:, :width]
+        flipped = self.flipped(shots, seed, first_shot, executor)[:, :width]
         parities = quiet & (not flips)
         return bits.packed(flipped ^ parities), parities[0]
+
+    def flipped(self, shots: int, seed: int, first_shot: int, executor: Executor | None) -> Bits:
+        """What noise flips in shots: detectors, and then observables. It is refused if coins decide a bit."""
+        from stabsim.measured import m2d
+
+        try:
+            return np.concatenate(self.known_model.sample(shots, seed=seed, first_shot=first_shot), axis=1)
+        except UnsupportedNoise:
+            # Errors that are not independent are drawn with the records, once it is known that the noise has errors and no coin decides.
+            error_model(self, approximate_disjoint_errors=True)
+            records = noisy_shots.records(self.noisy_items(), shots, seed, first_shot, executor)
+            return np.concatenate(m2d(self, records, separate_observables=True, flips=True), axis=1)
 
     # Questions.
 
@@ -306,8 +320,8 @@ def from_stim(text: str) -> Circuit:
     """Reads a circuit of Stim's, with its noise, and judges it: what `Circuit` does of a text once it is asked something.
 
     Instructions that the program does not read become those that it reads. Raises stabsim.Refused, with the user's line, if
-    something can't be: Pauli targets of observables, over 1,024 qubits, or what Stim refuses too; and
-    stabsim.UnsupportedNoise at heralded errors, which make records. Sweep bits are 0: `with_sweep_bits` gives others.
+    something can't be: Pauli targets of observables, which are no records, over 1,024 qubits, or what Stim refuses too.
+    Sweep bits are 0: `with_sweep_bits` gives others.
 
     >>> import stabsim
     >>> print(stabsim.from_stim("ISWAP 3 5").circuit)

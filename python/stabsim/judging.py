@@ -63,7 +63,7 @@ def without_noise(text: str) -> str:
     """The circuit of a text of Stim's without its noise: channels are left out, and measurements lose the chance of a wrong record.
 
     Instructions that the program does not read become those that it reads, as by `from_stim`. Everything else stays as it is written,
-    comments too. Raises stabsim.UnsupportedNoise at heralded errors, which make records.
+    comments too. Heralded errors leave their records, which are then 0.
 
     >>> import stabsim
     >>> print(stabsim.without_noise('''R 0 1

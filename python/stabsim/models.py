@@ -327,14 +327,15 @@ def error_model(circuit: "str | Circuit", *, decompose: bool = False, ignore_dec
     """The detector error model of a circuit with noise, or of its text. One without noise has no mechanisms.
 
     The circuit's noise may be X_ERROR, Y_ERROR, Z_ERROR, DEPOLARIZE1, DEPOLARIZE2, PAULI_CHANNEL_1, PAULI_CHANNEL_2, E with perhaps
-    ELSE_CORRELATED_ERROR after it, and a chance of a wrong record, as M(0.01), on all measurements; stabsim.UnsupportedNoise names
-    the line of other noise. The program says what single errors flip. Errors that flip the same are joined, and those that flip
-    nothing are left out. stabsim.Refused names lines and items of the user's text.
+    ELSE_CORRELATED_ERROR after it, HERALDED_ERASE, HERALDED_PAULI_CHANNEL_1, and a chance of a wrong record, as M(0.01), on all
+    measurements; stabsim.UnsupportedNoise names the line of noise that is not made of independent errors. The program says what single
+    errors flip. Errors that flip the same are joined, and those that flip nothing are left out. stabsim.Refused names lines and items of
+    the user's text.
 
     decompose: name for each mechanism that flips more than two detectors others that flip the same together, for decoders by
     matching; stabsim.NotDecomposed names one that has none, or with ignore_decomposition_failures it stays whole.
-    approximate_disjoint_errors: if a PAULI_CHANNEL, or E with ELSE_CORRELATED_ERROR, is no product of independent errors, take its
-    disjoint errors for such; the model names these lines. sure_only: leave out detectors and observables that coins decide, which else
+    approximate_disjoint_errors: if a PAULI_CHANNEL, heralded errors, or E with ELSE_CORRELATED_ERROR, are no product of independent errors,
+    take the disjoint errors for such; the model names these lines. sure_only: leave out detectors and observables that coins decide, which else
     are refused. allow_gauge_detectors: take what coins flip, if that is detectors alone, for errors of chance a half.
 
     >>> import stabsim

@@ -24,7 +24,7 @@ CORRELATED = (FIRST, ELSE)
 NOISE = (*CHANNELS, *CORRELATED)
 # Channels that do nothing.
 IDLE = ("I_ERROR", "II_ERROR")
-# Noise that makes records.
+# Noise that makes records, each of which says whether an error happened.
 HERALDED = ("HERALDED_ERASE", "HERALDED_PAULI_CHANNEL_1")
 # Whatever is no instruction of a circuit without noise.
 UNREAD_NOISE = frozenset((*NOISE, *IDLE, *HERALDED))

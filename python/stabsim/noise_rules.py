@@ -72,8 +72,8 @@ def lines_by(line: Line, rule: Rule) -> Iterator[str]:
         return
     for chances, run in runs:
         head, is_record = headed(run[0].name, run[0].tag), run[0].name in names.MEASURING
-        # Without an error in front, one that may happen if it did not would be another's.
-        if any(chances) or run[0].name in names.CORRELATED:
+        # Without an error in front, one that may happen if it did not would be another's; and records stay.
+        if any(chances) or run[0].name in (*names.CORRELATED, *names.HERALDED):
             head += f"({', '.join(map(number_text, chances))})"
         elif not is_record:
             continue
@@ -95,7 +95,7 @@ def chances_by(channel: Channel, rule: Rule) -> Chances:
 def channels_of(line: Line) -> Iterator[Channel]:
     """The channels of a line, in its order; none if it has no noise."""
     parts = line.parts
-    if not parts or not parts.arguments or parts.name not in (*names.NOISE, *names.MEASURING):
+    if not parts or not parts.arguments or parts.name not in (*names.NOISE, *names.HERALDED, *names.MEASURING):
         return
     chances = tuple(Instruction(line.number, *parts).numbers())
     targets = tuple(products_of(parts)) if parts.name == "MPP" else parts.targets

@@ -9,7 +9,8 @@ from dataclasses import dataclass, field
 from typing import NamedTuple
 
 from stabsim import names, quoting
-from stabsim.errors import Refused, UnsupportedNoise
+from stabsim.errors import Refused
+from stabsim.heralds import heralded
 from stabsim.noise_lines import check_channel, check_measurement
 from stabsim.reading import Instruction, Item, Line, Parts, content_of, is_number, items_of, lines_of
 from stabsim.rewriting import WrongWord, rewritten
@@ -17,8 +18,6 @@ from stabsim.sweeping import is_swept
 from stabsim.targets import LONG_NUMBER, qubits_of
 
 MOST_QUBITS = 1024
-
-Fault = Refused | UnsupportedNoise
 
 
 @dataclass
@@ -104,10 +103,9 @@ class Profile:
             self.left_out[origin] = made.left_out
 
 
-def profile_of(text: str) -> tuple[Profile, Fault | None]:
+def profile_of(text: str) -> tuple[Profile, Refused | None]:
     """The texts that a text of Stim's becomes, and None; or those of the lines in front of the first line that can't become such, and
-    why it can't: stabsim.UnsupportedNoise at heralded errors, which make records, and stabsim.Refused at other noise that Stim refuses,
-    and at targets that an instruction which the program does not read can't have."""
+    why it can't: stabsim.Refused at noise that Stim refuses, and at targets that an instruction which the program does not read can't have."""
     profile = Profile(text)
     # Most circuits need no qubit of its own for known records, and it takes another look at the whole text.
     spare = functools.cache(lambda: spare_qubit(text))
@@ -119,8 +117,6 @@ def profile_of(text: str) -> tuple[Profile, Fault | None]:
         except WrongWord as wrong:
             said = quoting.quoted(line, wrong.word, wrong.cure, is_argument=wrong.name == "BadArguments")
             return profile, Refused(wrong.number, wrong.name, line.number, said)
-        except UnsupportedNoise as unsupported:
-            return profile, unsupported
         if line.content:
             before = parts.name if parts else ""
     return profile, None
@@ -131,16 +127,20 @@ def made_of(line: Line, parts: Parts | None, before: str, spare: Callable[[], in
     if parts is None or line.opens or (len(line.text) > 4000 and LONG_NUMBER.search(line.text)):
         return Made([line.text], [line.text], [line.text])
     if parts.name in names.UNREAD_NOISE:
-        return channel(line, parts, before)
+        return channel(line, parts, before, spare)
     return instruction(line, parts, spare)
 
 
-def channel(line: Line, parts: Parts, before: str) -> Made:
-    """What a channel becomes: a line with its qubits that does nothing is judged in its place."""
-    check_channel(parts, line.number, before)
+def channel(line: Line, parts: Parts, before: str, spare: Callable[[], int]) -> Made:
+    """What a channel becomes: a line with its qubits that does nothing is judged in its place, beside the records that it makes."""
+    check_channel(parts, before)
     qubits = (target[1:] for target in parts.targets) if parts.name in names.CORRELATED else parts.targets
-    noisy = [] if parts.name in names.IDLE else [line.text]
-    return Made([], noisy, [" ".join(["QUBIT_COORDS", *qubits])], line.content)
+    judged = " ".join(["QUBIT_COORDS", *qubits])
+    if parts.name in names.HERALDED:
+        made = heralded(parts, spare)
+        noisy, quiet = ([line.indentation + str(Instruction(line.number, *it)) for it in made if it.name not in left] for left in ((), names.NOISE))
+        return Made(quiet, noisy, [judged, *quiet], line.content)
+    return Made([], [] if parts.name in names.IDLE else [line.text], [judged], line.content)
 
 
 def instruction(line: Line, parts: Parts, spare: Callable[[], int]) -> Made:
@@ -165,14 +165,19 @@ def instruction(line: Line, parts: Parts, spare: Callable[[], int]) -> Made:
     return Made(quiet, noisy, [*quiet, *swept], left_out)
 
 
-def spare_qubit(text: str) -> int:
-    """The qubit next to the greatest that a text names, or if there is none the lowest that it does not name."""
+def qubits_named(text: str, *, noise: bool = True) -> set[int]:
+    """The qubits that a text names; noise: those that channels alone name too."""
     named: set[int] = set()
     for line in lines_of(text):
-        if line.parts and not line.opens and line.parts.name != "MPAD":
+        if line.parts and not line.opens and line.parts.name != "MPAD" and (noise or line.parts.name not in names.UNREAD_NOISE):
             named.update(*(qubits_of(target) for target in line.parts.targets if "[" not in target))
     # A greater one is refused.
-    named &= set(range(MOST_QUBITS))
+    return named & set(range(MOST_QUBITS))
+
+
+def spare_qubit(text: str) -> int:
+    """The qubit next to the greatest that a text names, or if there is none the lowest that it does not name."""
+    named = qubits_named(text)
     beyond = max(named, default=-1) + 1
     candidates: list[int] = [beyond, *range(beyond)]
     for qubit in candidates:

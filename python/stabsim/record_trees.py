@@ -7,7 +7,7 @@ from collections.abc import Iterable, Sequence
 from dataclasses import dataclass, field
 from itertools import accumulate
 
-from stabsim.names import MEASURING, PAIRS
+from stabsim.names import HERALDED, MEASURING, PAIRS
 from stabsim.reading import Block, Instruction, Item
 from stabsim.rewriting import SPACED_STAR
 
@@ -169,7 +169,7 @@ def records_in_list(level: Level) -> dict[tuple[int, int], int]:
 
 def measured(item: Item | None) -> list[str]:
     """What an instruction measures, without what inverts it."""
-    if not isinstance(item, Instruction) or item.name not in MEASURING:
+    if not isinstance(item, Instruction) or item.name not in (*MEASURING, *HERALDED):
         return []
     targets = SPACED_STAR.sub("*", " ".join(item.targets).replace("!", "")).split()
     return [f"{first} {second}" for first, second in zip(targets[::2], targets[1::2])] if item.name in PAIRS else targets

@@ -3,7 +3,7 @@
 import dataclasses
 from collections.abc import Iterable, Sequence
 
-from stabsim import checking, program
+from stabsim import checking
 from stabsim.carrying import above_in, below_comments, carried, cut_path, original_of, paths_made, with_comments, written_back
 from stabsim.circuit_errors import CircuitError
 from stabsim.collecting import collect
@@ -13,18 +13,18 @@ from stabsim.errors import Refused
 from stabsim.explaining import explaining
 from stabsim.history import Change, Request
 from stabsim.inserting import put_in
-from stabsim.judging import in_users_words, judged
+from stabsim.judging import judged
 from stabsim.models import ErrorModel, decomposed, error_model
-from stabsim.names import ELSE, FIRST
 from stabsim.plain_session import PlainSession
-from stabsim.profile import Profile, profile_of
+from stabsim.profile import Profile, qubits_named
 from stabsim.random_bits import DecidingCoin
 from stabsim.rates import Rate, fit_rate
-from stabsim.reading import Instruction, Item, content_of, items_of, parts_of
+from stabsim.reading import Instruction, Item, items_of
 from stabsim.renewing import renewed
 from stabsim.retargeting import Retargeted, of_items
-from stabsim.rounds import longest_part, parts_of_block, place_behind
-from stabsim.script import Path, edit_lines, item_text, path_text
+from stabsim.rounds import joining
+from stabsim.script import Path, delete_line, edit_lines, item_text, path_text
+from stabsim.spares import carried_item, refuse_spares, spares_of
 
 # How a model is made.
 Options = tuple[bool, bool, bool, bool]
@@ -37,6 +37,9 @@ class Session(PlainSession):
     stabsim.Refused, with words for a fault of the item's own, and changes nothing. If the process has ended, or was interrupted
     in a reply, every call raises stabsim.SessionEnded, and so it does in a process that was forked. A session is not copied. All calls
     except `close` ask the program, so none is a property.
+
+    A qubit that makes the records of an MPAD or of heralded errors is not the circuit's: an edit that names it, but in a
+    channel, is refused.
 
     Channels and chances of wrong records are items, and parts of them, as all else, and so are instructions that the program does not read.
     Records, detectors and other answers are those without noise; `error_model`, `distance` and `logical_error_rate` are of the noise as it
@@ -72,6 +75,8 @@ class Session(PlainSession):
         # The models of the circuit as it is, and the last ones of what it was.
         self.models: dict[Options, ErrorModel] = {}
         self.models_before: dict[Options, ErrorModel] = {}
+        # The qubits that are spare, or were, so that few edits are looked at more closely.
+        self.spares: set[int] = set()
         if profile is None:
             try:
                 super().__init__(with_comments(text), qubits=qubits, seed=seed, stride=stride)
@@ -80,7 +85,9 @@ class Session(PlainSession):
                 profile = judged(text)
                 if profile.said is not None:
                     raise
-        super().__init__(carried(text) if profile.said is None else with_comments(text), qubits=qubits, seed=seed, stride=stride)
+        text = carried(text) if profile.said is None else with_comments(text)
+        super().__init__(text, qubits=qubits, seed=seed, stride=stride)
+        self.spares.update(spare.qubit for spare in spares_of(text))
 
     # Edits. A path is a number, or numbers that lead into blocks, as 3/0/2.
 
@@ -101,9 +108,8 @@ class Session(PlainSession):
         if keep_records:
             self.retarget([("insert", at, item_text(text))])
             return
-        item = carried_item(item_text(text))
-        with explaining(text):
-            self.change(Change.of_one(edit_lines(f"insert {at}", item), delete_line(at)))
+        self.keep_spares([("insert", at, item_text(text))])
+        self.insert_item(at, text)
 
     def replace(self, path: Path, text: str, *, keep_records: bool = False) -> None:
         """Puts an item in the place of the one at the path. Comments above that stay. keep_records: as in `insert`.
@@ -118,13 +124,25 @@ class Session(PlainSession):
         if keep_records:
             self.retarget([("replace", at, item_text(text))])
             return
-        old = self.old_item(at)
-        self.put(at, old, carried_item("\n".join([*above_in(old), item_text(text)])), text)
+        self.keep_spares([("replace", at, item_text(text))])
+        self.replace_item(at, text)
+
+    def insert_item(self, path: str, text: str) -> None:
+        """Puts an item in, spare qubits or not."""
+        item = self.carry(item_text(text))
+        with explaining(text):
+            self.change(Change.of_one(edit_lines(f"insert {path}", item), delete_line(path)))
+
+    def replace_item(self, path: str, text: str) -> None:
+        """Puts an item in the place of another, spare qubits or not."""
+        old = self.old_item(path)
+        self.put(path, old, "\n".join([*above_in(old), item_text(text)]), text)
 
     def put(self, path: str, old: str, item: str, text: str) -> None:
-        """Puts an item of the program's in the place of an old one; text: as the user wrote it."""
+        """Puts an item with its comments in the place of an old one, which is the program's; text: as the user wrote it."""
+        carried = self.carry(item)
         with explaining(text):
-            self.change(Change.of_one(edit_lines(f"replace {path}", item), edit_lines(f"replace {path}", old)))
+            self.change(Change.of_one(edit_lines(f"replace {path}", carried), edit_lines(f"replace {path}", old)))
 
     def delete(self, path: Path, *, keep_records: bool = False) -> None:
         """Takes the item at the path out. keep_records: as in `insert`; a record that is gone leaves the lists that named it.
@@ -177,13 +195,15 @@ class Session(PlainSession):
         """
         given = [[*edit[:2], *(with_comments(text) if isinstance(text, str) and edit[0] != "move" else text for text in edit[2:])] for edit in edits]
         made = of_items(items_of(with_comments(self.circuit(comments=True))), given, below_comments)
+        self.keep_spares(given)
         found = tuple((kind, at, *(words if kind == "split" else [written_back(item) for item in words])) for kind, at, *words in made.edits)
         with self.one_step():
             for kind, at, *words in found:
                 if kind == "insert":
                     self.insert(at, words[0])
                 elif kind == "replace":
-                    self.put(at, self.old_item(at), carried_item(words[0]), words[0])
+                    self.keep_spares([(kind, at, *words)])
+                    self.put(at, self.old_item(at), words[0], words[0])
                 elif kind == "split":
                     self.split(at, int(words[0]))
                 else:
@@ -319,6 +339,20 @@ class Session(PlainSession):
         self.models.clear()
         super().carry_out(requests)
 
+    def carry(self, text: str) -> str:
+        """An item as the program's, whose spare qubits are kept."""
+        item = carried_item(text, self.circuit)
+        self.spares.update(spare.qubit for spare in spares_of(item))
+        return item
+
+    def keep_spares(self, edits: Iterable[Sequence[object]]) -> None:
+        """`refuse_spares` of edits, in the circuit as it is now. Channels do nothing to its records, so they are let be."""
+        for kind, path, *words in edits:
+            puts_in = self.spares and kind in ("insert", "replace")
+            named = self.spares & qubits_named(str(words[0]), noise=False) if puts_in else None
+            if named:
+                refuse_spares(named, spares_of(self.printed()), path_text(path) if kind == "replace" else None)  # type: ignore[arg-type]
+
     def made(self) -> frozenset[str]:
         """The paths of the blocks that stand for one instruction."""
         return paths_made(self.printed_items())
@@ -344,52 +378,3 @@ class Session(PlainSession):
 
 
 NoisySession = Session
-
-
-def delete_line(path: str) -> bytes:
-    return f"delete {path}\n".encode()
-
-
-def joining(path: str, block: str, round_number: int) -> tuple[Request, ...]:
-    """The edits that take a split back: the longest part becomes the whole block, and the others go, the last one first. So there
-    are never fewer records than at the end, and no lookback is refused on the way. None if the block has no such round: the split
-    itself is then refused."""
-    try:
-        parts = parts_of_block(block, round_number)
-    except ValueError:
-        return ()
-    longest = longest_part(parts)
-    places = [place_behind(path, number) for number in range(len(parts))]
-    replaced = f"replace {places[longest]}"
-    whole = Request(lines_of_block(replaced, block), lines_of_block(replaced, parts[longest]))
-    others = [(place, part) for place, part in zip(places, parts, strict=True) if place != places[longest]]
-    return (whole, *(Request(delete_line(place), lines_of_block(f"insert {place}", part)) for place, part in reversed(others)))
-
-
-def lines_of_block(words: str, block: str) -> bytes:
-    """`edit_lines` of a block that is known to be whole, since the session wrote it: it is not looked through."""
-    return program.bytes_of(f"{words} {block.strip()}\n")
-
-
-def carried_item(text: str) -> str:
-    """An item of Stim's as the program's. Raises stabsim.Refused and stabsim.UnsupportedNoise as `from_stim` does."""
-    parts = parts_of(content_of(text))
-    if parts and parts.name == ELSE:
-        # It may come after another, which is judged with the whole circuit.
-        return carried(text, before=FIRST)
-    profile, fault = profile_of(text)
-    if fault:
-        raise fault
-    if profile.left_out:
-        judge(profile)
-    return carried(text)
-
-
-def judge(profile: Profile) -> None:
-    """Raises what is wrong with an item's noise."""
-    try:
-        program.run(["check"], profile.judged.text)
-    except Refused as refused:
-        # A lookback is judged in the whole circuit, of which an item by itself says nothing; such a fault has no line.
-        if refused.line is not None:
-            raise in_users_words(refused, profile) from None

@@ -237,7 +237,7 @@ def test_sparse_matrices_need_no_scipy():
     assert subprocess.run([sys.executable, "-c", code], capture_output=True, text=True, check=True).stdout == "[1]\n"
 
 
-@pytest.mark.parametrize("line", ["HERALDED_ERASE(0.1) 0", "DEPOLARIZE1(0.8) 0", "DEPOLARIZE2(0.95) 0 1"])
+@pytest.mark.parametrize("line", ["HERALDED_ERASE(0.1) 0", "HERALDED_PAULI_CHANNEL_1(0.1, 0, 0, 0.1) 0", "DEPOLARIZE1(0.8) 0", "DEPOLARIZE2(0.95) 0 1"])
 def test_noise_without_a_model_is_told_with_its_line(line):
     with pytest.raises(stabsim.UnsupportedNoise) as told:
         stabsim.error_model(f"R 0\n{line}\nM 0\n")
@@ -301,8 +301,8 @@ def test_noise_is_taken_out_and_all_else_stays():
            "ELSE_CORRELATED_ERROR(0.1) X1\nMR(0.1)\nOBSERVABLE_INCLUDE(0) rec[-1]\nDETECTOR(1, 2)"
     assert stabsim.without_noise(text) == "# two\nR 0 1 # x\nREPEAT 2 {\n\tm[a(b)]  !0 # M(1)\n}\nMPP X0*X1\nMR\n" \
                                           "OBSERVABLE_INCLUDE(0) rec[-1]\nDETECTOR(1, 2)"
-    with pytest.raises(stabsim.UnsupportedNoise):
-        stabsim.without_noise("HERALDED_ERASE(0.1) 0\n")
+    # The records of heralded errors stay, of a qubit that nothing else names.
+    assert stabsim.without_noise("HERALDED_ERASE(0.1) 0 2  # heralds\n") == "R 3\nMR 3\nMR 3\n"
 
 
 def exact(model):

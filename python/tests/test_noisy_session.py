@@ -12,7 +12,7 @@ from stabsim.collecting import seed_of
 LINES = [
     "R 0 1 2", "H 0", "CX 0 1 1 2", "X 3", "I 0", "M 0 1", "M(0.25) 0 !1", "MR(0.125) 2", "MPP X0*X1 !Z2", "MPP(0.5) X0*Z1", "TICK", "TICK[~a]", "S[~] 1",
     "X_ERROR(0.25) 0 1", "Z_ERROR[why](0.5) 2", "DEPOLARIZE1(0.125) 0", "DEPOLARIZE2(0.0625) 0 1 2 3", "PAULI_CHANNEL_1(0.1, 0, 0) 1",
-    "E(0.25) X0 Z1", "I_ERROR(0.5) 0", "ISWAP 0 1", "SQRT_XX 1 2", "MXX(0.25) 0 1", "MZZ 0 1 2 3", "MPAD 0 1", "MPAD(0.125) 1", "H_XY 0", "XCZ 0 1",
+    "E(0.25) X0 Z1", "I_ERROR(0.5) 0", "ISWAP 0 1", "SQRT_XX 1 2", "MXX(0.25) 0 1", "MZZ 0 1 2 3", "MPAD 0 1", "MPAD(0.125) 1", "HERALDED_ERASE(0.25) 0 1", "HERALDED_PAULI_CHANNEL_1(0, 0.125, 0, 0.25) 2", "H_XY 0", "XCZ 0 1",
     "SPP X0*Y1", "MPP X0*X0", "CZ 1 0", "C_NXYZ 2", "II 0 1", "DETECTOR(1, 2.5) rec[-1]", "OBSERVABLE_INCLUDE(0) rec[-1]", "QUBIT_COORDS(1, 2) 3",
     "SHIFT_COORDS(1)", "CX rec[-1] 2", "CZ 2 rec[-1]", "M[tag] 1", "X[\\B\\n] 0", "DETECTOR", "E(0.5) Z2",
 ]
@@ -138,7 +138,7 @@ def test_what_rides_in_a_tag_is_any_text():
 @pytest.mark.parametrize("item, said", [
     ("X_ERROR(2) 0", "refused 2 BadArguments"), ("X_ERROR 0", "one chance in brackets"), ("DEPOLARIZE2(0.1) 0 0", "two different qubits"),
     ("X_ERROR(0.1) 5000", "refused 6 QubitOutOfRange"), ("X_ERROR(0.1) a", "refused 3 BadTarget"), ("M(1.5) 0", "a number from 0 to 1"),
-    ("E(0.1) Q0", "takes Paulis"), ("NOPE 1", "refused 1 UnsupportedName"), ("ISWAP 0", "no partner"), ("M(0.1) 9", "refused 6"), ("CX 0", "refused 4"),
+    ("E(0.1) Q0", "takes Paulis"), ("HERALDED_PAULI_CHANNEL_1(0.1) 0", "4 chances in brackets"), ("HERALDED_ERASE(0.1) a", "refused 3"), ("NOPE 1", "refused 1 UnsupportedName"), ("ISWAP 0", "no partner"), ("M(0.1) 9", "refused 6"), ("CX 0", "refused 4"),
 ])
 def test_an_item_that_is_refused_is_explained_and_changes_nothing(item, said):
     text = "R 0\nX_ERROR(0.5) 0 # noise\nM 0\n"
@@ -147,8 +147,6 @@ def test_an_item_that_is_refused_is_explained_and_changes_nothing(item, said):
             with pytest.raises(stabsim.Refused) as told:
                 edit(1, item)
             assert said in str(told.value)
-        with pytest.raises(stabsim.UnsupportedNoise):
-            session.insert(1, "HERALDED_ERASE(0.1) 0")
         assert session.circuit(comments=True) == text and not session.undo()
 
 

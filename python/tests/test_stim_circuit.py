@@ -196,13 +196,6 @@ def test_a_refusal_speaks_of_the_users_lines_and_items(text, number, line, said)
     assert (told.value.number, told.value.line) == (number, line) and told.value.explanation.startswith(said), told.value
 
 
-def test_errors_that_make_records_are_refused():
-    for name in ("HERALDED_ERASE(0.1) 0", "HERALDED_PAULI_CHANNEL_1(0, 0, 0, 0.1) 0"):
-        with pytest.raises(stabsim.UnsupportedNoise, match="makes records") as told:
-            stabsim.from_stim(f"R 0\n{name}\n")
-        assert told.value.line == 2
-
-
 def test_noise_takes_no_step_of_the_circuit():
     text = "REPEAT 600000 {\n    X_ERROR(0.1) 0\n    X 0\n}\n"
     assert stabsim.from_stim(text).circuit.numbers().steps == 600_000

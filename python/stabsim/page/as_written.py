@@ -75,7 +75,15 @@ class Given:
             return self.said[self.runs[origin][0]][2]
         line = self.lines[origin - 1]
         parts = line.parts
+        if parts and self.is_heralded(origin):
+            # Its records stay, and are known without noise.
+            return " ".join([line.indentation + "MPAD", *["0"] * len(parts.targets)])
         return line.without_arguments() if parts and parts.arguments and parts.name in names.MEASURING else line.text
+
+    def is_heralded(self, origin: int) -> bool:
+        """Whether a given line has heralded errors."""
+        parts = self.lines[origin - 1].parts
+        return parts is not None and parts.name in names.HERALDED
 
     def is_loose(self, origin: int) -> bool:
         """Whether a given line is a comment, is blank, or says nothing to the program and is no noise."""
@@ -101,7 +109,8 @@ class Given:
     def written(self, circuit: str) -> str:
         """A circuit, as a session writes it, with the given lines in the place of those that are as they were."""
         now = circuit.split("\n")[:-1]
-        pieces = list(self.pieces(now))
+        # No line without noise is read as heralded errors are.
+        pieces = [it for piece in self.pieces(now) for it in (self.apart(piece) if piece.origin and self.is_heralded(piece.origin) else [piece])]
         text = self.text_of(now, pieces)
         # A known record has a qubit of its own, which another circuit may need: then no line stays that is read as others.
         if self.has_rewritten and plain_lines(text) != [line.strip() for line in now]:

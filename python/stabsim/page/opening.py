@@ -62,8 +62,7 @@ def lines_said(notes: tuple[str, ...]) -> str:
 
 
 def opened(given: str, name: str = UNNAMED) -> Opened:
-    """A text of Stim's as a circuit that the program reads, without its noise. A refusal names the line that was given. Raises
-    stabsim.UnsupportedNoise at noise that can't be left out."""
+    """A text of Stim's as a circuit that the program reads, without its noise. A refusal names the line that was given."""
     read = stabsim.from_stim(given)
     if read.circuit is read:
         # The program reads it as it is.
