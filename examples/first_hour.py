@@ -13,14 +13,14 @@ import stabsim
 from stabsim import codes
 from threshold import decoder
 
-# A noisy file, read; the circuit without its noise is what the program runs.
-noisy = stabsim.from_stim(pathlib.Path(__file__).with_name("noisy_surface_code.stim").read_text())
-circuit = noisy.circuit
-print(repr(noisy), circuit.num_qubits, circuit.num_detectors, circuit.num_observables)
+# A noisy file, read.
+circuit = stabsim.Circuit.from_file(pathlib.Path(__file__).with_name("noisy_surface_code.stim"))
+print(repr(circuit), circuit.num_qubits, circuit.num_detectors, circuit.num_observables)
 
 # Which detectors are random, and why; and what could be detected that isn't.
 [bit] = circuit.explain()
-print(f"{bit}, which are lines {noisy.line_of_item[bit.path]} and {noisy.line_of_item[bit.coins[0].path]}")
+lines = {item.path: item.line for item in circuit.walk()}
+print(f"{bit}, which are lines {lines[bit.path]} and {lines[bit.coins[0].path]}")
 [missing] = circuit.missing_detectors()
 print(missing)
 
@@ -30,7 +30,7 @@ one_round = stabsim.Circuit("\n".join(str(item) for item in block.items if item.
 print(one_round.has_flow("Z1*Z3*Z5 -> Z1*Z3*Z5"), one_round.has_flow("X1*X8*X15 -> X1*X8*X15"), one_round.has_flow("Z1 -> Z1"))
 
 # The distance of the noise without the random detector; an edit that mends it, and the distance again, of all errors.
-print(noisy.distance(sure_only=True))
+print(circuit.distance(sure_only=True))
 with circuit.edit() as session:
     session.replace(bit.path, f"DETECTOR(4, 4, 0) rec[{missing.records[0] - 8}]")
     print(session.item(bit.path).strip(), session.deterministic().detectors.all())

@@ -1,8 +1,8 @@
 """The proved simulator of Clifford circuits stabsim, from Python with numpy.
 
-- `Circuit`: a circuit in Stim's text without noise, and what the program says of it, as arrays.
-- `Session`: a circuit with its recorded run, which follows each edit; made by `Circuit.edit`.
-- `from_stim`: any circuit of Stim's, with its noise; `without_noise`: its text without that, which the program reads.
+- `Circuit`: a circuit in Stim's text, with its noise, and what the program says of it, as arrays; `from_stim` judges one at once.
+- `Session`: a circuit with its recorded run, which follows each edit, noise too; made by `Circuit.edit`.
+- `without_noise`: a text without its noise, which the program reads.
 - `NoiseModel`: noise of the literature, put on a circuit; `with_chances` changes its chances.
 - `error_model`: what the noise of a circuit flips, and how often.
 - `collect`: counts logical errors of many error models, on many cores, with a file to go on from.
@@ -32,7 +32,7 @@ if TYPE_CHECKING:
     from stabsim import codes
     from stabsim.asked import Numbers
     from stabsim.causes import Cause
-    from stabsim.circuit import Circuit
+    from stabsim.circuit import Circuit, StimCircuit, from_stim
     from stabsim.circuit_errors import CircuitError
     from stabsim.coins import CoinTable
     from stabsim.collecting import Collection, collect
@@ -51,7 +51,6 @@ if TYPE_CHECKING:
     from stabsim.models import ErrorModel, error_model
     from stabsim.noise_models import NoiseModel
     from stabsim.noise_rules import Channel, with_chances
-    from stabsim.noisy_session import NoisySession
     from stabsim.parities import Parity, SameDistribution
     from stabsim.plotting import plot
     from stabsim.program import find_program
@@ -61,10 +60,9 @@ if TYPE_CHECKING:
     from stabsim.retargeting import Retargeted, retargeted
     from stabsim.script import Path
     from stabsim.seeds import Seeded
-    from stabsim.session import Session
+    from stabsim.session import NoisySession, Session
     from stabsim.session_answers import Changed, ItemSteps, SessionNumbers
     from stabsim.sparse import SparseMatrix
-    from stabsim.stim_circuit import StimCircuit, from_stim
     from stabsim.sums import Sums
     from stabsim.sure import Sure
     from stabsim.totals import combine
@@ -73,7 +71,7 @@ else:
     HOMES = {
         "asked": ("Numbers",),
         "causes": ("Cause",),
-        "circuit": ("Circuit",),
+        "circuit": ("Circuit", "StimCircuit", "from_stim"),
         "circuit_errors": ("CircuitError",),
         "coins": ("CoinTable",),
         "collecting": ("Collection", "collect"),
@@ -90,7 +88,6 @@ else:
         "models": ("ErrorModel", "error_model"),
         "noise_models": ("NoiseModel",),
         "noise_rules": ("Channel", "with_chances"),
-        "noisy_session": ("NoisySession",),
         "parities": ("Parity", "SameDistribution"),
         "plotting": ("plot",),
         "program": ("find_program",),
@@ -100,10 +97,9 @@ else:
         "retargeting": ("Retargeted", "retargeted"),
         "script": ("Path",),
         "seeds": ("Seeded",),
-        "session": ("Session",),
+        "session": ("NoisySession", "Session"),
         "session_answers": ("Changed", "ItemSteps", "SessionNumbers"),
         "sparse": ("SparseMatrix",),
-        "stim_circuit": ("StimCircuit", "from_stim"),
         "sums": ("Sums",),
         "sure": ("Sure",),
         "totals": ("combine",),

@@ -5,20 +5,16 @@ from dataclasses import dataclass
 from typing import get_args
 
 import numpy as np
+from numpy.typing import NDArray
 
 from stabsim import bits, checking, coins, faults, program
 from stabsim.coins import CoinTable
 from stabsim.coordinates import detector_coordinates
 from stabsim.distances import Distance, Letters, distance_of, of_marks, option_words
-from stabsim.errors import Refused
 from stabsim.faults import FaultTable
 from stabsim.random_bits import RandomBit, bit_of
 from stabsim.sampling import Sampled
 from stabsim.sure import Sure, deterministic_of
-
-# What `check` says of noise, and what is added to that.
-WITHOUT_NOISE = "stabsim.without_noise"
-WITH_NOISE = "With its noise stabsim.from_stim(text) is the circuit: it samples, and has an error model."
 
 
 @dataclass(frozen=True)
@@ -51,14 +47,13 @@ class Asked(Sampled):
 
     @functools.cached_property
     def known_numbers(self) -> Numbers:
-        """What `check` says, which is asked for once."""
-        try:
-            lines = program.run(["check"], self.asked).decode().split("\n")
-        except Refused as refused:
-            if WITHOUT_NOISE not in refused.explanation:
-                raise
-            raise Refused(refused.number, refused.name, refused.line, f"{refused.explanation}\n{WITH_NOISE}") from None
+        """The same, which is asked for once."""
+        lines = self.checked().decode().split("\n")
         return Numbers(**{name: int(number) for name, _, number in (line.partition(": ") for line in lines if line)})
+
+    def checked(self) -> bytes:
+        """What `check` says."""
+        return program.run(["check"], self.asked)
 
     def widths(self) -> tuple[int, int, int]:
         """How many records, detectors and observables there are, as the program counts them."""
@@ -110,12 +105,31 @@ class Asked(Sampled):
         >>> print(table, table.paths, table.numbers, table.flipped(0), table.constants())
         <stabsim.CoinTable: 1 coins, 2 records, 1 detectors, 0 observables> ['3'] [0] [0 1 2] [False  True  True]
         """
-        widths = self.widths()
-        words = [["sample"], ["detect", "--append_observables"]]
-        parts = [program.run([*its, "--coins", "", "--out_format", "b8"], self.asked) for its in words]
-        counts = (widths[0], widths[1] + widths[2])
-        constants = np.concatenate([bits.of_b8(part, 1, count)[0] for part, count in zip(parts, counts)])
-        return coins.table_of(program.run(["coins"], self.asked), widths, constants)
+        constants = np.concatenate([self.reference_sample(), *self.reference_signs()])
+        return coins.table_of(program.run(["coins"], self.asked), self.widths(), constants)
+
+    def reference_sample(self) -> NDArray[np.bool_]:
+        """The records of the run without noise in which each random outcome is 0, bool (records,).
+
+        >>> import stabsim
+        >>> stabsim.Circuit("X 0\\nX_ERROR(1) 0\\nM 0\\nMX 1").reference_sample().tolist()
+        [True, False]
+        """
+        records, _, _ = self.widths()
+        found: NDArray[np.bool_] = bits.of_b8(program.run(["sample", "--coins", "", "--out_format", "b8"], self.asked), 1, records)[0]
+        return found
+
+    def reference_signs(self) -> tuple[NDArray[np.bool_], NDArray[np.bool_]]:
+        """The detectors, bool (detectors,), and observables, bool (observables,), of the run of `reference_sample`.
+
+        >>> import stabsim
+        >>> stabsim.Circuit("X 0\\nM 0\\nDETECTOR rec[-1]\\nOBSERVABLE_INCLUDE(0)").reference_signs()
+        (array([ True]), array([False]))
+        """
+        _, detectors, observables = self.widths()
+        both = program.run(["detect", "--append_observables", "--coins", "", "--out_format", "b8"], self.asked)
+        found: NDArray[np.bool_] = bits.of_b8(both, 1, detectors + observables)[0]
+        return found[:detectors], found[detectors:]
 
     def explain(self) -> list[RandomBit]:
         """Why detectors and observables are random: for each that is not the same for all random bits, which coins decide it.

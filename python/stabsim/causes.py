@@ -11,6 +11,7 @@ from stabsim.circuit_errors import CircuitError
 from stabsim.combining import starts_of
 from stabsim.marking import Source
 from stabsim.placing import placed
+from stabsim.profile import profile_of
 from stabsim.reading import Item, items_of, walk
 
 
@@ -38,13 +39,17 @@ class Causes:
     """Which errors of a circuit each mechanism is made of.
 
     sources: the errors by instruction, one after another; mechanisms: int32 (errors,), the mechanism of each error, in the order of the
-    sources and of all of their times, -1 of one that flips nothing; items: those of the circuit with its noise; text: the user's.
+    sources and of all of their times, -1 of one that flips nothing; text: the circuit's, which was judged.
     """
 
     sources: tuple[Source, ...]
     mechanisms: NDArray[np.int32]
-    items: tuple[Item, ...]
     text: str
+
+    @functools.cached_property
+    def items(self) -> tuple[Item, ...]:
+        """The items of the circuit with its noise."""
+        return profile_of(self.text)[0].noisy.items()
 
     @functools.cached_property
     def paths(self) -> dict[int, str]:

@@ -7,7 +7,7 @@ from typing import TYPE_CHECKING, Self
 import numpy as np
 from numpy.typing import NDArray
 
-from stabsim import checking, coordinates, judging
+from stabsim import checking, coordinates, flattening, inverting, judging, sweeping
 from stabsim.parities import Parity, detector_lines
 from stabsim.questions import Questioned
 from stabsim.reading import closed_text
@@ -16,7 +16,6 @@ from stabsim.written import Written
 if TYPE_CHECKING:
     from stabsim.circuit import Circuit
     from stabsim.noise_models import NoiseModel
-    from stabsim.stim_circuit import StimCircuit
 
 
 @dataclass(frozen=True, eq=False)
@@ -34,7 +33,7 @@ class Described(Written, Questioned):
 
         return Circuit(judging.without_noise(self.text))
 
-    def with_noise(self, model: "NoiseModel", *, data: Iterable[int] | None = None) -> "StimCircuit":
+    def with_noise(self, model: "NoiseModel", *, data: Iterable[int] | None = None) -> "Circuit":
         """This circuit, which has no noise, with that of a model: `NoiseModel.on` of it.
 
         >>> import stabsim
@@ -46,6 +45,56 @@ class Described(Written, Questioned):
         from stabsim.noise_models import NoiseModel
 
         return checking.of_kind("model", model, NoiseModel, "a NoiseModel, as stabsim.NoiseModel.sd6(0.001)").on(self.text, data=data)
+
+    @property
+    def num_sweep_bits(self) -> int:
+        """One more than the greatest sweep bit that is named; 0 if none is."""
+        self.numbers()
+        return sweeping.number_of_bits(self.text)
+
+    def with_sweep_bits(self, bits: Iterable[bool]) -> Self:
+        """This circuit with a Pauli, or nothing, in the place of each that a sweep bit decides about; the circuit itself is that of bits 0.
+
+        bits: one for each sweep bit, or more.
+
+        >>> import stabsim
+        >>> c = stabsim.Circuit("CX sweep[0] 0 sweep[1] 1\\nM 0 1")
+        >>> print(c.with_sweep_bits([False, True]), c.sample(1).tolist(), c.with_sweep_bits([False, True]).sample(1).tolist())
+        X 1
+        M 0 1 [[False, False]] [[False, True]]
+        """
+        given = list(checking.several("bits", bits, "[True, False]"))
+        if len(given) < self.num_sweep_bits:
+            raise ValueError(f"bits is {checking.shown(given)}: give {self.num_sweep_bits} bits, one for each sweep bit")
+        return self.of_text(sweeping.with_bits(self.text, given))
+
+    def flattened(self) -> Self:
+        """This circuit with blocks written out and coordinates shifted, so without REPEAT and SHIFT_COORDS; comments are left out. ValueError
+        if it has over two million instructions then.
+
+        >>> import stabsim
+        >>> print(stabsim.Circuit("REPEAT 2 {\\nMR(0.1) 0\\nDETECTOR(5, 0) rec[-1]\\nSHIFT_COORDS(0, 1)\\n}").flattened(), end="")
+        MR(0.1) 0
+        DETECTOR(5, 0) rec[-1]
+        MR(0.1) 0
+        DETECTOR(5, 1) rec[-1]
+        """
+        self.numbers()
+        return self.of_text("".join(f"{item}\n" for item in flattening.flattened(self.items)))
+
+    def inverse(self) -> Self:
+        """The circuit that undoes this one, which has gates, TICK, noise and QUBIT_COORDS alone: the last gate first, each as its inverse.
+        Channels stay what they are, QUBIT_COORDS comes first, and comments are left out. ValueError names the first line without an inverse.
+
+        >>> import stabsim
+        >>> print(stabsim.Circuit("H 0\\nS 0 1\\nX_ERROR(0.1) 0\\nCX 0 1 1 2").inverse(), end="")
+        CX 1 2 0 1
+        X_ERROR(0.1) 0
+        S_DAG 1 0
+        H 0
+        """
+        self.numbers()
+        return self.of_text("".join(f"{item}\n" for item in inverting.inverted(self.items)))
 
     def with_detectors(self, parities: Iterable[Parity | Iterable[int]]) -> Self:
         """This circuit with a DETECTOR at its end for each parity: for one of `missing_detectors`, or for records as numbers from 0.

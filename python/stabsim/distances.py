@@ -11,8 +11,7 @@ from stabsim.reading import items_of, walk
 # Of which letters errors are made: of all, or of X alone and of Z alone.
 Letters = Literal["all", "XZ"]
 FIRST_LINE = re.compile(r"(?:distance (\d+)|none(?: up to (\d+))?)(?: of (all marked errors|all errors everywhere|graph-like errors))?")
-UNMARKED = "no errors, since no place is marked by I, and everywhere=True asks for all places"
-NOISELESS = "no errors, since the circuit has no noise"
+UNMARKED = "no errors, since there is no noise, and no place is marked by I; everywhere=True asks for all places"
 CHANCELESS = "no errors, since the model has none that has a chance"
 
 

@@ -1,7 +1,7 @@
 """Flows: which Paulis a circuit turns into which, up to records. By a reference qubit for each qubit, so for up to 512 qubits."""
 
 import re
-from collections.abc import Iterable, Sequence
+from collections.abc import Iterable, Mapping, Sequence
 from dataclasses import dataclass
 
 from stabsim import checking, targets
@@ -9,7 +9,7 @@ from stabsim.reading import closed_text
 from stabsim.targets import Product
 
 MOST_QUBITS = 512
-RECORD = re.compile(r"rec\[(-?\d+)\]")
+RECORD = re.compile(r"rec\[(-?\d+)\]|obs\[(\d+)\]")
 READER = "stabsim.Flow.of_text('X0 -> Z0')"
 DENSE = re.compile(r"[IXYZ_]+")
 
@@ -19,7 +19,8 @@ class Flow:
     """A Pauli in front of a circuit, and what it has become after it: `X0*Z1 -> -Y2 xor rec[-1]`.
 
     input, output: tuples of pairs of a qubit and its letter, ascending; is_negative: whether the output has a minus; records: tuple of
-    int, records whose parity the output's sign has too, from the end, so -1 is the last.
+    int, records whose parity the output's sign has too, from the end, so -1 is the last; observables: tuple of int, observables of which
+    it has the parity of all records too, as `obs[0]`.
 
     >>> import stabsim
     >>> flow = stabsim.Flow.of_text("_X -> -Z0*X1 xor rec[-2] xor rec[-1]")
@@ -31,31 +32,34 @@ class Flow:
     output: tuple[tuple[int, str], ...]
     is_negative: bool = False
     records: tuple[int, ...] = ()
+    observables: tuple[int, ...] = ()
 
     def __post_init__(self) -> None:
         for name, letters in (("input", self.input), ("output", self.output)):
             if not is_product(letters):
                 raise ValueError(f"{name} is {checking.shown(letters)}: give pairs of a qubit and a letter, as ((0, 'X'),), or take {READER}")
-        if not isinstance(self.records, tuple) or not all(isinstance(it, int) for it in self.records):
-            raise TypeError(f"records is {checking.shown(self.records)}: give a tuple of whole numbers, as (-1,), or take {READER}")
+        for name, numbers in (("records", self.records), ("observables", self.observables)):
+            if not isinstance(numbers, tuple) or not all(isinstance(it, int) for it in numbers):
+                raise TypeError(f"{name} is {checking.shown(numbers)}: give a tuple of whole numbers, as (-1,), or take {READER}")
 
     @classmethod
     def of_text(cls, text: str) -> "Flow":
         """The flow of a text: Paulis as `X0*Z1`, a letter for each qubit as `XZ_`, or 1; records rec[-1] from the end, or rec[0] from
-        the beginning. ValueError if it is misspelt."""
+        the beginning; observables obs[0]. ValueError if it is misspelt."""
         before, arrow, behind = checking.of_kind("text", text, str, "a text, as 'X0 -> Z0 xor rec[-1]'").partition("->")
         words = [word.strip() for word in re.split(r"\bxor\b", behind)]
         if not arrow:
             raise ValueError(f"{checking.shown(text)} is no flow, as X0 -> Z0 xor rec[-1]")
         paulis, records = ("1", words) if RECORD.fullmatch(words[0]) else (words[0], words[1:])
         first, second = signed(before.strip(), text), signed(paulis, text)
-        found = set[int]()
+        found, observables = set[int](), set[int]()
         for word in records:
             record = RECORD.fullmatch(word)
             if not record:
-                raise ValueError(f"{checking.shown(word)} of {checking.shown(text)} is no record, as rec[-1]")
-            found ^= {int(record[1])}
-        return cls(first[1], second[1], first[0] ^ second[0], tuple(sorted(found)))
+                raise ValueError(f"{checking.shown(word)} of {checking.shown(text)} is no record, as rec[-1], and no observable, as obs[0]")
+            found ^= {int(record[1])} if record[1] else set()
+            observables ^= {int(record[2])} if record[2] else set()
+        return cls(first[1], second[1], first[0] ^ second[0], tuple(sorted(found)), tuple(sorted(observables)))
 
     @property
     def qubits(self) -> int:
@@ -64,7 +68,8 @@ class Flow:
 
     def __str__(self) -> str:
         words = [f"{'-' * self.is_negative}{pauli_text(self.output)}", *(f"rec[{record}]" for record in self.records)]
-        if not self.output and not self.is_negative and self.records:
+        words += [f"obs[{observable}]" for observable in self.observables]
+        if not self.output and not self.is_negative and len(words) > 1:
             words = words[1:]
         return f"{pauli_text(self.input)} -> {' xor '.join(words)}"
 
@@ -74,6 +79,13 @@ class Flow:
         if not all(0 <= record < records for record in found):
             raise IndexError(f"{self} names a record that is none of {records}")
         return found
+
+    def with_records(self, of_observables: Mapping[int, set[int]], records: int) -> "Flow":
+        """This flow with the records of its observables in their place, of a circuit with this many records."""
+        found = set(self.placed(records))
+        for observable in self.observables:
+            found ^= of_observables.get(observable, set())
+        return Flow(self.input, self.output, self.is_negative, tuple(sorted(found)))
 
     def joint(self, qubits: int) -> Product:
         """The letters of its output, and those of its input on the references of this many qubits."""

@@ -76,7 +76,7 @@ def by_itself(session: "Session", number: int, is_record: bool) -> Found:
 
 
 def put_in(session: "Session", errors: Iterable[CircuitError]) -> None:
-    """Puts errors in, the last one first, so that the places of the others stay."""
+    """Puts errors in, the last one first, so that the places of the others stay. They may be on spare qubits: these are reset before a record."""
     every = list(errors)
     for error in sorted((it for it in every if it.record is None), key=lambda it: -it.steps):
         put_paulis(session, error)
@@ -95,10 +95,10 @@ def put_paulis(session: "Session", error: CircuitError) -> None:
         first, second = (str(replace(session.plain(found.item), targets=its)) for its in (found.item.targets[:cut], found.item.targets[cut:]))
         *outer, last = path.split("/")
         path = "/".join([*outer, str(int(last) + 1)])
-        session.insert(path, second)
-        session.replace(found.path, first)
+        session.insert_item(path, second)
+        session.replace_item(found.path, first)
     for qubit, letter in error.paulis:
-        session.insert(path, f"{letter} {qubit}")
+        session.insert_item(path, f"{letter} {qubit}")
 
 
 def invert(session: "Session", record: int) -> None:
@@ -108,4 +108,4 @@ def invert(session: "Session", record: int) -> None:
     targets = list(found.item.targets)
     target = targets[found.offset]
     targets[found.offset] = target.removeprefix("!") if target.startswith("!") else f"!{target}"
-    session.replace(found.path, str(replace(session.plain(found.item), targets=tuple(targets))))
+    session.replace_item(found.path, str(replace(session.plain(found.item), targets=tuple(targets))))

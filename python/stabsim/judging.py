@@ -9,8 +9,9 @@ from stabsim.reading import content_of
 
 def judged(text: str) -> Profile:
     """The texts that one of Stim's becomes, once the program has judged them. Of several faults the first line's is raised."""
-    if is_read(text):
-        return Profile.of_read(text)
+    said = said_of(text)
+    if said is not None:
+        return Profile.of_read(text, said)
     profile = becoming(text)
     try:
         program.run(["check"], profile.judged.text)
@@ -19,16 +20,15 @@ def judged(text: str) -> Profile:
     return profile
 
 
-def is_read(text: str) -> bool:
-    """Whether the program reads a text as it is, which takes far less time than to look at each line. Raises Refused if it is too long
-    for the program, with its noise or without it."""
+def said_of(text: str) -> bytes | None:
+    """What the program's `check` says of a text that it reads as it is, which takes far less time than to look at each line; None if it
+    does not. Raises Refused if the text is too long for the program, with its noise or without it."""
     try:
-        program.run(["check"], text)
+        return program.run(["check"], text)
     except Refused as refused:
         if refused.name == "TooLong":
             raise
-        return False
-    return True
+        return None
 
 
 def becoming(text: str) -> Profile:
@@ -63,7 +63,7 @@ def without_noise(text: str) -> str:
     """The circuit of a text of Stim's without its noise: channels are left out, and measurements lose the chance of a wrong record.
 
     Instructions that the program does not read become those that it reads, as by `from_stim`. Everything else stays as it is written,
-    comments too. Raises stabsim.UnsupportedNoise at heralded errors, which make records.
+    comments too. Heralded errors leave their records, which are then 0.
 
     >>> import stabsim
     >>> print(stabsim.without_noise('''R 0 1
@@ -73,4 +73,4 @@ def without_noise(text: str) -> str:
     MPP X0*X1 # a check
     """
     checking.text("text", text, "stabsim.Circuit.from_file(path)")
-    return text if is_read(text) else becoming(text).circuit.text
+    return becoming(text).circuit.text if said_of(text) is None else text

@@ -136,7 +136,7 @@ class Marker:
         if found is not None:
             return found
         if not self.approximate:
-            raise UnsupportedNoise(items[-1].line, f"no independent errors were found that make {items[-1].name}; with "
+            raise UnsupportedNoise(items[-1].line, "no independent errors were found that make this noise; with "
                                                    "approximate_disjoint_errors its disjoint errors are taken for independent ones")
         self.approximated |= {item.line for item in items}
         return disjoint

@@ -12,22 +12,24 @@ import numpy as np
 from numpy.typing import NDArray
 
 from stabsim import bits, checking, chunks, combining, dem, drawing, program, sparse
+from stabsim.asked import Asked
 from stabsim.causes import Cause, Causes
-from stabsim.circuit import Circuit
 from stabsim.circuit_errors import CircuitError
 from stabsim.coordinates import detector_rows, places_of
 from stabsim.decomposing import Parts, parts_of
 from stabsim.distances import Distance
 from stabsim.errors import Refused
 from stabsim.faults import FaultTable
+from stabsim.gauges import Basis, gauges_of, table_with_gauges, with_gauges
 from stabsim.judging import in_users_words, judged
-from stabsim.marking import Marked, Source, marked
+from stabsim.marking import Marked, marked
 from stabsim.model_distance import distance_of_model, sat_problem_of_model
 from stabsim.profile import Profile
 from stabsim.seeds import SeededBits, SeededBytes, drawn_seed, seeded
+from stabsim.sourced import errors_of
 
 if TYPE_CHECKING:
-    from stabsim.stim_circuit import StimCircuit
+    from stabsim.circuit import Circuit
 
 Bits = NDArray[np.bool_]
 Packed = NDArray[np.uint8]
@@ -202,10 +204,13 @@ class ErrorModel:
         distance 2 of all errors (0, 1) [('X0', 2), ('X1', 2)]
         """
         found = distance_of_model(self, most, graphlike)
-        return found if self.causes is None else replace(found, errors=tuple(self.error_of(it, self.causes) for it in found.mechanisms))
+        if self.causes is None or not all(self.causes.of(it) for it in found.mechanisms):
+            # It was read, or a coin makes one.
+            return found
+        return replace(found, errors=tuple(self.error_of(it, self.causes) for it in found.mechanisms))
 
     def shortest_error_sat_problem(self) -> str:
-        """The same question as a text for MaxSAT solvers, in their format `p wcnf`: an assignment that breaks W of the clauses of weight 1,
+        r"""The same question as a text for MaxSAT solvers, in their format `p wcnf`: an assignment that breaks W of the clauses of weight 1,
         and no other, is a set of W mechanisms that flip an observable and no detector, and each such set is one. Variable k says that the
         k-th mechanism that has a chance happens.
 
@@ -317,21 +322,21 @@ class ErrorModel:
         return (self.sample(count, seed=seed, first_shot=first) for first, count in parts)
 
 
-def error_model(circuit: "str | Circuit | StimCircuit", *, decompose: bool = False, ignore_decomposition_failures: bool = False,
-                approximate_disjoint_errors: bool = False, sure_only: bool = False) -> ErrorModel:
-    """The detector error model of a circuit of Stim's with noise: of its text, or what `from_stim` made of it. That of a `Circuit`, which has
-    no noise, has no mechanisms; ValueError if its file had some.
+def error_model(circuit: "str | Circuit", *, decompose: bool = False, ignore_decomposition_failures: bool = False,
+                approximate_disjoint_errors: bool = False, sure_only: bool = False, allow_gauge_detectors: bool = False) -> ErrorModel:
+    """The detector error model of a circuit with noise, or of its text. One without noise has no mechanisms.
 
     The circuit's noise may be X_ERROR, Y_ERROR, Z_ERROR, DEPOLARIZE1, DEPOLARIZE2, PAULI_CHANNEL_1, PAULI_CHANNEL_2, E with perhaps
-    ELSE_CORRELATED_ERROR after it, and a chance of a wrong record, as M(0.01), on all measurements; stabsim.UnsupportedNoise names
-    the line of other noise. The program says what single errors flip. Errors that flip the same are joined, and those that flip
-    nothing are left out. stabsim.Refused names lines and items of the user's text.
+    ELSE_CORRELATED_ERROR after it, HERALDED_ERASE, HERALDED_PAULI_CHANNEL_1, and a chance of a wrong record, as M(0.01), on all
+    measurements; stabsim.UnsupportedNoise names the line of noise that is not made of independent errors. The program says what single
+    errors flip. Errors that flip the same are joined, and those that flip nothing are left out. stabsim.Refused names lines and items of
+    the user's text.
 
     decompose: name for each mechanism that flips more than two detectors others that flip the same together, for decoders by
     matching; stabsim.NotDecomposed names one that has none, or with ignore_decomposition_failures it stays whole.
-    approximate_disjoint_errors: if a PAULI_CHANNEL, or E with ELSE_CORRELATED_ERROR, is no product of independent errors, take its
-    disjoint errors for such; the model names these lines. sure_only: leave out detectors and observables that coins decide, which else
-    are refused.
+    approximate_disjoint_errors: if a PAULI_CHANNEL, heralded errors, or E with ELSE_CORRELATED_ERROR, are no product of independent errors,
+    take the disjoint errors for such; the model names these lines. sure_only: leave out detectors and observables that coins decide, which else
+    are refused. allow_gauge_detectors: take what coins flip, if that is detectors alone, for errors of chance a half.
 
     >>> import stabsim
     >>> print(stabsim.error_model("R 0\\nX_ERROR(0.25) 0\\nM 0\\nDETECTOR(1) rec[-1]\\n").dem, end="")
@@ -339,35 +344,38 @@ def error_model(circuit: "str | Circuit | StimCircuit", *, decompose: bool = Fal
     detector(1) D0
     """
     profile = profile_of(circuit)
-    marks, table = faults_of(profile, approximate_disjoint_errors, sure_only)
+    basis = gauges_of(profile.circuit.text) if allow_gauge_detectors else {}
+    marks, table = faults_of(profile, approximate_disjoint_errors, sure_only, basis)
     model = model_of(marks, table, detector_rows(places_of(profile.circuit.items())), profile)
-    if not decompose:
-        return model
-    numbered = parts_of(model.chances, model.indptr, model.indices, model.num_detectors, ignore_decomposition_failures)
+    if basis:
+        model = with_gauges(model, basis)
+    return decomposed(model, ignore_decomposition_failures) if decompose else model
+
+
+def decomposed(model: ErrorModel, ignore_failures: bool) -> ErrorModel:
+    """A model with parts, of mechanisms of which no two flip the same."""
+    numbered = parts_of(model.chances, model.indptr, model.indices, model.num_detectors, ignore_failures)
     return replace(model, parts=Parts.of_mechanisms(numbered, model.indptr, model.indices))
 
 
-def profile_of(circuit: "str | Circuit | StimCircuit") -> Profile:
+def profile_of(circuit: "str | Circuit") -> Profile:
     """What a circuit becomes for the program, with its noise beside it."""
-    if isinstance(circuit, Circuit):
-        if circuit.left_out:
-            raise ValueError(f"circuit is {circuit!r}: give what stabsim.from_stim reads, which keeps its noise")
-        circuit = circuit.text
-    if not isinstance(getattr(circuit, "profile", None), Profile):
-        circuit = checking.of_kind("circuit", circuit, str, "a text of a circuit, or what stabsim.from_stim(text) reads")
-    return judged(circuit) if isinstance(circuit, str) else circuit.profile
+    if isinstance(circuit, Asked) and isinstance(getattr(circuit, "profile", None), Profile):
+        found: Profile = circuit.profile
+        return found
+    return judged(checking.of_kind("circuit", circuit, str, "a text of a circuit, or a stabsim.Circuit"))
 
 
-def faults_of(profile: Profile, approximate: bool, sure_only: bool) -> tuple[Marked, FaultTable]:
-    """The circuit of a text with noise, with marks, and the table of its faults."""
+def faults_of(profile: Profile, approximate: bool, sure_only: bool, basis: Basis) -> tuple[Marked, FaultTable]:
+    """The circuit of a text with noise, with marks, and the table of its faults; basis: of its gauges."""
     circuit = marked(profile.noisy.items(), approximate)
     try:
-        return circuit, Circuit(circuit.text).faults(sure_only=sure_only)
+        return circuit, table_with_gauges(circuit.text, basis) if basis else Asked(circuit.text).faults(sure_only=sure_only)
     except Refused as refused:
         # Its places are those of the text with marks. What a coin decides is refused of the judged text too, by the user's items.
         if refused.name == "NotDeterministic":
             try:
-                Circuit(profile.judged.text).faults()
+                Asked(profile.judged.text).faults()
             except Refused as again:
                 raise in_users_words(again, profile) from None
         raise Refused(refused.number, refused.name, None, MARKS_COUNT if refused.name == "TooManySteps" else "") from None
@@ -385,20 +393,4 @@ def model_of(circuit: Marked, table: FaultTable, coordinates: NDArray[np.float64
         np.concatenate(nothing + [columns for _, _, columns in parts]),
     )
     return ErrorModel(joined.chances, joined.indptr, joined.indices, table.num_detectors, table.num_observables, coordinates, circuit.approximated,
-                      causes=Causes(tuple(circuit.sources), joined.mechanisms.astype(np.int32), profile.noisy.items(), profile.text))
-
-
-def errors_of(source: Source, table: FaultTable) -> tuple[NDArray[np.float64], NDArray[np.int64], NDArray[np.int64]]:
-    """The errors of a source: the chance of each, and pairs of an error and what it flips, ascending."""
-    marks = source.all_marks()
-    rows = []
-    errors = []
-    for place, letter in enumerate(source.letters):
-        # X of a mark is an even line of the table, and Z the odd one after it; Y is both.
-        for second in [0] * (letter in "XY") + [1] * (letter in "ZY"):
-            rows.append(2 * marks[:, place] + second)
-            errors.append(np.arange(len(marks)))
-    of_row, columns = combining.rows_of(np.concatenate(rows), table.indptr, table.indices)
-    width = table.num_detectors + table.num_observables
-    sets, columns = combining.odd(np.concatenate(errors)[of_row], columns, width)
-    return np.full(len(marks), source.chance), sets, columns
+                      causes=Causes(tuple(circuit.sources), joined.mechanisms.astype(np.int32), profile.text))

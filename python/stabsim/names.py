@@ -4,9 +4,12 @@
 ONE_QUBIT = ("I", "X", "Y", "Z", "H", "S", "S_DAG", "SQRT_X", "SQRT_X_DAG", "SQRT_Y", "SQRT_Y_DAG", "C_XYZ", "C_ZYX")
 CONTROLLED = ("CX", "CY", "CZ")
 TWO_QUBITS = (*CONTROLLED, "SWAP")
+# Whose pairs may have a record, with those of Stim's that the program does not read.
+FED_BACK = (*CONTROLLED, "XCZ", "YCZ")
 MEASUREMENTS = ("M", "MX", "MY", "MR", "MRX", "MRY", "MPP")
 # With those of Stim's that the program does not read, whose arguments are also the chance of a wrong record.
-MEASURING = (*MEASUREMENTS, "MXX", "MYY", "MZZ", "MPAD")
+PAIRS = ("MXX", "MYY", "MZZ")
+MEASURING = (*MEASUREMENTS, *PAIRS, "MPAD")
 RESETS = ("R", "RX", "RY")
 ANNOTATIONS = ("DETECTOR", "OBSERVABLE_INCLUDE", "TICK", "QUBIT_COORDS", "SHIFT_COORDS")
 READ = frozenset((*ONE_QUBIT, *TWO_QUBITS, *MEASUREMENTS, *RESETS, *ANNOTATIONS))
@@ -21,7 +24,7 @@ CORRELATED = (FIRST, ELSE)
 NOISE = (*CHANNELS, *CORRELATED)
 # Channels that do nothing.
 IDLE = ("I_ERROR", "II_ERROR")
-# Noise that makes records.
+# Noise that makes records, each of which says whether an error happened.
 HERALDED = ("HERALDED_ERASE", "HERALDED_PAULI_CHANNEL_1")
 # Whatever is no instruction of a circuit without noise.
 UNREAD_NOISE = frozenset((*NOISE, *IDLE, *HERALDED))

@@ -3,22 +3,19 @@
 import functools
 
 from stabsim import names, targets
-from stabsim.errors import UnsupportedNoise
 from stabsim.reading import Parts, is_number
 from stabsim.rewriting import WrongWord, pairs
 
 # How many chances a channel takes, if not one. Channels that do nothing take any number.
-COUNTS = {"PAULI_CHANNEL_1": 3, "PAULI_CHANNEL_2": 15}
+COUNTS = {"PAULI_CHANNEL_1": 3, "PAULI_CHANNEL_2": 15, "HERALDED_PAULI_CHANNEL_1": 4}
 ON_PAIRS = ("DEPOLARIZE2", "PAULI_CHANNEL_2", "II_ERROR")
 # What disjoint chances may add up to: fifteen that were written in six digits each.
 MOST_IN_ALL = 1.0000001
 CHANCE = "0123456789+-.eE"
 
 
-def check_channel(line: Parts, line_number: int, before: str) -> None:
+def check_channel(line: Parts, before: str) -> None:
     """Raises what is wrong with a channel; before: the name of the instruction on the line before it."""
-    if line.name in names.HERALDED:
-        raise UnsupportedNoise(line_number, f"{line.name} makes records, so that what is without it is another circuit")
     if line.name == names.ELSE and before not in names.CORRELATED:
         raise WrongWord("", 1, "UnsupportedName", f"{names.ELSE} follows {names.FIRST} or another {names.ELSE} on the line before it.")
     count = len(line.arguments) if line.name in names.IDLE else COUNTS.get(line.name, 1)

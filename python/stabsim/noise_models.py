@@ -2,14 +2,10 @@
 
 from collections.abc import Iterable
 from dataclasses import dataclass
-from typing import TYPE_CHECKING
 
 from stabsim import checking
+from stabsim.circuit import Circuit, circuit_text, from_stim
 from stabsim.noise_placing import Placing, text_with_noise
-from stabsim.stim_circuit import StimCircuit, circuit_text, from_stim
-
-if TYPE_CHECKING:
-    from stabsim.circuit import Circuit
 
 
 @dataclass(frozen=True)
@@ -77,13 +73,13 @@ class NoiseModel(Placing):
         """Errors of data qubits in front of each round, and wrong records of checks: of products and of qubits that are no data qubits."""
         return cls(data=chance, each_round=True, record=chance, product=chance, checks_alone=True)
 
-    def on(self, circuit: "str | Circuit | StimCircuit", *, data: Iterable[int] | None = None) -> StimCircuit:
+    def on(self, circuit: str | Circuit, *, data: Iterable[int] | None = None) -> Circuit:
         """A circuit without noise, with the noise of this model: its lines stay, and those of noise come between them.
 
         circuit: any of Stim's, perhaps as text. data: the data qubits, if they are others than those that the circuit shows.
         Raises ValueError if the circuit has noise already or an instruction that the model has not, and stabsim.Refused as `from_stim`.
         """
-        given = circuit if isinstance(circuit, StimCircuit) else from_stim(circuit_text(circuit))
+        given = circuit if isinstance(circuit, Circuit) else from_stim(circuit_text(circuit))
         if given.left_out:
             raise ValueError(f"this circuit has noise, which stabsim.without_noise(text) takes out: {given.left_out[0]}")
         qubits = None if data is None else [checking.whole("a data qubit", it) for it in checking.several("data", data, "[0, 3]")]

@@ -5,9 +5,9 @@ from collections.abc import Callable, Iterable, Iterator
 from dataclasses import dataclass
 
 from stabsim import checking, names
+from stabsim.circuit import Circuit, circuit_text, from_stim
 from stabsim.noise_placing import number_text, products_of
 from stabsim.reading import Instruction, Line, headed, lines_of
-from stabsim.stim_circuit import StimCircuit, circuit_text, from_stim
 from stabsim.targets import qubits_of
 
 # How many targets a channel has that is on single qubits or pairs.
@@ -42,7 +42,7 @@ class Channel:
 Rule = Callable[[Channel], float | Iterable[float]]
 
 
-def with_chances(circuit: str | StimCircuit, rule: Rule) -> StimCircuit:
+def with_chances(circuit: str | Circuit, rule: Rule) -> Circuit:
     """A noisy circuit whose chances are those that a rule gives of each channel; all else stays.
 
     circuit: any of Stim's, perhaps as text. rule: a function of a channel to its chance, or to all of its chances. One of 0 has no line.
@@ -72,8 +72,8 @@ def lines_by(line: Line, rule: Rule) -> Iterator[str]:
         return
     for chances, run in runs:
         head, is_record = headed(run[0].name, run[0].tag), run[0].name in names.MEASURING
-        # Without an error in front, one that may happen if it did not would be another's.
-        if any(chances) or run[0].name in names.CORRELATED:
+        # Without an error in front, one that may happen if it did not would be another's; and records stay.
+        if any(chances) or run[0].name in (*names.CORRELATED, *names.HERALDED):
             head += f"({', '.join(map(number_text, chances))})"
         elif not is_record:
             continue
@@ -95,7 +95,7 @@ def chances_by(channel: Channel, rule: Rule) -> Chances:
 def channels_of(line: Line) -> Iterator[Channel]:
     """The channels of a line, in its order; none if it has no noise."""
     parts = line.parts
-    if not parts or not parts.arguments or parts.name not in (*names.NOISE, *names.MEASURING):
+    if not parts or not parts.arguments or parts.name not in (*names.NOISE, *names.HERALDED, *names.MEASURING):
         return
     chances = tuple(Instruction(line.number, *parts).numbers())
     targets = tuple(products_of(parts)) if parts.name == "MPP" else parts.targets

@@ -5,7 +5,8 @@ from dataclasses import replace
 
 from stabsim.circuit_errors import CircuitError
 from stabsim.inserting import total
-from stabsim.marking import Source
+from stabsim.marking import Source, paulis_of
+from stabsim.names import FIRST
 from stabsim.noisy_shots import without_channels
 from stabsim.reading import Block, Instruction, Item
 
@@ -23,11 +24,17 @@ def placed(items: Sequence[Item], source: Source, rounds: Sequence[int], at: int
             records += rounds[0] * total(without_channels(item.items), True)
             record = None if inner.record is None else records + inner.record
             return replace(inner, steps=steps + inner.steps, path=f"{place}/{inner.path}", record=record)
-        if isinstance(item, Instruction) and (item.line, item.name) == (source.line, source.name):
+        if isinstance(item, Instruction) and is_of(item, source):
             return at_item(item, source, at, CircuitError(steps, str(place), record=records))
         quiet = list(without_channels([item]))
         steps, records, place = steps + total(quiet, False), records + total(quiet, True), place + len(quiet)
     raise ValueError(f"there is no noise in line {source.line}")
+
+
+def is_of(item: Instruction, source: Source) -> bool:
+    """Whether an item has the error of a source. Of a line of heralded errors each target has an item."""
+    is_named = (item.line, item.name) == (source.line, source.name)
+    return is_named and (item.name != FIRST or paulis_of(item).keys() <= set(source.targets))
 
 
 def at_item(item: Instruction, source: Source, at: int, before: CircuitError) -> CircuitError:

@@ -9,15 +9,15 @@ from dataclasses import dataclass, field
 from typing import NamedTuple
 
 from stabsim import names, quoting
-from stabsim.errors import Refused, UnsupportedNoise
+from stabsim.errors import Refused
+from stabsim.heralds import heralded
 from stabsim.noise_lines import check_channel, check_measurement
-from stabsim.reading import Instruction, Item, Line, Parts, content_of, items_of, lines_of
+from stabsim.reading import Instruction, Item, Line, Parts, content_of, is_number, items_of, lines_of
 from stabsim.rewriting import WrongWord, rewritten
+from stabsim.sweeping import is_swept
 from stabsim.targets import LONG_NUMBER, qubits_of
 
 MOST_QUBITS = 1024
-
-Fault = Refused | UnsupportedNoise
 
 
 @dataclass
@@ -42,6 +42,27 @@ class Copy:
         return items_of(Line(origin, line, content_of(line)) for line, origin in zip(self.lines, self.origins))
 
 
+@dataclass
+class Unchanged:
+    """A text as a copy of itself, whose lines are looked at if they are asked for."""
+
+    text: str
+
+    @functools.cached_property
+    def lines(self) -> list[str]:
+        """Its lines."""
+        return self.text.split("\n")
+
+    @functools.cached_property
+    def origins(self) -> list[int]:
+        """The number of each."""
+        return list(range(1, len(self.lines) + 1))
+
+    def items(self) -> tuple[Item, ...]:
+        """Its items."""
+        return items_of(self.text)
+
+
 class Made(NamedTuple):
     """What one line becomes in each text of a profile, and what is left out of it, if it has noise."""
 
@@ -56,35 +77,35 @@ class Profile:
     """The texts that one of Stim's becomes.
 
     text: Stim's; circuit: without noise; noisy: with the channels and chances that do something; judged: as the circuit, with lines that name the
-    qubits of channels and do nothing, so that the program judges these too; left_out: what is left out of each line of noise.
+    qubits of channels and do nothing, so that the program judges these too; left_out: what is left out of each line of noise; said: what
+    `check` says of the text, if the program reads it as it is.
     """
 
     text: str
-    circuit: Copy = field(default_factory=Copy)
-    noisy: Copy = field(default_factory=Copy)
-    judged: Copy = field(default_factory=Copy)
+    circuit: Copy | Unchanged = field(default_factory=Copy)
+    noisy: Copy | Unchanged = field(default_factory=Copy)
+    judged: Copy | Unchanged = field(default_factory=Copy)
     left_out: dict[int, str] = field(default_factory=dict)
+    said: bytes | None = None
 
     @classmethod
-    def of_read(cls, text: str) -> "Profile":
+    def of_read(cls, text: str, said: bytes) -> "Profile":
         """The profile of a text that the program reads, which stays as it is."""
-        lines = text.split("\n")
-        copy = Copy(lines, list(range(1, len(lines) + 1)))
-        return cls(text, copy, copy, copy)
+        copy = Unchanged(text)
+        return cls(text, copy, copy, copy, said=said)
 
     def add(self, origin: int, made: Made) -> None:
         """Adds what one line becomes in each text."""
-        self.circuit.add(made.circuit, origin)
-        self.noisy.add(made.noisy, origin)
-        self.judged.add(made.judged, origin)
+        for copy, lines in ((self.circuit, made.circuit), (self.noisy, made.noisy), (self.judged, made.judged)):
+            assert isinstance(copy, Copy), "the program does not read the text as it is"
+            copy.add(lines, origin)
         if made.left_out:
             self.left_out[origin] = made.left_out
 
 
-def profile_of(text: str) -> tuple[Profile, Fault | None]:
+def profile_of(text: str) -> tuple[Profile, Refused | None]:
     """The texts that a text of Stim's becomes, and None; or those of the lines in front of the first line that can't become such, and
-    why it can't: stabsim.UnsupportedNoise at heralded errors, which make records, and stabsim.Refused at other noise that Stim refuses,
-    and at targets that an instruction which the program does not read can't have."""
+    why it can't: stabsim.Refused at noise that Stim refuses, and at targets that an instruction which the program does not read can't have."""
     profile = Profile(text)
     # Most circuits need no qubit of its own for known records, and it takes another look at the whole text.
     spare = functools.cache(lambda: spare_qubit(text))
@@ -96,8 +117,6 @@ def profile_of(text: str) -> tuple[Profile, Fault | None]:
         except WrongWord as wrong:
             said = quoting.quoted(line, wrong.word, wrong.cure, is_argument=wrong.name == "BadArguments")
             return profile, Refused(wrong.number, wrong.name, line.number, said)
-        except UnsupportedNoise as unsupported:
-            return profile, unsupported
         if line.content:
             before = parts.name if parts else ""
     return profile, None
@@ -108,16 +127,20 @@ def made_of(line: Line, parts: Parts | None, before: str, spare: Callable[[], in
     if parts is None or line.opens or (len(line.text) > 4000 and LONG_NUMBER.search(line.text)):
         return Made([line.text], [line.text], [line.text])
     if parts.name in names.UNREAD_NOISE:
-        return channel(line, parts, before)
+        return channel(line, parts, before, spare)
     return instruction(line, parts, spare)
 
 
-def channel(line: Line, parts: Parts, before: str) -> Made:
-    """What a channel becomes: a line with its qubits that does nothing is judged in its place."""
-    check_channel(parts, line.number, before)
+def channel(line: Line, parts: Parts, before: str, spare: Callable[[], int]) -> Made:
+    """What a channel becomes: a line with its qubits that does nothing is judged in its place, beside the records that it makes."""
+    check_channel(parts, before)
     qubits = (target[1:] for target in parts.targets) if parts.name in names.CORRELATED else parts.targets
-    noisy = [] if parts.name in names.IDLE else [line.text]
-    return Made([], noisy, [" ".join(["QUBIT_COORDS", *qubits])], line.content)
+    judged = " ".join(["QUBIT_COORDS", *qubits])
+    if parts.name in names.HERALDED:
+        made = heralded(parts, spare)
+        noisy, quiet = ([line.indentation + str(Instruction(line.number, *it)) for it in made if it.name not in left] for left in ((), names.NOISE))
+        return Made(quiet, noisy, [judged, *quiet], line.content)
+    return Made([], [] if parts.name in names.IDLE else [line.text], [judged], line.content)
 
 
 def instruction(line: Line, parts: Parts, spare: Callable[[], int]) -> Made:
@@ -137,17 +160,24 @@ def instruction(line: Line, parts: Parts, spare: Callable[[], int]) -> Made:
     noisy, quiet = ([line.indentation + it for it in lines] for lines in (written, without))
     if quiet and hash_sign:
         quiet[0] += f" #{comment}"
-    return Made(quiet, noisy, quiet, left_out)
+    # Qubits about which sweep bits decide are judged too.
+    swept = [" ".join(["QUBIT_COORDS", *filter(is_number, parts.targets)])] if is_swept(parts) else []
+    return Made(quiet, noisy, [*quiet, *swept], left_out)
+
+
+def qubits_named(text: str, *, noise: bool = True) -> set[int]:
+    """The qubits that a text names; noise: those that channels alone name too."""
+    named: set[int] = set()
+    for line in lines_of(text):
+        if line.parts and not line.opens and line.parts.name != "MPAD" and (noise or line.parts.name not in names.UNREAD_NOISE):
+            named.update(*(qubits_of(target) for target in line.parts.targets if "[" not in target))
+    # A greater one is refused.
+    return named & set(range(MOST_QUBITS))
 
 
 def spare_qubit(text: str) -> int:
     """The qubit next to the greatest that a text names, or if there is none the lowest that it does not name."""
-    named: set[int] = set()
-    for line in lines_of(text):
-        if line.parts and not line.opens and line.parts.name != "MPAD":
-            named.update(*(qubits_of(target) for target in line.parts.targets if "[" not in target))
-    # A greater one is refused.
-    named &= set(range(MOST_QUBITS))
+    named = qubits_named(text)
     beyond = max(named, default=-1) + 1
     candidates: list[int] = [beyond, *range(beyond)]
     for qubit in candidates:

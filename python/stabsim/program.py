@@ -18,7 +18,7 @@ REFUSAL = re.compile(r"^stabsim: (?:line (\d+): )?refused (\d+) (\w+)$", re.MULT
 
 # A text that no instruction has, and a file's name may be.
 FILE_NAME = re.compile(r"[^\s#(\[{*]*[./][^\s#(\[{*]*")
-NO_FILE = "\nIf this is the name of a file, stabsim.Circuit.from_file(name) reads it, and with its noise stabsim.StimCircuit.from_file(name)."
+NO_FILE = "\nIf this is the name of a file, stabsim.Circuit.from_file(name) reads it."
 
 WHAT_TO_DO = (
     "Build it by `./stabsim --version` at the top of its repository, and use this package from there, "

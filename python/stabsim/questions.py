@@ -10,35 +10,44 @@ from stabsim import checking, flow_group, missing, parities
 from stabsim.asked import Asked
 from stabsim.flows import Flow, SameFlows, asking_text
 from stabsim.parities import Parity, SameDistribution
+from stabsim.reading import items_of
+from stabsim.record_sums import observable_records
 
 
 @dataclass(frozen=True)
 class Questioned(Asked):
     """A circuit as what is asked of its records and flows."""
 
-    def has_flow(self, flow: str | Flow) -> bool:
+    def has_flow(self, flow: str | Flow, *, unsigned: bool = False) -> bool:
         """Whether the circuit turns a Pauli in front of it into one after it, up to records, signs included. docs/use/flows.md says more.
 
-        flow: as "X0*Z1 -> -Y2 xor rec[-1]"; 1 is no Pauli. The circuit and the flow name up to 512 qubits, and those that the circuit does
-        not name stay as they are. ValueError or IndexError at a misspelt flow.
+        flow: as "X0*Z1 -> -Y2 xor rec[-1] xor obs[0]"; 1 is no Pauli, and obs[0] all records of that observable. The circuit and the flow
+        name up to 512 qubits, and those that the circuit does not name stay as they are. unsigned: whatever the sign. ValueError or
+        IndexError at a misspelt flow.
 
         >>> import stabsim
-        >>> c = stabsim.Circuit("MPP X0*X1")
-        >>> [c.has_flow(it) for it in ("X0 -> X1 xor rec[-1]", "X0 -> X1", "1 -> XX xor rec[-1]", "Z0 -> Z0")]
-        [True, False, True, False]
+        >>> c = stabsim.Circuit("MPP X0*X1\\nOBSERVABLE_INCLUDE(2) rec[-1]")
+        >>> [c.has_flow(it) for it in ("X0 -> X1 xor rec[-1]", "X0 -> X1 xor obs[2]", "X0 -> X1", "1 -> XX xor rec[-1]", "Z0 -> Z0")]
+        [True, True, False, True, False]
+        >>> c.has_flow("X0 -> -X1 xor rec[-1]"), c.has_flow("X0 -> -X1 xor rec[-1]", unsigned=True)
+        (False, True)
         """
         if isinstance(flow, str):
             flow = Flow.of_text(flow)
-        return bool(self.flows_that_hold([checking.of_kind("flow", flow, Flow, "a text as 'X0 -> Z0 xor rec[-1]', or a stabsim.Flow")])[0])
+        given = checking.of_kind("flow", flow, Flow, "a text as 'X0 -> Z0 xor rec[-1]', or a stabsim.Flow")
+        return bool(self.flows_that_hold([given], unsigned)[0])
 
-    def flows_that_hold(self, flows: Sequence[Flow]) -> NDArray[np.bool_]:
+    def flows_that_hold(self, flows: Sequence[Flow], unsigned: bool = False) -> NDArray[np.bool_]:
         """Which flows the circuit has, bool (flows,): one, or several of which all that one circuit could have."""
         before = self.numbers()
+        if any(flow.observables for flow in flows):
+            of_observables = observable_records(items_of(self.asked))
+            flows = [flow.with_records(of_observables, before.records) for flow in flows]
         qubits = max([before.qubits, *(flow.qubits for flow in flows)])
         asked = Asked(asking_text(self.asked, flows, qubits, before.records))
         is_deterministic = asked.deterministic().detectors[before.detectors :]
         is_negative = asked.detect(1, seed=0)[0, before.detectors :]
-        found: NDArray[np.bool_] = is_deterministic & (is_negative == np.array([flow.sign for flow in flows], dtype=np.bool_))
+        found: NDArray[np.bool_] = is_deterministic & (unsigned | (is_negative == np.array([flow.sign for flow in flows], dtype=np.bool_)))
         return found
 
     def flow_generators(self, *, qubits: Iterable[int] | None = None, records: bool = True) -> list[Flow]:
@@ -121,7 +130,7 @@ class Questioned(Asked):
 
 def checked(other: Questioned) -> Questioned:
     """The circuit that another is compared with."""
-    return checking.of_kind("other", other, Questioned, "a circuit without noise, as stabsim.Circuit(text), or stabsim.from_stim(text).circuit")
+    return checking.of_kind("other", other, Questioned, "a circuit, as stabsim.Circuit(text)")
 
 
 def some_qubits(qubits: Iterable[int] | None) -> list[int] | None:

@@ -7,8 +7,9 @@ from collections.abc import Iterable, Sequence
 from dataclasses import dataclass, field
 from itertools import accumulate
 
-from stabsim.inserting import records_of
+from stabsim.names import HERALDED, MEASURING, PAIRS
 from stabsim.reading import Block, Instruction, Item
+from stabsim.rewriting import SPACED_STAR
 
 
 @dataclass(eq=False, slots=True)
@@ -168,7 +169,10 @@ def records_in_list(level: Level) -> dict[tuple[int, int], int]:
 
 def measured(item: Item | None) -> list[str]:
     """What an instruction measures, without what inverts it."""
-    return [target.replace("!", "") for target in item.targets] if isinstance(item, Instruction) and records_of(item) else []
+    if not isinstance(item, Instruction) or item.name not in (*MEASURING, *HERALDED):
+        return []
+    targets = SPACED_STAR.sub("*", " ".join(item.targets).replace("!", "")).split()
+    return [f"{first} {second}" for first, second in zip(targets[::2], targets[1::2])] if item.name in PAIRS else targets
 
 
 def differing(level: Level, items: Sequence[Item]) -> None:

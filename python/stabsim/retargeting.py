@@ -1,6 +1,6 @@
 """Edits of a circuit whose lookbacks go on naming the records that they named."""
 
-from collections.abc import Iterable, Iterator, Sequence
+from collections.abc import Callable, Iterable, Iterator, Sequence
 from dataclasses import dataclass
 from typing import TYPE_CHECKING
 
@@ -16,6 +16,7 @@ from stabsim.script import path_text
 if TYPE_CHECKING:
     from stabsim.circuit import Circuit
 
+Put = Callable[[Item, Item], Item]
 # How many rounds of a block may be taken out, since their lookbacks out of it can't be the same.
 MOST_ROUNDS = 1000
 
@@ -75,18 +76,18 @@ def retargeted(circuit: "Circuit", edits: Iterable[Sequence[object]]) -> Retarge
     return of_items(circuit.items, edits)
 
 
-def of_items(items: Iterable[Item], edits: Iterable[Sequence[object]]) -> Retargeted:
-    """The same of a circuit's items."""
+def of_items(items: Iterable[Item], edits: Iterable[Sequence[object]], put: Put = lambda old, new: new) -> Retargeted:
+    """The same of a circuit's items. put: what comes in the place of one item for another."""
     root = level_of(items)
     for edit in edits:
-        apply(root, edit)
+        apply(root, edit, put)
     root.settle()
     written, lost = Follower(root).all_of_it()
     text = "".join(f"{it}\n" for it in written)
     return Retargeted(text, records_of(root), tuple(dict.fromkeys(lost)), tuple(edits_to(root, written)))
 
 
-def apply(root: Level, edit: Sequence[object]) -> None:
+def apply(root: Level, edit: Sequence[object], put: Put) -> None:
     """Makes one edit of a tree."""
     kind, path = str(edit[0]), path_text(edit[1])  # type: ignore[arg-type]
     level, place = at_path(root, path, kind == "insert")
@@ -99,8 +100,8 @@ def apply(root: Level, edit: Sequence[object]) -> None:
         node = level.new.pop(place)
         level.new.insert(to - (to > place), node)
     elif kind in ("insert", "replace"):
-        item = item_of(str(edit[2]))
-        level.new[place:place + (kind == "replace")] = tree_of([item], is_new=True) if kind == "insert" else [replaced(level.new[place], item)]
+        item, old = item_of(str(edit[2])), level.new[place] if kind == "replace" else None
+        level.new[place:place + bool(old)] = [replaced(old, put(old.now, item))] if old else tree_of([item], is_new=True)
     else:
         raise ValueError(f"{kind} is no edit: there are insert, replace, delete and move")
 
@@ -170,7 +171,7 @@ class Follower:
         """An instruction with its records where they are now; None if it acts by records alone, and all of them are gone."""
         was_at = frames[-1].level.place_was[id(node)]
         targets: list[str] = []
-        is_pair, has_lost = node.now.name in names.TWO_QUBITS, False
+        is_pair, has_lost = node.now.name in names.FED_BACK, False
         for number, target in enumerate(node.now.targets):
             if not target.startswith("rec[-"):
                 targets.append(target)

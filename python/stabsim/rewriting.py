@@ -6,7 +6,7 @@ The program's own explanations, as `check` writes them, have the same lines.
 import re
 from collections.abc import Callable, Iterator, Sequence
 
-from stabsim import targets
+from stabsim import sweeping, targets
 from stabsim.names import MEASUREMENTS
 from stabsim.reading import Parts, is_number
 
@@ -79,7 +79,7 @@ def rewritten(line: Parts, spare: Callable[[], int]) -> list[Parts] | None:
     """
     if line.arguments and line.name in GATES:
         raise WrongWord(0, 2, "BadArguments", f"{line.name} takes no arguments: take the brackets out.")
-    lines = lines_for(line, spare)
+    lines = without_sweep_bits(line, spare) if sweeping.is_swept(line) else lines_for(line, spare)
     if lines is None:
         return None
     return [Parts(name, line.tag, line.arguments if name in MEASUREMENTS else (), tuple(on)) for name, on in lines]
@@ -103,6 +103,17 @@ def lines_for(line: Parts, spare: Callable[[], int]) -> list[Written] | None:
     if line.name == "MPAD":
         return known([is_one(target) for target in line.targets], spare)
     return None
+
+
+def without_sweep_bits(line: Parts, spare: Callable[[], int]) -> list[Written]:
+    """What does the same while all sweep bits are 0."""
+    try:
+        left = tuple(target for pair in sweeping.pairs_of(line) if not sweeping.is_decided(pair) for target in pair)
+    except IndexError as fault:
+        cure = f"{line.name} takes pairs, of which a sweep bit, as sweep[0], may decide about a qubit."
+        raise WrongWord(int(fault.args[0]), 3, "BadTarget", cure) from None
+    rest = line._replace(targets=left)
+    return [] if not left else lines_for(rest, spare) or [(line.name, left)]
 
 
 def qubits(line: Parts) -> Sequence[str]:

@@ -1,6 +1,9 @@
 """Rounds of a block that are blocks by themselves."""
 
+from stabsim import program
+from stabsim.history import Request
 from stabsim.reading import block_of, headed, lines_of
+from stabsim.script import delete_line
 
 
 def head_of(text: str) -> tuple[int, int, str]:
@@ -36,3 +39,24 @@ def place_behind(place: str, number: int = 1) -> str:
     """The path of the item this many places after the one at a path, in the same list."""
     *outer, last = place.split("/")
     return "/".join([*outer, str(int(last) + number)])
+
+
+def joining(path: str, block: str, round_number: int) -> tuple[Request, ...]:
+    """The edits that take a split back: the longest part becomes the whole block, and the others go, the last one first. So there
+    are never fewer records than at the end, and no lookback is refused on the way. None if the block has no such round: the split
+    itself is then refused."""
+    try:
+        parts = parts_of_block(block, round_number)
+    except ValueError:
+        return ()
+    longest = longest_part(parts)
+    places = [place_behind(path, number) for number in range(len(parts))]
+    replaced = f"replace {places[longest]}"
+    whole = Request(lines_of_block(replaced, block), lines_of_block(replaced, parts[longest]))
+    others = [(place, part) for place, part in zip(places, parts, strict=True) if place != places[longest]]
+    return (whole, *(Request(delete_line(place), lines_of_block(f"insert {place}", part)) for place, part in reversed(others)))
+
+
+def lines_of_block(words: str, block: str) -> bytes:
+    """`edit_lines` of a block that is known to be whole, since the session wrote it: it is not looked through."""
+    return program.bytes_of(f"{words} {block.strip()}\n")

@@ -64,3 +64,8 @@ def closing_line(lines: list[Line]) -> int | None:
 def is_too_long(line: Line) -> bool:
     """Whether a script may not have such a line."""
     return len(program.bytes_of(line.text)) > MOST_LINE_BYTES
+
+
+def delete_line(path: str) -> bytes:
+    """The line of a script that takes an item out."""
+    return f"delete {path}\n".encode()

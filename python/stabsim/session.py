@@ -1,44 +1,49 @@
-"""An editing session: a circuit that is run and kept, its edits, and what is asked of it."""
+"""An editing session of a circuit, noise and comments too."""
 
-import contextlib
-import re
-from collections.abc import Callable, Iterable, Iterator, Sequence
-from types import TracebackType
+import dataclasses
+from collections.abc import Iterable, Sequence
 
-import numpy as np
-from numpy.typing import NDArray
-
-from stabsim import bits, checking, program
+from stabsim import checking
+from stabsim.carrying import above_in, below_comments, carried, cut_path, original_of, paths_made, with_comments, written_back
 from stabsim.circuit_errors import CircuitError
-from stabsim.distances import Distance, distance_of, of_marks
+from stabsim.collecting import collect
+from stabsim.counting import Decoder
+from stabsim.distances import Distance
 from stabsim.errors import Refused
 from stabsim.explaining import explaining
-from stabsim.framed import FramedProcess, OfOneProcess
-from stabsim.history import Change, History, Request
+from stabsim.history import Change, Request
 from stabsim.inserting import put_in
-from stabsim.random_bits import DecidingCoin, coins_of
-from stabsim.reading import Instruction, items_of
+from stabsim.judging import judged
+from stabsim.models import ErrorModel, decomposed, error_model
+from stabsim.plain_session import PlainSession
+from stabsim.profile import Profile, qubits_named
+from stabsim.random_bits import DecidingCoin
+from stabsim.rates import Rate, fit_rate
+from stabsim.reading import Instruction, Item, items_of
+from stabsim.renewing import renewed
 from stabsim.retargeting import Retargeted, of_items
-from stabsim.rounds import longest_part, parts_of_block, place_behind
-from stabsim.script import Path, edit_lines, item_text, path_text
-from stabsim.session_answers import Changed, ItemSteps, SessionNumbers
-from stabsim.sure import Sure, deterministic_of
+from stabsim.rounds import joining
+from stabsim.script import Path, delete_line, edit_lines, item_text, path_text
+from stabsim.spares import carried_item, refuse_spares, spares_of
 
-Bits = NDArray[np.bool_]
-
-# The limits of the program.
-MOST_QUBITS, MOST_STRIDE = 1024, 65_536
-# What `sign` is asked of.
-PAULIS = "a string of Paulis without spacing, as X0*Z3 or +XZ_"
+# How a model is made.
+Options = tuple[bool, bool, bool, bool]
 
 
-class Session(OfOneProcess):
+class Session(PlainSession):
     """A circuit that is run, kept, and changed by edits. Made by `Circuit.edit`.
 
     It is a context manager, and its process ends with it. One thread at a time uses it. An edit that is refused raises
     stabsim.Refused, with words for a fault of the item's own, and changes nothing. If the process has ended, or was interrupted
     in a reply, every call raises stabsim.SessionEnded, and so it does in a process that was forked. A session is not copied. All calls
     except `close` ask the program, so none is a property.
+
+    A qubit that makes the records of an MPAD or of heralded errors is not the circuit's: an edit that names it, but in a
+    channel, is refused.
+
+    Channels and chances of wrong records are items, and parts of them, as all else, and so are instructions that the program does not read.
+    Records, detectors and other answers are those without noise; `error_model`, `distance` and `logical_error_rate` are of the noise as it
+    is now.
 
     >>> import stabsim
     >>> with stabsim.Circuit("H 0\\nCX 0 1\\nM 0 1\\nDETECTOR rec[-1] rec[-2]").edit() as session:
@@ -47,28 +52,42 @@ class Session(OfOneProcess):
     ...     print(session.undo(), session.detectors())
     [0] [ True] -1
     True [False]
+    >>> text = "R 0 1\\nX_ERROR(0.1) 0 1\\nM 0 1\\nDETECTOR rec[-1] rec[-2]\\nOBSERVABLE_INCLUDE(0) rec[-1]"
+    >>> with stabsim.Circuit(text).edit() as session:
+    ...     session.replace(1, "X_ERROR(0.25) 0")
+    ...     session.insert(3, "DETECTOR rec[-1]  # of qubit 1")
+    ...     print(session.circuit(comments=True), session.error_model(), session.distance(), sep="")
+    R 0 1
+    X_ERROR(0.25) 0
+    M 0 1
+    DETECTOR rec[-1]  # of qubit 1
+    DETECTOR rec[-1] rec[-2]
+    OBSERVABLE_INCLUDE(0) rec[-1]
+    error(0.25) D1
+    detector D0
+    detector D1
+    logical_observable L0
+    none of all errors
     """
 
-    def __init__(self, text: str, *, qubits: int | None = None, seed: int = 0, stride: int | None = None) -> None:
-        words = program.seed_words(seed)
-        words += [] if qubits is None else ["--qubits", str(checking.whole("qubits", qubits, 0, MOST_QUBITS + 1))]
-        words += [] if stride is None else ["--stride", str(checking.whole("stride", stride, 1, MOST_STRIDE + 1))]
-        self.history = History()
-        self.process = FramedProcess(words, text)
-
-    def __repr__(self) -> str:
-        state = self.process.ended or f"process {self.process.number}"
-        return f"<stabsim.Session: {state}, {len(self.history.done)} edits to undo>"
-
-    def __enter__(self) -> "Session":
-        return self
-
-    def __exit__(self, kind: type[BaseException] | None, fault: BaseException | None, trace: TracebackType | None) -> None:
-        self.close()
-
-    def close(self) -> None:
-        """Ends the session and its process. A session that has ended stays so."""
-        self.process.close()
+    def __init__(self, text: str, *, qubits: int | None = None, seed: int = 0, stride: int | None = None, profile: Profile | None = None) -> None:
+        """The session of a circuit's text, which is judged if no profile of it is given."""
+        # The models of the circuit as it is, and the last ones of what it was.
+        self.models: dict[Options, ErrorModel] = {}
+        self.models_before: dict[Options, ErrorModel] = {}
+        # The qubits that are spare, or were, so that few edits are looked at more closely.
+        self.spares: set[int] = set()
+        if profile is None:
+            try:
+                super().__init__(with_comments(text), qubits=qubits, seed=seed, stride=stride)
+                return
+            except Refused:
+                profile = judged(text)
+                if profile.said is not None:
+                    raise
+        text = carried(text) if profile.said is None else with_comments(text)
+        super().__init__(text, qubits=qubits, seed=seed, stride=stride)
+        self.spares.update(spare.qubit for spare in spares_of(text))
 
     # Edits. A path is a number, or numbers that lead into blocks, as 3/0/2.
 
@@ -89,11 +108,11 @@ class Session(OfOneProcess):
         if keep_records:
             self.retarget([("insert", at, item_text(text))])
             return
-        with explaining(item_text(text)):
-            self.change(Change.of_one(edit_lines(f"insert {at}", text), delete_line(at)))
+        self.keep_spares([("insert", at, item_text(text))])
+        self.insert_item(at, text)
 
     def replace(self, path: Path, text: str, *, keep_records: bool = False) -> None:
-        """Puts an item in the place of the one at the path. keep_records: as in `insert`.
+        """Puts an item in the place of the one at the path. Comments above that stay. keep_records: as in `insert`.
 
         >>> import stabsim
         >>> with stabsim.Circuit("X 0\\nM 0").edit() as session:
@@ -105,8 +124,25 @@ class Session(OfOneProcess):
         if keep_records:
             self.retarget([("replace", at, item_text(text))])
             return
-        with explaining(item_text(text)):
-            self.change(Change.of_one(edit_lines(f"replace {at}", text), edit_lines(f"replace {at}", self.old_item(at))))
+        self.keep_spares([("replace", at, item_text(text))])
+        self.replace_item(at, text)
+
+    def insert_item(self, path: str, text: str) -> None:
+        """Puts an item in, spare qubits or not."""
+        item = self.carry(item_text(text))
+        with explaining(text):
+            self.change(Change.of_one(edit_lines(f"insert {path}", item), delete_line(path)))
+
+    def replace_item(self, path: str, text: str) -> None:
+        """Puts an item in the place of another, spare qubits or not."""
+        old = self.old_item(path)
+        self.put(path, old, "\n".join([*above_in(old), item_text(text)]), text)
+
+    def put(self, path: str, old: str, item: str, text: str) -> None:
+        """Puts an item with its comments in the place of an old one, which is the program's; text: as the user wrote it."""
+        carried = self.carry(item)
+        with explaining(text):
+            self.change(Change.of_one(edit_lines(f"replace {path}", carried), edit_lines(f"replace {path}", old)))
 
     def delete(self, path: Path, *, keep_records: bool = False) -> None:
         """Takes the item at the path out. keep_records: as in `insert`; a record that is gone leaves the lists that named it.
@@ -140,16 +176,16 @@ class Session(OfOneProcess):
         if around != other:
             raise ValueError(f"item {at} is moved within its list alone")
         with self.one_step():
-            text = self.item(at)
+            text = self.item(at, comments=True)
             self.delete(at)
             self.insert("/".join([*around, str(int(last) - (int(last) > int(first)))]), text)
 
     def retarget(self, edits: Iterable[Sequence[object]]) -> Retargeted:
         """Makes several edits by one step, so that lookbacks go on naming the records that they named: `stabsim.retargeted` of the circuit as
-        it is, which has been made then.
+        it is, which has been made then. Comments stay with their items.
 
         >>> import stabsim
-        >>> with stabsim.Circuit("M 0\\nM 1\\nDETECTOR rec[-2]").edit() as session:
+        >>> with stabsim.Circuit("M 0\\nM(0.1) 1  # the second\\nDETECTOR rec[-2]").edit() as session:
         ...     made = session.retarget([("insert", 1, "M 1"), ("delete", 2)])
         ...     print(session.circuit(), made.records)
         M 0
@@ -157,18 +193,22 @@ class Session(OfOneProcess):
         DETECTOR rec[-2]
          [0 1]
         """
-        made = of_items(items_of(self.circuit()), edits)
+        given = [[*edit[:2], *(with_comments(text) if isinstance(text, str) and edit[0] != "move" else text for text in edit[2:])] for edit in edits]
+        made = of_items(items_of(with_comments(self.circuit(comments=True))), given, below_comments)
+        self.keep_spares(given)
+        found = tuple((kind, at, *(words if kind == "split" else [written_back(item) for item in words])) for kind, at, *words in made.edits)
         with self.one_step():
-            for kind, at, *words in made.edits:
+            for kind, at, *words in found:
                 if kind == "insert":
                     self.insert(at, words[0])
                 elif kind == "replace":
-                    self.replace(at, words[0])
+                    self.keep_spares([(kind, at, *words)])
+                    self.put(at, self.old_item(at), words[0], words[0])
                 elif kind == "split":
                     self.split(at, int(words[0]))
                 else:
                     self.delete(at)
-        return made
+        return dataclasses.replace(made, text=written_back(made.text), edits=found)
 
     def split(self, path: Path, round_number: int) -> None:
         """Splits a round, counted from 0, off the block at the path, so that it can be edited by itself: the rounds before it
@@ -215,219 +255,126 @@ class Session(OfOneProcess):
         with self.one_step():
             put_in(self, some)
 
-    @contextlib.contextmanager
-    def one_step(self) -> Iterator[None]:
-        """Makes what is edited meanwhile one step. If one edit fails, those before it are taken back."""
-        before = len(self.history.done)
-        try:
-            yield
-        except BaseException:
-            while len(self.history.done) > before and not self.process.ended:
-                self.undo()
-            self.history.to_redo.clear()
-            raise
-        self.history.join(before)
+    # What it has.
 
-    def undo(self) -> bool:
-        """Takes the last edit back, by the edit that is its inverse; False if there is none."""
-        return self.retrace(self.history.last_done(), self.history.undone)
+    def circuit(self, *, comments: bool = False) -> str:
+        """The text of the circuit as it is now, with its noise; comments: with comments and blank lines too."""
+        return written_back(self.printed(), comments)
 
-    def redo(self) -> bool:
-        """Makes the edit again that was last taken back; False if there is none."""
-        return self.retrace(self.history.last_undone(), self.history.redone)
-
-    # Questions.
-
-    def numbers(self) -> SessionNumbers:
-        """How many qubits, steps, records, detectors and observables there are now."""
-        return SessionNumbers(*map(int, self.line("show numbers").split()))
-
-    def records(self) -> Bits:
-        """The records, bool (records,)."""
-        return bits.of_text(self.line("show measurements"))
-
-    def free(self) -> Bits:
-        """For each measured target or product and each reset whether its coin decided the outcome, bool (coins,)."""
-        return bits.of_text(self.line("show free"))
-
-    def detectors(self) -> Bits:
-        """The detectors, bool (detectors,): raw parities of records."""
-        return bits.of_text(self.line("show detectors"))
-
-    def observables(self) -> Bits:
-        """The observables, bool (observables,)."""
-        return bits.of_text(self.line("show observables"))
-
-    def stabilisers(self) -> list[str]:
-        """The reduced rows of the group that stabilises the state after the circuit: a signed string for each qubit."""
-        return [line.decode() for line in self.process.ask(b"show stabilisers\n")]
-
-    def circuit(self) -> str:
-        """The text of the circuit as it is now."""
-        return self.printed()
-
-    def printed(self) -> str:
-        """The circuit as the program prints it."""
-        return text_of_lines(self.process.ask(b"show circuit\n"))
-
-    def item(self, path: Path) -> str:
-        """The text of the item at the path."""
-        return self.printed_item(path_text(path))
-
-    def printed_item(self, path: str) -> str:
-        """The item at the path as the program prints it."""
-        return text_of_lines(self.process.ask(f"show item {path}\n".encode()))
-
-    def place(self, path: Path) -> ItemSteps:
-        """Where the steps of the item at the path are in the unrolled circuit, and which records, detectors and coins they make."""
-        numbers = list(map(int, self.line(f"show place {path_text(path)}").split()))
-        return ItemSteps(*(range(first, first + count) for first, count in zip(numbers[::2], numbers[1::2], strict=True)))
-
-    def deterministic(self) -> Sure:
-        """Which detectors and observables of the circuit as it is now are the same for all random bits: `Circuit.deterministic` of it."""
-        return deterministic_of(bits.of_text(self.line("show deterministic")), self.numbers().detectors)
+    def item(self, path: Path, *, comments: bool = False) -> str:
+        """The text of the item at the path; comments: with those above it and in it."""
+        return written_back(self.printed_item(path_text(path)), comments)
 
     def why(self, bit: str) -> tuple[DecidingCoin, ...]:
-        """The coins that decide a detector, as D37, or an observable, as L0: none if it is the same for all random bits.
+        """The coins that decide a detector, as D37, or an observable, as L0: none if it is the same for all random bits."""
+        found = super().why(bit)
+        made = self.made() if found else frozenset[str]()
+        return tuple(coin._replace(path=cut_path(coin.path, made)) for coin in found)
+
+    # Noise.
+
+    def error_model(self, *, decompose: bool = False, ignore_decomposition_failures: bool = False, approximate_disjoint_errors: bool = False,
+                    sure_only: bool = False) -> ErrorModel:
+        """`stabsim.error_model` of the circuit as it is now. After an edit of noise alone it is renewed, which takes far less time than to make
+        it; without an edit it is the same. Lines of it are those of `circuit()`.
 
         >>> import stabsim
         >>> with stabsim.Circuit("R 0\\nM 0\\nDETECTOR rec[-1]").edit() as session:
-        ...     session.insert(1, "H 0")
-        ...     session.why("D0")
-        (DecidingCoin(number=1, path='2'),)
+        ...     session.insert(1, "X_ERROR(0.125) 0")
+        ...     print(session.error_model().chances, session.undo(), session.error_model().chances)
+        [0.125] True []
         """
-        return coins_of(text_of_lines(self.process.ask(f"show why {bit_name(bit)}\n".encode())))
-
-    def distance(self, most: int, *, everywhere: bool = False) -> Distance:
-        """The distance of the circuit as it is now, by the errors that it marks, or by errors everywhere, up to this many of them:
-        `Circuit.distance` of it.
-
-        >>> import stabsim
-        >>> with stabsim.Circuit("R 0 1\\nI[X] 0 1\\nM 0 1\\nDETECTOR rec[-1] rec[-2]\\nOBSERVABLE_INCLUDE(0) rec[-1]").edit() as session:
-        ...     print(session.distance(5))
-        ...     session.replace(1, "I[X] 0")
-        ...     print(session.distance(5))
-        distance 2 of all marked errors
-        none of all marked errors
-        """
-        checking.whole("most", most)
-        found = distance_of(text_of_lines(self.process.ask(f"show distance {most}{' everywhere' * everywhere}\n".encode())), everywhere)
-        return found if everywhere else of_marks(found, self.circuit())
-
-    def sign(self, pauli: str) -> int:
-        """1 if the string, as X0*Z3 or -X0 or with a letter for each qubit, stabilises the state, -1 if its negative does, 0 if neither
-        does.
-
-        >>> import stabsim
-        >>> with stabsim.Circuit("X 0\\nH 1").edit() as session:
-        ...     [session.sign(it) for it in ("Z0", "+_X", "-ZX", "X0*X1")]
-        [-1, 1, 1, 0]
-        """
-        if len(checking.of_kind("pauli", pauli, str, PAULIS).split()) != 1:
-            raise ValueError(f"pauli is {checking.shown(pauli)}: give {PAULIS}")
-        return {b"+": 1, b"-": -1, b"0": 0}[self.line(f"show sign {pauli.strip()}")]
-
-    def mark(self) -> None:
-        """From here on `changed` counts; the opening is the first mark."""
-        self.process.ask(b"mark\n")
-
-    def changed(self, *, records: bool = False) -> Changed:
-        """What differs from the mark: detectors and observables, and records if they are asked for."""
-        lines = self.process.ask(b"show changed\n") + (self.process.ask(b"show changed records\n") if records else [])
-        places: dict[str, list[int]] = {"D": [], "L": [], "M": []}
-        lengths = {}
-        for line in lines:
-            words = line.decode().split()
-            if words and words[0] in ("detectors", "observables", "records"):
-                lengths[words[0]] = (int(words[1]), int(words[2]))
+        options = (decompose, ignore_decomposition_failures, approximate_disjoint_errors, sure_only)
+        if options not in self.models:
+            if decompose:
+                whole = self.error_model(approximate_disjoint_errors=approximate_disjoint_errors, sure_only=sure_only)
+                self.models[options] = decomposed(whole, ignore_decomposition_failures)
             else:
-                for word in words:
-                    places[word[0]].append(int(word[1:]))
-        found = {kind: np.array(numbers, dtype=np.int64) for kind, numbers in places.items()}
-        return Changed(found["D"], found["L"], found["M"], lengths)
+                self.models[options] = self.model_now(options, approximate_disjoint_errors, sure_only)
+        return self.models[options]
 
-    # How edits are kept.
+    def model_now(self, options: Options, approximate: bool, sure_only: bool) -> ErrorModel:
+        """The model of the circuit as it is now: that from before the edits, renewed, or made anew."""
+        text, before = self.circuit(), self.models_before.get(options)
+        found = renewed(before, text, sure_only) if before else None
+        return found or error_model(text, approximate_disjoint_errors=approximate, sure_only=sure_only)
 
-    def change(self, change: Change) -> None:
-        """Makes an edit, and keeps how to take it back."""
-        self.carry_out(change.forth)
-        self.history.add(change)
+    def distance(self, most: int | None = None, *, everywhere: bool = False) -> Distance:
+        """The least number of errors of the noise that flip an observable and no detector, as `Circuit.distance`; or of a circuit without
+        noise, or with everywhere, of the errors that it marks, or of errors everywhere, up to `most`, which is needed then."""
+        model = None if everywhere else self.error_model(approximate_disjoint_errors=True)
+        if model is not None and len(model):
+            return model.distance(most=most)
+        found = super().distance(checking.whole("most", most), everywhere=everywhere)
+        made = self.made()
+        return dataclasses.replace(found, errors=tuple(dataclasses.replace(error, path=cut_path(error.path, made)) for error in found.errors))
 
-    def retrace(self, requests: tuple[Request, ...], moved: Callable[[], None]) -> bool:
-        """Makes the edits that go a step back, or forth again, if there are some."""
-        if not requests:
-            return False
-        self.carry_out(requests)
-        moved()
-        return True
+    def logical_error_rate(self, decoder: Decoder, *, shots: int, seed: int = 0, decompose: bool = False) -> Rate:
+        """How often a decoder predicts some observable wrongly, with the interval of `fit_rate`, in this many shots of the noise as it is now.
+
+        decoder: a function of a model that gives a function from detectors to observables, as of `collect`; decompose: whether its model is
+        decomposed, as decoders by matching want it.
+
+        >>> import numpy, stabsim
+        >>> def nothing(model):
+        ...     return lambda detectors: numpy.zeros((len(detectors), 1), dtype=bool)
+        >>> with stabsim.Circuit("R 0\\nX_ERROR(0.5) 0\\nM 0\\nOBSERVABLE_INCLUDE(0) rec[-1]").edit() as session:
+        ...     print(session.logical_error_rate(nothing, shots=1000).best > 0.4)
+        ...     session.replace(1, "X_ERROR(0) 0")
+        ...     print(session.logical_error_rate(nothing, shots=1000).best)
+        True
+        0.0
+        """
+        errors = 0
+        model = self.error_model(decompose=decompose)
+        for sums in collect({"session": model}, ("decoder", decoder), shots=checking.whole("shots", shots, 1), seed=seed):
+            errors = sums.errors
+        return fit_rate(shots, errors)
+
+    # How the program has it.
 
     def carry_out(self, requests: tuple[Request, ...]) -> None:
-        """Makes edits in their order. If one is refused, those before it are taken back."""
-        for number, request in enumerate(requests):
-            try:
-                self.process.ask(request.lines)
-            except Refused:
-                for made in reversed(requests[:number]):
-                    self.process.ask(made.inverse)
-                raise
+        """Makes edits in their order, after which models are others."""
+        self.models_before.update(self.models)
+        self.models.clear()
+        super().carry_out(requests)
 
-    def old_item(self, path: str) -> str:
-        """The text of an item that an edit is to take out; if there is none the edit itself is refused."""
-        try:
-            return self.printed_item(path)
-        except Refused:
-            return ""
-
-    # What an item of the program's is for the user, who may have written it otherwise.
-
-    def plain(self, item: Instruction) -> Instruction:
-        """An instruction as the user would write it."""
+    def carry(self, text: str) -> str:
+        """An item as the program's, whose spare qubits are kept."""
+        item = carried_item(text, self.circuit)
+        self.spares.update(spare.qubit for spare in spares_of(item))
         return item
 
+    def keep_spares(self, edits: Iterable[Sequence[object]]) -> None:
+        """`refuse_spares` of edits, in the circuit as it is now. Channels do nothing to its records, so they are let be."""
+        for kind, path, *words in edits:
+            puts_in = self.spares and kind in ("insert", "replace")
+            named = self.spares & qubits_named(str(words[0]), noise=False) if puts_in else None
+            if named:
+                refuse_spares(named, spares_of(self.printed()), path_text(path) if kind == "replace" else None)  # type: ignore[arg-type]
+
+    def made(self) -> frozenset[str]:
+        """The paths of the blocks that stand for one instruction."""
+        return paths_made(self.printed_items())
+
+    def printed_items(self) -> tuple[Item, ...]:
+        """The items as the program has them."""
+        return items_of(self.printed())
+
+    def plain(self, item: Instruction) -> Instruction:
+        """An instruction with the tag and the arguments that the user gave it."""
+        original = original_of(item)
+        return dataclasses.replace(item, tag=original.tag, arguments=original.arguments)
+
     def write_out(self, path: str) -> None:
-        """Writes an instruction of the user's out that the path leads into as several: here there are none."""
-
-    def line(self, request: str) -> bytes:
-        """The reply of one line to a question."""
-        if "\n" in request:
-            raise ValueError("a question is one line")
-        lines = self.process.ask(request.encode() + b"\n")
-        if len(lines) != 1:
-            raise self.process.broken(f"{request} was answered by {len(lines)} lines")
-        return lines[0]
+        """If the path leads into a block that stands for one instruction, that becomes a block of one round of its gates."""
+        block = cut_path(path, self.made())
+        if block != path:
+            old = self.printed_item(block)
+            body = old.split("\n", 1)[1]
+            above = "".join(f"{line}\n" for line in above_in(old))
+            head = carried(f"{above}REPEAT 1 {{\n}}").rsplit("}", 1)[0] if above else "REPEAT 1 {\n"
+            self.change(Change.of_one(edit_lines(f"replace {block}", head + body), edit_lines(f"replace {block}", old)))
 
 
-def bit_name(text: str) -> str:
-    """The name of a detector or an observable."""
-    if not re.fullmatch(r"[DL]\d+", checking.of_kind("bit", text, str, "a detector, as D37, or an observable, as L0")):
-        raise ValueError(f"bit is {checking.shown(text)}: give a detector, as D37, or an observable, as L0")
-    return text
-
-
-def delete_line(path: str) -> bytes:
-    return f"delete {path}\n".encode()
-
-
-def joining(path: str, block: str, round_number: int) -> tuple[Request, ...]:
-    """The edits that take a split back: the longest part becomes the whole block, and the others go, the last one first. So there
-    are never fewer records than at the end, and no lookback is refused on the way. None if the block has no such round: the split
-    itself is then refused."""
-    try:
-        parts = parts_of_block(block, round_number)
-    except ValueError:
-        return ()
-    longest = longest_part(parts)
-    places = [place_behind(path, number) for number in range(len(parts))]
-    replaced = f"replace {places[longest]}"
-    whole = Request(lines_of_block(replaced, block), lines_of_block(replaced, parts[longest]))
-    others = [(place, part) for place, part in zip(places, parts, strict=True) if place != places[longest]]
-    return (whole, *(Request(delete_line(place), lines_of_block(f"insert {place}", part)) for place, part in reversed(others)))
-
-
-def lines_of_block(words: str, block: str) -> bytes:
-    """`edit_lines` of a block that is known to be whole, since the session wrote it: it is not looked through."""
-    return program.bytes_of(f"{words} {block.strip()}\n")
-
-
-def text_of_lines(lines: list[bytes]) -> str:
-    return program.text_of(b"".join(line + b"\n" for line in lines))
+NoisySession = Session

@@ -11,10 +11,10 @@ import numpy as np
 from numpy.typing import NDArray
 
 from stabsim import codes, formats, program
+from stabsim.circuit import from_stim
 from stabsim.diagrams import Kind
 from stabsim.measured import m2d
 from stabsim.models import ErrorModel, error_model
-from stabsim.stim_circuit import from_stim
 
 Bits = NDArray[np.bool_]
 
@@ -90,7 +90,7 @@ def analyze_errors(given: argparse.Namespace) -> None:
     if given.approximate_disjoint_errors not in (0, 1):
         raise ValueError("disjoint errors are approximated whatever their chances: --approximate_disjoint_errors takes no other chance than 1")
     model = error_model(text_in(given.input), decompose=given.decompose_errors, ignore_decomposition_failures=given.ignore_decomposition_failures,
-                        approximate_disjoint_errors=bool(given.approximate_disjoint_errors))
+                        approximate_disjoint_errors=bool(given.approximate_disjoint_errors), allow_gauge_detectors=given.allow_gauge_detectors)
     write_out(given.out, model.dem.encode())
 
 

@@ -19,7 +19,7 @@ from stabsim import stim_answers
 from stabsim.errors import StabsimError
 from stabsim.formats import WRITERS
 
-SWEEPS = "a circuit has no sweep bits here"
+SWEEPS = "sweep bits are those of a circuit here, by with_sweep_bits, and not of shots"
 SINGLE = "errors that flip the same are one here, so files of single errors are neither written nor read"
 
 # What runs a command.
@@ -51,7 +51,7 @@ COMMANDS: dict[str, tuple[Run, str, Options]] = {
         "--block_decompose_from_introducing_remnant_edges": {**FLAG, "help": "changes nothing: parts are errors of the model anyhow"},
         "--approximate_disjoint_errors": {"nargs": "?", "type": float, "const": 1.0, "default": 0.0, "metavar": "CHANCE"},
         "--fold_loops": {**FLAG, "help": "changes nothing: the same model is printed without loops"}, "--in": INPUT, "--out": FILE,
-        "--allow_gauge_detectors": "each detector must be the same for all random bits here",
+        "--allow_gauge_detectors": FLAG,
     }),
     "sample_dem": (stim_answers.sample_dem, "Samples a detector error model", {
         "--shots": {"type": int, "default": 1, "help": "default 1"}, "--seed": {"type": int}, "--in": INPUT, "--out": FILE, "--out_format": FORMAT,

@@ -172,5 +172,7 @@ def number_of(argument: str) -> float | str:
 
 def printed(target: str) -> str:
     """A target as the program prints it."""
+    if target.isdigit() and target[0] != "0":
+        return target
     without_zeros = LEADING_ZEROS.sub("", target)
-    return without_zeros if target.startswith("rec") else without_zeros.upper()
+    return without_zeros if target.startswith(("rec", "sweep")) else without_zeros.upper()

@@ -41,7 +41,7 @@ class Hands:
     def play(self, count):
         """Makes a number of events; `done` then says which."""
         events = ((40, self.press_letter), (8, self.press_named), (9, self.press_with_ctrl), (22, self.click), (7, self.drag), (3, self.write), (2, self.wheel),
-                  (2, self.paste), (1, self.change_theme), (1, self.change_size), (5, self.click_history))
+                  (2, self.paste), (1, self.change_theme), (1, self.change_size), (5, self.click_history), (4, self.press_with_alt), (4, self.press_layer))
         weights, acts = zip(*events)
         for act in self.random.choices(acts, weights, k=count):
             self.done.append(act.__name__)
@@ -78,6 +78,17 @@ class Hands:
         key = self.random.choice("zzyycxva")
         self.press(key, modifiers=CTRL, commands=[COMMANDS[key]] if key in COMMANDS else [])
 
+    def press_with_alt(self):
+        """A gate beside what acts there."""
+        self.press(self.random.choice("hsxcvmrn"), modifiers=ALT)
+
+    def press_layer(self):
+        """A layer of marks is taken in hand, or let go of."""
+        digit = self.random.randrange(10)
+        values = {"key": ")!@#$%^&*("[digit], "code": f"Digit{digit}", "modifiers": SHIFT, "windowsVirtualKeyCode": 48 + digit}
+        self.send("Key", type="rawKeyDown", **values)
+        self.send("Key", type="keyUp", **values)
+
     def place(self, name=None):
         """A random place of a pane, of one that can be seen."""
         x, y, width, height = self.boxes.get(name) or self.boxes[self.random.choice(list(self.boxes))]
@@ -85,7 +96,7 @@ class Hands:
 
     def click(self):
         name = self.random.choice(("#picture", "#picture", "#picture", "#timeline", "#text", None))
-        self.click_at(self.place(name), self.random.choice((0, 0, SHIFT)))
+        self.click_at(self.place(name), self.random.choice((0, 0, SHIFT, CTRL)))
 
     def click_history(self):
         self.click_at(self.place("#edits"))

@@ -143,7 +143,7 @@ def test_numbers_and_blocks_past_all_limits_are_refused(text, number):
 @pytest.mark.parametrize("name", ["circuit.stim", "examples/bell.stim", "../circuit"])
 def test_a_name_of_a_file_in_place_of_a_text_is_told_what_reads_it(name):
     for read in (stabsim.from_stim, stabsim.error_model, lambda text: stabsim.Circuit(text).sample(1)):
-        with pytest.raises(stabsim.Refused, match=r"If this is the name of a file, stabsim.Circuit.from_file\(name\) reads it, and with"):
+        with pytest.raises(stabsim.Refused, match=r"If this is the name of a file, stabsim.Circuit.from_file\(name\) reads it\.$"):
             read(name)
     with pytest.raises(stabsim.BadErrorModel, match=r"if it is the name of a file, stabsim.ErrorModel.from_file\(name\) reads it"):
         stabsim.ErrorModel.from_dem(name)

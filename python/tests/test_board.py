@@ -208,7 +208,7 @@ def test_a_refusal_of_a_noisy_file_names_its_line(tmp_path):
     with pytest.raises(stabsim.Refused) as refused:
         Board(opened_of(str(file)))
     assert refused.value.line == 4
-    file.write_text("R 0\nX_ERROR(0.1) 0\nHERALDED_ERASE(0.1) 0\n")
-    with pytest.raises(stabsim.UnsupportedNoise) as unsupported:
+    file.write_text("R 0\nX_ERROR(0.1) 0\nHERALDED_ERASE(2) 0\n")
+    with pytest.raises(stabsim.Refused) as refused:
         Board(opened_of(str(file)))
-    assert unsupported.value.line == 3
+    assert refused.value.line == 3

@@ -5,7 +5,6 @@ import pickle
 import re
 import stat
 import subprocess
-import warnings
 
 import numpy as np
 import pytest
@@ -206,33 +205,27 @@ def test_a_detector_that_coins_decide_is_named():
 NOISY = "# two\nR 0\nX_ERROR(0.1) 0\nREPEAT 2 {\n    m[a](0.2) 0\n    M 0\n}\nDETECTOR(1) rec[-1]\n"
 
 
-def test_a_noisy_file_is_opened_without_its_noise_and_says_so(tmp_path):
+def test_a_noisy_file_is_opened_with_its_noise(tmp_path):
     path = tmp_path / "noisy.stim"
     path.write_text(NOISY)
-    with pytest.warns(UserWarning, match=re.escape(f"{path}: the noise of 2 lines is left out, the first of them line 3")) as warned:
-        circuit = stabsim.Circuit.from_file(path)
-    assert warned[0].filename == __file__
-    assert circuit.text == stabsim.without_noise(NOISY) and circuit.left_out == (3, 5) and circuit == stabsim.Circuit(circuit.text)
-    assert repr(circuit) == "<stabsim.Circuit: 7 lines, the noise of 2 lines is left out>"
+    circuit = stabsim.Circuit.from_file(path)
+    assert circuit.text == NOISY and [line.partition(":")[0] for line in circuit.left_out] == ["line 3", "line 5"]
+    assert circuit.circuit.text == circuit.without_noise().text == stabsim.without_noise(NOISY) and circuit.circuit.left_out == []
+    assert repr(circuit) == f"<stabsim.Circuit: {NOISY.count(chr(10))} lines, noise in 2 of them>"
     assert circuit.numbers().records == 4
-    assert repr(circuit) == "<stabsim.Circuit: 1 qubits, 6 steps, 1 detectors, the noise of 2 lines is left out>"
-    with pytest.warns(UserWarning, match="1 line is left out"), stabsim.Circuit.from_file(one_line(tmp_path)).edit() as session:
-        assert session.circuit() == "R 0\n"
-
-
-def one_line(folder):
-    path = folder / "one.stim"
-    path.write_text("R 0\nE(0.1) X0\n")
-    return path
+    assert repr(circuit) == "<stabsim.Circuit: 1 qubits, 6 steps, 1 detectors, noise in 2 lines>"
+    with circuit.edit() as session:
+        assert session.circuit(comments=True) == NOISY.replace("m[a]", "M[a]")
 
 
 def test_a_file_without_noise_is_opened_as_it_is(tmp_path):
     path = tmp_path / "quiet.stim"
-    text = "M 0 # M(0.1) 0\nM() 0\nDETECTOR(1) rec[-1]\nEXIT(1)\n"
+    text = "M 0 # M(0.1) 0\nM() 0\nDETECTOR(1) rec[-1]\n"
     path.write_text(text)
-    with warnings.catch_warnings():
-        warnings.simplefilter("error")
-        assert stabsim.Circuit.from_file(path).text == text and stabsim.Circuit.from_file(path).left_out == ()
+    assert stabsim.Circuit.from_file(path).text == text and stabsim.Circuit.from_file(path).left_out == []
+    path.write_text(f"{text}EXIT(1)\n")
+    with pytest.raises(stabsim.Refused, match="line 4: refused 1 UnsupportedName"):
+        stabsim.Circuit.from_file(path)
 
 
 def test_a_circuit_stays_as_it_is():
@@ -245,10 +238,10 @@ def test_a_circuit_stays_as_it_is():
     assert again == circuit and hash(again) == hash(circuit)
 
 
-def test_a_circuit_with_noise_is_told_what_reads_it():
-    for text in ("R 0\nX_ERROR(0.1) 0", "M(0.1) 0"):
-        with pytest.raises(stabsim.Refused, match=r"\nWith its noise stabsim.from_stim\(text\) is the circuit"):
-            stabsim.Circuit(text).sample(1)
+def test_a_circuit_has_its_noise_whatever_reads_it():
+    for text in ("R 0\nX_ERROR(1) 0\nM 0", "M(1) 0", "X 0\nM 0"):
+        assert all(made(text).sample(2).all() for made in (stabsim.Circuit, stabsim.StimCircuit, stabsim.from_stim))
+    assert stabsim.StimCircuit is stabsim.Circuit and stabsim.NoisySession is stabsim.Session
 
 
 def test_a_missing_program_is_told_with_what_to_do(monkeypatch, tmp_path):

@@ -82,7 +82,7 @@ def test_sizes_of_items_are_those_that_the_program_counts(text):
 
 
 def test_what_the_program_does_not_read_is_not_counted():
-    for text, number, line in [("M 0\nMXX 0 1\n", 1, 2), ("M 0\nREPEAT 2 {\n", 5, 2), ("}\n", 5, 1), ("M 0\n 7\n", 11, 2),
+    for text, number, line in [("M 0\nNONE 0 1\n", 1, 2), ("M 0\nREPEAT 2 {\n", 5, 2), ("}\n", 5, 1), ("M 0\n 7\n", 11, 2),
                                ("OBSERVABLE_INCLUDE(0.5)\n", 2, 1), ("OBSERVABLE_INCLUDE\n", 2, 1)]:
         with pytest.raises(stabsim.Refused) as told:
             stabsim.Circuit(text).num_records
@@ -138,7 +138,7 @@ def test_circuits_are_equal_if_their_items_are(one, other):
 ])
 def test_circuits_of_other_items_differ(one, other):
     assert stabsim.Circuit(one) != stabsim.Circuit(other) and stabsim.Circuit(one) == stabsim.Circuit(one)
-    assert stabsim.Circuit("M 0") != stabsim.from_stim("M 0") and stabsim.Circuit("M 0") != "M 0"
+    assert stabsim.Circuit("M 0") == stabsim.from_stim("M 0") and stabsim.Circuit("M 0") != "M 0"
 
 
 def test_a_slice_is_a_circuit_of_its_items_with_their_noise():

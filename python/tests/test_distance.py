@@ -239,7 +239,7 @@ def test_a_model_that_was_read_has_a_distance():
 @pytest.mark.parametrize("graphlike", [False, True])
 def test_a_distance_without_errors_to_search_says_why(graphlike):
     quiet = "R 0\nM 0\nDETECTOR rec[-1]\nOBSERVABLE_INCLUDE(0) rec[-1]\n"
-    assert str(stabsim.from_stim(quiet).distance(graphlike=graphlike)) == "none of no errors, since the circuit has no noise"
+    assert str(stabsim.from_stim(quiet).distance(graphlike=graphlike)).startswith("none of no errors, since there is no noise, and no place is marked")
     for text in ("", "detector D0\n", "error(0) L0\n", "error(0) D0 ^ L0\n"):
         found = stabsim.ErrorModel.from_dem(text).distance(graphlike=graphlike)
         assert str(found) == "none of no errors, since the model has none that has a chance"

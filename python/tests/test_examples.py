@@ -139,7 +139,7 @@ def test_the_first_hour_finds_what_the_file_hides(tmp_path):
     done = subprocess.run(words, cwd=tmp_path, capture_output=True, text=True, check=True)
     lines = done.stdout.splitlines()
     # The detector at (4, 4) in the first round, line 46, names the record of a check of X, which line 42 makes.
-    assert lines[1] == "D2 of item 34 is decided by item 31, which are lines 46 and 42"
+    assert lines[1] == "D2 of item 44 is decided by item 40, which are lines 46 and 42"
     assert lines[2:4] == ["Parity(records=(6,), value=False, is_logical=False)", "True True False"]
     # Without it two errors go unseen, and with the right record three.
     assert lines[4:7] == ["distance 2 of all errors", "DETECTOR(4, 4, 0) rec[-2] True", "distance 3 of all errors everywhere"]

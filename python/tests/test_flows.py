@@ -215,6 +215,23 @@ def test_records_and_qubits_that_are_not_there_are_refused():
         stabsim.Circuit("REPEAT 2 {\nM 0").has_flow("Z0 -> Z0")
 
 
+def test_a_flow_may_name_observables():
+    # The records of observable 0 are 0 and 2, since the second one comes twice.
+    circuit = stabsim.Circuit("MX 0\nMX 1\nMZZ 2 3\nOBSERVABLE_INCLUDE(0) rec[-3] rec[-2]\nOBSERVABLE_INCLUDE(0) rec[-2] rec[-1]\nOBSERVABLE_INCLUDE(3)\n")
+    assert circuit.has_flow("1 -> X0*Z2*Z3 xor obs[0]") and not circuit.has_flow("1 -> X0*X1 xor obs[0]")
+    assert circuit.has_flow("1 -> Z2*Z3 xor obs[0] xor rec[0]") and circuit.has_flow("1 -> X0*X1*Z2*Z3 xor obs[0] xor rec[-2] xor obs[3]")
+    assert str(Flow.of_text("1->obs[2] xor obs[0] xor rec[-1]")) == "1 -> rec[-1] xor obs[0] xor obs[2]"
+    with pytest.raises(TypeError, match="observables is"):
+        Flow((), (), observables=[1])
+
+
+def test_a_flow_may_hold_up_to_its_sign():
+    circuit = stabsim.Circuit("R 0\nX 0\nM 0\nH 1\n")
+    for flow, signed in (("1 -> -Z0", True), ("1 -> Z0", False), ("1 -> rec[-1]", False), ("Y1 -> Y1", False), ("X1 -> Z1", True)):
+        assert circuit.has_flow(flow) == signed and circuit.has_flow(flow, unsigned=True), flow
+    assert not circuit.has_flow("X1 -> X1", unsigned=True)
+
+
 def test_qubits_that_a_circuit_does_not_name_stay_as_they_are():
     assert stabsim.Circuit("").has_flow("X3 -> X3") and stabsim.Circuit("").has_flow("1 -> 1") and not stabsim.Circuit("").has_flow("1 -> -1")
 

@@ -237,7 +237,7 @@ def test_sparse_matrices_need_no_scipy():
     assert subprocess.run([sys.executable, "-c", code], capture_output=True, text=True, check=True).stdout == "[1]\n"
 
 
-@pytest.mark.parametrize("line", ["HERALDED_ERASE(0.1) 0", "DEPOLARIZE1(0.8) 0", "DEPOLARIZE2(0.95) 0 1"])
+@pytest.mark.parametrize("line", ["HERALDED_ERASE(0.1) 0", "HERALDED_PAULI_CHANNEL_1(0.1, 0, 0, 0.1) 0", "DEPOLARIZE1(0.8) 0", "DEPOLARIZE2(0.95) 0 1"])
 def test_noise_without_a_model_is_told_with_its_line(line):
     with pytest.raises(stabsim.UnsupportedNoise) as told:
         stabsim.error_model(f"R 0\n{line}\nM 0\n")
@@ -301,8 +301,8 @@ def test_noise_is_taken_out_and_all_else_stays():
            "ELSE_CORRELATED_ERROR(0.1) X1\nMR(0.1)\nOBSERVABLE_INCLUDE(0) rec[-1]\nDETECTOR(1, 2)"
     assert stabsim.without_noise(text) == "# two\nR 0 1 # x\nREPEAT 2 {\n\tm[a(b)]  !0 # M(1)\n}\nMPP X0*X1\nMR\n" \
                                           "OBSERVABLE_INCLUDE(0) rec[-1]\nDETECTOR(1, 2)"
-    with pytest.raises(stabsim.UnsupportedNoise):
-        stabsim.without_noise("HERALDED_ERASE(0.1) 0\n")
+    # The records of heralded errors stay, of a qubit that nothing else names.
+    assert stabsim.without_noise("HERALDED_ERASE(0.1) 0 2  # heralds\n") == "R 3\nMR 3\nMR 3\n"
 
 
 def exact(model):
@@ -388,12 +388,9 @@ def test_models_of_other_chances_have_other_fingerprints():
     assert one.fingerprint == stabsim.error_model("R 0\nX_ERROR(0.10) 0\nM 0\nDETECTOR rec[-1]\n").fingerprint
 
 
-def test_a_circuit_without_noise_has_a_model_without_mechanisms(tmp_path):
-    text = "R 0\nX_ERROR(0.25) 0\nM 0\nDETECTOR rec[-1]\n"
-    quiet = stabsim.from_stim(text).circuit
-    with pytest.raises(ValueError, match="give what stabsim.from_stim reads, which keeps its noise"):
-        stabsim.error_model(quiet)
-    assert stabsim.error_model(stabsim.Circuit(quiet.text)).dem == "detector D0\n"
+def test_a_circuit_without_noise_has_a_model_without_mechanisms():
+    noisy = stabsim.Circuit("R 0\nX_ERROR(0.25) 0\nM 0\nDETECTOR rec[-1]\n")
+    assert stabsim.error_model(noisy.circuit).dem == "detector D0\n" and stabsim.error_model(noisy).dem == "error(0.25) D0\ndetector D0\n"
 
 
 MODEL = stabsim.ErrorModel.from_dem("error(0.25) D0 L0\n")

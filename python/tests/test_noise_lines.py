@@ -53,7 +53,7 @@ def test_noise_that_stim_takes_is_taken(line):
 
 
 @pytest.mark.parametrize("text, line, said", [
-    ("FOO 0\nHERALDED_ERASE(0.1) 0\n", 1, "UnsupportedName"),
+    ("FOO 0\nHERALDED_ERASE(2) 0\n", 1, "UnsupportedName"),
     ("R 0\nX_ERROR(2) 0\nFOO 0\n", 2, "BadArguments"),
     ("X_ERROR(0.1) 9999\nX_ERROR(2) 0\n", 1, "QubitOutOfRange"),
     ("MXX 0 1\n}\nISWAP 0 0\n", 2, "BadBlock"),

@@ -12,7 +12,7 @@ from stabsim.collecting import seed_of
 LINES = [
     "R 0 1 2", "H 0", "CX 0 1 1 2", "X 3", "I 0", "M 0 1", "M(0.25) 0 !1", "MR(0.125) 2", "MPP X0*X1 !Z2", "MPP(0.5) X0*Z1", "TICK", "TICK[~a]", "S[~] 1",
     "X_ERROR(0.25) 0 1", "Z_ERROR[why](0.5) 2", "DEPOLARIZE1(0.125) 0", "DEPOLARIZE2(0.0625) 0 1 2 3", "PAULI_CHANNEL_1(0.1, 0, 0) 1",
-    "E(0.25) X0 Z1", "I_ERROR(0.5) 0", "ISWAP 0 1", "SQRT_XX 1 2", "MXX(0.25) 0 1", "MZZ 0 1 2 3", "MPAD 0 1", "MPAD(0.125) 1", "H_XY 0", "XCZ 0 1",
+    "E(0.25) X0 Z1", "I_ERROR(0.5) 0", "ISWAP 0 1", "SQRT_XX 1 2", "MXX(0.25) 0 1", "MZZ 0 1 2 3", "MPAD 0 1", "MPAD(0.125) 1", "HERALDED_ERASE(0.25) 0 1", "HERALDED_PAULI_CHANNEL_1(0, 0.125, 0, 0.25) 2", "H_XY 0", "XCZ 0 1",
     "SPP X0*Y1", "MPP X0*X0", "CZ 1 0", "C_NXYZ 2", "II 0 1", "DETECTOR(1, 2.5) rec[-1]", "OBSERVABLE_INCLUDE(0) rec[-1]", "QUBIT_COORDS(1, 2) 3",
     "SHIFT_COORDS(1)", "CX rec[-1] 2", "CZ 2 rec[-1]", "M[tag] 1", "X[\\B\\n] 0", "DETECTOR", "E(0.5) Z2",
 ]
@@ -60,11 +60,13 @@ def place_in(items, numbers):
 def edited(session, items, numbers):
     """Makes an edit in a session and in a text, if the session takes it; whether it did."""
     places, path, at = place_in(items, numbers)
-    kind = numbers.choice(["insert", "replace", "delete"]) if at < len(places) else "insert"
-    new = Written(numbers, len(path))
+    kind = numbers.choice(["insert", "replace", "delete", "move"]) if at < len(places) else "insert"
+    new, to = Written(numbers, len(path)), numbers.randrange(len(places) + 1)
     try:
         if kind == "delete":
             session.delete([*path, at])
+        elif kind == "move":
+            session.move([*path, at], [*path, to])
         else:
             getattr(session, kind)([*path, at], text_of([new]))
     except stabsim.Refused:
@@ -72,7 +74,11 @@ def edited(session, items, numbers):
     if kind == "replace":
         # What is above an item stays above what comes in its place.
         new.above = places[at].above + new.above
-    places[at : at + (kind != "insert")] = [new] * (kind != "delete")
+    if kind == "move":
+        new = places.pop(at)
+        places.insert(to - (to > at), new)
+    else:
+        places[at : at + (kind != "insert")] = [new] * (kind != "delete")
     return True
 
 
@@ -132,7 +138,7 @@ def test_what_rides_in_a_tag_is_any_text():
 @pytest.mark.parametrize("item, said", [
     ("X_ERROR(2) 0", "refused 2 BadArguments"), ("X_ERROR 0", "one chance in brackets"), ("DEPOLARIZE2(0.1) 0 0", "two different qubits"),
     ("X_ERROR(0.1) 5000", "refused 6 QubitOutOfRange"), ("X_ERROR(0.1) a", "refused 3 BadTarget"), ("M(1.5) 0", "a number from 0 to 1"),
-    ("E(0.1) Q0", "takes Paulis"), ("NOPE 1", "refused 1 UnsupportedName"), ("ISWAP 0", "no partner"), ("M(0.1) 9", "refused 6"), ("CX 0", "refused 4"),
+    ("E(0.1) Q0", "takes Paulis"), ("HERALDED_PAULI_CHANNEL_1(0.1) 0", "4 chances in brackets"), ("HERALDED_ERASE(0.1) a", "refused 3"), ("NOPE 1", "refused 1 UnsupportedName"), ("ISWAP 0", "no partner"), ("M(0.1) 9", "refused 6"), ("CX 0", "refused 4"),
 ])
 def test_an_item_that_is_refused_is_explained_and_changes_nothing(item, said):
     text = "R 0\nX_ERROR(0.5) 0 # noise\nM 0\n"
@@ -141,8 +147,6 @@ def test_an_item_that_is_refused_is_explained_and_changes_nothing(item, said):
             with pytest.raises(stabsim.Refused) as told:
                 edit(1, item)
             assert said in str(told.value)
-        with pytest.raises(stabsim.UnsupportedNoise):
-            session.insert(1, "HERALDED_ERASE(0.1) 0")
         assert session.circuit(comments=True) == text and not session.undo()
 
 
@@ -196,16 +200,23 @@ def test_coins_and_errors_are_at_the_items_of_the_user():
         assert found.distance == 1 and {error.path for error in found.errors} == {"1"}
 
 
-@pytest.mark.parametrize("edit", [
-    lambda session: session.insert(0, "M 1", keep_records=True),
-    lambda session: session.replace(1, "M 1", keep_records=True),
-    lambda session: session.delete(1, keep_records=True),
-    lambda session: session.move(1, 0, keep_records=True),
-    lambda session: session.retarget([("delete", 1)]),
-])
-def test_lookbacks_do_not_follow_their_records_where_lines_are_kept_as_written(edit):
-    text = "X_ERROR(0.125) 0\nM 0\nDETECTOR rec[-1]\n"
-    with stabsim.from_stim(text).edit() as session:
-        with pytest.raises(ValueError, match="without noise alone"):
-            edit(session)
-        assert session.circuit() == text
+def test_lookbacks_follow_their_records_past_noise_and_comments():
+    text = "# a record\nM(0.25) 0 # wrong at times\nX_ERROR(0.125) 0\nMXX(0.5) 0 1\n# of both\nDETECTOR(1) rec[-1] rec[-2] # why\nYCZ 0 rec[-2]\n"
+    with stabsim.Circuit(text).edit(qubits=4) as session:
+        # Two records between them and what names them.
+        session.insert(4, "MZZ(0.1) 0 1 2 3  # between", keep_records=True)
+        assert session.circuit(comments=True) == (
+            "# a record\nM(0.25) 0 # wrong at times\nX_ERROR(0.125) 0\nMXX(0.5) 0 1\n# of both\n"
+            "DETECTOR(1) rec[-1] rec[-2] # why\nMZZ(0.1) 0 1 2 3  # between\nYCZ 0 rec[-4]\n")
+        session.move(4, 0, keep_records=True)
+        assert session.circuit(comments=True).splitlines()[-2:] == ["DETECTOR(1) rec[-1] rec[-2] # why", "YCZ 0 rec[-2]"]
+        session.delete(3, keep_records=True)
+        assert session.circuit(comments=True).splitlines()[-3:] == ["# of both", "DETECTOR(1) rec[-1] # why", "YCZ 0 rec[-1]"]
+        session.replace(1, "M(0.25) 1 0", keep_records=True)
+        assert session.circuit(comments=True).splitlines()[1:3] == ["# a record", "M(0.25) 1 0"] and session.circuit().endswith("YCZ 0 rec[-1]\n")
+        made = session.retarget([("delete", 1)])
+        assert made.lost == ("D0",) and session.circuit(comments=True) == made.text
+        assert made.text == "MZZ(0.1) 0 1 2 3  # between\nX_ERROR(0.125) 0\n# of both\nDETECTOR(1) # why\n"
+        for _ in range(5):
+            assert session.undo()
+        assert session.circuit(comments=True) == text and not session.undo()

@@ -226,7 +226,9 @@ def test_what_is_exported_makes_the_same_circuit(open_page, tmp_path):
     program = stabsim.find_program()
     replayed = subprocess.run([program, "edit", "--in", str(tmp_path / "circuit.stim")], input=script + "show circuit\n",
                               capture_output=True, text=True, check=True).stdout
-    assert replayed == "ok\n" * len(script.splitlines()) + saved.read_text()
+    # What is saved has the comments of the file too.
+    without = "".join(line for line in saved.read_text().splitlines(keepends=True) if not line.startswith("#"))
+    assert replayed == "ok\n" * len(script.splitlines()) + without and len(without) < len(saved.read_text())
 
 
 @pytest.mark.parametrize("path", [pathlib.PurePosixPath("/static/../board.py"), pathlib.PurePosixPath("/static/none.js")])

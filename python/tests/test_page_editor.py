@@ -144,17 +144,6 @@ def test_a_surface_code_is_drawn_from_nothing(open_page):
     page.wait(lambda: page.ask("page.shown.state.deterministic ? page.shown.state.deterministic.every((it) => it === 1) : false"))
 
 
-def test_a_gate_acts_on_what_is_chosen_and_joins_the_one_before_it(page):
-    page.choose_qubit(0)
-    do(page, "h")
-    page.choose_qubit(2, 1)
-    do(page, "h")
-    assert body(page)[:3] == ["R 0 1 2 3", "H 0 2 1", "TICK"]
-    # Both act on qubits of the R, so they are a moment of their own.
-    assert page.find("moment-said").text == "tick 0.2"
-    assert ["gate", "H"] in page.glyphs() and ["reset", "0"] not in page.glyphs()
-
-
 def test_shift_and_the_palette_choose_other_gates(page):
     page.go_to(1)
     page.choose_qubit(0)
@@ -166,7 +155,7 @@ def test_shift_and_the_palette_choose_other_gates(page):
     page.choose_qubit(3)
     page.wait(lambda: len(page.history()) == 4)
     added = [line for line in body(page) if line not in FOUR.splitlines()]
-    assert added == ["MX 0", "CZ 1 2", "SQRT_X 3"]
+    assert added == ["CZ 1 2", "MX 0", "SQRT_X 3"]
 
 
 def test_a_product_is_measured_on_the_chosen_qubits(page):
@@ -338,10 +327,10 @@ def test_in_a_block_a_gate_is_put_into_each_round_and_an_error_into_one(open_pag
     page.go_to(3)
     page.choose_qubit(0)
     do(page, "s")
-    assert page.history()[-1] == "insert 1/2 S 0"
+    assert page.history()[-1] == "replace 1/1 S 0"
     assert page.find("round-said").text == "round 1 of block 1, 0 to 2"
     do(page, "z")
-    assert page.history()[-1] == "insert 2/3 Z 0, in round 1 of 1 alone"
+    assert page.history()[-1] == "insert 2/2 Z 0, in round 1 of 1 alone"
 
 
 def test_arrows_move_between_qubits_and_shift_takes_more(page):

@@ -10,7 +10,7 @@ import pytest
 import stabsim
 from stabsim.page.board import Board
 from stabsim.page.edits import Edit
-from stabsim.page.opening import Opened
+from stabsim.page.opening import opened
 from stabsim.reading import Block, items_of
 from test_page_random import CIRCUITS
 
@@ -21,14 +21,14 @@ ITEMS = (
     "X 1", "TICK", "M 0", "DETECTOR rec[-1]", "REPEAT 3 {\n    M 1\n}", "REPEAT 2 {\n    M 0\n}", "QUBIT_COORDS(9, 9) 7", "H 5", "CX 3 6", "H 20",
     "H 5000", "QUBIT_COORDS(1, 2) 3", "MPP X0*Z4", "DETECTOR rec[-40]", "H 30", "S 40",
 )
-# Says how many events it has heard, and those after which the tab knows something else than one that opens then.
+# What a tab notes of lines as they were written it hears by itself, a while after an edit. This says how many events it has heard, and those after which the tab knows something else than one that opens then.
 HEAR = """
 import { State } from %s;
 import fs from "node:fs";
 const knownOf = ({ items, placement, ancillas, uses, numbers, qubitCoordinates, detectors, observables, coordinates, position, markedAt, savedAt, marked }) => [
   items, [...placement.places], placement.drawer, placement.box, [...ancillas].sort(), [...uses.acting].sort(), numbers, qubitCoordinates, [...detectors],
   [...observables], coordinates, position, markedAt, savedAt, [...marked].sort(),
-].map((it) => JSON.stringify(it, (name, value) => (name === "once" || name === "run" ? undefined : value)));
+].map((it) => JSON.stringify(it, (name, value) => (["once", "run", "written"].includes(name) ? undefined : value)));
 let state = null;
 let count = 0;
 const other = [];
@@ -67,7 +67,7 @@ def random_event(random_, board):
         if act == "edit":
             return board.edit([random_edit(random_, board) for _ in range(random_.choice((1, 1, 2)))])
         if act == "open":
-            return board.open(Opened(random_.choice(CIRCUITS)))
+            return board.open(opened(random_.choice(CIRCUITS)))
         if act == "go":
             return board.go(random_.randint(max(0, board.position - 3), min(len(board.entries), board.position + 3)))
         if act == "mark" or not blocks:
@@ -84,7 +84,7 @@ def random_event(random_, board):
 def test_a_tab_knows_after_any_edits_what_one_that_opens_then_does():
     heard = []
     for run in range(RUNS):
-        board, random_ = Board(Opened(CIRCUITS[run % len(CIRCUITS)])), random.Random(run)
+        board, random_ = Board(opened(CIRCUITS[run % len(CIRCUITS)])), random.Random(run)
         heard.append({"event": board.opened(), "opened": board.opened()})
         for _ in range(EDITS):
             event = random_event(random_, board)

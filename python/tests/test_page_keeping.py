@@ -166,7 +166,7 @@ def free_port():
 
 def test_work_that_was_not_saved_is_offered_by_the_next_page_of_its_port(open_page):
     port = free_port()
-    page = open_page(FOUR, "--port", port)
+    page = open_page("# mine\n" + FOUR, "--port", port)
     page.type_on(2, "y")
     page.wait(lambda: len(page.history()) == 2)
     drawn = page.circuit()
@@ -177,6 +177,7 @@ def test_work_that_was_not_saved_is_offered_by_the_next_page_of_its_port(open_pa
     other.wait(lambda: banner(other) and banner(other)[0].startswith("circuit.stim of ") and banner(other)[0].endswith(" was not saved."))
     other.click("#banner button")
     other.wait(lambda: other.circuit() == drawn and banner(other) == [])
+    assert other.ask("page.link.ask({ ask: 'written' }).then(({ text }) => text)").startswith("# mine\nQUBIT_COORDS")
     # It is not saved yet, and is kept on by the page that has it now.
     other.wait(lambda: other.browser.title.startswith("● "))
     other.wait(lambda: other.browser.execute_script("return Object.keys(localStorage).length") == 1)

@@ -52,9 +52,16 @@ def test_ctrl_z_and_ctrl_y_on_a_qubit_undo_and_redo(page):
     assert page.history() == ["opened", "insert 1 X 0"]
 
 
+def test_undo_that_is_asked_for_twice_at_once_takes_two_edits_back(page):
+    put_x(page)
+    put_z_last(page)
+    page.browser.execute_script("for (const name of ['undo', 'undo']) document.getElementById(name).click()")
+    page.wait(lambda: len(undone(page)) == 2)
+
+
 def test_a_letter_with_another_key_held_is_no_gate(page):
     page.choose_qubit(0)
-    for held in (Keys.CONTROL, Keys.ALT, Keys.META):
+    for held in (Keys.CONTROL, Keys.META):
         page.press("m", held=[held])
     assert put_z_last(page) == ["opened", "insert 1 Z 3"]
 

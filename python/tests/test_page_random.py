@@ -10,7 +10,9 @@ pytestmark = needs_browser
 BLOCK = "R 0 1\nREPEAT 3 {\n    TICK\n    CX 0 1\n    TICK\n    MR 1\n    DETECTOR rec[-1]\n}\nTICK\nM 0\nOBSERVABLE_INCLUDE(0) rec[-1]\n"
 COIN = "RX 0\nR 1 2\nTICK\nM 0 1\nDETECTOR rec[-1]\nDETECTOR rec[-2]\nMPP X0*Z1 Z2\nDETECTOR(0, 0, 1) rec[-1]\n"
 NESTED = "R 3 5\nREPEAT 2 {\n    REPEAT 2 {\n        H 3\n        TICK\n    }\n    M 3\n}\n"
-CIRCUITS = (BLOCK, codes.surface_code(3, 3), COIN, NESTED)
+# Gates that the program reads as others, with comments.
+WRITTEN = "# two\nRX 0 1\nTICK\nISWAP 0 1 # and more\nREPEAT 2 {\n    H_XY 0\n    MXX 0 1\n    TICK\n}\nDETECTOR rec[-1] rec[-2]\n"
+CIRCUITS = (BLOCK, codes.surface_code(3, 3), COIN, NESTED, WRITTEN)
 RUNS, EVENTS = 20, 300
 # Lets go of all that a page loaded anew does not have, and answers what is chosen.
 LET_GO = """(() => {
@@ -19,6 +21,8 @@ LET_GO = """(() => {
   for (const name of ['source', 'search-words']) document.getElementById(name).hidden = true;
   document.getElementById('choice').hidden || document.body.click();
   shown.takeTool('pick');
+  for (const layer of shown.layers.used) shown.layers.clear(layer);
+  if (shown.layers.at !== null) shown.layers.take(shown.layers.at);
   shown.hover(null);
   document.getElementById('since').value = 'edit';
   shown.showSince('edit');

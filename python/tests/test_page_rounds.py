@@ -69,6 +69,34 @@ def test_ticks_are_chosen_on_the_timeline_copied_and_put_in(page):
     page.wait(lambda: page.circuit() == CODE)
 
 
+def exchange_lines(page, *paths):
+    """Clicks lines with Ctrl."""
+    page.settle()
+    chain = ActionChains(page.browser, duration=0).key_down(Keys.CONTROL)
+    for path in paths:
+        page.point_at(f"#text .row[data-path='{path}'] .name", chain=chain).click()
+    chain.key_up(Keys.CONTROL).perform()
+
+
+def test_lines_that_are_apart_are_chosen_by_ctrl_copied_and_taken_out(page):
+    page.choose("0")
+    exchange_lines(page, "2", "5", "7", "5")
+    page.wait(lambda: chosen_rows(page) == ["0", "2", "7"])
+    offer(page, "reverse")
+    page.wait(lambda: page.find("message").text == "the chosen lines are apart: choose some that follow each other")
+    page.focus("#text")
+    page.press("c", held=[Keys.CONTROL])
+    page.press(Keys.DELETE)
+    page.wait(lambda: lines(page) == ["TICK", "TICK", "M 1", "DETECTOR rec[-1]", "TICK", "OBSERVABLE_INCLUDE(0)"])
+    assert page.history() == ["opened", "delete 3 lines"]
+    page.choose("0")
+    page.press("v", held=[Keys.CONTROL])
+    page.wait(lambda: lines(page)[:4] == ["R 0 1", "CX 0 1", "M 0", "TICK"])
+    # A click alone chooses one line again.
+    page.choose("3")
+    page.wait(lambda: chosen_rows(page) == ["3"])
+
+
 def test_lines_are_moved_with_their_records(page):
     page.choose("7")
     page.press(Keys.ARROW_UP, Keys.ARROW_UP, Keys.ARROW_DOWN, held=[Keys.SHIFT])
@@ -87,13 +115,18 @@ def test_gates_are_reversed(open_page):
     assert page.history() == ["opened", "reverse 4 lines"]
 
 
+def open_text(page):
+    page.click("#as-text")
+    page.wait(lambda: page.focused() == "source-text")
+
+
 def write_text(page, text):
     page.browser.execute_script("const it = document.getElementById('source-text'); it.value = arguments[0]; it.focus();", text)
     page.press(Keys.ENTER, held=[Keys.CONTROL])
 
 
 def test_the_text_is_edited_as_one_and_applied_as_one_step(page):
-    page.click("#as-text")
+    open_text(page)
     assert page.browser.execute_script("return document.getElementById('source-text').value") == CODE
     page.click("#wrap")
     write_text(page, CODE.replace("CX 0 1", "CX 0 1\n  H 0").replace("M 1\n", "M 1 2\n"))
@@ -105,7 +138,7 @@ def test_the_text_is_edited_as_one_and_applied_as_one_step(page):
 
 
 def test_a_text_that_is_refused_stays_and_the_word_at_fault_is_chosen(page):
-    page.click("#as-text")
+    open_text(page)
     write_text(page, CODE.replace("CX 0 1", "CX 0 1\n   BADGATE 3"))
     page.wait(lambda: page.find("source-said").text.startswith("No instruction has this name"))
     selected = "const it = document.getElementById('source-text'); return it.value.slice(it.selectionStart, it.selectionEnd)"

@@ -14,7 +14,7 @@ pytestmark = pytest.mark.skipif(importlib.util.find_spec("aiohttp") is None, rea
 if importlib.util.find_spec("aiohttp"):
     import aiohttp
     from stabsim.page import server as serving
-    from stabsim.page import tabs
+    from stabsim.page import table_process, tabs
     from stabsim.page.board import Board
     from stabsim.page.opening import opened_of
     from stabsim.page.server import Server, listening
@@ -184,6 +184,20 @@ def test_the_table_of_faults_is_made_anew_after_its_process_has_ended(tmp_path):
         assert await tab.ask(ask="region", bit="D0") == region
 
     run_with_server(tmp_path, CODE, work)
+
+
+def test_the_table_of_faults_is_not_made_anew_if_an_edit_leaves_it(monkeypatch):
+    made = []
+    monkeypatch.setattr(table_process, "made", lambda text: (made.append(text), "")[::-1])
+    table = table_process.Table()
+    block = "R 0\nREPEAT {} {{\n    TICK\n    H 0\n{}}}\n"
+    for text in (block.format(5, ""), "QUBIT_COORDS(0, 1) 0\n" + block.format(5, ""), block.format(5, "    X 0\n").replace("R 0\n", "R 0\nZ 0\n"),
+                 block.format(2, "") + (block.format(1, "    Y 0\n") + block.format(2, "")).replace("R 0\n", "")):
+        table.take(text + "M 0\n")
+    assert len(made) == 1
+    for text in (block.format(6, ""), block.format(6, "    H 0\n"), block.format(6, "    H 0\n") + "TICK\n"):
+        table.take(text + "M 0\n")
+    assert len(made) == 4
 
 
 def test_a_question_that_is_none_is_answered_and_the_tab_goes_on(tmp_path):

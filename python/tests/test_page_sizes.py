@@ -148,6 +148,18 @@ def test_random_detectors_are_counted_first_and_in_colour(open_page):
     page.wait(lambda: page.find("random").get_attribute("textContent") == "")
 
 
+def test_the_history_has_the_room_that_is_left_whatever_is_chosen(open_page):
+    page = open_page(CODE)
+    foot = page.box("#inspector")[1] + page.box("#inspector")[3]
+    for choose in (lambda: None, lambda: page.choose_qubit(10), lambda: page.click_bit("D3")):
+        choose()
+        page.settle()
+        # What is being computed has a line until it is there.
+        page.wait(lambda: page.box("#edits")[3] > 300)
+        _, top, _, height = page.box("#edits")
+        assert top + height == pytest.approx(foot, abs=1)
+
+
 def test_what_says_nothing_takes_no_room(open_page):
     page = open_page(CODE)
     page.wait(lambda: page.texts("#about-detector h3") == ["No detector chosen"])

@@ -22,7 +22,7 @@ def circuit_of(words):
 
 
 def test_each_row_of_the_page_is_tried():
-    assert len(ANSWERED) == sum(line.startswith("| `") for line in PAGE.splitlines()) == 11
+    assert len(ANSWERED) == sum(line.startswith("| `") for line in PAGE.splitlines()) == 13
 
 
 @pytest.mark.parametrize("words, errors, distance", ANSWERED)
@@ -32,6 +32,6 @@ def test_a_circuit_has_the_distance_of_its_row(words, errors, distance):
         assert found.distance == int(distance) == len(found.errors)
 
 
-def test_six_errors_of_the_gross_code_do_not_go_unseen():
+def test_seven_errors_of_the_gross_code_do_not_go_unseen():
     found = circuit_of(BOUNDED).distance(everywhere=True, letters="XZ", most=int(MOST))
     assert (found.distance, found.most) == (None, int(MOST))

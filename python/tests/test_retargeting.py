@@ -99,6 +99,8 @@ def written_out(text):
             own = item.tag, counts[item.tag]
             if item.name in MEASURING:
                 records.extend((*own, target.replace("!", "")) for target in item.targets)
+            elif item.name in ("MXX", "MZZ"):
+                records.append((*own, " ".join(item.targets).replace("!", "")))
             elif item.name in ("DETECTOR", "OBSERVABLE_INCLUDE", "CX"):
                 bit = f"D{next(detectors)}" if item.name == "DETECTOR" else "L0" if item.name == "OBSERVABLE_INCLUDE" else ""
                 its = {records[int(target[4:-1])] for target in item.targets if target.startswith("rec")}
@@ -146,6 +148,73 @@ def test_after_any_edits_each_item_names_the_records_that_it_named(first):
         assert made_by_edits(text, made.edits) == made_by_edits(made.text, [])
         done += 1
     assert done >= 10
+
+
+NOISE = ("X_ERROR(0.25) 0 1", "DEPOLARIZE2(0.125) 2 3", "E(0.5) X0 Z5", "I_ERROR(0.1) 0")
+
+
+class NoisyMaker(Maker):
+    """Its circuits have channels between items, wrong records, pairs that are measured, and comments above items and at their ends."""
+
+    def measurement(self):
+        if self.random.random() < 0.3:
+            pair = self.random.sample(range(6), 2)
+            return f"{self.random.choice(('MXX', 'MZZ'))}{self.tag()}(0.25) {pair[0]} !{pair[1]}"
+        name, _, rest = super().measurement().partition(" ")
+        return f"{name}{self.random.choice(('', '(0.125)'))} {rest}"
+
+    def lines(self, deep, before):
+        found, made = super().lines(deep, before)
+        return [line for old in found for line in self.around(old)], made - sum(line.startswith(("MXX", "MZZ")) for line in found)
+
+    def around(self, line):
+        if "{" in line or "}" in line or "#" in line:
+            return [line]
+        above = [f"# {self.tag()}"] if self.random.random() < 0.2 else []
+        return [*above, line + f" # {self.tag()}" * (self.random.random() < 0.2), *[self.random.choice(NOISE)] * (self.random.random() < 0.3)]
+
+
+@pytest.mark.parametrize("first", range(0, 120, 20))
+def test_in_a_session_with_noise_each_item_names_the_records_that_it_named_and_keeps_its_comments(first):
+    done = 0
+    for seed in range(first, first + 20):
+        maker = NoisyMaker(seed)
+        text = "\n".join(maker.lines(2, 0)[0]) + "\n"
+        try:
+            session = stabsim.Circuit(text).edit(qubits=60)
+        except stabsim.Refused:
+            continue
+        with session:
+            written = session.circuit(comments=True)
+            edits = list(maker.edits(text))
+            try:
+                made = session.retarget(edits)
+            except ValueError as fault:
+                assert "come after" in str(fault) or "there is no" in str(fault), fault
+                assert session.circuit(comments=True) == written
+                continue
+            compare(text, made)
+            now = session.circuit(comments=True)
+            assert stabsim.Circuit(now) == stabsim.Circuit(made.text) and comments_by_tag(now) == comments_by_tag(made.text)
+            # What is as it was has the comments that it had, in each round that is a block by itself.
+            before, after = comments_by_tag(written), comments_by_tag(now)
+            replaced = {text.partition("[")[2].partition("]")[0] for kind, _, *words in edits if kind == "replace" for text in words}
+            assert all(set(after[tag]) <= set(before[tag]) for tag in before if tag in after and tag not in replaced)
+            assert session.undo() == bool(made.edits) and session.circuit(comments=True) == written
+            done += 1
+    assert done >= 8
+
+
+def comments_by_tag(text):
+    """The comment at the end of each line, and those above it, by the tag of its item."""
+    found, above = {}, []
+    for line in text.splitlines():
+        content, _, comment = line.partition("#")
+        tag = content.partition("[")[2].partition("]")[0]
+        if content.strip() and tag:
+            found.setdefault(tag, []).append((tuple(above), comment))
+        above = [] if content.strip() else [*above, comment]
+    return found
 
 
 def with_values(text):

@@ -46,7 +46,7 @@ OBSERVABLE_INCLUDE(0) rec[-1]
 def test_lines_that_are_read_stay_and_others_become_those_that_do_the_same():
     read = stabsim.from_stim(TEXT)
     assert read.circuit.text == QUIET and read.text == str(read) == TEXT and stabsim.without_noise(TEXT) == QUIET
-    assert read.circuit.numbers().records == 6 and read.circuit.left_out == (5, 8, 9, 10, 14)
+    assert read.circuit.numbers().records == 6 and read.circuit.left_out == [] and len(read.left_out) == 5
 
 
 def test_lines_and_items_are_known_both_ways():
@@ -131,7 +131,7 @@ def test_errors_of_the_noise_are_at_its_items():
     assert error.path in ("3/1", "4") and read.distance(everywhere=True).errors[0].path in ("0", "2")
     with pytest.raises(ValueError, match="letters is 'XZ': give everywhere=True"):
         read.distance(letters="XZ")
-    assert read.circuit.distance().searched.startswith("no errors, since no place is marked")
+    assert read.circuit.distance().searched.startswith("no errors, since there is no noise, and no place is marked")
     marked = stabsim.from_stim("MXX 0 1\nI 1\nM 1\nOBSERVABLE_INCLUDE(0) rec[-1]\nOBSERVABLE_INCLUDE(0) rec[-1]\n")
     assert marked.distance().searched == "all marked errors"
 
@@ -150,13 +150,17 @@ def test_an_error_put_in_at_the_place_of_its_channel_flips_what_the_channel_does
 def test_a_text_that_the_program_reads_is_the_same():
     for text in ("", "H 0", codes.surface_code(3, 3), "M 0 # \udcff\r\n\tX 1\r\n"):
         read = stabsim.from_stim(text)
-        assert read.circuit.text == text and read.noise == () and read.left_out == [] and "noise" not in repr(read)
-    assert repr(stabsim.from_stim(TEXT)) == "<stabsim.StimCircuit: 15 lines, noise in 5 of them>"
+        assert read.circuit is read and read.noise == () and read.left_out == [] and "noise" not in repr(read)
+    assert repr(stabsim.from_stim(TEXT)) == "<stabsim.Circuit: 15 lines, noise in 5 of them>"
 
 
 @pytest.mark.parametrize("text, number, line, said", [
-    ("M 0\nCX sweep[0] 1\n", 3, 2, "2: CX sweep[0] 1\n      ^^^^^^^^\nA run has no sweep bits."),
-    ("M 0\nCZ 1 sweep[0]\n", 3, 2, "2: CZ 1 sweep[0]\n        ^^^^^^^^\nA run has no sweep bits."),
+    ("M 0\nCX 0 sweep[0]\n", 3, 2, "2: CX 0 sweep[0]\n        ^^^^^^^^\nCX takes pairs, of which a sweep bit, as sweep[0], may decide about a qubit."),
+    ("M 0\nCY sweep[0] 1 sweep[1]\n", 3, 2, "2: CY sweep[0] 1 sweep[1]\n                 ^^^^^^^^\nCY takes pairs"),
+    ("M 0\nCX sweep[0] 5000\n", 6, 2, "2: CX sweep[0] 5000\n               ^^^^\n"),
+    ("M 0\nXCZ sweep[0] 1\n", 3, 2, "2: XCZ sweep[0] 1\n       ^^^^^^^^\nXCZ takes pairs"),
+    ("M 0\nCX sweep[x] 1\n", 3, 2, "2: CX sweep[x] 1\n      ^^^^^^^^\n"),
+    ("M 0\nSWAP sweep[0] 1\n", 3, 2, "2: SWAP sweep[0] 1\n        ^^^^^^^^\n"),
     ("M 0\n\nOBSERVABLE_INCLUDE(0) rec[-1] X1\n", 3, 3, "3: OBSERVABLE_INCLUDE(0) rec[-1] X1\n                                 ^^\nThis is a Pauli target"),
     ("ISWAP 0 1\nSQRT_XX 0 1 2 1024\n", 6, 2, "2: SQRT_XX 0 1 2 1024\n                 ^^^^\n"),
     ("ISWAP 0 1\nREPEAT 2 {\n    MYY(0.1) 0 1 !7 5000\n}\n", 6, 3, "3:     MYY(0.1) 0 1 !7 5000\n                       ^^^^\n"),
@@ -190,13 +194,6 @@ def test_a_refusal_speaks_of_the_users_lines_and_items(text, number, line, said)
     with pytest.raises(stabsim.Refused) as told:
         stabsim.from_stim(text)
     assert (told.value.number, told.value.line) == (number, line) and told.value.explanation.startswith(said), told.value
-
-
-def test_errors_that_make_records_are_refused():
-    for name in ("HERALDED_ERASE(0.1) 0", "HERALDED_PAULI_CHANNEL_1(0, 0, 0, 0.1) 0"):
-        with pytest.raises(stabsim.UnsupportedNoise, match="makes records") as told:
-            stabsim.from_stim(f"R 0\n{name}\n")
-        assert told.value.line == 2
 
 
 def test_noise_takes_no_step_of_the_circuit():

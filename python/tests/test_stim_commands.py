@@ -92,6 +92,8 @@ def test_analyze_errors_prints_the_model(tmp_path, wrote):
     assert wrote(*words, given=text.encode()).decode() == stabsim.error_model(text, decompose=True).dem
     disjoint = b"R 0\nPAULI_CHANNEL_1(0.1, 0.1, 0) 0\nM 0\nDETECTOR rec[-1]\nMX 0\n"
     assert wrote("analyze_errors", "--approximate_disjoint_errors", given=disjoint).decode().splitlines()[1].startswith("error(0.18")
+    coin = b"H 0\nCX 0 1\nM 0 1\nDETECTOR rec[-1]\nDETECTOR rec[-2]\n"
+    assert wrote("analyze_errors", "--allow_gauge_detectors", given=coin) == b"error(0.5) D0 D1\ndetector D0\ndetector D1\n"
 
 
 def test_sample_dem_writes_the_shots_of_the_model(tmp_path, wrote):
@@ -144,8 +146,7 @@ def test_each_code_and_task_that_gen_names_is_made(run, wrote):
 
 
 @pytest.mark.parametrize("words, status, said", [
-    (["m2d", "--circuit", "noisy.stim", "--in_format", "01", "--sweep", "x.b8"], 2, "--sweep: a circuit has no sweep bits here"),
-    (["analyze_errors", "--allow_gauge_detectors"], 2, "--allow_gauge_detectors: each detector must be"),
+    (["m2d", "--circuit", "noisy.stim", "--in_format", "01", "--sweep", "x.b8"], 2, "--sweep: sweep bits are those of a circuit here"),
     (["sample_dem", "--err_out", "x"], 2, "--err_out: errors that flip the same are one here"),
     (["gen", "--code", "color_code", "--task", "memory_xyz", "--distance", "3", "--rounds", "2"], 1, "stabsim gen: color_code:memory_xyz is none of"),
     (["gen", "--code", "repetition_code", "--task", "memory", "--distance", "1", "--rounds", "2"], 1, "stabsim gen: distance is 1: give a whole number from 2 to 512"),

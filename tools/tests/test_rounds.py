@@ -1,6 +1,7 @@
 """Rounds that come again, in a block or written out, give what their lines give if each is carried out: by runs, by shots at once and in
 sessions."""
 
+import random
 from collections.abc import Sequence
 from pathlib import Path
 
@@ -177,3 +178,31 @@ def test_sessions_show_what_a_run_of_each_line_gives(tmp_path: Path, text: str, 
     assert [records + "\n", detectors + observables + "\n"] == [answer(["sample"], lines), answer(DETECT, lines)]
     for stride in STRIDES:
         assert session(circuit, text, "--stride", stride) == wanted
+
+
+def edits(lines: list[str], seed: int) -> str:
+    """Random edits of lines, which it makes, as a script: what is put in is taken out again, or stays."""
+    chosen = random.Random(seed)
+    script, put = "", []
+    for line in ("H 1", "M 2", "X 0", "R 0", "CX 0 2", "M 1 0", "H 1", "M 2"):
+        place = chosen.randrange(len(lines) // 20, len(lines))
+        lines.insert(place, line)
+        put = [other + (place <= other) for other in put] + [place]
+        script += f"insert {place} {line}\n"
+        if chosen.random() < 0.6:
+            out = put.pop(chosen.randrange(len(put)))
+            del lines[out]
+            put = [other - (out < other) for other in put]
+            script += f"delete {out}\n"
+    return script
+
+
+@pytest.mark.parametrize("case", WRITTEN.values(), ids=WRITTEN)
+def test_edits_among_written_rounds_give_what_a_run_of_each_line_gives(tmp_path: Path, case: Case) -> None:
+    circuit = tmp_path / "circuit.stim"
+    for seed, stride in enumerate((7, 100, 2048, 8192)):
+        lines = written_out(case).splitlines()
+        circuit.write_text(written_out(case))
+        script = edits(lines, seed)
+        shown = answer(["edit", "--qubits", 12, "--stride", stride, "--in", circuit], script + SCRIPT).splitlines()
+        assert shown[-4:] == session(circuit, "\n".join(lines) + "\n" + STILL_BLOCK)

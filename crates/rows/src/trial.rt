@@ -122,7 +122,7 @@ impl<'a, 'b> Trial<'a, 'b> {
     /// The runs over devices that fail at this place, if a run over good ones ends in this way.
     fn try_failing_at(self, place: usize, whole: &Ended) -> Result<(), Failure> {
         let reads = self.circuit.len().saturating_add(1);
-        let reads_fail = place <= reads && whole.err.bytes().is_empty();
+        let reads_fail = place <= reads && !whole.is_refused();
         let good = Devices {
             script_fails: u64::from(self.row.script.is_empty()),
             ..self.good()

@@ -84,3 +84,24 @@ module _ (t fewer : ErrorTable) (numbers : List ℕ) (is : AreEnough t fewer num
         let fewer_still = parts.1.1 in
         (parts.0, (parts.1.0, omega arith));
   }
+
+-- errors that are enough of those that are enough, by their numbers in the table
+pub enough-enough : (t fewer part : ErrorTable) (numbers chosen found : List ℕ) → AreEnough t fewer numbers → AreEnough fewer part chosen → length found ≡ length chosen
+    → ((k : ℕ) → k < length chosen → slice_index found k ≡ slice_index numbers (slice_index chosen k)) → AreEnough t part found
+enough-enough t fewer part numbers chosen found outer inner count each = record {
+  detectors = inner.detectors ∙ outer.detectors;
+  rows = record {
+    count = count ∙ inner.rows.count;
+    same = λ k lt.
+        let at = inner.rows.same k lt in
+        let here = outer.rows.same (slice_index chosen k) at.0 in
+        let is = each k (subst (λ n. k < n) (sym inner.rows.count) lt) in
+        (subst (λ r. r < length t.rows) (sym is) here.0, at.1 ∙ here.1 ∙ ap (row t.rows) (sym is));
+  };
+  enough = λ errors logical.
+      let first = outer.enough errors logical in
+      let second = inner.enough first.0 first.1.0 in
+      let few = first.1.1 in
+      let fewer_still = second.1.1 in
+      (second.0, (second.1.0, omega arith));
+}

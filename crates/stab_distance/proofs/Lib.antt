@@ -12,6 +12,7 @@ pub mod DistinctLemmas
 pub mod ClassLemmas
 pub mod EnoughLemmas
 pub mod ShortestLemmas
+pub mod StepLemmas
 pub mod PairLemmas
 pub mod FirstLemmas
 pub mod ScanLemmas

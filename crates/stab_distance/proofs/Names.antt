@@ -35,6 +35,7 @@ pub use Rattle.stab_distance.specs.inner.Indexes.{listed}
 pub use Rattle.stab_distance.specs.inner.Labels.{label, AreLabels, IsFar, AreCovered, AreNearAlong}
 pub use Rattle.stab_distance.specs.inner.Lists.{Each, has, toggle}
 pub use Rattle.stab_distance.specs.inner.Parts.{IsGraphlikePart}
-pub use Rattle.stab_distance.specs.inner.Pairs.{IsLeftOut, by_one, by_two, ArePairs}
+pub use Rattle.stab_distance.specs.inner.Pairs.{KeepFirst, IsLeftOut, by_one, by_two, ArePairs}
+pub use Rattle.stab_distance.specs.inner.Steps.{IsMoved, AreMoved, MovesDown, MoveDown, HasBefore, BeginsBefore}
 pub use Rattle.stab_distance.specs.inner.Shortest.{IsShortest, IsLogicalSet, IsGathered, IsLogicalWithin, IsFound, Decides}
 pub use Rattle.stab_distance.specs.inner.Tellings.{HearsOn, IsLast, TellsSizes, TellsAnswer}

@@ -1,7 +1,7 @@
 -- Pairs that are left out: of the least sets that are logical errors one has none of them, the last in the order of their errors.
-use Rattle.stab_distance.proofs.Names.{◌≡◌, ◌≢◌, ℕ, zero, suc, ◌+◌, ◌-◌, ◌^◌, ◌≤◌, ◌<◌, ◌⊎◌, inl, inr, sym, ◌∙◌, ap, subst, arith, true, false, ◌||◌, List, [], ◌∷◌, ◌++◌, length, false≢true, ◌==◌, eqb-true, ◌⊕◌, parity-assoc, IsAscending, ErrorTable, odd, row, flips, IsLogicalError, HasNoneWithin, Each, has, toggle, listed, Vec, IsLeftOut, by_one, by_two, ArePairs, pow-le-pow_right, pow-succ'}
+use Rattle.stab_distance.proofs.Names.{◌≡◌, ◌≢◌, ℕ, zero, suc, ◌+◌, ◌-◌, ◌^◌, ◌≤◌, ◌<◌, ◌⊎◌, inl, inr, sym, ◌∙◌, ap, subst, arith, true, false, ◌||◌, List, [], ◌∷◌, ◌++◌, length, false≢true, ◌==◌, eqb-true, ◌⊕◌, parity-assoc, IsAscending, ErrorTable, odd, row, flips, IsLogicalError, HasNoneWithin, Each, has, toggle, listed, Vec, HasBefore, KeepFirst, IsLeftOut, by_one, by_two, ArePairs, pow-le-pow_right, pow-succ'}
 use Rattle.stab_distance.proofs.FlipLemmas.{flips-without}
-use Rattle.stab_distance.proofs.ListLemmas.{by-bit, by-place, each-all, all-each, each-without, length-without, has-without, without, without-here, without-there, has-here, has-there, toggle-here, toggle-out, toggle-there}
+use Rattle.stab_distance.proofs.ListLemmas.{by-bit, by-place, each-all, all-each, each-without, length-without, length-toggle, has-without, without, without-here, without-there, has-here, has-there, toggle-here, toggle-out, toggle-there}
 use Rattle.stab_distance.proofs.ShortestLemmas.{gathering, gathered-logical}
 
 -- The weight of a set of n errors: its errors as the ones of a binary number, the first error the most significant.
@@ -46,6 +46,43 @@ half n a c before inside =
 some-weight : (k : ℕ) → 0 < 2 ^ k
 some-weight k = let least : 2 ^ 0 ≤ 2 ^ k = pow-le-pow_right {n = 2} (omega arith) {i = 0} {j = k} (omega arith) in omega arith
 
+-- what holds of a number of a list holds of its first or of one of the rest
+pub among : (a x : ℕ) (xs : List ℕ) {P : Type 0} → has a (x ∷ xs) ≡ true → (x ≡ a → P) → (has a xs ≡ true → P) → P
+among a x xs e here there =
+    by-bit (x == a) (λ same. here (eqb-true x a same)) (λ other. there (ap (λ b. b || has a xs) (sym other) ∙ e))
+
+-- An error before another is kept in the set of a list that has each of its errors once.
+
+-- toggled into a set that grows, it keeps the others
+has-toggle : (f x : ℕ) (xs : List ℕ) → length (toggle x xs) ≡ suc (length xs) → has f (x ∷ xs) ≡ true → has f (toggle x xs) ≡ true
+has-toggle f x [] count e = e
+has-toggle f x (y ∷ ys) count e =
+    by-place x y
+    (λ lt. ap (has f) (toggle-here x y ys lt) ∙ e)
+    (λ same. let is = ap length (toggle-out x y ys same) in absurd (omega arith))
+    (λ lt.
+    let is = ap length (toggle-there x y ys lt) in
+    let later : length (toggle x ys) ≡ suc (length ys) = omega arith in
+    ap (has f) (toggle-there x y ys lt)
+    ∙ among f x (y ∷ ys) e
+    (λ same. has-there f y (toggle x ys) (has-toggle f x ys later (subst (λ k. has k (x ∷ ys) ≡ true) same (has-here x ys))))
+    (λ rest.
+    among f y ys rest
+    (λ same. subst (λ k. has k (y ∷ toggle x ys) ≡ true) same (has-here y (toggle x ys)))
+    (λ there. has-there f y (toggle x ys) (has-toggle f x ys later (has-there f x ys there)))))
+
+has-gathering : (f : ℕ) (xs : List ℕ) → length xs ≤ length (gathering xs).0 → has f xs ≡ true → has f (gathering xs).0 ≡ true
+has-gathering f [] le e = e
+has-gathering f (x ∷ xs) le e =
+    let set = gathering xs in
+    let fewer = set.1.fewer in
+    let grown = length-toggle x set.0 in
+    has-toggle f x set.0 (omega arith)
+    (among f x xs e (λ same. subst (λ k. has k (x ∷ set.0) ≡ true) same (has-here x set.0)) (λ there. has-there f x set.0 (has-gathering f xs (omega arith) there)))
+
+pub before-gathering : (firsts : ℕ) (xs : List ℕ) → length xs ≤ length (gathering xs).0 → HasBefore firsts xs → HasBefore firsts (gathering xs).0
+before-gathering firsts xs le (f, (lt, there)) = (f, (lt, has-gathering f xs le there))
+
 -- Two of a set's errors, replaced by the errors that flip the same.
 
 -- what is left of the set
@@ -77,20 +114,35 @@ module _ (t : ErrorTable) (set : List ℕ) (a b : ℕ) (in_a : has a set ≡ tru
     observed = (e.observed.0, e.observed.1, same e.observed.0 ∙ e.observed.2);
   }
 
+  -- one that can be first is still there, or one of those in their place is
+  before-others : (firsts c d : ℕ) → KeepFirst firsts a b c d → HasBefore firsts set → HasBefore firsts (c ∷ d ∷ others)
+  before-others firsts c d (inl lt) first = (c, (lt, has-here c (d ∷ others)))
+  before-others firsts c d (inr (inl lt)) first = (d, (lt, has-there d c (d ∷ others) (has-here d others)))
+  before-others firsts c d (inr (inr late)) (f, (lt, there)) = (
+    f,
+    (
+      lt,
+      has-there f c (d ∷ others)
+          (has-there f d others
+          (has-without f b (without a set) (has-without f a set there (λ same. let h = late.0 in omega (arith, lt, h, same))) (λ same. let h = late.1 in omega (arith, lt, h, same)))),
+    ),
+  )
+
   each-others : IsLogicalError t set → Each (λ r. r < length t.rows) others
   each-others e = each-without (λ r. r < length t.rows) b (without a set) (each-without (λ r. r < length t.rows) a set (each-all (λ r. r < length t.rows) set e.inside))
 
 -- a least set with a pair that is left out, and the set that is after it
-pub record Later (t : ErrorTable) (left : ℕ) (set : List ℕ) : Type 0 where
+pub record Later (t : ErrorTable) (firsts left : ℕ) (set : List ℕ) : Type 0 where
   pub next : List ℕ
+  pub begun : HasBefore firsts next
   pub ascending : IsAscending next
   pub logical : IsLogicalError t next
   pub count : length next ≡ left + 1
   pub less : weight (length t.rows) next < weight (length t.rows) set
 
-later : (t : ErrorTable) (left : ℕ) (set : List ℕ) (a b : ℕ) → HasNoneWithin t left → IsLogicalError t set → length set ≡ left + 1
-    → has a set ≡ true → has b set ≡ true → a ≢ b → IsLeftOut t.rows a b → Later t left set
-later t left set a b none e count in_a in_b differ (by_one c inside same) =
+later : (t : ErrorTable) (firsts left : ℕ) (set : List ℕ) (a b : ℕ) → HasNoneWithin t left → IsLogicalError t set → length set ≡ left + 1 → HasBefore firsts set
+    → has a set ≡ true → has b set ≡ true → a ≢ b → IsLeftOut t.rows firsts a b → Later t firsts left set
+later t firsts left set a b none e count first in_a in_b differ (by_one c inside same) =
     let rest = others t set a b in_a in_b differ in
     let is = logical-others t set a b in_a in_b differ (c ∷ []) (inside, tt)
     (λ i. ap (λ x. x ⊕ flips t.rows rest i) (sym (same i)) ∙ sym (flips-others t set a b in_a in_b differ i)) e
@@ -98,7 +150,7 @@ later t left set a b none e count in_a in_b differ (by_one c inside same) =
     let more = none (c ∷ rest) is in
     let long = length-others t set a b in_a in_b differ in
     absurd (omega arith)
-later t left set a b none e count in_a in_b differ (by_two c d in_c in_d after_c after_d same) =
+later t firsts left set a b none e count first in_a in_b differ (by_two c d in_c in_d after_c after_d keep same) =
     let n = length t.rows in
     let rest = others t set a b in_a in_b differ in
     let is = logical-others t set a b in_a in_b differ (c ∷ d ∷ []) (in_c, (in_d, tt))
@@ -118,6 +170,7 @@ later t left set a b none e count in_a in_b differ (by_two c d in_c in_d after_c
     let some = some-weight (n - b) in
     record {
       next = set_of.0;
+      begun = before-gathering firsts (c ∷ d ∷ rest) (omega arith) (before-others t set a b in_a in_b differ firsts c d keep first);
       ascending = set_of.1.ascending;
       logical = logical;
       count = omega arith;
@@ -136,11 +189,6 @@ record Paired (pairs : List (Vec ℕ)) (xs ys : List ℕ) : Type 0 where
   in_xs : has a xs ≡ true
   in_ys : has g ys ≡ true
   pair : has g (listed pairs a) ≡ true
-
--- what holds of a number of a list holds of its first or of one of the rest
-pub among : (a x : ℕ) (xs : List ℕ) {P : Type 0} → has a (x ∷ xs) ≡ true → (x ≡ a → P) → (has a xs ≡ true → P) → P
-among a x xs e here there =
-    by-bit (x == a) (λ same. here (eqb-true x a same)) (λ other. there (ap (λ b. b || has a xs) (sym other) ∙ e))
 
 pairs-with : (pairs : List (Vec ℕ)) (x : ℕ) (ys : List ℕ) → ((g : ℕ) → has g ys ≡ true → has g (listed pairs x) ≡ false) ⊎ Paired pairs (x ∷ []) ys
 pairs-with pairs x [] = inl (λ g e. absurd (false≢true e))
@@ -168,32 +216,34 @@ paired pairs (x ∷ xs) ys = on (pairs-with pairs x ys) (paired pairs xs ys)
     on (inl none) (inl rest) = inl (λ a g e. among a x xs e (λ same. subst (λ k. has g ys ≡ true → has g (listed pairs k) ≡ false) same (none g)) (λ there. rest a g there))
 
 -- a least set without a pair that is left out
-pub record Last (t : ErrorTable) (pairs : List (Vec ℕ)) (left : ℕ) : Type 0 where
+pub record Last (t : ErrorTable) (pairs : List (Vec ℕ)) (firsts left : ℕ) : Type 0 where
   pub set : List ℕ
+  pub begun : HasBefore firsts set
   pub ascending : IsAscending set
   pub logical : IsLogicalError t set
   pub count : length set ≡ left + 1
   pub unpaired : Unpaired pairs set set
 
-module _ (t : ErrorTable) (pairs : List (Vec ℕ)) (are : ArePairs t.rows pairs) (left : ℕ) (none : HasNoneWithin t left) where
-  after : (set : List ℕ) → IsLogicalError t set → length set ≡ left + 1 → Paired pairs set set → Later t left set
-  after set e count p = by_order (are.left_out p.a p.g p.pair)
+module _ (t : ErrorTable) (pairs : List (Vec ℕ)) (firsts : ℕ) (are : ArePairs t.rows firsts pairs) (left : ℕ) (none : HasNoneWithin t left) where
+  after : (set : List ℕ) → IsLogicalError t set → length set ≡ left + 1 → HasBefore firsts set → Paired pairs set set → Later t firsts left set
+  after set e count first p = by_order (are.left_out p.a p.g p.pair)
     where
-      by_order : IsLeftOut t.rows p.a p.g ⊎ IsLeftOut t.rows p.g p.a → Later t left set
-      by_order (inl out) = later t left set p.a p.g none e count p.in_xs p.in_ys (are.differ p.a p.g p.pair) out
-      by_order (inr out) = later t left set p.g p.a none e count p.in_ys p.in_xs (λ same. are.differ p.a p.g p.pair (sym same)) out
+      by_order : IsLeftOut t.rows firsts p.a p.g ⊎ IsLeftOut t.rows firsts p.g p.a → Later t firsts left set
+      by_order (inl out) = later t firsts left set p.a p.g none e count first p.in_xs p.in_ys (are.differ p.a p.g p.pair) out
+      by_order (inr out) = later t firsts left set p.g p.a none e count first p.in_ys p.in_xs (λ same. are.differ p.a p.g p.pair (sym same)) out
 
-  last-within : (most : ℕ) (set : List ℕ) → weight (length t.rows) set ≤ most → IsAscending set → IsLogicalError t set → length set ≡ left + 1 → Last t pairs left
-  last-within zero set le a e count =
+  last-within : (most : ℕ) (set : List ℕ) → weight (length t.rows) set ≤ most → IsAscending set → IsLogicalError t set → length set ≡ left + 1 → HasBefore firsts set
+      → Last t pairs firsts left
+  last-within zero set le a e count first =
       elim (paired pairs set set) [
-        | inl unpaired ↦ record { set = set; ascending = a; logical = e; count = count; unpaired = unpaired }
-        | inr p ↦ absurd (let less = (after set e count p).less in omega arith)
+        | inl unpaired ↦ record { set = set; begun = first; ascending = a; logical = e; count = count; unpaired = unpaired }
+        | inr p ↦ absurd (let less = (after set e count first p).less in omega arith)
       ]
-  last-within (suc most) set le a e count =
+  last-within (suc most) set le a e count first =
       elim (paired pairs set set) [
-        | inl unpaired ↦ record { set = set; ascending = a; logical = e; count = count; unpaired = unpaired }
-        | inr p ↦ let l = after set e count p in let less = l.less in last-within most l.next (omega arith) l.ascending l.logical l.count
+        | inl unpaired ↦ record { set = set; begun = first; ascending = a; logical = e; count = count; unpaired = unpaired }
+        | inr p ↦ let l = after set e count first p in let less = l.less in last-within most l.next (omega arith) l.ascending l.logical l.count l.begun
       ]
 
-  pub last-set : (set : List ℕ) → IsAscending set → IsLogicalError t set → length set ≡ left + 1 → Last t pairs left
-  last-set set a e count = last-within (weight (length t.rows) set) set (omega arith) a e count
+  pub last-set : (set : List ℕ) → IsAscending set → IsLogicalError t set → length set ≡ left + 1 → HasBefore firsts set → Last t pairs firsts left
+  last-set set a e count first = last-within (weight (length t.rows) set) set (omega arith) a e count first

@@ -3,6 +3,7 @@ pub mod Errors
 pub mod Classes
 pub mod Ends
 pub mod Indexes
+pub mod Steps
 pub mod Pairs
 pub mod Covers
 pub mod Certificates

@@ -88,7 +88,7 @@ fn keys_by_class(
     for d in numbers {
         let class = class_at(classes, *d);
         if class != 0 {
-            add_to_class(&mut keys, class, errors.number(*d))?;
+            add_to_class(&mut keys, class, errors.number(*d as usize))?;
         }
     }
     keys.sort()?;

@@ -59,31 +59,47 @@ pub fn distinct_rows(alloc: Global, table: &Table) -> Result<Distinct, AllocErro
     ensures rows { IfOk result (λ x. AreRowsOf table.now.rows x.rows.items x.numbers.items) }
     ensures all { IfOk result (λ x. (r : ℕ) → r < length table.now.rows → HasRow x.rows.items (row table.now.rows r)) }
 {
+    let order = sorted(alloc, table.rows())?;
+    let distinct = rows_in_order(alloc, table.rows(), order.as_slice())?;
+    Ok(distinct)
+}
+
+/// These rows, each once: first those of `order`, and then any others.
+pub fn rows_in_order(alloc: Global, rows: &[Row], order: &[usize]) -> Result<Distinct, AllocError>
+    ensures rows { IfOk result (λ x. AreRowsOf rows.now x.rows.items x.numbers.items) }
+    ensures all { IfOk result (λ x. (r : ℕ) → r < length rows.now → HasRow x.rows.items (row rows.now r)) }
+{
     let mut distinct = Distinct::new(alloc);
     let mut index = Vec::new(alloc);
-    let size = table.len();
-    let places = sorted_places(alloc, table)?;
-    'sorted: for place in places.as_slice() {
-        let r = place.row;
+    let size = rows.len();
+    'ordered: for r in order {
+        let r = *r;
         if r < size {
-            take(alloc, &mut distinct, &mut index, table.row(r), r, size)?;
+            let row = &rows[r];
+            take(alloc, &mut distinct, &mut index, row.numbers(), r, size)?;
         }
     }
     'all: for r in 0..size {
-        take(alloc, &mut distinct, &mut index, table.row(r), r, size)?;
+        let row = &rows[r];
+        take(alloc, &mut distinct, &mut index, row.numbers(), r, size)?;
     }
     Ok(distinct)
 }
 
-/// The rows by their first numbers. No proof rests on it: each row is taken in the end.
-fn sorted_places(alloc: Global, table: &Table) -> Result<Vec<Place>, AllocError> {
-    let mut places = Vec::with_capacity(alloc, table.len())?;
-    for r in 0..table.len() {
-        let start = start_of(table.row(r));
+/// The numbers of rows, sorted by what the rows flip.
+fn sorted(alloc: Global, rows: &[Row]) -> Result<Vec<usize>, AllocError> {
+    let mut places = Vec::with_capacity(alloc, rows.len())?;
+    for r in 0..rows.len() {
+        let row = &rows[r];
+        let start = start_of(row.numbers());
         places.push(Place { start, row: r })?;
     }
     places.sort()?;
-    Ok(places)
+    let mut order = Vec::with_capacity(alloc, rows.len())?;
+    for place in places.as_slice() {
+        order.push(place.row)?;
+    }
+    Ok(order)
 }
 
 /// The first numbers of a row, each one more than it is.

@@ -1,10 +1,13 @@
-ghost use Rattle.std.specs.Prelude.{◌≡◌, length, slice_index, IfOk};
+ghost use Rattle.std.specs.Prelude.{◌≡◌, ◌≤◌, ℕ, true, false, length, slice_index, IfOk};
+ghost use Rattle.stab_distance.specs.Tables.{odd};
 ghost use Rattle.stab_distance.specs.inner.Errors.{key_of, AreKeys};
+ghost use Rattle.stab_distance.specs.inner.Steps.{BeginsBefore};
 
 use crate::index::{rows_at, rows_by_detector};
 use crate::keys::Keys;
 use crate::pairs::pairs_of;
 use crate::row::{Row, end_of, end_of_rows};
+use crate::steps::all_move_down;
 use std::alloc::{AllocError, Global};
 use std::marker::Model;
 
@@ -16,6 +19,7 @@ pub struct Errors {
     keys: Keys,
     index: Vec<Vec<usize>>,
     pairs: Vec<Vec<usize>>,
+    firsts: usize,
 }
 
 // Written out, so that a proof sees the drop of a value as one call, and not one for each of its parts.
@@ -28,6 +32,7 @@ impl Drop for Errors {
             keys: _,
             index: _,
             pairs: _,
+            firsts: _,
         } = self;
     }
 }
@@ -39,7 +44,7 @@ impl Model for Errors {
 
     ghost view = { λ e. record { table = record { detectors = e.detectors; rows = e.rows.items }; numbers = e.numbers.items; pairs = e.pairs.items } };
 
-    ghost invariant = { λ e. IsReady e.detectors e.rows.items e.numbers.items e.keys e.index.items e.pairs.items };
+    ghost invariant = { λ e. IsReady e.detectors e.rows.items e.numbers.items e.keys e.index.items e.pairs.items e.firsts };
 }
 
 impl Errors {
@@ -49,7 +54,8 @@ impl Errors {
     ghost use Rattle.stab_distance.specs.inner.Lists.{Each, has};
     ghost use Rattle.stab_distance.specs.inner.Indexes.{listed};
     ghost use Rattle.stab_distance.specs.inner.Pairs.{ArePairs};
-    ghost use Rattle.stab_distance.specs.inner.Errors.{key_of, FlipNoObservable};
+    ghost use Rattle.stab_distance.specs.inner.Steps.{BeginsBefore};
+    ghost use Rattle.stab_distance.specs.inner.Errors.{key_of};
 
     /// The errors of these rows.
     pub fn new(alloc: Global, detectors: usize, rows: Vec<Row>) -> Result<Errors, AllocError>
@@ -59,6 +65,7 @@ impl Errors {
         let numbers = numbers_of(alloc, flipped)?;
         let keys = Keys::new(alloc, keys_of(alloc, numbers.as_slice(), rows.as_slice())?)?;
         let index = rows_by_detector(alloc, rows.as_slice())?;
+        let firsts = observing(detectors, rows.as_slice());
         Ok(Errors {
             detectors,
             rows,
@@ -66,6 +73,7 @@ impl Errors {
             keys,
             index,
             pairs: Vec::new(alloc),
+            firsts,
         })
     }
 
@@ -130,8 +138,12 @@ impl Errors {
     }
 
     /// The number of a detector.
-    pub(crate) fn number(&self, d: u32) -> u64 {
-        number_at(self.numbers.as_slice(), d)
+    pub(crate) fn number(&self, d: usize) -> u64 {
+        if d < self.numbers.len() {
+            self.numbers[d]
+        } else {
+            0
+        }
     }
 
     /// Some errors, among them each that flips detector d.
@@ -173,22 +185,49 @@ impl Errors {
             self.rows.as_slice(),
             self.index.as_slice(),
             self.detectors,
+            self.firsts,
         )?;
         Ok(())
     }
 
-    /// The number of errors up to the last one that flips an observable.
-    pub fn observing(&self) -> usize
+    /// How many errors can be the first of a set: a shortest logical error, if there is one, is one that has one of these.
+    pub fn firsts(&self) -> usize
         ensures within { result ≤ length self.now.table.rows }
-        ensures others { FlipNoObservable self.now.table result }
-        ensures pairs { ArePairs self.now.table.rows self.now.pairs }
+        ensures begun { BeginsBefore self.now.table result }
+        ensures pairs { ArePairs self.now.table.rows result self.now.pairs }
     {
-        let mut n = self.rows.len();
-        'unobserved: while n > 0 && end_of(self.row(n - 1)) <= self.detectors {
-            n -= 1;
-        }
-        n
+        self.firsts
     }
+
+    /// Lets only the errors before this number be first, if all others move down by a step. Pairs that were left out are forgotten.
+    pub fn begin_before(&mut self, firsts: usize, step: usize)
+        ensures table { self.new.table ≡ self.old.table }
+        ensures numbers { self.new.numbers ≡ self.old.numbers }
+    {
+        if firsts < self.firsts && all_move_down(self, firsts, step) {
+            self.firsts = firsts;
+            self.pairs.clear();
+        }
+    }
+}
+
+/// The number of errors up to the last one that flips an observable.
+fn observing(detectors: usize, rows: &[Row]) -> usize
+    ensures within { result ≤ length rows.now }
+    ensures begun { BeginsBefore (record { detectors = detectors; rows = rows.now }) result }
+{
+    let mut n = rows.len();
+    'unobserved: while n > 0 && ends_within(&rows[n - 1], detectors) {
+        n -= 1;
+    }
+    n
+}
+
+/// Whether each number of a row is below this one.
+fn ends_within(row: &Row, end: usize) -> bool
+    ensures yes { result ≡ true → (i : ℕ) → end ≤ i → odd i row.now ≡ false }
+{
+    end_of(row.numbers()) <= end
 }
 
 /// A number of 64 bits for each detector, as good as random.

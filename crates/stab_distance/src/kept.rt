@@ -6,10 +6,11 @@ ghost use Rattle.stab_distance.specs.inner.Classes.{class_of, AreOfClass, HaveCl
 ghost use Rattle.stab_distance.specs.inner.Errors.{AreRowsOf};
 
 use crate::classes::{class_at, classes_of, parts_of};
-use crate::distinct::Distinct;
+use crate::distinct::{Distinct, rows_in_order};
 use crate::errors::Errors;
 use crate::logical::flipped_by;
 use crate::merging::merge_into;
+use crate::steps::{find_step, order_by};
 use std::alloc::{AllocError, Global};
 
 /// Errors that are enough, and their numbers in a table.
@@ -19,8 +20,65 @@ pub struct Kept {
     pub numbers: Vec<usize>,
 }
 
-/// Those of these errors that flip detectors of one class, if they are enough; else all.
+/// Errors that are enough, in an order in which few can be first.
 pub fn keep_enough(alloc: Global, errors: Errors, numbers: Vec<usize>) -> Result<Kept, AllocError>
+    ensures enough { IfOk result (λ k. (t : ErrorTable) → AreEnough t errors.table numbers.items → AreEnough t k.errors.table k.numbers.items) }
+{
+    let kept = keep_one_class(alloc, errors, numbers)?;
+    let ordered = put_firsts(alloc, kept)?;
+    Ok(ordered)
+}
+
+/// The errors with those first that no step moves down, if there is a step that moves down most of them.
+fn put_firsts(alloc: Global, kept: Kept) -> Result<Kept, AllocError>
+    ensures enough { IfOk result (λ k. (t : ErrorTable) → AreEnough t kept.errors.table kept.numbers.items → AreEnough t k.errors.table k.numbers.items) }
+{
+    match find_step(&kept.errors) {
+        None => Ok(kept),
+        Some(step) => Ok(put_in_order(alloc, &kept.errors, kept.numbers.as_slice(), step)?),
+    }
+}
+
+/// The errors with those first that this step does not move down.
+fn put_in_order(
+    alloc: Global,
+    errors: &Errors,
+    numbers: &[usize],
+    step: usize,
+) -> Result<Kept, AllocError>
+    ensures enough { IfOk result (λ k. (t : ErrorTable) → AreEnough t errors.now.table numbers.now → AreEnough t k.errors.table k.numbers.items) }
+{
+    let order = order_by(alloc, errors, step)?;
+    let chosen = rows_in_order(alloc, errors.rows(), order.errors.as_slice())?;
+    let numbers = numbers_at(alloc, numbers, chosen.numbers.as_slice())?;
+    let mut ordered = Errors::new(alloc, errors.detectors(), chosen.rows)?;
+    ordered.begin_before(order.firsts, step);
+    Ok(Kept {
+        errors: ordered,
+        numbers,
+    })
+}
+
+/// The numbers at these places, 0 if there is none.
+fn numbers_at(alloc: Global, numbers: &[usize], places: &[usize]) -> Result<Vec<usize>, AllocError>
+    ensures count { IfOk result (λ v. length v.items ≡ length places.now) }
+    ensures each { IfOk result (λ v. (k : ℕ) → k < length places.now → slice_index v.items k ≡ slice_index numbers.now (slice_index places.now k)) }
+{
+    let mut found = Vec::new(alloc);
+    'places: for k in 0..places.len() {
+        found.push(number_at(numbers, places[k]))?;
+    }
+    Ok(found)
+}
+
+fn number_at(numbers: &[usize], k: usize) -> usize
+    ensures value { result ≡ slice_index numbers.now k }
+{
+    if k < numbers.len() { numbers[k] } else { 0 }
+}
+
+/// Those of these errors that flip detectors of one class, if they are enough; else all.
+fn keep_one_class(alloc: Global, errors: Errors, numbers: Vec<usize>) -> Result<Kept, AllocError>
     ensures enough { IfOk result (λ k. (t : ErrorTable) → AreEnough t errors.table numbers.items → AreEnough t k.errors.table k.numbers.items) }
 {
     let classes = classes_of(alloc, &errors)?;

@@ -4,7 +4,7 @@
 //! - `least`: the call. `distinct`: errors that flip the same count once. `kept`: errors that are enough, of one of the `classes` of detectors
 //!   each. `sets`: what is found, in order.
 //! - `sizes`: one error is tried, then two, and so on. `searching`: the search itself. `merging`: what errors flip together.
-//! - `errors`: the errors ready for a search. `index`, `keys`: which errors to try. `candidates`: of which each set has one. `pairs`: which are never
+//! - `steps`: which errors can be the first of a set. `errors`: the errors ready for a search. `index`, `keys`: which errors to try. `candidates`: of which each set has one. `pairs`: which are never
 //!   tried together.
 //! - `existence`: whether there is a logical error at all. `elimination` finds one, or a `certificate` that there is none; `logical`:
 //!   the check of what was found.
@@ -49,6 +49,7 @@ mod searching;
 mod sets;
 mod sizes;
 mod sources;
+mod steps;
 mod table;
 
 pub use answer::{Answer, Progress, Unwatched};

@@ -5,7 +5,7 @@ ghost use Rattle.std.specs.Prelude.{◌≡◌, ◌≢◌, ◌⊎◌, ℕ, ◌<�
 ghost use Rattle.stab_gates.specs.Letters.{◌⊕◌};
 ghost use Rattle.stab_distance.specs.Tables.{odd, row, flips};
 ghost use Rattle.stab_distance.specs.inner.Lists.{Each};
-ghost use Rattle.stab_distance.specs.inner.Pairs.{IsLeftOut, ArePairs};
+ghost use Rattle.stab_distance.specs.inner.Pairs.{KeepFirst, IsLeftOut, ArePairs};
 
 use crate::errors::mixed;
 use crate::index::{list, rows_at};
@@ -24,20 +24,21 @@ struct Sum {
     b: usize,
 }
 
-/// For each error those that need not be tried with it.
+/// For each error those that need not be tried with it, if errors before `firsts` can be the first ones.
 pub(crate) fn pairs_of(
     alloc: Global,
     rows: &[Row],
     index: &[Vec<usize>],
     detectors: usize,
+    firsts: usize,
 ) -> Result<Vec<Vec<usize>>, AllocError>
-    ensures pairs { IfOk result (λ v. ArePairs rows.now v.items) }
+    ensures pairs { IfOk result (λ v. ArePairs rows.now firsts v.items) }
 {
     let mut sums = sums_of(alloc, rows, index, detectors)?;
     sums.sort()?;
     let mut pairs = Vec::new(alloc);
     for place in 0..sums.len() {
-        compare_next(alloc, rows, sums.as_slice(), place, &mut pairs)?;
+        compare_next(alloc, rows, firsts, sums.as_slice(), place, &mut pairs)?;
     }
     Ok(pairs)
 }
@@ -139,13 +140,14 @@ fn add_sums(
 fn compare_next(
     alloc: Global,
     rows: &[Row],
+    firsts: usize,
     sums: &[Sum],
     place: usize,
     pairs: &mut Vec<Vec<usize>>,
 ) -> Result<(), AllocError>
     requires inside { place < length sums.now }
-    requires pairs { ArePairs rows.now pairs.old.items }
-    ensures pairs { OnOk result (ArePairs rows.now pairs.new.items) }
+    requires pairs { ArePairs rows.now firsts pairs.old.items }
+    ensures pairs { OnOk result (ArePairs rows.now firsts pairs.new.items) }
 {
     let sum = sums[place];
     let end = sums.len().min(place.saturating_add(NEAR + 1));
@@ -153,7 +155,7 @@ fn compare_next(
         if sums[other].key != sum.key {
             break;
         }
-        compare(alloc, rows, sum, sums[other], pairs)?;
+        compare(alloc, rows, firsts, sum, sums[other], pairs)?;
     }
     Ok(())
 }
@@ -162,19 +164,22 @@ fn compare_next(
 fn compare(
     alloc: Global,
     rows: &[Row],
+    firsts: usize,
     first: Sum,
     second: Sum,
     pairs: &mut Vec<Vec<usize>>,
 ) -> Result<(), AllocError>
-    requires pairs { ArePairs rows.now pairs.old.items }
-    ensures pairs { OnOk result (ArePairs rows.now pairs.new.items) }
+    requires pairs { ArePairs rows.now firsts pairs.old.items }
+    ensures pairs { OnOk result (ArePairs rows.now firsts pairs.new.items) }
 {
     if first.a == first.b {
-        leave_three(alloc, rows, second.a, second.b, first.a, pairs)
+        leave_three(alloc, rows, firsts, second.a, second.b, first.a, pairs)
     } else if second.a == second.b {
-        leave_three(alloc, rows, first.a, first.b, second.a, pairs)
+        leave_three(alloc, rows, firsts, first.a, first.b, second.a, pairs)
     } else {
-        leave_four(alloc, rows, first.a, first.b, second.a, second.b, pairs)
+        leave_four(
+            alloc, rows, firsts, first.a, first.b, second.a, second.b, pairs,
+        )
     }
 }
 
@@ -182,13 +187,14 @@ fn compare(
 fn leave_three(
     alloc: Global,
     rows: &[Row],
+    firsts: usize,
     a: usize,
     b: usize,
     c: usize,
     pairs: &mut Vec<Vec<usize>>,
 ) -> Result<(), AllocError>
-    requires pairs { ArePairs rows.now pairs.old.items }
-    ensures pairs { OnOk result (ArePairs rows.now pairs.new.items) }
+    requires pairs { ArePairs rows.now firsts pairs.old.items }
+    ensures pairs { OnOk result (ArePairs rows.now firsts pairs.new.items) }
 {
     if !differ(a, b, c) {
         return Ok(());
@@ -212,21 +218,22 @@ fn differ(a: usize, b: usize, c: usize) -> bool
 fn leave_four(
     alloc: Global,
     rows: &[Row],
+    firsts: usize,
     a: usize,
     b: usize,
     c: usize,
     d: usize,
     pairs: &mut Vec<Vec<usize>>,
 ) -> Result<(), AllocError>
-    requires pairs { ArePairs rows.now pairs.old.items }
-    ensures pairs { OnOk result (ArePairs rows.now pairs.new.items) }
+    requires pairs { ArePairs rows.now firsts pairs.old.items }
+    ensures pairs { OnOk result (ArePairs rows.now firsts pairs.new.items) }
 {
     if !are_even(alloc, rows, &[a, b, c, d])? {
         return Ok(());
     }
-    leave_two(alloc, rows, a, b, c, d, pairs)?;
-    leave_two(alloc, rows, a, c, b, d, pairs)?;
-    leave_two(alloc, rows, a, d, b, c, pairs)?;
+    leave_two(alloc, rows, firsts, a, b, c, d, pairs)?;
+    leave_two(alloc, rows, firsts, a, c, b, d, pairs)?;
+    leave_two(alloc, rows, firsts, a, d, b, c, pairs)?;
     Ok(())
 }
 
@@ -234,6 +241,7 @@ fn leave_four(
 fn leave_two(
     alloc: Global,
     rows: &[Row],
+    firsts: usize,
     a: usize,
     b: usize,
     c: usize,
@@ -242,11 +250,11 @@ fn leave_two(
 ) -> Result<(), AllocError>
     requires inside { Each (λ r. r < length rows.now) (a ∷ b ∷ c ∷ d ∷ []) }
     requires same { (i : ℕ) → odd i (row rows.now a) ⊕ odd i (row rows.now b) ≡ odd i (row rows.now c) ⊕ odd i (row rows.now d) }
-    requires pairs { ArePairs rows.now pairs.old.items }
-    ensures pairs { OnOk result (ArePairs rows.now pairs.new.items) }
+    requires pairs { ArePairs rows.now firsts pairs.old.items }
+    ensures pairs { OnOk result (ArePairs rows.now firsts pairs.new.items) }
 {
-    leave_earlier(alloc, rows, a, b, c, d, pairs)?;
-    leave_earlier(alloc, rows, c, d, a, b, pairs)?;
+    leave_earlier(alloc, rows, firsts, a, b, c, d, pairs)?;
+    leave_earlier(alloc, rows, firsts, c, d, a, b, pairs)?;
     Ok(())
 }
 
@@ -254,6 +262,7 @@ fn leave_two(
 fn leave_earlier(
     alloc: Global,
     rows: &[Row],
+    firsts: usize,
     a: usize,
     b: usize,
     c: usize,
@@ -263,13 +272,13 @@ fn leave_earlier(
     requires inside_c { c < length rows.now }
     requires inside_d { d < length rows.now }
     requires same { (i : ℕ) → odd i (row rows.now a) ⊕ odd i (row rows.now b) ≡ odd i (row rows.now c) ⊕ odd i (row rows.now d) }
-    requires pairs { ArePairs rows.now pairs.old.items }
-    ensures pairs { OnOk result (ArePairs rows.now pairs.new.items) }
+    requires pairs { ArePairs rows.now firsts pairs.old.items }
+    ensures pairs { OnOk result (ArePairs rows.now firsts pairs.new.items) }
 {
     if a == b {
         return Ok(());
     }
-    if !are_after(a, b, c, d) {
+    if !are_after(a, b, c, d) || !keep_first(firsts, a, b, c, d) {
         return Ok(());
     }
     leave(alloc, pairs, a, b)?;
@@ -281,6 +290,13 @@ fn are_after(a: usize, b: usize, c: usize, d: usize) -> bool
     ensures value { result ≡ true → ((a < c) × (a < d)) ⊎ ((b < c) × (b < d)) }
 {
     (a < c && a < d) || (b < c && b < d)
+}
+
+/// Whether a set with an error that can be first still has one after c and d took the place of a and b.
+fn keep_first(firsts: usize, a: usize, b: usize, c: usize, d: usize) -> bool
+    ensures value { result ≡ true → KeepFirst firsts a b c d }
+{
+    c < firsts || d < firsts || (a >= firsts && b >= firsts)
 }
 
 /// Whether these are errors that flip nothing together.
@@ -296,7 +312,7 @@ fn are_even(alloc: Global, rows: &[Row], numbers: &[usize]) -> Result<bool, Allo
 
 /// Lists two errors with each other.
 fn leave(alloc: Global, pairs: &mut Vec<Vec<usize>>, a: usize, b: usize) -> Result<(), AllocError>
-    ensures pairs { OnOk result ((rows : List (List ℕ)) → a ≢ b → IsLeftOut rows a b ⊎ IsLeftOut rows b a → ArePairs rows pairs.old.items → ArePairs rows pairs.new.items) }
+    ensures pairs { OnOk result ((rows : List (List ℕ)) (firsts : ℕ) → a ≢ b → IsLeftOut rows firsts a b ⊎ IsLeftOut rows firsts b a → ArePairs rows firsts pairs.old.items → ArePairs rows firsts pairs.new.items) }
 {
     list_with(alloc, pairs, a, b)?;
     list_with(alloc, pairs, b, a)?;
@@ -310,7 +326,7 @@ fn list_with(
     a: usize,
     b: usize,
 ) -> Result<(), AllocError>
-    ensures pairs { OnOk result ((rows : List (List ℕ)) → a ≢ b → IsLeftOut rows a b ⊎ IsLeftOut rows b a → ArePairs rows pairs.old.items → ArePairs rows pairs.new.items) }
+    ensures pairs { OnOk result ((rows : List (List ℕ)) (firsts : ℕ) → a ≢ b → IsLeftOut rows firsts a b ⊎ IsLeftOut rows firsts b a → ArePairs rows firsts pairs.old.items → ArePairs rows firsts pairs.new.items) }
 {
     if rows_at(pairs.as_slice(), a).contains(&b) {
         return Ok(());

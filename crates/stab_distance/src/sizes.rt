@@ -2,8 +2,8 @@ ghost use Rattle.std.specs.Prelude.{◌≡◌, ℕ, ◌+◌, ◌<◌, ◌≤◌,
 ghost use Rattle.stab_distance.specs.Tables.{row};
 ghost use Rattle.stab_distance.specs.LogicalErrors.{HasNoneWithin};
 ghost use Rattle.stab_distance.specs.inner.Ends.{NoEnds};
-ghost use Rattle.stab_distance.specs.inner.Errors.{FlipNoObservable};
 ghost use Rattle.stab_distance.specs.inner.Pairs.{ArePairs};
+ghost use Rattle.stab_distance.specs.inner.Steps.{BeginsBefore};
 ghost use Rattle.stab_distance.specs.inner.Shortest.{IsShortest, IsLogicalWithin};
 ghost use Rattle.stab_distance.specs.inner.Tellings.{TellsSizes};
 
@@ -26,9 +26,9 @@ pub fn shortest<P: Progress>(
     ensures none { IfOk result (λ a. IfNone a (HasNoneWithin errors.now.table most)) }
     ensures told { TellsSizes errors.now.table from most (P.heard progress.old) (P.heard progress.new) result }
 {
-    let observing = errors.observing();
+    let firsts = errors.firsts();
     'sizes: for left in from..most {
-        match of_one_more(alloc, errors, observing, left)? {
+        match of_one_more(alloc, errors, firsts, left)? {
             Some(found) => return Ok(Some(found)),
             None => progress.none_within(left + 1),
         }
@@ -54,22 +54,22 @@ pub fn shortest_without_pairs<P: Progress>(
     shortest(alloc, errors, from, most, progress)
 }
 
-/// A logical error of `left + 1` errors, if none has fewer. No error from `observing` on flips an observable.
+/// A logical error of `left + 1` errors, if none has fewer. Errors before `firsts` can be the first ones.
 fn of_one_more(
     alloc: Global,
     errors: &Errors,
-    observing: usize,
+    firsts: usize,
     left: usize,
 ) -> Result<Option<Vec<usize>>, AllocError>
-    requires within { observing ≤ length errors.now.table.rows }
-    requires others { FlipNoObservable errors.now.table observing }
-    requires pairs { ArePairs errors.now.table.rows errors.now.pairs }
+    requires within { firsts ≤ length errors.now.table.rows }
+    requires begun { BeginsBefore errors.now.table firsts }
+    requires pairs { ArePairs errors.now.table.rows firsts errors.now.pairs }
     requires none { HasNoneWithin errors.now.table left }
     ensures some { IfOk result (λ a. IfSome a (λ v. IsLogicalWithin errors.now.table (left + 1) v.items)) }
     ensures none { IfOk result (λ a. IfNone a (HasNoneWithin errors.now.table (left + 1))) }
 {
     let mut cover = vec![in alloc; 0; errors.len()]?;
-    'firsts: for first in 0..observing {
+    'firsts: for first in 0..firsts {
         if let Some(found) = with_first(alloc, errors, first, left, cover.as_mut_slice())? {
             return Ok(Some(found));
         }

@@ -2,3 +2,6 @@ mod Names
 pub mod SameLemmas
 pub mod AlikeLemmas
 mod SearchLemmas
+mod PartLemmas
+mod SpanLemmas
+mod SeamLemmas

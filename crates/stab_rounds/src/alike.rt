@@ -48,6 +48,25 @@ fn count_same(near: &mut Cursor, far: &mut Cursor) -> usize
     count
 }
 
+/// Whether the next steps that two cursors have left, this many, are the same. Of an instruction only the whole is compared.
+pub(crate) fn go_alike(near: &mut Cursor, far: &mut Cursor, count: usize) -> bool
+    requires within { count ≤ length near.old.left }
+    requires few { count ≤ most_steps }
+    ensures same { OnTrue result (take count near.old.left ≡ take count far.old.left) }
+{
+    let mut done = 0;
+    'comparing: while done < count {
+        let Some(steps) = near.next_steps(count - done) else {
+            return false;
+        };
+        if !goes_over(far, steps) {
+            return false;
+        }
+        done += steps.len();
+    }
+    true
+}
+
 /// How many times the steps from one on, this many, come one after another: once at least.
 ///
 /// Refusal `OutOfMemory` alone.

@@ -4,6 +4,7 @@
 //! - `alike`: how many steps after two places are the same.
 //! - `window`: how far back the steps after a place look.
 //! - `search`: where rounds that are written out are.
+//! - `edited`: which rounds an edited circuit has, by those that it had.
 //!
 //! `stab_edits` lists the blocks. Rounds that are written out are looked for only in circuits without
 //! blocks, and only as far as looking for them costs little: a search may find none if there
@@ -16,8 +17,10 @@
 #![tactic(auto)]
 
 mod alike;
+mod edited;
 mod same;
 mod search;
 mod window;
 
+pub use edited::edited_rounds;
 pub use search::find_rounds;

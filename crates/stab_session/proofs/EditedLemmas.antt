@@ -1,5 +1,5 @@
 -- Edited sessions: from an edit that was begun and run to the statement of the session, and to what the edit cost.
-use Rattle.stab_session.proofs.Names.{◌≡◌, ◌≤◌, ℕ, ◌+◌, ◌-◌, ◌*◌, sym, ◌∙◌, ap, subst, arith, Bool, List, [], ◌∷◌, length, take, drop, All, None, Result, Ok, slice_get, Refusal, OutOfMemory, Fault, whole, IsCallFault, OneItem, listed, entries, Step, unroll, observables_of, check_within, IsApart, edit_path, edited, verdict, put_item, first_changed, old_end, new_end, entries-listed, Recording, Span, Edit, Pending, run, start, origin, point_after, point_of, AgreeAt, SessionState, IsEditedBy, steps_of_item, steps_from_change, steps_behind, unless_refused, most_refused_asks, steps_put, steps_near_change, most_tried, check-steps, check-whole, IsCountOf, AgreeBehind, AgreeBackBehind, IsCounted, AgreeAsFarAsLooked, session_of, IsRecorded, finished, IsBegun, IsRecording, AgreeBehindSpan, AgreeBackBehindSpan, run-state}
+use Rattle.stab_session.proofs.Names.{◌≡◌, ◌≤◌, ℕ, ◌+◌, ◌-◌, ◌*◌, sym, ◌∙◌, ap, subst, arith, Bool, List, [], ◌∷◌, length, take, drop, All, None, Result, Ok, slice_get, Refusal, OutOfMemory, Fault, whole, IsCallFault, OneItem, listed, entries, Step, unroll, observables_of, check_within, IsApart, edit_path, edited, verdict, put_item, first_changed, old_end, new_end, entries-listed, Recording, Span, Edit, Pending, run, start, origin, point_after, point_of, AgreeAt, SessionState, IsEditedBy, steps_of_item, steps_from_change, steps_behind, unless_refused, most_refused_asks, steps_put, steps_near_change, most_tried, check-steps, check-whole, IsCountOf, AgreeBehind, AgreeBackBehind, IsCounted, AgreeAsFarAsLooked, session_of, IsRecorded, finished, IsBegun, IsRecording, AgreeBehindSpan, AgreeBackBehindSpan, run-state, Repeat, AreRepeats}
 use Rattle.stab_session.proofs.SessionLemmas.{session-recorded}
 use Rattle.stab_session.proofs.PendingLemmas.{verdict-checked}
 use Rattle.stab_session.proofs.SpanLemmas.{put-within}
@@ -93,6 +93,10 @@ module _ {C : Type 0} (sequence : C → ℕ → Bool) (e : Edit) (s : SessionSta
     edited-recorded apart few above within =
         session-recorded sequence (listed new) stride coins run n (sequence s.coins) same_coins new-run
         (subst (λ xs. check_within n (listed xs) ≡ None) new-is (verdict-checked n e old b.new b.edited b.accepted)) (subst (All IsApart) new_steps apart) few above within
+
+    -- where its steps come again
+    pub edited-repeats : (rs : List Repeat) → AreRepeats 0 (unroll (listed mid)) rs → AreRepeats 0 (unroll (listed new)) rs
+    edited-repeats rs are = subst (λ xs. AreRepeats 0 xs rs) new_steps are
 
     -- it was edited by the edit
     pub session-edited : IsEditedBy sequence e s (session_of (listed new) stride coins run)

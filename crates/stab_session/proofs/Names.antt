@@ -66,3 +66,5 @@ pub use Rattle.stab_session.specs.declared.pending.Pending.TheVariants.{Inserted
 pub use Rattle.stab_session.specs.inner.SessionRecordings.{session_of, IsRecorded}
 pub use Rattle.stab_session.specs.inner.PauliItems.{ArePauliItems, taken_items, AreAccepted}
 pub use Rattle.stab_session.specs.inner.Pendings.{finished, IsBegun, pending_path, IsPendingOf, taken_back, IsSpanNow}
+pub use Rattle.stab_edits.specs.Repeats.{AreRepeats}
+pub use Rattle.stab_edits.specs.declared.circuit.repeats.Repeat.{Repeat}

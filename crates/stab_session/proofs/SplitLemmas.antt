@@ -1,5 +1,5 @@
 -- Splits: a session whose circuit had a round split off keeps the run that it had.
-use Rattle.stab_session.proofs.Names.{◌≡◌, ◌∙◌, ap, sym, subst, refl, ℕ, Bool, List, length, nat_lt, All, if◌then◌else◌, Some, None, Result, Ok, Err, OnOk, OnErr, QubitOutOfRange, LookbackTooFar, TooManySteps, Items, OneItem, listed, Step, unroll, looks_too_far, named_qubits, named_observables, qubits_of, observables_of, most_steps, check_of, check_within, IsApart, Path, split, AreAlike, SplitsLeaveTheSteps, entries-listed, Recording, SessionState, IsSplit, IsRecording, session_of, IsRecorded}
+use Rattle.stab_session.proofs.Names.{◌≡◌, ◌∙◌, ap, sym, subst, refl, ℕ, Bool, List, length, nat_lt, All, if◌then◌else◌, Some, None, Result, Ok, Err, OnOk, OnErr, QubitOutOfRange, LookbackTooFar, TooManySteps, Items, OneItem, listed, Step, unroll, looks_too_far, named_qubits, named_observables, qubits_of, observables_of, most_steps, check_of, check_within, IsApart, Path, split, AreAlike, SplitsLeaveTheSteps, entries-listed, Recording, SessionState, IsSplit, IsRecording, session_of, IsRecorded, Repeat, AreRepeats}
 use Rattle.stab_session.proofs.SessionLemmas.{session-recorded}
 
 -- what refuses items on n qubits refuses those that are like them
@@ -8,6 +8,12 @@ unfolding check_of
 alike-checked n old new a =
     ap (λ q. if nat_lt n q then Some QubitOutOfRange else check_of new) (a.named named_qubits)
     ∙ ap (λ (xs : List Step). if nat_lt n (qubits_of old) then Some QubitOutOfRange else if looks_too_far 0 xs then Some LookbackTooFar else if nat_lt most_steps (length xs) then Some TooManySteps else None) a.steps
+
+-- and where its steps come again is as before
+pub still-repeats : {A E : Type 0} (result : Result A E) (path : Path) (round : ℕ) (old new : List OneItem) (rs : List Repeat)
+    → SplitsLeaveTheSteps → OnOk result (split path round old ≡ Ok new) → OnErr result (new ≡ old) → AreRepeats 0 (unroll (listed old)) rs → AreRepeats 0 (unroll (listed new)) rs
+still-repeats (Ok x) path round old new rs law ok err are = subst (λ xs. AreRepeats 0 xs rs) (sym (law path round old new ok).steps) are
+still-repeats (Err e) path round old new rs law ok err are = subst (λ xs. AreRepeats 0 (unroll (listed xs)) rs) (sym err) are
 
 module _ {C : Type 0} (sequence : C → ℕ → Bool) (stride : ℕ) (coins : C) (recording : Recording) where
   -- items that are like those of a recording have that run

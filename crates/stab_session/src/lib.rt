@@ -5,6 +5,7 @@
 //! - `pending`: edits of a circuit that can be taken back.
 //! - `paulis`: the change of Pauli gates that an edit amounts to, in each round of the blocks around its
 //!   place, if it is of such gates alone.
+//! - `change`: that, and where the steps of the edited circuit come again.
 //! - `session`: a circuit with what its run gives, to be read and edited; a round that is split off
 //!   leaves the run.
 //!
@@ -20,6 +21,7 @@
 //! `specs/inner/` has what only private contracts cite.
 #![tactic(auto)]
 
+mod change;
 mod paulis;
 mod pending;
 mod session;

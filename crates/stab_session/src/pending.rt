@@ -1,5 +1,5 @@
 ghost use Rattle.std.specs.Prelude.{◌≡◌, Ok, None, OnErr, IfOk, IfErr};
-ghost use Rattle.stab_io.specs.Refusals.{IsCallFault};
+ghost use Rattle.stab_io.specs.Refusals.{IsCallFault, whole};
 ghost use Rattle.stab_edits.specs.declared.edit.Edit.TheVariants.{Insert as inserting, Replace as replacing, Delete as deleting};
 ghost use Rattle.stab_circuit.specs.Steps.{check_within};
 ghost use Rattle.stab_edits.specs.Views.{circuit_items};
@@ -7,6 +7,7 @@ ghost use Rattle.stab_edits.specs.Edits.{list_refusal, verdict, put_item};
 ghost use Rattle.stab_session.specs.inner.Pendings.{taken_back, item_back, finished, IsBegun};
 
 use stab_circuit::{Circuit, Edit, Item, Path, Refused, Span};
+use stab_io::{Fault, Refusal};
 use std::alloc::Global;
 
 /// An edit that a circuit has, and that can be taken back without memory.
@@ -119,7 +120,7 @@ pub fn finish(circuit: &mut Circuit, pending: Pending)
 }
 
 /// Takes an edit back, and gives the item that it put in. It takes no memory.
-pub fn take_back(circuit: &mut Circuit, pending: Pending) -> Option<Item>
+fn take_back(circuit: &mut Circuit, pending: Pending) -> Option<Item>
     requires allowed { list_refusal (taken_back pending circuit.old) ≡ None }
     ensures value { taken_back pending circuit.old ≡ Ok circuit.new }
     ensures item { result ≡ item_back pending circuit.old }
@@ -137,5 +138,18 @@ pub fn take_back(circuit: &mut Circuit, pending: Pending) -> Option<Item>
             Ok(_) => None,
             Err(_) => unreachable!(),
         },
+    }
+}
+
+/// The refusal of an edit, which is taken back. It takes no memory.
+pub fn refused(circuit: &mut Circuit, pending: Pending, refusal: Refusal) -> Refused
+    requires allowed { list_refusal (taken_back pending circuit.old) ≡ None }
+    ensures back { taken_back pending circuit.old ≡ Ok circuit.new }
+    ensures item { result.item ≡ item_back pending circuit.old }
+    ensures fault { result.fault ≡ whole refusal }
+{
+    Refused {
+        fault: Fault::whole(refusal),
+        item: take_back(circuit, pending),
     }
 }

@@ -3,10 +3,11 @@ mod splits;
 
 pub use edits::Report;
 use stab_circuit::Circuit;
+use stab_edits::Repeat;
 use stab_io::{Fault, Refusal};
 use stab_pauli::Pauli;
 use stab_run::Coins;
-use stab_splices::{Recording, record_run};
+use stab_splices::{Recorded, Recording, record_run};
 use stab_tableau::Tableau;
 use std::alloc::Global;
 use std::marker::Model;
@@ -23,6 +24,8 @@ pub struct Session<C: Coins> {
     stride: usize,
     coins: C,
     recording: Recording,
+    // Where the circuit's steps come again, as far as it is known; contracts don't see it.
+    rounds: Vec<Repeat>,
     // What the last edit left over, for the next one to go on in its memory.
     spare: Option<Tableau>,
 }
@@ -36,6 +39,7 @@ impl<C: Coins> Drop for Session<C> {
             stride: _,
             coins: _,
             recording: _,
+            rounds: _,
             spare: _,
         } = self;
     }
@@ -51,7 +55,9 @@ pub struct OpenRefused<C: Coins> {
 }
 
 impl<C: Coins> Model for Session<C> {
+    ghost use Rattle.stab_circuit.specs.Steps.{unroll};
     ghost use Rattle.stab_edits.specs.Views.{circuit_items};
+    ghost use Rattle.stab_edits.specs.Repeats.{AreRepeats};
     ghost use Rattle.stab_session.specs.Sessions.{SessionState};
     ghost use Rattle.stab_session.specs.inner.SessionRecordings.{IsRecorded, session_of, session_code};
 
@@ -61,7 +67,7 @@ impl<C: Coins> Model for Session<C> {
 
     ghost view = { λ s. session_of (circuit_items s.circuit) s.stride s.coins s.recording };
 
-    ghost invariant = { λ s. IsRecorded C.sequence (session_of (circuit_items s.circuit) s.stride s.coins s.recording) s.recording };
+    ghost invariant = { λ s. IsRecorded C.sequence (session_of (circuit_items s.circuit) s.stride s.coins s.recording) s.recording × AreRepeats 0 (unroll (circuit_items s.circuit)) s.rounds.items };
 }
 
 impl<C: Coins> Session<C> {
@@ -113,12 +119,13 @@ impl<C: Coins> Session<C> {
     {
         let mut coins = coins;
         match record_run(alloc, &circuit, n, stride, &mut coins) {
-            Ok(recording) => Ok(Session {
+            Ok(Recorded { recording, repeats }) => Ok(Session {
                 alloc,
                 circuit,
                 stride,
                 coins,
                 recording,
+                rounds: repeats,
                 spare: None,
             }),
             Err(fault) => Err(OpenRefused {

@@ -79,7 +79,8 @@ pub use Rattle.stab_recording.specs.Meets.{Meets}
 pub use Rattle.stab_splices.specs.PassedPlaces.{IsFrameBetween, IsBeforePiece, IsBeforePlaces}
 pub use Rattle.stab_splices.specs.PauliSpans.{ArePaulis, DifferByPaulis, DifferAtPlaces}
 pub use Rattle.stab_recording.specs.PivotLists.{KeepsPivots, IsSpliced}
-pub use Rattle.stab_splices.specs.Recordings.{IsRecording, IsSpan, AgreeBehindSpan, AgreeBackBehindSpan, IsSameRecording, Follows}
+pub use Rattle.stab_rounds.specs.Spans.{IsSpan}
+pub use Rattle.stab_splices.specs.Recordings.{IsRecording, AgreeBehindSpan, AgreeBackBehindSpan, IsSameRecording, Follows}
 pub use Rattle.stab_recording.specs.Replays.{MeetsAt, Misses, EndsSoon, step_among_new, IsReplay, Ascending, IsEnd, IsFramed, IsAtStep}
 pub use Rattle.stab_recording.specs.RestFrames.{AreInOrder, with_states, AreFramedCheckpoints, IsRestFrame, IsDropped, Ending, over, gone, dropped, AreEnoughBy, IsLastApart}
 pub use Rattle.stab_recording.specs.Spacing.{Near, last_of, IsSpaced, Sparse}

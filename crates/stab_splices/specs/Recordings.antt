@@ -4,6 +4,7 @@ use Rattle.std.specs.Prelude.{◌≡◌, ℕ, ◌+◌, ◌≤◌, Bool, false, L
 use Rattle.stab_items.specs.Steps.{Step, most_steps}
 use Rattle.stab_splices.specs.declared.recording.Recording.{Recording}
 use Rattle.stab_edits.specs.declared.edit.Span.{Span}
+use Rattle.stab_rounds.specs.Spans.{IsSpan}
 use Rattle.stab_run.specs.Points.{origin, point_after, with_additions}
 use Rattle.stab_run.specs.Laws.{AgreeAt}
 use Rattle.stab_splices.specs.Counts.{AgreeAsFarAsLooked}
@@ -36,15 +37,6 @@ pub record IsSameRecording (a b : Recording) : Type 0 where
   pub strings : a.strings ≡ b.strings
   pub window : a.window ≡ b.window
   pub checkpoints : a.checkpoints.items ≡ b.checkpoints.items
-
--- two lists of steps are the same before one step, and after another of each
-pub record IsSpan (xs ys : List Step) (s : Span) : Type 0 where
-  pub old_order : s.first ≤ s.old_end
-  pub new_order : s.first ≤ s.new_end
-  pub old_within : s.old_end ≤ length xs
-  pub new_within : s.new_end ≤ length ys
-  pub before : take s.first xs ≡ take s.first ys
-  pub behind : drop s.old_end xs ≡ drop s.new_end ys
 
 -- what is kept is the run of other steps, from which these differ within the span; if a change is given, by Pauli gates alone, as it says
 pub record Follows (n : ℕ) (coins : ℕ → Bool) (K : ℕ) (ys : List Step) (s : Span) (paulis : Option PauliChange) (r : Recording) : Type 0 where

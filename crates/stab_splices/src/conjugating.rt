@@ -1,6 +1,6 @@
 ghost use Rattle.std.specs.Prelude.{◌≡◌, ℕ, ◌+◌, ◌-◌, ◌*◌, ◌^◌, ◌<◌, ◌≤◌, [], ◌∷◌, None, Some, true, Bool, List, All, length, take, drop, slice_get, vec_capacity, IfSome, IfOk, IfErr, OnOk, OnErr, ◌++◌};
 ghost use Rattle.stab_io.specs.declared.refusal.Refusal.TheVariants.{OutOfMemory};
-ghost use Rattle.stab_items.specs.Steps.{Step, most_steps, unroll, observables_of, check_of, check_within};
+ghost use Rattle.stab_items.specs.Steps.{Step, most_steps, unroll, observables_of, check_within};
 ghost use Rattle.stab_edits.specs.Views.{circuit_items};
 ghost use Rattle.stab_edits.specs.Cursors.{IsApart};
 ghost use Rattle.stab_edits.specs.Repeats.{AreRepeats};
@@ -11,7 +11,8 @@ ghost use Rattle.stab_recording.specs.Checkpoints.{checkpoint_steps};
 ghost use Rattle.stab_recording.specs.Spacing.{Near, last_of};
 ghost use Rattle.stab_splices.specs.declared.past_places.PauliChange.{PauliChange};
 ghost use Rattle.stab_splices.specs.Counts.{IsCounted};
-ghost use Rattle.stab_splices.specs.Recordings.{IsRecording, IsSameRecording, IsSpan, Follows, AgreeBehindSpan, AgreeBackBehindSpan};
+ghost use Rattle.stab_rounds.specs.Spans.{IsSpan};
+ghost use Rattle.stab_splices.specs.Recordings.{IsRecording, IsSameRecording, Follows, AgreeBehindSpan, AgreeBackBehindSpan};
 ghost use Rattle.stab_splices.specs.inner.Prepared.{IsCount};
 ghost use Rattle.stab_splices.specs.inner.OldRests.{HasRoomFor};
 ghost use Rattle.stab_splices.specs.inner.FramedRecordings.{StaysNear, IsPastPlaces, IsConjugating, IsPut, HasConjugated, span_meeting};
@@ -25,13 +26,9 @@ use stab_edits::{Circuit, Cursor, Repeat, Span};
 use stab_frames::Propagation;
 use stab_io::Refusal;
 use stab_recording::{Checkpoint, Meeting, count_before, propagate_rest, shifted};
-use stab_rounds::find_rounds;
 use stab_run::{Coins, Lengths};
 use stab_tableau::Tableau;
 use std::alloc::Global;
-
-/// Rounds that are written out are looked for if this many steps are left: to carry fewer out takes no longer.
-const WORTH_FINDING: usize = 65_536;
 
 /// Lists move with these if they stay as long as they are.
 const NO_LENGTHS: Lengths = Lengths {
@@ -139,23 +136,6 @@ fn framed_between(begin: usize, end: usize) -> Followed
         framed: (end - begin) as u64,
         tried: 0,
     }
-}
-
-/// Where rounds come again in an edited circuit: also where they are written out, if many steps are left after what changed.
-///
-/// Refusal `OutOfMemory` alone.
-fn rounds_of(alloc: Global, circuit: &Circuit, span: Span) -> Result<Vec<Repeat>, Refusal>
-    requires checked { check_of (circuit_items circuit.now) ≡ None }
-    ensures are { IfOk result (λ rs. AreRepeats 0 (unroll (circuit_items circuit.now)) rs.items) }
-    ensures err { IfErr result (λ r. r ≡ OutOfMemory) }
-{
-    let left = circuit.steps().saturating_sub(span.new_end);
-    if left < WORTH_FINDING {
-        let blocks = circuit.repeats(alloc)?;
-        return Ok(blocks);
-    }
-    let found = find_rounds(alloc, circuit)?;
-    Ok(found)
 }
 
 impl Recording {
@@ -362,8 +342,8 @@ impl Recording {
     }
 
     /// Makes this the run of an edited circuit, whose steps differ within the span, and says how
-    /// many steps were carried out for it, how many others it passed, and how many frames went over in vain. The run is
-    /// as before if memory is refused.
+    /// many steps were carried out for it, how many others it passed, and how many frames went over in vain. In repeats of its steps
+    /// what rounds gave is given again, if they come again. The run is as before if memory is refused.
     ///
     /// If old and new steps differ by Pauli gates alone, they differ as the given change says. A frame then conjugates
     /// the run in place, and no step is carried out. Else, and if that can't be, steps are carried out anew, in
@@ -372,6 +352,7 @@ impl Recording {
         &mut self,
         alloc: Global,
         circuit: &Circuit,
+        repeats: &[Repeat],
         span: Span,
         paulis: Option<PauliChange>,
         stride: usize,
@@ -379,6 +360,7 @@ impl Recording {
         spare: &mut Option<Tableau>,
     ) -> Result<Followed, Refusal>
         requires checked { check_within self.old.tableau.qubits (circuit_items circuit.now) ≡ None }
+        requires repeats { AreRepeats 0 (unroll (circuit_items circuit.now)) repeats.now }
         requires stride { 1 ≤ stride }
         requires follows { Follows self.old.tableau.qubits (C.sequence coins.old) stride (unroll (circuit_items circuit.now)) span paulis self.old }
         requires same_length { IfSome paulis (λ p. length p.string.letters ≡ self.old.tableau.qubits) }
@@ -405,16 +387,6 @@ impl Recording {
                 return Ok(followed);
             }
         }
-        let rounds = rounds_of(alloc, circuit, span)?;
-        self.replay(
-            alloc,
-            circuit,
-            rounds.as_slice(),
-            span,
-            stride,
-            coins,
-            spare,
-            tried,
-        )
+        self.replay(alloc, circuit, repeats, span, stride, coins, spare, tried)
     }
 }

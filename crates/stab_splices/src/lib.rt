@@ -27,6 +27,6 @@ mod past_places;
 mod recording;
 mod rest;
 
-pub use opening::record_run;
+pub use opening::{Recorded, record_run};
 pub use past_places::PauliChange;
 pub use recording::{Followed, Recording};

@@ -5,16 +5,24 @@ ghost use Rattle.stab_gates.specs.Limits.{most_qubits};
 ghost use Rattle.stab_items.specs.Steps.{unroll, observables_of, check_within};
 ghost use Rattle.stab_edits.specs.Views.{circuit_items};
 ghost use Rattle.stab_edits.specs.Cursors.{IsApart};
+ghost use Rattle.stab_edits.specs.Repeats.{AreRepeats};
 ghost use Rattle.stab_run.specs.Records.{ones};
 ghost use Rattle.stab_run.specs.Points.{all_coins_of};
 ghost use Rattle.stab_splices.specs.Recordings.{IsRecording};
 
 use crate::recording::Recording;
-use stab_edits::{Circuit, Span};
+use stab_edits::{Circuit, Repeat, Span};
 use stab_io::{Fault, Refusal};
 use stab_rounds::find_rounds;
 use stab_run::Coins;
 use std::alloc::Global;
+
+/// A recording, and where the steps that it is of come again.
+#[derive(Drop)]
+pub struct Recorded {
+    pub recording: Recording,
+    pub repeats: Vec<Repeat>,
+}
 
 /// Runs a circuit once on n qubits, at most 1,024, and keeps the run.
 ///
@@ -25,15 +33,16 @@ pub fn record_run<C: Coins>(
     n: usize,
     stride: usize,
     coins: &mut C,
-) -> Result<Recording, Fault>
+) -> Result<Recorded, Fault>
     requires in_range { n ≤ most_qubits }
     requires stride { 1 ≤ stride }
-    ensures kept { IfOk result (IsRecording n (C.sequence coins.old) stride (unroll (circuit_items circuit.now)) (observables_of (circuit_items circuit.now))) }
+    ensures kept { IfOk result (λ r. IsRecording n (C.sequence coins.old) stride (unroll (circuit_items circuit.now)) (observables_of (circuit_items circuit.now)) r.recording) }
+    ensures repeats { IfOk result (λ r. AreRepeats 0 (unroll (circuit_items circuit.now)) r.repeats.items) }
     ensures apart { OnOk result (All IsApart (unroll (circuit_items circuit.now))) }
     ensures refused { Refuses result (check_within n (circuit_items circuit.now)) }
     ensures same_coins { C.sequence coins.new ≡ C.sequence coins.old }
     ensures asks { C.asks coins.new ≤ C.asks coins.old + all_coins_of (unroll (circuit_items circuit.now)) }
-    ensures asks_free { IfOk result (λ r. C.asks coins.new ≤ C.asks coins.old + ones r.outputs.free.items) }
+    ensures asks_free { IfOk result (λ r. C.asks coins.new ≤ C.asks coins.old + ones r.recording.outputs.free.items) }
 {
     circuit.check(n)?;
     run_checked(alloc, circuit, n, stride, coins).map_err(Fault::whole)
@@ -46,15 +55,16 @@ fn run_checked<C: Coins>(
     n: usize,
     stride: usize,
     coins: &mut C,
-) -> Result<Recording, Refusal>
+) -> Result<Recorded, Refusal>
     requires in_range { n ≤ most_qubits }
     requires stride { 1 ≤ stride }
     requires checked { check_within n (circuit_items circuit.now) ≡ None }
-    ensures kept { IfOk result (IsRecording n (C.sequence coins.old) stride (unroll (circuit_items circuit.now)) (observables_of (circuit_items circuit.now))) }
+    ensures kept { IfOk result (λ r. IsRecording n (C.sequence coins.old) stride (unroll (circuit_items circuit.now)) (observables_of (circuit_items circuit.now)) r.recording) }
+    ensures repeats { IfOk result (λ r. AreRepeats 0 (unroll (circuit_items circuit.now)) r.repeats.items) }
     ensures apart { OnOk result (All IsApart (unroll (circuit_items circuit.now))) }
     ensures same_coins { C.sequence coins.new ≡ C.sequence coins.old }
     ensures asks { C.asks coins.new ≤ C.asks coins.old + all_coins_of (unroll (circuit_items circuit.now)) }
-    ensures asks_free { IfOk result (λ r. C.asks coins.new ≤ C.asks coins.old + ones r.outputs.free.items) }
+    ensures asks_free { IfOk result (λ r. C.asks coins.new ≤ C.asks coins.old + ones r.recording.outputs.free.items) }
     ensures err { IfErr result (λ r. r ≡ OutOfMemory) }
 {
     let span = Span {
@@ -62,17 +72,17 @@ fn run_checked<C: Coins>(
         old_end: 0,
         new_end: circuit.steps(),
     };
-    let mut kept = Recording::new(alloc, n)?;
-    let rounds = find_rounds(alloc, circuit)?;
-    kept.replay(
+    let mut recording = Recording::new(alloc, n)?;
+    let repeats = find_rounds(alloc, circuit)?;
+    recording.replay(
         alloc,
         circuit,
-        rounds.as_slice(),
+        repeats.as_slice(),
         span,
         stride,
         coins,
         &mut None,
         0,
     )?;
-    Ok(kept)
+    Ok(Recorded { recording, repeats })
 }

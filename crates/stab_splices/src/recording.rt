@@ -12,7 +12,8 @@ ghost use Rattle.stab_run.specs.ProgramStates.{output_of};
 ghost use Rattle.stab_frames.specs.Pivots.{front_kept};
 ghost use Rattle.stab_recording.specs.Checkpoints.{checkpoint_steps};
 ghost use Rattle.stab_recording.specs.LaidCheckpoints.{all_laid};
-ghost use Rattle.stab_splices.specs.Recordings.{IsRecording, IsSameRecording, IsSpan, Follows, AgreeBehindSpan, AgreeBackBehindSpan};
+ghost use Rattle.stab_rounds.specs.Spans.{IsSpan};
+ghost use Rattle.stab_splices.specs.Recordings.{IsRecording, IsSameRecording, Follows, AgreeBehindSpan, AgreeBackBehindSpan};
 ghost use Rattle.stab_splices.specs.inner.Prepared.{Begins, HasCopy, IsRest, IsOldRest, HasRoom, IsPrepared, copies_behind, IsCommitted};
 ghost use Rattle.stab_recording.specs.PivotLists.{IsSpliced};
 

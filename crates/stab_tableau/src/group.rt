@@ -61,11 +61,12 @@ pub fn write_kept_frame(table: &CompactTable, others: &Table, out: &mut Pauli)
 }
 
 /// Makes a string stabiliser k of a table.
-pub fn write_stabiliser(table: &Table, k: usize, preimage: &mut Pauli, out: &mut Pauli)
-    requires tableau { IsTableau (length table.now) table.now (record { x = preimage.old; z = out.old }) }
-    requires in_range { k < length table.now }
-    ensures tableau { IsTableau (length table.now) table.now (record { x = preimage.new; z = out.new }) }
-    ensures value { out.new ≡ stabiliser_of (record { qubits = length table.now; rows = table.now }) k }
+pub fn write_stabiliser(table: &mut Table, k: usize, preimage: &mut Pauli, out: &mut Pauli)
+    requires tableau { IsTableau (length table.old) table.old (record { x = preimage.old; z = out.old }) }
+    requires in_range { k < length table.old }
+    ensures unchanged { table.new ≡ table.old }
+    ensures tableau { IsTableau (length table.old) table.old (record { x = preimage.new; z = out.new }) }
+    ensures value { out.new ≡ stabiliser_of (record { qubits = length table.old; rows = table.old }) k }
 {
     rows::write_stabiliser_letters(table, k, out);
     rows::write_preimage(table, out, preimage);
@@ -74,18 +75,19 @@ pub fn write_stabiliser(table: &Table, k: usize, preimage: &mut Pauli, out: &mut
 
 /// Makes strings the stabilisers of a table, in their order.
 pub fn write_stabilisers(
-    table: &Table,
+    table: &mut Table,
     preimage: &mut Pauli,
     stabiliser: &mut Pauli,
     out: &mut PauliRows,
 )
-    requires tableau { IsTableau (length table.now) table.now (record { x = preimage.old; z = stabiliser.old }) }
-    requires same_qubits { out.old.qubits ≡ length table.now }
-    requires same_number { length out.old.rows ≡ length table.now }
-    ensures tableau { IsTableau (length table.now) table.now (record { x = preimage.new; z = stabiliser.new }) }
-    ensures qubits { out.new.qubits ≡ length table.now }
-    ensures number { length out.new.rows ≡ length table.now }
-    ensures rows { (k : ℕ) → k < length table.now → row_at out.new k ≡ stabiliser_of (record { qubits = length table.now; rows = table.now }) k }
+    requires tableau { IsTableau (length table.old) table.old (record { x = preimage.old; z = stabiliser.old }) }
+    requires same_qubits { out.old.qubits ≡ length table.old }
+    requires same_number { length out.old.rows ≡ length table.old }
+    ensures unchanged { table.new ≡ table.old }
+    ensures tableau { IsTableau (length table.old) table.old (record { x = preimage.new; z = stabiliser.new }) }
+    ensures qubits { out.new.qubits ≡ length table.old }
+    ensures number { length out.new.rows ≡ length table.old }
+    ensures rows { (k : ℕ) → k < length table.old → row_at out.new k ≡ stabiliser_of (record { qubits = length table.old; rows = table.old }) k }
 {
     for k in 0..table.len() {
         write_stabiliser(table, k, preimage, stabiliser);

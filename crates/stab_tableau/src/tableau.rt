@@ -234,7 +234,7 @@ impl Tableau {
         ensures err { IfErr result (λ r. r ≡ OutOfMemory) }
     {
         let mut stabiliser = Pauli::identity(alloc, self.len())?;
-        rows::write_stabiliser_letters(&self.table, k, &mut stabiliser);
+        rows::write_stabiliser_letters(&mut self.table, k, &mut stabiliser);
         rows::write_preimage(&self.table, &stabiliser, &mut self.preimage);
         stabiliser.negate_if(self.preimage.is_negative());
         Ok(stabiliser)
@@ -306,22 +306,23 @@ impl Tableau {
                 &mut self.multiplier,
             );
         }
-        other.has_stabilisers(&self.table, &mut self.preimage, &mut self.multiplier)
+        other.has_stabilisers(&mut self.table, &mut self.preimage, &mut self.multiplier)
     }
 
     // Whether each stabiliser of a table stabilises this state: then both have one group, since any other string of the
     // one commutes with all of them and so is, up to sign, their product.
     fn has_stabilisers(
         &mut self,
-        table: &Table,
+        table: &mut Table,
         preimage: &mut Pauli,
         stabiliser: &mut Pauli,
     ) -> bool
-        requires tableau { IsTableau (length table.now) table.now (record { x = preimage.old; z = stabiliser.old }) }
-        requires same_length { self.old.qubits ≡ length table.now }
+        requires tableau { IsTableau (length table.old) table.old (record { x = preimage.old; z = stabiliser.old }) }
+        requires same_length { self.old.qubits ≡ length table.old }
         ensures unchanged { self.new ≡ self.old }
-        ensures tableau { IsTableau (length table.now) table.now (record { x = preimage.new; z = stabiliser.new }) }
-        ensures value { (result ≡ true) ↔ SameGroup (length table.now) (stabilises (record { qubits = length table.now; rows = table.now })) (stabilises self.old) }
+        ensures same_table { table.new ≡ table.old }
+        ensures tableau { IsTableau (length table.old) table.old (record { x = preimage.new; z = stabiliser.new }) }
+        ensures value { (result ≡ true) ↔ SameGroup (length table.old) (stabilises (record { qubits = length table.old; rows = table.old })) (stabilises self.old) }
     {
         self.stabilises_a_group();
         for k in 0..table.len() {
@@ -350,7 +351,7 @@ impl Tableau {
         ensures err { IfErr result (λ r. r ≡ OutOfMemory) }
     {
         self.stabilises_a_group();
-        let table = &self.table;
+        let table = &mut self.table;
         let n = table.len();
         let mut rows = PauliRows::new(alloc, n, n)?;
         group::write_stabilisers(table, &mut self.preimage, &mut self.multiplier, &mut rows);

@@ -9,10 +9,10 @@ use stab_session::{Coins, Edit, Report, Session};
 use std::alloc::Global;
 use std::test::Fail;
 
-/// A session on one qubit with copies of its state at most ten steps apart.
+/// A session on one qubit with copies of its state at most twelve steps apart.
 fn opened<C: Coins>(alloc: Global, text: &str, coins: C) -> Result<Session<C>, Fault> {
     let circuit = read_circuit(alloc, &mut MemoryInput::new(text.as_bytes()))?;
-    match Session::open(alloc, circuit, 1, 10, coins) {
+    match Session::open(alloc, circuit, 1, 12, coins) {
         Ok(session) => Ok(session),
         Err(refused) => Err(refused.fault),
     }
@@ -134,7 +134,10 @@ type Item = (Option<usize>, usize, &'static str);
 // follow; and if it looks back to all, at none. A frame passes all of that, and no step is carried out.
 //
 // Two square roots of X do the same, and are no Pauli gates: steps are carried out up to the first copy, before
-// step 11; from there on a frame leads, as far as that of the X does.
+// step 11, where both runs agree if nothing looks back. If a detector does, the first records differ there, so the
+// other old copies in the block are passed, and its rounds come again by themselves. If the detector looks back to 15
+// records, the state before step 29, after 26 records, is as it was before step 20, after 17: the next nine steps are
+// given again, and the last five carried out. If it looks back to all, no round comes again.
 const DIES: &str = "M 0\nR 0\nREPEAT 38 {\nM 0\n}";
 
 const DIES_NEAR: &str = "M 0\nR 0\nREPEAT 38 {\nM 0\n}\nDETECTOR rec[-15]";
@@ -156,11 +159,13 @@ const SETTLES_FAR: &str = "M 0\nREPEAT 39 {\nMX 0\n}\nDETECTOR rec[-40]";
 
 const STILL: &str = "REPEAT 100 {\nX 0\n}";
 
-// A measurement or reset that is put in gives all later records or coins other numbers. If no coin decides after a copy,
-// the old run is kept nevertheless: from the first copy on, before step 10 of the new ones, if nothing looks back; from the
-// second one on after a detector that looks back to 15 records, since both runs have as many there for the first time; and
-// from none if a detector looks back to all. A reset turns a 1 into a 0, so that all records after it flip: from the first
-// copy on a frame leads up to the end. If a coin decides after each copy, all 2,001 steps are carried out.
+// A measurement or reset that is put in gives all later records or coins other numbers. If no coin decides after a copy
+// and nothing looks back, the old run is kept nevertheless, from the first copy on, before step 10 of the new ones. If a
+// detector looks back to 15 records, of which one run has eight there and the other nine, the other old copies in the
+// block are passed: the state before step 28, after 27 records, is as it was before step 19, after 18; the next nine steps
+// are given again, and the last five carried out. If a detector looks back to all, no round comes again. A reset turns a 1
+// into a 0, so the states differ at the first copy; before step 19 the state is as it was before step 10, so twice nine
+// steps are given again, and the last four carried out. If a coin decides after each copy, all 2,001 steps are carried out.
 const ONES: &str = "X 0\nREPEAT 39 {\nM 0\n}";
 
 const ONE_COIN: &str = "REPEAT 40 {\nMX 0\n}";
@@ -169,43 +174,43 @@ const TWO_BLOCKS: &str = "REPEAT 10 {\nX 0\nX 0\n}\nREPEAT 1000 {\nX 0\n}";
 
 const FREE: &str = "REPEAT 1000 {\nMX 0\nM 0\n}";
 
-// Circuits on one qubit, with copies at most ten steps apart, and what is put in where. Then how many steps the edit carries out, how
-// many others it goes past, and the most copies that are kept, two for each ten steps and two more; how many coins the opening asks
-// for, and how many the edit.
+// Circuits on one qubit, with copies at most twelve steps apart, and what is put in where. Then how many steps the edit carries out,
+// how many others it goes past, and the most copies that are kept, two for each twelve steps and two more; how many coins the opening
+// asks for, and how many the edit.
 //
 // An I changes nothing: from the copy before it on its frame, which has no letter, goes past the steps up to the next copy, or to the
-// end. Copies are nine steps apart. In the first block of two that is not so: with an I in each of its ten rounds its copies would
-// be too far apart: its frame goes in vain over the 19 old steps from the first I to the block's end. So the rounds are carried out;
-// after the 18th step the state is that after the 9th, three rounds before, so the next nine steps are given again, and ten more
-// lead to the old copy after step 27, which has become step 37.
+// end. Copies are three quarters of that apart: nine steps. In the first block of two that is not so: with an I in each of its ten
+// rounds its copies would be too far apart: its frame goes in vain over the 19 old steps from the first I to the block's end. So the
+// rounds are carried out; after the 18th step the state is that after the 9th, three rounds before, so the next nine steps are given
+// again, and ten more lead to the old copy after step 27, which has become step 37.
 const COSTS: &[(&str, Item, [usize; 2], usize, (u64, u64))] = &[
-    (STILL, (None, 1, "I 0"), [0, 2], 22, (0, 0)),
+    (STILL, (None, 1, "I 0"), [0, 2], 18, (0, 0)),
     (
         "X 0\nREPEAT 1000 {\nX 0\n}",
         (None, 0, "I 0"),
         [0, 10],
-        202,
+        168,
         (0, 0),
     ),
-    (TWO_BLOCKS, (Some(0), 1, "I 0"), [28, 9 + 19], 208, (0, 0)),
-    (FREE, (None, 0, "I 0"), [0, 10], 402, (2000, 0)),
-    (DIES, (None, 0, "X 0"), [0, 10], 10, (0, 0)),
-    (DIES_NEAR, (None, 0, "X 0"), [0, 19], 10, (0, 0)),
-    (DIES_FAR, (None, 0, "X 0"), [0, 42], 10, (0, 0)),
-    (SETTLES, (None, 0, "X 0"), [0, 10], 10, (1, 0)),
-    (SETTLES_NEAR, (None, 0, "X 0"), [0, 19], 10, (1, 0)),
-    (SETTLES_FAR, (None, 0, "X 0"), [0, 42], 10, (1, 0)),
-    (STILL, (None, 0, "Z 0"), [0, 10], 22, (0, 0)),
-    (STILL, (None, 0, "X 0"), [0, 101], 22, (0, 0)),
-    (DIES, (None, 0, ROOTS), [11, 0], 10, (0, 0)),
-    (DIES_NEAR, (None, 0, ROOTS), [11, 9], 10, (0, 0)),
-    (DIES_FAR, (None, 0, ROOTS), [11, 32], 10, (0, 0)),
-    (DIES, (None, 0, "M 0"), [10, 0], 10, (0, 0)),
-    (DIES_NEAR, (None, 0, "M 0"), [19, 0], 10, (0, 0)),
-    (DIES_FAR, (None, 0, "M 0"), [42, 0], 10, (0, 0)),
-    (ONE_COIN, (None, 0, "M 0"), [10, 0], 10, (1, 1)),
-    (ONES, (None, 1, "R 0"), [10, 31], 10, (0, 0)),
-    (FREE, (None, 0, "M 0"), [2001, 0], 402, (2000, 2000)),
+    (TWO_BLOCKS, (Some(0), 1, "I 0"), [28, 9 + 19], 172, (0, 0)),
+    (FREE, (None, 0, "I 0"), [0, 10], 334, (2000, 0)),
+    (DIES, (None, 0, "X 0"), [0, 10], 8, (0, 0)),
+    (DIES_NEAR, (None, 0, "X 0"), [0, 19], 8, (0, 0)),
+    (DIES_FAR, (None, 0, "X 0"), [0, 42], 8, (0, 0)),
+    (SETTLES, (None, 0, "X 0"), [0, 10], 8, (1, 0)),
+    (SETTLES_NEAR, (None, 0, "X 0"), [0, 19], 8, (1, 0)),
+    (SETTLES_FAR, (None, 0, "X 0"), [0, 42], 8, (1, 0)),
+    (STILL, (None, 0, "Z 0"), [0, 10], 18, (0, 0)),
+    (STILL, (None, 0, "X 0"), [0, 101], 18, (0, 0)),
+    (DIES, (None, 0, ROOTS), [11, 0], 8, (0, 0)),
+    (DIES_NEAR, (None, 0, ROOTS), [34, 9], 8, (0, 0)),
+    (DIES_FAR, (None, 0, ROOTS), [43, 0], 8, (0, 0)),
+    (DIES, (None, 0, "M 0"), [10, 0], 8, (0, 0)),
+    (DIES_NEAR, (None, 0, "M 0"), [33, 9], 8, (0, 0)),
+    (DIES_FAR, (None, 0, "M 0"), [42, 0], 8, (0, 0)),
+    (ONE_COIN, (None, 0, "M 0"), [10, 0], 8, (1, 1)),
+    (ONES, (None, 1, "R 0"), [23, 18], 8, (0, 0)),
+    (FREE, (None, 0, "M 0"), [2001, 0], 334, (2000, 2000)),
 ];
 
 #[test]

@@ -15,7 +15,7 @@ from numpy.typing import NDArray
 import stabsim
 from stabsim.coordinates import coordinates_of, detector_rows, qubit_rows
 from stabsim.page.edits import Edit, name_of, undoing
-from stabsim.page.explaining import explained
+from stabsim.page.explaining import explained, refuse_unread
 from stabsim.page.following import following
 from stabsim.page.lines import LineEdits, between
 from stabsim.page.opening import Opened
@@ -35,6 +35,8 @@ class Entry:
     changed: list[str]
     seconds: float
     moves_bits: bool
+    # The texts whose lines are kept before it and after it.
+    texts: tuple[Opened, Opened] | None = None
 
     def message(self) -> Message:
         return {"text": self.name, "changed": self.changed, "seconds": self.seconds}
@@ -48,8 +50,9 @@ class Board:
     """A session with its history. All calls are made from one thread, since a session is for one thread."""
 
     def __init__(self, source: Opened, seed: int = 0, save: pathlib.Path | None = None) -> None:
-        # What was opened last, with its name, and what became of its lines.
-        self.source = source
+        # What was opened last, with its name, and what became of its lines; and the text whose lines are kept: that one, or what was written
+        # as text since.
+        self.source = self.kept_text = source
         self.save_to = save
         self.seed = seed
         self.session = stabsim.Circuit(source.text).edit(seed=seed)
@@ -77,7 +80,7 @@ class Board:
         """All that a tab has to know when it opens."""
         return {
             "event": "opened", "name": self.source.name, "notice": self.source.notice,
-            "notes": [*self.source.rewritten, *self.source.left_out], "deterministic": self.deterministic,
+            "notes": [*self.source.rewritten, *self.source.left_out], "written": shown_of(self.kept_text, self.session.circuit()), "deterministic": self.deterministic,
             "entries": [entry.message() for entry in self.entries],
             "marked": sorted(self.marked, key=place_of), "saves": self.save_to is not None, **self._now(), **self.whole(),
         }
@@ -107,7 +110,7 @@ class Board:
         edits = between(self.session.circuit(), source.text)
         if not edits:
             raise ValueError("nothing is changed")
-        return self._enter(f"edit the text: {name_of(edits)}", edits)
+        return self._enter(f"edit the text: {name_of(edits)}", edits, text=source)
 
     def split(self, place: str, number: int) -> Message:
         """Splits one round off a block."""
@@ -129,7 +132,16 @@ class Board:
         passed = self.entries[self.position:position] if forward else self.entries[position:self.position][::-1]
         made = self._carry_out("", [edit for entry in passed for edit in (entry.forth if forward else entry.back)])
         self.position = position
+        if passed and (texts := passed[-1].texts):
+            self.kept_text = texts[forward]
         return self._edited(made, [], any(entry.moves_bits for entry in passed))
+
+    def step(self, by: int) -> Message:
+        """Undoes a number of edits, or with a positive one redoes them, of the history as it is by then: a person may ask again before the first is done."""
+        position = max(0, min(len(self.entries), self.position + by))
+        if position == self.position:
+            raise ValueError("nothing is left to be undone" if by < 0 else "nothing is left to be done again")
+        return self.go(position)
 
     def mark(self) -> Message:
         """From here on counts what is shown as changed since the mark."""
@@ -143,8 +155,12 @@ class Board:
         return {"event": "saved", "position": self.position}
 
     def text(self) -> str:
-        """The circuit as it is now."""
+        """The circuit as it is now, in the program's words."""
         return self.session.circuit()
+
+    def written(self) -> str:
+        """The circuit as it is now, with comments, and the lines that were given where their items are as they were."""
+        return self.kept_text.given.written(self.session.circuit())
 
     def script(self) -> str:
         """An edit script that makes the edits made so far, of the circuit that was opened last."""
@@ -167,7 +183,7 @@ class Board:
             raise ValueError("no file was named to save to")
         with tempfile.NamedTemporaryFile("w", dir=self.save_to.parent, prefix=f".{self.save_to.name}.", delete=False) as file:
             try:
-                file.write(self.session.circuit())
+                file.write(self.written())
                 file.flush()
                 os.fsync(file.fileno())
                 os.chmod(file.name, mode_of(self.save_to))
@@ -180,9 +196,12 @@ class Board:
     def _splitting(self, place: str, number: int) -> Edit:
         return Edit("split", place, str(number), self.session.item(place))
 
-    def _enter(self, name: str, edits: list[Edit], keep: bool = False, first: list[Edit] | None = None) -> Message:
-        """Makes edits as one entry; those that are made first are of what is there, and leave each record as it is."""
+    def _enter(self, name: str, edits: list[Edit], keep: bool = False, first: list[Edit] | None = None, text: Opened | None = None) -> Message:
+        """Makes edits as one entry; those that are made first are of what is there, and leave each record as it is. text: whose lines are
+        kept from then on, if others than before."""
         entry = self._carry_out(name, edits, keep, first or [])
+        entry.texts = self.kept_text, next((edit.source for edit in edits if edit.source), text or self.kept_text)
+        self.kept_text = entry.texts[1]
         self._leave_positions()
         del self.entries[self.position:]
         self.entries.append(entry)
@@ -256,6 +275,8 @@ class Board:
         return undoing(edit, old)
 
     def _apply(self, edit: Edit) -> None:
+        if edit.kind in ("insert", "replace"):
+            refuse_unread(edit.item)
         if edit.kind == "insert":
             self.session.insert(edit.place, edit.item)
         elif edit.kind == "replace":
@@ -297,6 +318,11 @@ class Board:
             "qubit_coordinates": lists_of(qubit_rows(places, self.session.numbers().qubits)),
             "detector_coordinates": lists_of(detector_rows(places)),
         }
+
+
+def shown_of(kept: Opened, circuit: str) -> list[tuple[str, int, str]]:
+    """Which items of a circuit are shown as lines of a text that is kept, as `Given.shown` says."""
+    return kept.given.shown(circuit) if kept.rewritten else []
 
 
 def deterministic_line(text: str) -> str:

@@ -3,9 +3,10 @@
 import re
 
 import stabsim
+from stabsim import names, program
 from stabsim.page.edits import Edit
 from stabsim.page.room import MOST_MORE, MOST_QUBITS
-from stabsim.reading import lines_at
+from stabsim.reading import items_of, lines_at, walk
 
 # The refusals of an edit that `check` explains: those of a circuit's text.
 EXPLAINED = range(1, 12)
@@ -31,10 +32,21 @@ def explained(refused: stabsim.Refused, edit: Edit, circuit: str, qubits: int) -
 def refusal_of(text: str) -> stabsim.Refused | None:
     """What `check` refuses a circuit by, with its words, or None."""
     try:
-        stabsim.Circuit(text).numbers()
+        program.run(["check"], text)
     except stabsim.Refused as refused:
         return refused
     return None
+
+
+def refuse_unread(item: str) -> None:
+    """Refuses an item, as the program does, that has noise or instructions which it does not read: the page shows none."""
+    try:
+        items = items_of(item)
+    except stabsim.Refused:
+        # The session says what is wrong.
+        return
+    if any(it.name not in names.READ or it.name in names.MEASUREMENTS and it.arguments for it in walk(items) if it.repeat is None):
+        program.run(["check"], item)
 
 
 def without_line_number(said: str) -> str:

@@ -2,6 +2,8 @@
 
 import dataclasses
 import re
+from collections.abc import Iterator
+from typing import Any
 
 import numpy as np
 from numpy.typing import NDArray
@@ -14,6 +16,8 @@ from stabsim.table_lines import flips_of
 
 # Letters X, Y and Z on qubits.
 Letters = dict[int, str]
+# Lines, and blocks each as its head, its rounds and what is in it.
+Key = tuple[Any, ...]
 
 # What takes the place of a mark until the circuit's own are taken away: a comment that no circuit of a session has.
 PLACE = "# mark"
@@ -102,11 +106,30 @@ def marked_text(text: str, mark: str) -> str:
     return "\n".join(line.text for line in lines if not is_idle(line)).replace(PLACE, mark)
 
 
-def key_of(text: str) -> str:
+def key_of(text: str) -> Key:
     """What the table of a circuit depends on: its text with the marks of moments, without Paulis, which change no fault, and without
-    coordinates."""
+    coordinates; a round that is split off a block is of the block still."""
     marked = marked_text(text, PLACE)
-    return "\n".join(line.text for line in lines_of(marked) if line.parts is None or line.parts.name not in WITHOUT_TRACE) + f"\n{qubits_of(text)}"
+    kept = (line.text.strip() for line in lines_of(marked) if line.parts is None or line.parts.name not in WITHOUT_TRACE)
+    return (*folded(kept), str(qubits_of(text)))
+
+
+def folded(lines: Iterator[str]) -> Key:
+    """Lines up to the end of a block, with each block in them as its head, its rounds and its lines; blocks of the same lines that follow
+    each other are one."""
+    found: list[Any] = []
+    for line in lines:
+        if line == "}":
+            break
+        if not line.endswith("{"):
+            found.append(line)
+            continue
+        head, count = line.removesuffix("{").rsplit(maxsplit=1)
+        rounds, inside = int(count), folded(lines)
+        if found and isinstance(found[-1], tuple) and (found[-1][0], found[-1][2]) == (head, inside):
+            rounds += found.pop()[1]
+        found.append((head, rounds, inside))
+    return tuple(found)
 
 
 def qubits_of(text: str) -> int:

@@ -2,7 +2,7 @@
 
 import base64
 import binascii
-import contextlib
+import functools
 import itertools
 import operator
 import pathlib
@@ -12,6 +12,8 @@ from dataclasses import dataclass
 
 import stabsim
 from stabsim import program
+from stabsim.page.as_written import Given
+from stabsim.profile import Copy
 
 # What a circuit is called that came from nowhere.
 UNNAMED = "circuit.stim"
@@ -29,13 +31,20 @@ class BadLink(ValueError):
 class Opened:
     """A circuit's text that the program reads, its name, and what became of lines that were given, if they are others now.
 
-    rewritten, left_out: notes, one for each line that became others, and that lost noise.
+    rewritten, left_out: notes, one for each line that became others, and that lost noise; read: the text as it was given, if the program reads others
+    in the place of some of its lines.
     """
 
     text: str
     name: str = UNNAMED
     rewritten: tuple[str, ...] = ()
     left_out: tuple[str, ...] = ()
+    read: Given | None = None
+
+    @functools.cached_property
+    def given(self) -> Given:
+        """The text as it was given."""
+        return self.read or Given.of_read(self.text)
 
     @property
     def notice(self) -> str:
@@ -53,14 +62,15 @@ def lines_said(notes: tuple[str, ...]) -> str:
 
 
 def opened(given: str, name: str = UNNAMED) -> Opened:
-    """A text of Stim's as a circuit that the program reads, without its noise. A refusal names the line that was given. Raises
-    stabsim.UnsupportedNoise at noise that can't be left out."""
-    with contextlib.suppress(stabsim.Refused):
-        # What the program reads has no noise, and is opened as it is; to look for some would take longer.
-        stabsim.Circuit(given).numbers()
-        return Opened(given, name)
+    """A text of Stim's as a circuit that the program reads, without its noise. A refusal names the line that was given."""
     read = stabsim.from_stim(given)
-    return Opened(read.circuit.text, name, tuple(rewritten_of(read)), tuple(read.left_out))
+    if read.circuit is read:
+        # The program reads it as it is.
+        return Opened(given, name)
+    copy = read.profile.circuit
+    assert isinstance(copy, Copy), "the program does not read it as it is"
+    kept = Given(read.text, copy, frozenset(read.profile.left_out))
+    return Opened(read.circuit.text, name, tuple(rewritten_of(read)), tuple(read.left_out), kept)
 
 
 def rewritten_of(read: stabsim.StimCircuit) -> Iterator[str]:

@@ -13,7 +13,7 @@ from aiohttp import WSMsgType, web
 from aiohttp.typedefs import Handler
 
 import stabsim
-from stabsim.page.board import Board, Message, deterministic_line
+from stabsim.page.board import Board, Message, deterministic_line, shown_of
 from stabsim.page.distances import DistanceSearch
 from stabsim.page.edits import Edit
 from stabsim.page.files import file_response, guard, page_response
@@ -140,6 +140,9 @@ class Server:
             if question["ask"] in QUESTIONS and "id" in question:
                 self.start(self.look_up(tab, question))
                 return
+            if question["ask"] == "written" and "id" in question:
+                self.start(self.tell_written(tab, question))
+                return
             answer = await self.answer_to(tab, question)
         except stabsim.Refused as refused:
             answer = {"refused": "refused" if refused.explanation else f"refused: {plain(refused.name)}", "explanation": refused.explanation}
@@ -153,9 +156,18 @@ class Server:
         age, answer = self.board.age, await self.known.answer_to(question)
         tab.tell_text(answer if age == self.board.age else self.known.nothing(question))
 
+    async def tell_written(self, tab: Tab, question: Message) -> None:
+        """Answers with the circuit as it was written, for which no edit waits."""
+        try:
+            text, kept = await self.call(lambda: (self.board.text(), self.board.kept_text))
+            answer = {"text": await self.in_background(kept.given.written, text)}
+        except stabsim.StabsimError as fault:
+            answer = {"refused": str(fault)}
+        tab.tell({**answer, "id": question["id"]})
+
     async def answer_to(self, tab: Tab, question: Message) -> Message:
         asked = question["ask"]
-        if asked in ("edit", "split", "open", "go", "lines", "text"):
+        if asked in ("edit", "split", "open", "go", "step", "lines", "text"):
             return await self.changed_by(question)
         if asked == "mark":
             await self.tell_of(self.board.mark)
@@ -192,6 +204,8 @@ class Server:
             return await self.change(self.board.open, source, not question.get("unsaved"))
         if asked == "go":
             return await self.change(self.board.go, int(question["position"]))
+        if asked == "step":
+            return await self.change(self.board.step, int(question["by"]))
         if asked == "text":
             source = await asyncio.to_thread(opened, str(question["text"]))
             return {**await self.change(self.board.edit_text, source), "said": source.notice}
@@ -249,7 +263,9 @@ class Server:
         if age != self.board.age:
             return
         try:
-            text = await self.call(self.board.text)
+            text, kept = await self.call(lambda: (self.board.text(), self.board.kept_text))
+            if kept.rewritten:
+                await self.found_written(age, await self.in_background(shown_of, kept, text))
             if self.board.deterministic is None:
                 await self.found_deterministic(age, await self.in_background(deterministic_line, text))
             if self.known.why == NOT_YET and age == self.board.age:
@@ -257,6 +273,11 @@ class Server:
         except (stabsim.StabsimError, ConnectionError):
             # Nothing is said of it; if the session has ended, the next question says so.
             return
+
+    async def found_written(self, age: int, written: list[tuple[str, int, str]]) -> None:
+        async with self.telling:
+            if age == self.board.age:
+                self.tell({"event": "written", "age": age, "written": written})
 
     async def found_deterministic(self, age: int, line: str) -> None:
         async with self.telling:
@@ -270,8 +291,8 @@ class Server:
                 self.known.why = why
                 self.tell({"event": "faults", "age": age})
 
-    async def in_background(self, function: Any, value: Any) -> Any:
-        return await asyncio.get_running_loop().run_in_executor(self.background, function, value)
+    async def in_background(self, function: Any, *values: Any) -> Any:
+        return await asyncio.get_running_loop().run_in_executor(self.background, function, *values)
 
 
 def said_of_lost(names: tuple[str, ...]) -> str:

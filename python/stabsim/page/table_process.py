@@ -7,7 +7,7 @@ import sys
 import stabsim
 from stabsim import program
 from stabsim.page.board import Message
-from stabsim.page.moment_faults import MomentFaults, key_of
+from stabsim.page.moment_faults import Key, MomentFaults, key_of
 
 
 def main() -> None:
@@ -29,7 +29,7 @@ class Table:
     """The table of the circuit that was taken last, and why there is none, or an empty text."""
 
     def __init__(self) -> None:
-        self.key = ""
+        self.key: Key = ()
         self.faults: MomentFaults | None = None
         self.why = ""
 

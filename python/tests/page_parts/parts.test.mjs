@@ -10,13 +10,16 @@ import { drawingOf } from "../../stabsim/page/static/drawing.js";
 import { moveTo, putIn, putQubits, takeOut, withQubits } from "../../stabsim/page/static/editing.js";
 import { elementsOf, hull } from "../../stabsim/page/static/glyphs.js";
 import { facesOf, neighboursOf } from "../../stabsim/page/static/knowledge.js";
-import { momentAt } from "../../stabsim/page/static/moments.js";
+import { actedOften, momentAt } from "../../stabsim/page/static/moments.js";
 import { neighbourOf, placesOf } from "../../stabsim/page/static/places.js";
 import { lookbacksOf, nameOfRecord, putDetector } from "../../stabsim/page/static/records.js";
 import { countRows, numberOfRow, rowsBetween } from "../../stabsim/page/static/rows.js";
 import { svgOf } from "../../stabsim/page/static/svg_pen.js";
 import { areApart } from "../../stabsim/page/static/faces.js";
-import { pathAfter, pathThere } from "../../stabsim/page/static/keeping.js";
+import { pathAfter, pathThere, whereAfter } from "../../stabsim/page/static/keeping.js";
+import { layerOf, letterWithAlt } from "../../stabsim/page/static/keys.js";
+import { sumOf } from "../../stabsim/page/static/layers.js";
+import { writtenOf } from "../../stabsim/page/static/row_parts.js";
 
 const VIEW = { scale: 60, x: 50, y: 50, width: 400, height: 300, near: 1 };
 
@@ -118,9 +121,60 @@ test("names are completed as far as they are the same", () => {
 test("a gate joins the one in front of it, but an error is by itself", () => {
   const items = parseCircuit("H 0\nTICK\n");
   assert.deepEqual(putIn(items, 0, "H", [1, 2]).edits, [{ kind: "replace", place: "0", item: "H 0 1 2" }]);
-  assert.deepEqual(putIn(items, 0, "H", [0]).edits, [{ kind: "insert", place: "1", item: "H 0" }]);
+  assert.deepEqual(putIn(items, 0, "H", [0], false, true).edits, [{ kind: "insert", place: "1", item: "H 0" }]);
   assert.deepEqual(putIn(items, 0, "X", [1]).edits, [{ kind: "insert", place: "1", item: "X 1" }]);
   assert.ok(putIn(items, 0, "CX", [1]).why);
+});
+
+test("a gate takes the place of what acts on its qubits, and leaves others and errors where they are", () => {
+  const made = (text, ...words) => putIn(parseCircuit(text), 0, ...words);
+  const told = ({ edits, shown }) => [edits.map(({ kind, place, item }) => `${kind} ${place} ${item ?? ""}`.trim()), shown.path.join("/")];
+  assert.deepEqual(told(made("M 0\nTICK\n", "MX", [0])), [["replace 0 MX 0"], "0"]);
+  assert.deepEqual(told(made("CX 0 1 2 3\nX 0\nTICK\n", "H", [0])), [["insert 2 H 0", "replace 0 CX 2 3"], "2"]);
+  assert.deepEqual(told(made("H 1\nS 0 2\nR 3\nTICK\n", "H", [0, 2, 3])), [["replace 0 H 1 0 2 3", "delete 2", "delete 1"], "0"]);
+  assert.deepEqual(told(made("S 0\nR 1\nM 2\nTICK\n", "H", [0, 1])), [["insert 3 H 0 1", "delete 1", "delete 0"], "1"]);
+  assert.deepEqual(told(made("H 0 1\nS 2\nTICK\n", "H", [0, 2])), [["replace 0 H 0 1 2", "delete 1"], "0"]);
+  assert.deepEqual(told(made("CX 0 1\nTICK\n", "CX", [1, 0])), [["replace 0 CX 1 0"], "0"]);
+  assert.deepEqual(told(made("H 0\nTICK\n", "X", [0])), [["insert 1 X 0"], "1"]);
+  assert.match(made("CX 0 1\nH 2\nTICK\n", "CX", [0, 1]).why, /acts there already/);
+  assert.deepEqual(told(made("H 0\nREPEAT 2 {\n    H 1\n    TICK\n}\n", "S", [1, 0])), [["replace 1/0 S 1 0"], "1/0"]);
+});
+
+test("what acts several times in a tick is counted, and errors and their marks are not", () => {
+  const often = (text, moment) => [...actedOften(parseCircuit(text), moment)];
+  assert.deepEqual(often("H 0 1\nS 0\nX 1\nM 0\nTICK\nH 0\n", 0), [[0, 3]]);
+  assert.deepEqual(often("H 0 1\nS 0\nTICK\nH 0\n", 2), []);
+  assert.deepEqual(often("I 0\nH 0\nX 0\nTICK\n", 0), []);
+  assert.deepEqual(often("H 0\nH 0\n", 0), []);
+});
+
+test("with Alt the key itself counts where it would type another letter, and a layer is asked for by the place of its digit", () => {
+  const alone = { repeat: false, ctrlKey: false, metaKey: false, shiftKey: false, altKey: true };
+  assert.equal(letterWithAlt({ ...alone, key: "˙", code: "KeyH" }), "h");
+  assert.equal(letterWithAlt({ ...alone, key: "X", code: "KeyX", shiftKey: true }), "X");
+  assert.equal(letterWithAlt({ ...alone, key: "h", code: "KeyH", ctrlKey: true }), "");
+  assert.equal(layerOf({ ...alone, altKey: false, key: "/", code: "Digit7", shiftKey: true }), 7);
+  assert.equal(layerOf({ ...alone, altKey: false, key: "7", code: "Digit7" }), null);
+});
+
+test("where a place is after a round is split off its block, its round has a block of its own", () => {
+  const split = (round) => ({ kind: "split", at: [1], more: 2, round });
+  const after = (rounds, round) => whereAfter({ path: [1, 4], rounds: [rounds] }, split(round));
+  assert.deepEqual([0, 2, 4].map((round) => after(round, 2)), [{ path: [1, 4], rounds: [0] }, { path: [2, 4], rounds: [0] }, { path: [3, 4], rounds: [1] }]);
+  assert.deepEqual([0, 3].map((round) => after(round, 0)), [{ path: [1, 4], rounds: [0] }, { path: [2, 4], rounds: [2] }]);
+  assert.deepEqual(whereAfter({ path: [2], rounds: [] }, split(2)), { path: [4], rounds: [] });
+});
+
+test("marks of a layer flip what an odd number of them does", () => {
+  assert.deepEqual(sumOf([["D2", "L0"], ["D10", "D2"], [], ["D1", "L0", "L1"]]), ["D1", "D10", "L1"]);
+});
+
+test("items that were one line are shown as that while all of them are beside each other", () => {
+  const items = parseCircuit("SWAP 0 1\nCZ 0 1\nS 0 1\n");
+  items.forEach((item, part) => { item.written = { text: "ISWAP 0 1", count: 3, part }; });
+  assert.deepEqual([0, 1, 2].map((place) => writtenOf(items, place)?.part), [0, 1, 2]);
+  items.splice(1, 0, ...parseCircuit("H 0\n"));
+  assert.deepEqual([0, 1, 2, 3].map((place) => writtenOf(items, place)), [undefined, undefined, undefined, undefined]);
 });
 
 test("what is put into one round alone has the places that it has once the round is split off", () => {

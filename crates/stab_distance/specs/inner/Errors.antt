@@ -4,6 +4,7 @@ use Rattle.std.specs.Global.{Vec}
 use Rattle.stab_distance.specs.Tables.{ErrorTable, odd, row}
 use Rattle.stab_distance.specs.inner.Indexes.{ListsDetectors}
 use Rattle.stab_distance.specs.inner.Pairs.{ArePairs}
+use Rattle.stab_distance.specs.inner.Steps.{BeginsBefore}
 
 -- a table, a number for each of its detectors, and for each error those that need not be tried with it
 pub record Keyed : Type 0 where
@@ -20,12 +21,14 @@ key_of numbers (d ∷ ds) = bit_xor (slice_index numbers d) (key_of numbers ds)
 abbrev pub AreKeys : List ℕ → List (List ℕ) → List ℕ → Type 0
 AreKeys numbers rows keys = (length keys ≡ length rows) × ((r : ℕ) → r < length rows → slice_index keys r ≡ key_of numbers (row rows r))
 
--- only detectors have numbers; the keys, the index and the pairs are those of the rows
-pub record IsReady (detectors : ℕ) (rows : List (List ℕ)) (numbers keys : List ℕ) (index pairs : List (Vec ℕ)) : Type 0 where
+-- only detectors have numbers; the keys, the index, the pairs and the errors that can be first are those of the rows
+pub record IsReady (detectors : ℕ) (rows : List (List ℕ)) (numbers keys : List ℕ) (index pairs : List (Vec ℕ)) (firsts : ℕ) : Type 0 where
   pub numbered : length numbers ≤ detectors
   pub keyed : AreKeys numbers rows keys
   pub listed : ListsDetectors rows index
-  pub paired : ArePairs rows pairs
+  pub paired : ArePairs rows firsts pairs
+  pub inside : firsts ≤ length rows
+  pub begun : BeginsBefore (record { detectors = detectors; rows = rows }) firsts
 
 -- rows from a number on flip no observable
 abbrev pub FlipNoObservable : ErrorTable → ℕ → Type 0

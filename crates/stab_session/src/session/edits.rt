@@ -1,8 +1,7 @@
 use super::Session;
-use crate::paulis::difference;
-use crate::pending::{begin, finish, take_back};
+use crate::change::{Change, change_of};
+use crate::pending::{begin, finish, refused};
 use stab_circuit::{Edit, Refused};
-use stab_io::Fault;
 use stab_run::Coins;
 
 /// What an edit cost, from the last copy of the state before it to the step at which the old run is the new one again.
@@ -55,19 +54,21 @@ impl<C: Coins> Session<C> {
             Ok(begun) => begun,
             Err(refused) => return Err(refused),
         };
-        let paulis = match difference(self.alloc, &self.circuit, n, &pending) {
-            Ok(paulis) => paulis,
-            Err(refusal) => {
-                let item = take_back(&mut self.circuit, pending);
-                return Err(Refused {
-                    fault: Fault::whole(refusal),
-                    item,
-                });
-            }
+        let Change { paulis, rounds } = match change_of(
+            self.alloc,
+            &self.circuit,
+            n,
+            &pending,
+            span,
+            self.rounds.as_slice(),
+        ) {
+            Ok(change) => change,
+            Err(refusal) => return Err(refused(&mut self.circuit, pending, refusal)),
         };
         match self.recording.follow(
             self.alloc,
             &self.circuit,
+            rounds.as_slice(),
             span,
             paulis,
             self.stride,
@@ -76,6 +77,7 @@ impl<C: Coins> Session<C> {
         ) {
             Ok(followed) => {
                 finish(&mut self.circuit, pending);
+                self.rounds = rounds;
                 Ok(Report {
                     applied: followed.applied as usize,
                     framed: (followed.framed + followed.tried) as usize,
@@ -83,10 +85,7 @@ impl<C: Coins> Session<C> {
                     checkpoints: self.recording.checkpoints.len(),
                 })
             }
-            Err(refusal) => Err(Refused {
-                fault: Fault::whole(refusal),
-                item: take_back(&mut self.circuit, pending),
-            }),
+            Err(refusal) => Err(refused(&mut self.circuit, pending, refusal)),
         }
     }
 }

@@ -28,7 +28,8 @@ use Rattle.stab_splices.specs.declared.conjugating.PastPlaces.{PastPlaces}
 use Rattle.stab_splices.specs.declared.conjugating.Conjugating.{Conjugating}
 use Rattle.stab_splices.specs.inner.OldRests.{HasRoomFor, copies_moved}
 use Rattle.stab_splices.specs.Counts.{IsCounted}
-use Rattle.stab_splices.specs.Recordings.{IsRecording, IsSpan, AgreeBehindSpan, AgreeBackBehindSpan}
+use Rattle.stab_rounds.specs.Spans.{IsSpan}
+use Rattle.stab_splices.specs.Recordings.{IsRecording, AgreeBehindSpan, AgreeBackBehindSpan}
 
 -- no list has anything
 abbrev pub no_lengths : Lengths

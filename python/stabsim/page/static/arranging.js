@@ -1,3 +1,4 @@
+// @ts-check
 // Places for qubits that have none, by the gates between them: those that gates join pull together, and all push apart.
 
 const STEPS = 300;

@@ -1,6 +1,7 @@
+// @ts-check
 // A number that is asked for before something is done.
 
-const by = (id) => document.getElementById(id);
+import { by, fieldBy } from "./by_id.js";
 
 export class Asking {
   #dialog;
@@ -10,7 +11,7 @@ export class Asking {
     this.#dialog = dialog;
     by("asking-form").addEventListener("submit", (event) => {
       event.preventDefault();
-      this.#end(by("asked").value);
+      this.#end(fieldBy("asked").value);
     });
     dialog.addEventListener("close", () => this.#end(""));
   }
@@ -18,10 +19,10 @@ export class Asking {
   // Asks in some words for a number from `least` on, with one that is offered; answers it, or null if none is given.
   number(words, offered, least = 0) {
     by("asking-said").textContent = words;
-    by("asked").min = least;
-    by("asked").value = offered;
+    fieldBy("asked").min = String(least);
+    fieldBy("asked").value = String(offered);
     this.#dialog.showModal();
-    by("asked").select();
+    fieldBy("asked").select();
     return new Promise((settle) => { this.#settle = settle; });
   }
 

@@ -1,3 +1,4 @@
+// @ts-check
 // What a person has to know before all else, in lines above the panes, each with what can be done about it.
 
 import { element } from "./boxes.js";
@@ -12,6 +13,7 @@ export class Banner {
 
   // Says something of a kind, in the place of what was said of it before; `offers` are pairs of words and what a click on them does, after
   // which the line goes.
+  /** @param {string} kind @param {string} words @param {import("./types.js").Offer[]} [offers] */
   say(kind, words, offers = [["Close", () => {}]]) {
     this.take(kind);
     const buttons = offers.map(([name, act]) => this.#button(name, () => { this.take(kind); act(); }));

@@ -1,3 +1,4 @@
+// @ts-check
 // Boxes of the inspector: what they are filled with.
 
 import { iconOf } from "./svg_pen.js";

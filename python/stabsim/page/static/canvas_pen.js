@@ -1,3 +1,4 @@
+// @ts-check
 // Draws elements (glyphs.js) on a canvas. A glyph is drawn once as a picture of its own and then copied, since most of a moment's
 // glyphs are the same.
 
@@ -133,6 +134,7 @@ export class CanvasPen {
     return this.#pen.isPointInPath(x * this.#ratio, y * this.#ratio);
   }
 
+  /** @param {any} pen @param {import("./types.js").Element} element */
   #path(pen, { path, fill, stroke, width = 1, dash, alpha = 1, hatch: letter }) {
     trace(pen, path);
     pen.globalAlpha = alpha;
@@ -154,6 +156,7 @@ export class CanvasPen {
     pen.globalAlpha = 1;
   }
 
+  /** @param {any} pen @param {import("./types.js").Element} element */
   #words(pen, { words, x, y, size, fill, align = "center", weight = 400, mono = false, halo }) {
     pen.font = `${weight} ${size}px ${colourOf(mono ? "mono" : "sans")}`;
     pen.textAlign = align;

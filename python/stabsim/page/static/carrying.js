@@ -1,3 +1,4 @@
+// @ts-check
 // A gate that is dragged from the picture to a tick of the timeline.
 
 import { nameOf } from "./moments.js";

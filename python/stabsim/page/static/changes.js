@@ -1,3 +1,4 @@
+// @ts-check
 // Which part of a picture has to be drawn anew. A picture is a list of layers, each a list of elements (glyphs.js), the lowest first.
 
 // How large a tile is.

@@ -1,3 +1,4 @@
+// @ts-check
 // A circuit as a tree of items, with the counts that the views ask for.
 //
 // An item is {text, name, targets} for one line, or {text, count, items, once} for a block. Each has its counts (counts.js), a block
@@ -17,6 +18,7 @@ const DECLARING = new Set(["DETECTOR", "OBSERVABLE_INCLUDE"]);
 const WITHOUT_STEPS = new Set(["TICK", "QUBIT_COORDS", "SHIFT_COORDS"]);
 
 // The items of a circuit's text.
+/** @param {string} text @returns {import("./types.js").Item[]} */
 export function parse(text) {
   const outermost = [];
   const open = [];
@@ -36,6 +38,7 @@ export function parse(text) {
 }
 
 // The items of a whole circuit, cut into moments.
+/** @param {string} text @returns {import("./types.js").Item[]} */
 export function parseCircuit(text) {
   const items = parse(text);
   cutList(items);
@@ -96,6 +99,7 @@ export function itemOf(text) {
 }
 
 // The text of an item, each line indented as deep as it is.
+/** @param {import("./types.js").Item} item @returns {string} */
 export function textOf(item, depth = 0) {
   const margin = "    ".repeat(depth);
   if (!item.items) return margin + item.text;
@@ -106,14 +110,17 @@ export function textOf(item, depth = 0) {
 // The list that has a path's last place.
 const listAt = (items, path) => blocksAround(items, path).at(-1)?.items ?? items;
 
+/** @param {import("./types.js").Item[]} items @param {import("./types.js").Path} path @returns {import("./types.js").Item | undefined} */
 export function itemAt(items, path) {
   return listAt(items, path)[path.at(-1)];
 }
 
+/** @param {string} text @returns {import("./types.js").Path} */
 export const pathOf = (text) => text.split("/").map(Number);
 
-// Makes an edit that the session has accepted. Answers {kind, at, more, before, after}: at which path, how many items its list has more, and
-// the items that were and are there.
+// Makes an edit that the session has accepted. Answers {kind, at, more, round, before, after}: at which path, how many items its list has more,
+// the round of a split, and the items that were and are there.
+/** @param {import("./types.js").Item[]} items @param {import("./types.js").Edit} edit @returns {import("./types.js").Move} */
 export function applyEdit(items, edit) {
   const path = pathOf(edit.place);
   const list = listAt(items, path);
@@ -127,19 +134,24 @@ export function applyEdit(items, edit) {
   // What cuts a block depends on what is before it, so all is cut anew from the outermost list on.
   const [first, end] = cutList(items, path[0], path[0] + (edit.kind === "split" ? 3 : 1));
   recountPart(items, first, end, items.length - count);
-  return { kind: edit.kind, at: path, more: list.length - length, before: item, after: list[place] };
+  return { kind: edit.kind, at: path, more: list.length - length, round: edit.kind === "split" ? Number(edit.item) : undefined, before: item, after: list[place] };
 }
 
-// The blocks that a block becomes if a round is split off: the rounds before it, that round, and the rounds after it.
+// The blocks that a block becomes if a round is split off: the rounds before it, that round, and the rounds after it. The longest keeps the items.
 function partsOf(block, round) {
-  return [round, 1, block.count - round - 1].filter(Boolean).map((count) => {
-    const part = { ...block, text: block.text.replace(/\d+$/, count), count, items: structuredClone(block.items) };
-    recount(part);
-    return part;
+  const counts = [round, 1, block.count - round - 1].filter(Boolean);
+  const longest = counts.indexOf(Math.max(...counts));
+  return counts.map((count, part) => {
+    const items = part === longest ? block.items : block.items.map(copyOf);
+    return { ...block, text: block.text.replace(/\d+$/, String(count)), count, items };
   });
 }
 
+// A copy of an item; lines share their targets.
+const copyOf = (item) => (item.items ? { ...item, items: item.items.map(copyOf) } : { ...item });
+
 // The blocks around a path, the outermost first.
+/** @param {import("./types.js").Item[]} items @param {import("./types.js").Path} path @returns {import("./types.js").Item[]} */
 export function blocksAround(items, path) {
   const blocks = [];
   let list = items;

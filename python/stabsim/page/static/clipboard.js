@@ -1,3 +1,4 @@
+// @ts-check
 // What acts on the chosen qubits at a tick, copied as lines of circuit text, and put in at another tick, also of another tab.
 
 import { parse, textOf } from "./circuit.js";

@@ -1,3 +1,4 @@
+// @ts-check
 // Which measurements and resets the coins are of that decide a detector or an observable.
 
 import { findNumbered } from "./circuit.js";

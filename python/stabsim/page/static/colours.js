@@ -1,3 +1,4 @@
+// @ts-check
 // The colours of the theme, as colours.css has them.
 
 const known = new Map();

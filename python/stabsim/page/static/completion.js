@@ -1,3 +1,4 @@
+// @ts-check
 // Completion of the names of instructions.
 
 import { NAMES } from "./instructions.js";

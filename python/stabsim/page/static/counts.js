@@ -1,3 +1,4 @@
+// @ts-check
 // How many ticks, moments, records, detectors, steps and coins items have, their rounds written out. Each target that is measured or
 // reset has a coin, whether or not that decides anything.
 
@@ -27,6 +28,11 @@ function addUp(list, sums, from, to) {
 // Counts what a block has anew, once its items are right.
 export function recount(block) {
   forget(block.items);
+  multiply(block);
+}
+
+// Counts what a block has, if its items are counted and its rounds may be others.
+export function multiply(block) {
   const sums = before(block.items);
   block.once = Object.fromEntries(NAMES.map((name) => [name, sums[name].at(-1)]));
   for (const name of NAMES) block[name] = block.once[name] * block.count;
@@ -36,8 +42,12 @@ export function recount(block) {
 const kept = new WeakMap();
 
 export function derived(list, name, make) {
-  if (!kept.has(list)) kept.set(list, {});
-  return (kept.get(list)[name] ??= make(list));
+  const known = kept.get(list)?.[name];
+  if (known !== undefined) return known;
+  // What else was kept may be forgotten on the way.
+  const found = make(list);
+  kept.set(list, { ...kept.get(list), [name]: found });
+  return found;
 }
 
 export function forget(list) {

@@ -1,7 +1,8 @@
+// @ts-check
 // Where items are cut into moments: at each TICK, and in front of an item (its `cut`) that acts on a qubit on which the moment has
 // acted before. moments.py cuts by the same rules, so that the program's table of faults counts the same moments.
 
-import { recount } from "./counts.js";
+import { derived, multiply, recount } from "./counts.js";
 import { qubitsOf } from "./instructions.js";
 
 const PAULIS = new Set(["X", "Y", "Z"]);
@@ -42,15 +43,24 @@ function act(on, qubits, isPauli) {
 // If a block would meet what is before it, it is cut in front; if its rounds would meet each other, each is cut in front of its
 // first item that acts.
 function cutBlock(block, on) {
-  cutList(block.items);
-  const { first, last, hasSeveral, begins } = summaryOf(block.items);
-  const meetsItself = block.count > 1 && [...first].some((qubit) => last.has(qubit));
-  const isCutWithin = begins !== null && meetsItself;
-  if (isCutWithin) begins.cut = true;
+  const { first, last, hasSeveral, isCutWithin } = bodyOf(block);
   block.cut = !isCutWithin && [...first].some((qubit) => on.has(qubit));
-  recountWithin(block);
+  multiply(block);
   if (isCutWithin || block.cut || hasSeveral) on.clear();
   for (const [qubit, isOver] of last) on.set(qubit, isOver);
+}
+
+// What the items of a block come to, cut and counted. It is worked out once, until they change.
+function bodyOf(block) {
+  const name = block.count > 1 ? "body of rounds" : "body of a round";
+  return derived(block.items, name, () => {
+    cutList(block.items);
+    const { first, last, hasSeveral, begins } = summaryOf(block.items);
+    const isCutWithin = begins !== null && block.count > 1 && [...first].some((qubit) => last.has(qubit));
+    if (isCutWithin) begins.cut = true;
+    recountWithin(block);
+    return { first, last, hasSeveral, isCutWithin };
+  });
 }
 
 // The qubits of the first moment of a list that was cut, those of its last, whether it has several, and the first item that acts, if

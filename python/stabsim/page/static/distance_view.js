@@ -1,3 +1,4 @@
+// @ts-check
 // The distance of the circuit: the least number of errors that flip an observable and no detector, with such errors.
 
 import { element, fill, fillOnce, icon, line, link, quiet, title } from "./boxes.js";

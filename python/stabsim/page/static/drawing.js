@@ -1,14 +1,15 @@
+// @ts-check
 // The drawing of a moment, as elements (glyphs.js): what is measured where, gates, and over them what is known of detectors.
 //
-// A scene (scene.js) is {places, ancillas, box, hasCoordinates, instructions, recordName, faces, region, coins, set, neighbours,
-// chosen}, with what is drawn for the pointer: {pending, spots, frame}; a view says where a place is seen: {scale, x, y, width, height,
+// A scene (scene.js) is {places, ancillas, box, hasCoordinates, instructions, often, recordName, faces, region, coins, set, marks,
+// neighbours, chosen}, with what is drawn for the pointer: {pending, spots, frame}; a view says where a place is seen: {scale, x, y, width, height,
 // near}. A drawing follows from both, wherever it is written. What gates look like says the table of shapes alone (marks.js).
 
 import { PITCH, circle, gates, table } from "./glyphs.js";
 import { groundElements, gutterElements } from "./ground_drawing.js";
 import { PAULIS, actionsOf, isControlled, qubitsOf } from "./instructions.js";
 import { marksOf } from "./marks.js";
-import { coinElements, errorElements, faceElements, letterElements, neighbourElements, regionElements } from "./region_drawing.js";
+import { coinElements, errorElements, faceElements, letterElements, markElements, neighbourElements, regionElements } from "./region_drawing.js";
 
 // How far out of sight, in sides of a glyph, something is still drawn, since its wire may be seen.
 const MARGIN = 2;
@@ -40,6 +41,7 @@ export class Kept {
 }
 
 // The drawing by its layers, the lowest first.
+/** @returns {import("./types.js").Element[][]} */
 export function layersOf(scene, view, kept) {
   kept.take(scene, view);
   const pitch = view.scale * view.near;
@@ -60,10 +62,12 @@ export function layersOf(scene, view, kept) {
     numberElements(sheet, operations.busy),
     operations.over,
     choiceElements(sheet),
+    oftenElements(sheet),
     coinElements(sheet),
     letterElements(sheet, operations.busy),
     operations.errors,
     errorElements(sheet),
+    markElements(sheet),
     kept.of("gutter", () => gutterElements(sheet)),
   ];
 }
@@ -142,6 +146,18 @@ function numberElements(sheet, busy) {
   if (pitch < table.levels.numbers) return [];
   return [...places.keys()].filter((qubit) => isSeen(sheet, at(qubit)))
     .flatMap((qubit) => marksOf(busy.has(qubit) ? "number beside" : "number", { number: String(qubit) }, [at(qubit)], side).over);
+}
+
+// A dark disc below on the left of each qubit on which several items act in the tick, with how many do if there is room for that.
+function oftenElements(sheet) {
+  const { scene: { often = new Map() }, at, side, pitch } = sheet;
+  const hasWords = pitch >= table.levels.numbers;
+  const [radius, away] = [hasWords ? 9 : 3, Math.max(4, side * 0.62)];
+  return [...often].filter(([qubit]) => at(qubit) && isSeen(sheet, at(qubit))).flatMap(([qubit, count]) => {
+    const [x, y] = [at(qubit)[0] - away, at(qubit)[1] + away];
+    const disc = [{ path: circle(x, y, radius + 1.5), fill: "sheet" }, { path: circle(x, y, radius), fill: "ink" }];
+    return hasWords ? [...disc, { words: String(count), x, y, size: 12.5, fill: "sheet", weight: 700 }] : disc;
+  });
 }
 
 // A ring tight at the glyph of what is chosen; and what the next click would do.

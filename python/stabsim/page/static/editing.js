@@ -1,9 +1,10 @@
+// @ts-check
 // The edits that tools and keys make of a circuit. Each answers {edits, round, shown}: what the session is asked for, the round
 // {place, number} that is split off first, or null, and where what was put in then is, {path, rounds}; or {why} if nothing is
 // to be done.
 
-import { itemAt } from "./circuit.js";
-import { PAULIS, groupsOf, isPair, isSingle, qubitsOf } from "./instructions.js";
+import { itemAt, itemOf } from "./circuit.js";
+import { PAULIS, groupsOf, isErrorOrMark, isPair, isSingle, qubitsOf } from "./instructions.js";
 import { beginOf, endOf, momentAt, momentsOf, nameOf } from "./moments.js";
 
 const inBlock = ({ rounds }) => rounds.length > 0;
@@ -27,20 +28,66 @@ function inRound(items, edits, where, alone) {
   };
 }
 
-// Puts a gate, measurement or reset on qubits at the end of a moment. If the same gate is there already, on other qubits, that
-// instruction goes on; an error stays by itself.
-export function putIn(items, moment, name, qubits, alone) {
+// Puts a gate, measurement or reset on qubits at the end of a moment. What acts on them there, with the others of its pair, makes way, unless
+// `isAdded`; an error and a product come beside it. If the same gate is there already, on other qubits, that instruction goes on; an error
+// stays by itself.
+/**
+ * @param {import("./types.js").Item[]} items
+ * @param {number} moment
+ * @param {string} name
+ * @param {number[]} qubits
+ * @param {boolean} [alone]
+ * @param {boolean} [isAdded]
+ * @returns {import("./types.js").Made}
+ */
+export function putIn(items, moment, name, qubits, alone, isAdded = false) {
+  if (!wordsOf(name, qubits)) return { why: `${name} acts on pairs of qubits: choose two` };
   const where = endOf(items, moment);
-  const words = wordsOf(name, qubits);
-  if (!words) return { why: `${name} acts on pairs of qubits: choose two` };
-  const before = where.path.at(-1) > 0 ? [...where.path.slice(0, -1), where.path.at(-1) - 1] : null;
-  const last = before && itemAt(items, before);
-  const joins = last?.name === name && !PAULIS.includes(name) && !qubits.some((qubit) => qubitsOf(last).includes(qubit));
-  if (joins) {
-    return inRound(items, [{ kind: "replace", place: before.join("/"), item: `${last.text} ${words}` }], { path: before, rounds: where.rounds }, alone);
-  }
-  return inRound(items, [{ kind: "insert", place: where.path.join("/"), item: `${name} ${words}` }], where, alone);
+  const makesWay = !isAdded && name !== "MPP" && !isErrorOrMark(name);
+  const there = makesWay ? touching(items, moment, qubits).filter((it) => !isErrorOrMark(it.item.name) && isInList(it, where)) : [];
+  const left = withoutSame(there, name, qubits);
+  if (!left.length) return { why: `${name} acts there already; with Alt one more is put in` };
+  const inWay = there.filter(({ item }) => qubitsOf(item).some((qubit) => left.includes(qubit)));
+  const { edits, path } = inPlaceOf(items, moment, where, inWay, { name, qubits: left });
+  return inRound(items, edits, { ...where, path }, alone);
 }
+
+const isInList = (one, other) => one.path.slice(0, -1).join() === other.path.slice(0, -1).join() && one.rounds.join() === other.rounds.join();
+
+// The qubits on which the same gate, pair by pair, does not act already.
+function withoutSame(found, name, qubits) {
+  const size = isPair(name) ? 2 : 1;
+  const there = new Set(found.filter(({ item }) => item.name === name).flatMap(({ item }) => groupsOf(item).map(({ words }) => words.join(" "))));
+  return qubits.filter((_, i) => !there.has(qubits.slice(i - (i % size), i - (i % size) + size).join(" ")));
+}
+
+// The edits that put a gate in at the end of a moment and take out what makes way for it, and the path at which it is then. It is put in
+// first, so that each place is one of the circuit before.
+function inPlaceOf(items, moment, where, inWay, { name, qubits }) {
+  const words = wordsOf(name, qubits);
+  const taken = lastFirst(inWay).map(({ item, path }) => without(item, path, qubits));
+  const gone = inWay.map(({ path }) => path.at(-1)).filter((_, i) => taken[inWay.length - 1 - i].kind === "delete");
+  const at = (place) => [...where.path.slice(0, -1), place];
+  const now = (place) => at(place - gone.filter((it) => it < place).length);
+  const last = lastOf(items, moment, where, gone);
+  const before = taken.find(({ place }) => place === at(last).join("/"))?.item ?? (last === null ? "" : itemAt(items, at(last)).text);
+  if (before && joinsTo(itemOf(before), name, qubits)) {
+    const place = at(last).join("/");
+    return { edits: [{ kind: "replace", place, item: `${before} ${words}` }, ...taken.filter((it) => it.place !== place)], path: now(last) };
+  }
+  // What gives its place up as a whole leaves it to what comes, so that a record stays the same one.
+  if (inWay.length === 1 && gone.length) return { edits: [{ kind: "replace", place: taken[0].place, item: `${name} ${words}` }], path: inWay[0].path };
+  return { edits: [{ kind: "insert", place: where.path.join("/"), item: `${name} ${words}` }, ...taken], path: now(where.path.at(-1)) };
+}
+
+// The place in front of the end of a moment, without those that are taken out; null if what is there is of another moment.
+function lastOf(items, moment, where, gone) {
+  let place = where.path.at(-1) - 1;
+  while (gone.includes(place)) place -= 1;
+  return momentAt(items, moment).some((it) => isInList(it, where) && it.path.at(-1) === place) ? place : null;
+}
+
+const joinsTo = (item, name, qubits) => item.name === name && !PAULIS.includes(name) && !qubits.some((qubit) => qubitsOf(item).includes(qubit));
 
 function wordsOf(name, qubits) {
   if (isPair(name) && (qubits.length < 2 || qubits.length % 2)) return "";
@@ -57,6 +104,14 @@ export function measureProduct(items, moment, letter, qubits, alone) {
 
 // Takes out what acts on qubits at a moment, with the other qubits of its pair or product; if nothing does, the places of qubits
 // on which nothing acts at all.
+/**
+ * @param {import("./types.js").Item[]} items
+ * @param {number} moment
+ * @param {number[]} qubits
+ * @param {boolean} alone
+ * @param {(qubit: number) => boolean} isUsed
+ * @returns {import("./types.js").Made}
+ */
 export function takeOut(items, moment, qubits, alone, isUsed) {
   const touched = touching(items, moment, qubits);
   if (!touched.length) return takePlaces(items, qubits.filter((qubit) => !isUsed(qubit)));
@@ -111,6 +166,7 @@ function partOf(item, qubits) {
 }
 
 // Moves what acts on qubits at a moment to another: to the end of an earlier one, or to the beginning of a later one.
+/** @param {import("./types.js").Item[]} items @param {number} moment @param {number[]} qubits @param {number} target @returns {import("./types.js").Made} */
 export function moveTo(items, moment, qubits, target) {
   const touched = touching(items, moment, qubits);
   if (!touched.length) return { why: "nothing acts on these qubits here" };

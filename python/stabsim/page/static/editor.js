@@ -1,3 +1,4 @@
+// @ts-check
 // What tools, keys and menus do to the circuit: each is one entry of the history, made whole or refused.
 
 import * as editing from "./editing.js";
@@ -13,7 +14,7 @@ import { moveTick, putTick, stepTick, takeTick } from "./ticks.js";
 export class Editor {
   #shown;
   #act;
-  #last = Promise.resolve();
+  #last = Promise.resolve(true);
 
   // `act` has send(edits, round, name), which answers what was made of them, or null if they were refused; say(words, isBad); menu(qubit, offers); isAlone(isError), which says in
   // which rounds an edit is made; and number(words, offered), which asks for one.
@@ -25,10 +26,15 @@ export class Editor {
   // Makes the edits that `edits(state, moment)` answers as editing.js does, and shows what was put in, unless a person went to another
   // moment meanwhile: answers whether they were made. They are worked out once those before them are made, since each edit moves what
   // comes after it: keys may be quicker than the program.
+  /** @param {(state: import("./state.js").State, moment: number) => import("./types.js").Made} edits @returns {Promise<boolean>} */
   make(edits) {
+    /** @returns {Promise<boolean>} */
     const inTurn = async () => {
       const { edits: wanted, round, shown, name, why } = edits(this.#shown.state, this.#shown.moment);
-      if (why) return void this.#act.say(why, true);
+      if (why) {
+        this.#act.say(why, true);
+        return false;
+      }
       const { moves } = this.#shown;
       const made = await this.#act.send(wanted, round, name);
       if (!made) return false;
@@ -43,15 +49,16 @@ export class Editor {
     return this.#last;
   }
 
-  // Takes up a tool: it acts on what is chosen, if that is enough for it, and else on what is clicked next.
-  take(name) {
+  // Takes up a tool: it acts on what is chosen, if that is enough for it, and else on what is clicked next. With `isAdded` a gate on what is
+  // chosen comes beside what acts there, and does not take its place.
+  take(name, isAdded = false) {
     const { chosen } = this.#shown;
     if (name === "TICK") return this.make(({ items }, moment) => putTick(items, moment));
     if (name === "DETECTOR") return this.#detector(false);
     if (name === "MPP") return this.#product();
     if (isPair(name) ? this.#isPaired(name) : isSingle(name) && chosen.length) {
       this.#shown.takeTool("pick");
-      return this.put(name, chosen);
+      return this.put(name, chosen, this.#isAlone(name), isAdded);
     }
     this.#shown.takeTool(name, isPair(name) ? chosen : []);
     if (name !== "pick") this.#act.say(`${titleOf(name)}: ${asked(name, chosen)}; Esc lets go`);
@@ -108,9 +115,15 @@ export class Editor {
     return isDone;
   }
 
-  // Puts a gate, measurement or reset on qubits at the end of the moment. What an error flips is then chosen, with its region.
-  async put(name, qubits, alone = this.#isAlone(name)) {
-    const made = await this.make(({ items }, moment) => editing.putIn(items, moment, name, qubits, alone));
+  // Puts a gate, measurement or reset on qubits at the end of the moment. What an error flips is then chosen, with its region. With a layer of
+  // marks at hand an error is a mark, and no edit.
+  async put(name, qubits, alone = this.#isAlone(name), isAdded = false) {
+    const { layers, state, moment: now } = this.#shown;
+    if (PAULIS.includes(name) && layers.at !== null) {
+      layers.put(name, qubits, state.items, now);
+      return true;
+    }
+    const made = await this.make(({ items }, moment) => editing.putIn(items, moment, name, qubits, alone, isAdded));
     if (made && PAULIS.includes(name)) this.#shown.chooseBit([...this.#shown.state.flipped][0] ?? null);
     return made;
   }
@@ -160,6 +173,14 @@ export class Editor {
     return this.make(({ items }, moment) => stepTick(items, moment, direction));
   }
 
+  // Puts a gate beside what acts on the chosen qubits, by its key; answers whether a key is that of a gate.
+  add(letter) {
+    const tool = toolOf(letter);
+    if (!tool || !(isPair(tool) || isSingle(tool))) return false;
+    this.take(tool, true);
+    return true;
+  }
+
   // The actions of keys on what is chosen; answers whether there is one.
   key(letter) {
     const { chosen } = this.#shown;
@@ -175,12 +196,14 @@ export class Editor {
     };
     if (tool) this.take(tool);
     else if (keys[letter]) keys[letter]();
-    return Boolean(tool || keys[letter]);
+    // With Shift a letter that means nothing else by that is the gate, too.
+    else return /^[A-Z]$/.test(letter) && this.add(letter.toLowerCase());
+    return true;
   }
 
   #remove() {
-    const { chosen } = this.#shown;
-    if (!chosen.length) return undefined;
+    const { chosen, layers } = this.#shown;
+    if (!chosen.length || (layers.at !== null && layers.takeOut(chosen, this.#shown.moment))) return undefined;
     return this.make(({ items, uses }, moment) => editing.takeOut(items, moment, chosen, this.#isAlone(""), (qubit) => uses.acting.has(qubit)));
   }
 
@@ -218,6 +241,8 @@ export class Editor {
       offers.push(["turn the chosen by a quarter", () => this.replace(ours, turned)], ["mirror them left to right", () => this.replace(ours, (all) => mirrored(all, false))],
         ["mirror them upside down", () => this.replace(ours, (all) => mirrored(all, true))]);
     }
+    const layer = this.#shown.layers.at ?? this.#shown.layers.used.at(-1) ?? 0;
+    offers.push([`${this.#shown.layers.at === null ? "take up" : "let go of"} marks ${layer} (Shift-${layer})`, () => this.#shown.layers.take(layer)]);
     offers.push(["Stabilised by Z?", () => askSign(`Z${qubit}`)], ["Stabilised by X?", () => askSign(`X${qubit}`)]);
     return offers;
   }

@@ -1,3 +1,4 @@
+// @ts-check
 // The line below the text in which an item is written, with what is wrong with it at its place.
 
 import { itemAt, textOf } from "./circuit.js";

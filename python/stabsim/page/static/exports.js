@@ -1,13 +1,14 @@
+// @ts-check
 // What is given out: the circuit, the edits as a script, and what is seen as SVG.
 
 import { colourOf } from "./colours.js";
 import { download } from "./files.js";
 import { svgOf } from "./svg_pen.js";
 
-// `page` has ask(question), name(), text(), which answers the circuit as the tab has it, so that it can be had without the server, and layout.
-export function exportsOf({ ask, name, text, layout }) {
-  const circuit = () => {
-    download(name(), text());
+// `page` has ask(question), name(), written(), which answers the circuit as it was written, also without the server, and layout.
+export function exportsOf({ ask, name, written, layout }) {
+  const circuit = async () => {
+    download(name(), await written());
     return ask({ ask: "saved" });
   };
   const script = async () => {

@@ -1,3 +1,4 @@
+// @ts-check
 // Whether the faces of checks can be drawn: where they lie across each other, as those of a torus, they would hide more than they show.
 
 import { hull } from "./glyphs.js";

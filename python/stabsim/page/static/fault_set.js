@@ -1,3 +1,4 @@
+// @ts-check
 // Where the errors of a set are that flip an observable and no detector.
 
 import { findNumbered, itemAt, pathOf, roundsOfStep } from "./circuit.js";

@@ -1,3 +1,4 @@
+// @ts-check
 // Circuits that come from files, what is dropped or pasted and links, and what is given out.
 
 const LINK = "#circuit=";
@@ -33,8 +34,9 @@ export function takeFiles(field, open, put) {
     if (file) open(file);
     else if (given) open(fileOf(given, "dropped.stim"));
   });
-  addEventListener("paste", (event) => {
-    if (event.target.matches?.("input, textarea")) return;
+  document.addEventListener("paste", (event) => {
+    const { target } = event;
+    if (target instanceof Element && target.matches("input, textarea")) return;
     const given = event.clipboardData.getData("text");
     if (!given.trim()) return;
     event.preventDefault();

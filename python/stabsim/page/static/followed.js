@@ -1,3 +1,4 @@
+// @ts-check
 // What is followed through time: the region of a detector or observable, or the coins that decide it.
 
 export class Followed {

@@ -1,3 +1,4 @@
+// @ts-check
 // What the pointer does on the picture of qubits, handed on as what it means: a click, a box of qubits, places for new ones, a gate that
 // is led from one qubit to another or dragged to another tick, and the zoom.
 

@@ -1,3 +1,4 @@
+// @ts-check
 // Glyphs: the shapes of shapes.json as paths and words, for whatever pen draws them.
 //
 // A drawing is a list of elements: a path {path, fill, stroke, width, dash, alpha, hatch} whose commands are [op, numbers..] with
@@ -21,6 +22,7 @@ export function levelOf(side) {
 }
 
 // The paths and words of a glyph.
+/** @param {import("./types.js").Element} glyph @returns {import("./types.js").Element[]} */
 export function elementsOf(glyph) {
   const { x, y, side } = glyph;
   const level = levelOf(side);

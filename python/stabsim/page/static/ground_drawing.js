@@ -1,3 +1,4 @@
+// @ts-check
 // What lies under a picture of qubits: a dot where one could be; and coordinates in gutters at the edges, over all else.
 
 // From which scale on there are dots, and from which on all over the picture.

@@ -1,3 +1,4 @@
+// @ts-check
 // The history: each edit as a line, with what it flipped.
 
 const MOST_NAMES = 4;

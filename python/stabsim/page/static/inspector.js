@@ -1,7 +1,9 @@
+// @ts-check
 // What is chosen, at places that never move: the qubit, what an error there would flip, and the detector.
 
 import { code, element, fillOnce, icon, line, link, quiet, title } from "./boxes.js";
 import { findNumbered } from "./circuit.js";
+import { saidOften } from "./saying.js";
 
 const MOST_NAMES = 8;
 const MOST_COINS = 6;
@@ -23,14 +25,15 @@ export class Inspector {
     boxes.detector.append(this.#declaration, this.#decision, this.#region);
   }
 
-  // `about` has {qubit, kind, at, name, path, more}, with the name and the path of what acts on it, or is null if no qubit is chosen: then `where` says what is shown.
+  // `about` has {qubit, kind, at, name, path, count, more}, with the name and the path of what acts on it, and how many items do in the tick if
+  // several do, or is null if no qubit is chosen: then `where` says what is shown.
   qubit(about, where) {
-    const { qubit, kind, at, name, path, more } = about ?? {};
+    const { qubit, kind, at, name, path, count, more } = about ?? {};
     fillOnce(this.#boxes.qubit, [about, where], () => {
       if (!about) return [title("No qubit chosen", where)];
       const place = at ? ` at (${at.join(", ")})` : "";
       const item = name ? [code(name), " of item ", this.#itemButton(path)] : ["idle here"];
-      return [title(`Qubit ${qubit}`, `${kind}${place}${more ? `, and ${more} more` : ""}`), line(where), line(...item)];
+      return [title(`Qubit ${qubit}`, `${kind}${place}${more ? `, and ${more} more` : ""}`), line(where), line(...item), ...(count ? [line(saidOften(count))] : [])];
     });
   }
 
@@ -44,6 +47,18 @@ export class Inspector {
       row.append(icon(letter, 15, letter.toLowerCase(), letter), ...this.#names(flips?.[letter], why));
       return row;
     })]);
+  }
+
+  // The marks of layers, and what those of each flip together; `name(moment)` is what a moment is called.
+  marks(layers, name) {
+    const shown = layers.used.map((layer) => [layer, layers.marks.filter((mark) => mark.layer === layer), layers.flips(layer)]);
+    fillOnce(this.#boxes.marks, [shown, layers.at], () => (shown.length ? [title("Marks flip"), ...shown.map(([layer, marks, flips]) => {
+      const said = marks.map(({ letter, qubit, moment }) => `${letter}${qubit} at ${name(moment)}`).join(", ");
+      const row = line(link(String(layer), () => layers.take(layer)), " ", ...this.#names(flips, "not known yet"), " ", quiet(said, "span"), " ", link("clear", () => layers.clear(layer)));
+      row.dataset.layer = String(layer);
+      row.className = layer === layers.at ? "mark-row now" : "mark-row";
+      return row;
+    })] : []));
   }
 
   #names(names, why) {

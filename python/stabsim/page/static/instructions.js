@@ -1,3 +1,4 @@
+// @ts-check
 // Instructions, as far as the picture of a moment says them apart, and the qubits on which they act.
 
 export const PAULIS = ["X", "Y", "Z"];
@@ -10,6 +11,8 @@ const RECORDED = new Set(["M", "MX", "MY", "MR", "MRX", "MRY", "MPP"]);
 // All names that the program reads, for completion.
 export const NAMES = [...GATES, ...PAIRS, ...RECORDED, "R", "RX", "RY", "TICK", "DETECTOR", "OBSERVABLE_INCLUDE", "QUBIT_COORDS", "SHIFT_COORDS", "REPEAT"];
 
+// Whether a name is that of an error that is put in, or of what marks errors.
+export const isErrorOrMark = (name) => name === "I" || PAULIS.includes(name);
 export const isPair = (name) => PAIRS.has(name);
 export const isRecorded = (name) => RECORDED.has(name);
 export const resets = (name) => RESETS.has(name);
@@ -21,6 +24,7 @@ const isQubit = (target) => !target.startsWith("rec[");
 const qubitOf = (target) => Number(target.replace("!", ""));
 
 // The qubits on which an item acts, in the order of its targets and without records that control it; they are kept with the item.
+/** @param {import("./types.js").Item} item @returns {number[]} */
 export function qubitsOf(item) {
   if (item.items || !acts(item.name)) return [];
   item.on ??= item.name === "MPP" ? item.targets.flatMap((product) => factorsOf(product).map(({ qubit }) => qubit))

@@ -1,7 +1,9 @@
+// @ts-check
 // What was chosen before an update of the circuit, and is still there after it.
 
 // The path of what a path led to before an edit, which was made at a place of a list that it made `more` items longer. What was taken out
 // leaves its path to what came in its place.
+/** @param {import("./types.js").Path} path @param {import("./types.js").Move} move @returns {import("./types.js").Path} */
 export function pathAfter(path, { kind, at, more }) {
   const deep = at.length - 1;
   if (path.length <= deep || at.slice(0, deep).some((place, i) => place !== path[i])) return path;
@@ -9,7 +11,20 @@ export function pathAfter(path, { kind, at, more }) {
   return isMoved ? [...path.slice(0, deep), path[deep] + more, ...path.slice(deep + 1)] : path;
 }
 
+// Where a place in some rounds is after an edit: a round that is split off has a block of its own.
+/** @param {import("./types.js").Where} where @param {import("./types.js").Move} move @returns {import("./types.js").Where} */
+export function whereAfter({ path, rounds }, move) {
+  const deep = move.at.length - 1;
+  const isInside = move.kind === "split" && path.length > deep + 1 && move.at.every((place, i) => place === path[i]);
+  if (!isInside) return { path: pathAfter(path, move), rounds };
+  const round = rounds[deep];
+  const before = move.round > 0 ? 1 : 0;
+  const [further, now] = round < move.round ? [0, round] : round === move.round ? [before, 0] : [before + 1, round - move.round - 1];
+  return { path: path.with(deep, path[deep] + further), rounds: rounds.with(deep, now) };
+}
+
 // A path as far as it leads to something: to an item, or to the end of the outermost list.
+/** @param {import("./types.js").Item[]} items @param {import("./types.js").Path} path @returns {import("./types.js").Path} */
 export function pathThere(items, path) {
   const found = [];
   let list = items;

@@ -1,6 +1,8 @@
+// @ts-check
 // The keys of the whole page: each pane is one tab stop, and arrows move within it.
 
-import { ALL_KEYS, commandOf, isField, keyOf, letterOf } from "./keys.js";
+import { buttonBy, by, dialogBy } from "./by_id.js";
+import { ALL_KEYS, commandOf, isField, keyOf, layerOf, letterOf, letterWithAlt } from "./keys.js";
 import { momentAt, momentsOf } from "./moments.js";
 import { neighbourOf } from "./places.js";
 import { Roving } from "./roving.js";
@@ -12,8 +14,6 @@ const ARROWS = { ArrowLeft: [-1, 0], ArrowRight: [1, 0], ArrowUp: [0, -1], Arrow
 
 // How far a key pans, in pixels.
 const PAN = 60;
-
-const by = (id) => document.getElementById(id);
 
 export class Keyboard {
   #page;
@@ -29,7 +29,7 @@ export class Keyboard {
   #key(event) {
     if (event.defaultPrevented || !this.#page.shown.state) return;
     const command = commandOf(event);
-    if (by("asking").open || (by("keys").open && command !== "save")) return;
+    if (dialogBy("asking").open || (dialogBy("keys").open && command !== "save")) return;
     if (event.key === "F6") return void this.#nextPane(event);
     if (command && !(isField(event.target) && command !== "save" && command !== "open")) {
       event.preventDefault();
@@ -50,7 +50,7 @@ export class Keyboard {
     if (ctrlKey || metaKey) return false;
     const keys = {
       "[": () => shown.goTo(shown.moment - 1), "]": () => shown.goTo(shown.moment + 1), "+": () => this.#page.press("greater"), "=": () => this.#page.press("greater"),
-      "-": () => this.#page.press("smaller"), 0: () => this.#page.press("fit"), "?": () => by("keys").showModal(), Escape: () => this.#letGo(),
+      "-": () => this.#page.press("smaller"), 0: () => this.#page.press("fit"), "?": () => dialogBy("keys").showModal(), Escape: () => this.#letGo(),
       "/": () => this.#page.press("search"), ",": () => this.#bit(-1), ".": () => this.#bit(1), "{": () => this.#page.editor.stepTick(-1), "}": () => this.#page.editor.stepTick(1),
     };
     if (!Object.hasOwn(keys, key)) return false;
@@ -133,6 +133,10 @@ export class Keyboard {
   }
 
   #onChosen(event) {
+    if (event.altKey) return this.#page.editor.add(letterWithAlt(event));
+    const layer = layerOf(event);
+    if (layer !== null) this.#page.shown.layers.take(layer);
+    if (layer !== null) return true;
     const letter = letterOf(event);
     return letter !== "" && this.#page.editor.key(letter);
   }
@@ -141,6 +145,7 @@ export class Keyboard {
   #letGo() {
     const { shown } = this.#page;
     if (shown.tool !== "pick" || shown.waiting.length) shown.takeTool("pick");
+    else if (shown.layers.at !== null) shown.layers.take(shown.layers.at);
     else if (shown.bit !== null) shown.chooseBit(null);
     else if (shown.set.length) shown.showSet([]);
     else shown.choose(null);
@@ -152,7 +157,7 @@ export class Keyboard {
     const step = event.shiftKey ? -1 : 1;
     for (let i = 1; i <= PANES.length; i += 1) {
       const id = PANES[(Math.max(now, step < 0 ? 0 : -1) + step * i + 2 * PANES.length) % PANES.length];
-      const stop = this.#roving.has(id) ? this.#roving.get(id).stop : by(id).disabled ? null : by(id);
+      const stop = this.#roving.has(id) ? this.#roving.get(id).stop : buttonBy(id).disabled ? null : by(id);
       if (!stop) continue;
       this.#page.panes.show(stop);
       stop.focus();

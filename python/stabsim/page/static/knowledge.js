@@ -1,3 +1,4 @@
+// @ts-check
 // What the program's table of faults says of the circuit: what each Pauli would flip, and where bits have their regions. It is asked for
 // when it is shown, and known until the next edit.
 

@@ -1,3 +1,4 @@
+// @ts-check
 // The qubits at one moment, on a canvas in a pane, zoomed and panned.
 
 import { CanvasPen } from "./canvas_pen.js";
@@ -35,7 +36,7 @@ export class LayoutView {
     this.#act = act;
     this.#gestures = new Gestures(pane, this, act);
     new ResizeObserver(() => {
-      this.#sight.resize([pane.clientWidth, pane.clientHeight]);
+      this.#sight.resize([pane.clientWidth, pane.clientHeight], parseFloat(getComputedStyle(pane).getPropertyValue("--below")));
       this.#zoomed();
     }).observe(pane);
   }

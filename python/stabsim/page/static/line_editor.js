@@ -1,3 +1,4 @@
+// @ts-check
 // What is done with the chosen lines of the text: each is one entry of the history.
 
 import { itemAt, textOf } from "./circuit.js";
@@ -12,9 +13,21 @@ export class LineEditor {
     this.#page = page;
   }
 
-  // The chosen lines, {list, first, count}; null if none is.
+  // The chosen lines, {list, first, count, places, areApart}; null if none is.
   get #lines() {
-    return this.#page.text.lines;
+    const { lines } = this.#page.text;
+    if (!lines) return null;
+    const { list, places } = lines;
+    const [first, count] = [places[0], places.length];
+    return { list, places, first, count, areApart: places.at(-1) - first >= count };
+  }
+
+  // The same, if they follow each other; else it is said that they don't.
+  #together() {
+    const lines = this.#lines;
+    if (!lines?.areApart) return lines;
+    this.#page.say("the chosen lines are apart: choose some that follow each other", true);
+    return null;
   }
 
   #place(number) {
@@ -23,8 +36,8 @@ export class LineEditor {
   }
 
   #texts() {
-    const { list, first, count } = this.#lines;
-    return Array.from({ length: count }, (_, i) => textOf(itemAt(this.#page.shown.state.items, [...list, first + i])));
+    const { list, places } = this.#lines;
+    return places.map((place) => textOf(itemAt(this.#page.shown.state.items, [...list, place])));
   }
 
   // The lines as a text that is pasted elsewhere; "" if none is chosen.
@@ -34,8 +47,9 @@ export class LineEditor {
 
   remove() {
     if (!this.#lines) return;
-    const { count } = this.#lines;
-    this.#page.send(Array.from({ length: count }, (_, i) => ({ kind: "delete", place: this.#place(count - 1 - i) })), null, count > 1 ? `delete ${count} lines` : "");
+    const { list, places, count } = this.#lines;
+    const edits = places.map((place) => ({ kind: "delete", place: [...list, place].join("/") })).reverse();
+    this.#page.send(edits, null, count > 1 ? `delete ${count} lines` : "");
   }
 
   // Puts lines in before the chosen ones, or at the end, and chooses them.
@@ -52,8 +66,9 @@ export class LineEditor {
 
   // Moves the lines over the one before them (-1), or after them: that one goes to their other end.
   async move(by_) {
-    if (!this.#lines) return;
-    const { list, first, count } = this.#lines;
+    const lines = this.#together();
+    if (!lines) return;
+    const { list, first, count } = lines;
     const other = by_ < 0 ? -1 : count;
     const item = itemAt(this.#page.shown.state.items, [...list, first + other]);
     if (!item || first + other < 0) return void this.#page.say("there is no line beyond them", true);
@@ -63,13 +78,14 @@ export class LineEditor {
   }
 
   async repeat() {
-    const lines = this.#lines;
+    const lines = this.#together();
     const rounds = lines && await this.#page.number("rounds of the block", 2, 1);
     if (rounds) await this.#ask("repeat", lines, 1, { rounds });
   }
 
   reverse() {
-    return this.#lines && this.#ask("reverse", this.#lines, this.#lines.count);
+    const lines = this.#together();
+    return lines && this.#ask("reverse", lines, lines.count);
   }
 
   takeOut() {

@@ -1,3 +1,4 @@
+// @ts-check
 // The one place that talks to the server: questions with answers, and events that every tab hears.
 
 const KEY = "stabsim token";

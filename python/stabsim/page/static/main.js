@@ -1,5 +1,7 @@
+// @ts-check
 // The page: what the server says goes into the views, and what a person does goes to the server.
 
+import { by, fieldBy } from "./by_id.js";
 import { Carrier } from "./carrying.js";
 import { blocksAround, countBefore, pathOf, textOf } from "./circuit.js";
 import { Asking } from "./asking.js";
@@ -37,10 +39,10 @@ import { TimelineView } from "./timeline_view.js";
 import { saidOfBit, saidOfFlips } from "./tips.js";
 import { Unsaved } from "./unsaved.js";
 
-const by = (id) => document.getElementById(id);
-
 // The most notes on lines that became others that are listed.
 const MOST_NOTES = 200;
+// With how many items of its outermost list a circuit is given out as it was written, since lines are compared for that.
+const MOST_ITEMS = 200_000;
 // The greatest text that is read, in bytes.
 const MOST_BYTES = 2 ** 25;
 const STRANGE = "The address lacks the token that the server printed: open that address.";
@@ -74,14 +76,14 @@ const views = {
     goTo: (moment) => shown.goTo(moment), range: (moment) => lines.chooseTicks(shown.moment, moment), choose: chooseBit, tip: showTip, say: showWords,
     moveTick: (moment, to, gap) => editor.moveTick(moment, to, gap),
   }),
-  inspector: new Inspector({ qubit: by("about-qubit"), errors: by("about-errors"), detector: by("about-detector") }, {
+  inspector: new Inspector({ qubit: by("about-qubit"), errors: by("about-errors"), marks: by("about-marks"), detector: by("about-detector") }, {
     choose: chooseBit, select: (path) => shown.select(path), goTo,
   }),
   distance: new DistanceView(by("about-distance"), {
     ask: () => ask({ ask: "distance" }), end: () => ask({ ask: "end distance" }), show: (set) => shown.state && shown.showSet(set), goTo,
   }),
   history: new HistoryView(by("edits"), (position) => ask({ ask: "go", position })),
-  palette: new Palette(by("palette"), (name) => editor.take(name)),
+  palette: new Palette(by("palette"), (name, isAdded) => editor.take(name, isAdded)),
   rounds: new RoundsSwitch(by("rounds-of-edits")),
 };
 const menu = new Menu(by("choice"));
@@ -98,7 +100,7 @@ const editor = new Editor(shown, {
   number: (words, offered) => asking.number(words, offered),
 });
 const lines = new LineEditor({ shown, text: views.text, send, ask, say, number: (...words) => asking.number(...words) });
-const source = new SourceView({ text: circuitText, send: (text) => ask({ ask: "text", text }), say, leave: () => views.text.focus() });
+const source = new SourceView({ text: writtenText, send: (text) => ask({ ask: "text", text }), say, leave: () => views.text.focus() });
 const carrier = new Carrier({ shown, editor, timeline: views.timeline, tip: showWords, say });
 new Keyboard({ shown, editor, menu, layout: views.layout, timeline: views.timeline, openMenu, chooseBit, panes, press: (id) => by(id).click() });
 
@@ -113,6 +115,7 @@ function hear(event) {
     if (event.age !== state.age + 1) return void ask({ ask: "all" });
     state.take(event);
   } else if (state && event.event === "deterministic" && event.age === state.age) state.takeDeterministic(event.deterministic);
+  else if (state && event.event === "written" && event.age === state.age) state.takeWritten(event.written);
   else if (state && event.event === "marked") state.mark(event.position);
   else if (state && event.event === "saved") state.savedAt = event.position;
   else {
@@ -179,7 +182,7 @@ async function openFile(file, more = {}) {
 function sayWhetherSaved() {
   const { state } = shown;
   document.title = `${state.isUnsaved ? "● " : ""}${state.name} · stabsim`;
-  unsaved.keep(() => (shown.state.isUnsaved ? { name: shown.state.name, text: circuitText() } : null));
+  unsaved.keep(async () => (shown.state.isUnsaved ? { name: shown.state.name, text: await writtenText() } : null));
 }
 
 async function offerUnsaved() {
@@ -320,7 +323,7 @@ function circuitText() {
 // Goes to the next item that has the words of the field for search, or with -1 to the one before.
 function search(direction) {
   const from = views.text.selected === null ? [-1] : pathOf(views.text.selected);
-  const path = nextWith(shown.state.items, by("search-words").value, from, direction);
+  const path = nextWith(shown.state.items, fieldBy("search-words").value, from, direction);
   if (path) shown.select(path);
   else say("nothing is found", true);
 }
@@ -336,23 +339,30 @@ by("search-words").addEventListener("keydown", (event) => {
   if (event.key === "Enter") search(event.shiftKey ? -1 : 1);
 });
 
-const share = () => shared(circuitText()).then(say, (fault) => say(fault.message, true));
+// The circuit as it was written, with its comments; without the server, or if it is very long, as this tab has it.
+async function writtenText() {
+  const answer = link.isOpen && shown.state.items.length < MOST_ITEMS ? await link.ask({ ask: "written" }).catch(() => ({})) : {};
+  return answer.text ?? circuitText();
+}
+
+const share = () => writtenText().then(shared).then(say, (fault) => say(fault.message, true));
 
 function openKind(kind) {
   if (views.text.selected !== null) write(kind, pathOf(views.text.selected), views.text.item);
 }
 
-const exports = exportsOf({ ask, name: () => shown.state.name, text: circuitText, layout: views.layout });
+const exports = exportsOf({ ask, name: () => shown.state.name, written: writtenText, layout: views.layout });
 const clicks = {
-  undo: () => ask({ ask: "go", position: shown.state.position - 1 }),
-  redo: () => ask({ ask: "go", position: shown.state.position + 1 }),
+  undo: () => ask({ ask: "step", by: -1 }),
+  redo: () => ask({ ask: "step", by: 1 }),
   mark: () => ask({ ask: "mark" }),
   open: () => by("file").click(),
   link: share,
   export: () => menu.open(by("export"), { left: by("export").getBoundingClientRect().left, top: 40 }, exports.offers),
   save: () => (by("save").dataset.writes === "true" && link.isOpen ? ask({ ask: "save" }) : exports.circuit()),
   theme: () => { exchangeThemes(); redraw(); },
-  follow: () => { by("follow").ariaPressed = by("follow").ariaPressed !== "true"; },
+  layer: () => shown.layers.take(shown.layers.at),
+  follow: () => { by("follow").ariaPressed = String(by("follow").ariaPressed !== "true"); },
   faces: () => shown.takeFaces(by("faces").ariaPressed !== "true"),
   replace: () => openKind("replace"),
   insert: () => openKind("insert"),
@@ -360,20 +370,21 @@ const clicks = {
   delete: () => lines.remove(),
   "as-text": () => source.toggle(),
   lines: () => menu.open(by("lines"), by("lines").getBoundingClientRect(), lines.offers()),
-  search: () => { panes.show(by("text")); by("search-words").hidden = false; by("search-words").select(); by("search-words").focus(); },
+  search: () => { panes.show(by("text")); by("search-words").hidden = false; fieldBy("search-words").select(); by("search-words").focus(); },
   smaller: () => views.layout.zoom(0.8),
   greater: () => views.layout.zoom(1.25),
   fit: () => views.layout.fit(),
   drawer: () => menu.open(by("drawer"), by("drawer").getBoundingClientRect(), [[`without a place: ${shown.state.placement.drawer.join(" ")}`.slice(0, 200), () => {}]]),
 };
 for (const [id, act] of Object.entries(clicks)) by(id).addEventListener("click", act);
-by("since").addEventListener("change", (event) => shown.showSince(event.target.value));
+by("since").addEventListener("change", () => shown.showSince(fieldBy("since").value));
 takeFiles(by("file"), openFile, (text) => isCopied(text) && Boolean((isInText() ? lines : editor).paste(linesOf(text))));
 takeCopies({ shown, editor, lines, isInText, say });
 showLegend(by("legend"));
 
 // Whether views know the sizes of their panes, which the browser says some time after they change.
 function isInPlace() {
+  /** @param {number[]} size @param {HTMLElement} pane */
   const isSized = ([width, height], pane) => width === pane.clientWidth && height === pane.clientHeight;
   return views.layout.isThere && isSized(views.layout.size, by("picture")) && isSized(views.timeline.size, by("timeline"));
 }

@@ -1,3 +1,4 @@
+// @ts-check
 // What gates, qubits and numbers look like: the marks of shapes.json on their spots, as elements (glyphs.js). diagrams/marks.py draws by
 // the same table.
 

@@ -1,3 +1,4 @@
+// @ts-check
 // A menu at some place of the page. The event that opens it does no more than that: what is chosen is chosen by another.
 
 export class Menu {

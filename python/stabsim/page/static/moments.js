@@ -1,12 +1,16 @@
+// @ts-check
 // Moments: what is between two ticks or cuts, with the rounds of blocks written out.
 
+import { itemAt } from "./circuit.js";
 import { before, firstReaching } from "./counts.js";
-import { acts } from "./instructions.js";
+import { acts, isErrorOrMark, qubitsOf } from "./instructions.js";
 
 // The instructions of a moment, each {item, path, rounds}.
+/** @type {(items: import("./types.js").Item[], moment: number) => import("./types.js").Instruction[]} */
 export const momentAt = (items, moment) => instructionsAt(items, moment, () => true);
 
 // Those of a moment that act on qubits: a moment may declare hundreds of detectors beside them.
+/** @type {(items: import("./types.js").Item[], moment: number) => import("./types.js").Instruction[]} */
 export const actingAt = (items, moment) => instructionsAt(items, moment, ({ name }) => acts(name));
 
 function instructionsAt(items, moment, isWanted) {
@@ -45,6 +49,7 @@ function gatherBlock(block, sought, now, path, rounds) {
 export const momentsOf = (items) => before(items).bounds[items.length] + 1;
 
 // The moment of the item at a path, in the given round of each block around it, else in the first.
+/** @param {import("./types.js").Item[]} items @param {import("./types.js").Path} path @param {number[]} [rounds] @returns {number} */
 export function momentOf(items, path, rounds = []) {
   let moment = 0;
   let list = items;
@@ -60,6 +65,7 @@ export function momentOf(items, path, rounds = []) {
 
 // Where something is put in so that it is at the end of a moment, as {path, rounds}: in front of what ends it, or after the
 // last item.
+/** @param {import("./types.js").Item[]} items @param {number} moment @returns {import("./types.js").Where} */
 export function endOf(items, moment) {
   const found = endIn(items, moment, [], []);
   return found ?? { path: [items.length], rounds: [] };
@@ -78,11 +84,11 @@ function endIn(list, moment, path, rounds) {
 }
 
 // Where something is put in so that it is at the beginning of a moment: after what ends the one before.
+/** @param {import("./types.js").Item[]} items @param {number} moment @returns {import("./types.js").Where} */
 export function beginOf(items, moment) {
   if (moment === 0) return { path: [0], rounds: [] };
   const { path, rounds } = endOf(items, moment - 1);
-  const item = path.reduce((list, place, deep) => (deep + 1 < path.length ? list[place].items : list[place]), items);
-  return item?.name === "TICK" ? { path: [...path.slice(0, -1), path.at(-1) + 1], rounds } : { path, rounds };
+  return itemAt(items, path)?.name === "TICK" ? { path: [...path.slice(0, -1), path.at(-1) + 1], rounds } : { path, rounds };
 }
 
 // What a moment is called: its tick, and its part if cuts make several moments of that tick.
@@ -104,6 +110,26 @@ function firstOfTick(items, tick, moment) {
   }
   return low;
 }
+
+// How many moments of its tick are looked at on either side of a moment.
+const MOST_BESIDE = 40;
+
+// The qubits on which several items act in the tick of a moment, with how many do. Paulis that are put in are errors, and `I` marks some:
+// neither is counted; nor is anything in a circuit without ticks.
+/** @param {import("./types.js").Item[]} items @param {number} moment @returns {Map<number, number>} */
+export function actedOften(items, moment) {
+  const found = new Map();
+  if (!before(items).ticks[items.length]) return found;
+  const tick = tickOf(items, moment);
+  const end = Math.min(momentsOf(items), moment + MOST_BESIDE);
+  for (let at = Math.max(firstOfTick(items, tick, moment), moment - MOST_BESIDE); at < end && tickOf(items, at) === tick; at += 1) {
+    for (const qubit of operatedAt(items, at)) found.set(qubit, (found.get(qubit) ?? 0) + 1);
+  }
+  return new Map([...found].filter(([, count]) => count > 1));
+}
+
+// The qubits on which items act at a moment that are neither errors nor marks of them.
+const operatedAt = (items, moment) => actingAt(items, moment).filter(({ item }) => !isErrorOrMark(item.name)).flatMap(({ item }) => [...new Set(qubitsOf(item))]);
 
 // How many TICKs come before a moment.
 export function tickOf(items, moment) {

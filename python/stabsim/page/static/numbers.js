@@ -1,4 +1,7 @@
+// @ts-check
 // How many of each thing there are, and what can be undone.
+
+import { buttonBy, by } from "./by_id.js";
 
 // Says how many detectors and observables are random, or nothing until that is known.
 export function sayRandom(deterministic) {
@@ -6,7 +9,6 @@ export function sayRandom(deterministic) {
   by("random").textContent = random ? `${random} of ${deterministic.length} random` : "";
 }
 
-const by = (id) => document.getElementById(id);
 const count = (number, name) => `${number.toLocaleString("en")} ${name}${number === 1 ? "" : "s"}`;
 
 export function sayNumbers({ numbers, placement, items, position, entries, deterministic }) {
@@ -18,6 +20,6 @@ export function sayNumbers({ numbers, placement, items, position, entries, deter
   by("items-said").textContent = count(items.length, "item");
   by("drawer").hidden = !placement.drawer.length;
   by("drawer").textContent = `${count(placement.drawer.length, "qubit")} unused`;
-  by("undo").disabled = position === 0;
-  by("redo").disabled = position === entries.length;
+  buttonBy("undo").disabled = position === 0;
+  buttonBy("redo").disabled = position === entries.length;
 }

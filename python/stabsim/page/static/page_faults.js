@@ -1,3 +1,4 @@
+// @ts-check
 // What goes wrong in the page itself, wherever it does: it is told, and all views are drawn anew from the whole state.
 
 export class PageFaults {

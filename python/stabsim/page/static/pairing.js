@@ -1,3 +1,4 @@
+// @ts-check
 // Pairs for a gate on two.
 
 const keyOf = ([x, y]) => `${x.toFixed(3)} ${y.toFixed(3)}`;

@@ -1,3 +1,4 @@
+// @ts-check
 // The tools: what each puts in, and its key. They are drawn from the same table of shapes as the circuit.
 
 import { gates } from "./glyphs.js";
@@ -29,7 +30,7 @@ export class Palette {
   #place;
   #buttons = new Map();
 
-  // `take(name)` is called for a tool that is chosen.
+  // `take(name, isAdded)` is called for a tool that is chosen, with whether Shift or Alt is held.
   constructor(place, take) {
     this.#place = place;
     for (const tool of TOOLS) place.append(tool ? this.#button(tool, take) : document.createElement("hr"));
@@ -40,6 +41,7 @@ export class Palette {
     for (const [tool, button] of this.#buttons) button.ariaChecked = tool === name;
   }
 
+  /** @param {string[]} tool @param {(name: string, isAdded: boolean) => void} take */
   #button([name, key, title = name, icon], take) {
     const button = document.createElement("button");
     button.role = "radio";
@@ -51,7 +53,7 @@ export class Palette {
     const letter = document.createElement("kbd");
     letter.textContent = key === "Escape" ? "" : key;
     button.append(letter);
-    button.addEventListener("click", () => take(name));
+    button.addEventListener("click", ({ shiftKey, altKey }) => take(name, shiftKey || altKey));
     this.#buttons.set(name, button);
     return button;
   }

@@ -1,3 +1,4 @@
+// @ts-check
 // The panes beside the picture: splitters say how large they are. In a small window one of them is there at most, as tabs say.
 
 // How small a pane gets at least, in pixels, and which part of all it takes at most.

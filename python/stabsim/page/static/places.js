@@ -1,3 +1,4 @@
+// @ts-check
 // Where qubits are: by their coordinates, or if they have none by their gates.
 
 import { arranged } from "./arranging.js";

@@ -1,3 +1,4 @@
+// @ts-check
 // Records by the qubits that were measured: which lookback leads from the end of a moment to the record of a qubit.
 
 import { isRecorded, qubitsOf } from "./instructions.js";

@@ -1,3 +1,4 @@
+// @ts-check
 // What explains a refusal, and how it is said.
 
 import { element } from "./boxes.js";

@@ -1,3 +1,4 @@
+// @ts-check
 // What is drawn of detectors in a moment: the faces of checks, the chosen region with its letters or the coins that decide the bit,
 // regions beside it, and errors.
 
@@ -94,6 +95,16 @@ export function letterElements({ at, side, scene: { region } }, busy) {
 // with a broken ring if they are at other moments.
 export function errorElements({ at, side, scene: { set = [] } }) {
   return set.filter(({ qubit }) => at(qubit)).flatMap(({ qubit, letter, isHere }) => errorAt(letter, at(qubit), side, isHere));
+}
+
+// Marks of errors in layers: the same, with the number of the layer.
+export function markElements({ at, side, scene: { marks = [] } }) {
+  const ordered = [...marks].filter(({ qubit }) => at(qubit)).sort((a, b) => a.isHere - b.isHere);
+  return ordered.flatMap(({ qubit, letter, layer, isHere }) => {
+    const [x, y] = at(qubit);
+    const number = { words: String(layer), x: x + side * 1.12, y: y - side * 0.72, size: 12.5, fill: "ink", weight: 700, halo: "sheet" };
+    return [...errorAt(letter, [x, y], side, isHere), ...(side >= 18 ? [number] : [])];
+  });
 }
 
 function errorAt(letter, [x, y], side, isHere) {

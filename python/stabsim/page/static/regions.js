@@ -1,3 +1,4 @@
+// @ts-check
 // What is said of the detecting region of a bit.
 
 const MOST_LETTERS = 12;

@@ -1,3 +1,4 @@
+// @ts-check
 // Qubits that are put on other places of the grid: their lines QUBIT_COORDS are written anew.
 
 // The edits by which chosen qubits go to the places that `moved` makes of theirs, as those of editing.js. If qubits are placed by their

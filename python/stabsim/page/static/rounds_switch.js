@@ -1,3 +1,4 @@
+// @ts-check
 // In which rounds of a block edits are made: in the one that is seen, or in all; as long as neither is chosen, errors in the one, and all
 // else in all.
 

@@ -1,3 +1,4 @@
+// @ts-check
 // A pane of buttons as one tab stop: the button that has the focus, or had it last; arrows move within.
 
 export class Roving {

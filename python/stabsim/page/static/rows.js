@@ -1,3 +1,4 @@
+// @ts-check
 // The rows of a circuit's text: each item has one; after a block that is unfolded its items have theirs; and items that only name
 // places, or detectors, are folded to one row if three or more follow each other. No list of all rows is kept, since an edit
 // moves most of them; what is unfolded is a set of blocks, and of the first items of such runs.

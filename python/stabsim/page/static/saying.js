@@ -1,10 +1,10 @@
+// @ts-check
 // What is said of the moment that is shown, of a qubit there, and of a detector. Rounds are counted from 0, as all else is.
 
+import { by } from "./by_id.js";
 import { momentsOf, nameOf } from "./moments.js";
 import { saidOfRegion } from "./regions.js";
 import { roundOf } from "./timeline.js";
-
-const by = (id) => document.getElementById(id);
 
 // Says at which tick and in which round it is, above the picture and to readers; answers that in words. `shown` has state, moment,
 // and instructions.
@@ -16,8 +16,8 @@ export function sayMoment({ state: { items }, moment, instructions }) {
   by("moment-said").textContent = `tick ${name}`;
   by("round-said").textContent = rounds.length ? said : "";
   const slider = by("timeline");
-  slider.ariaValueMax = momentsOf(items) - 1;
-  slider.ariaValueNow = moment;
+  slider.ariaValueMax = String(momentsOf(items) - 1);
+  slider.ariaValueNow = String(moment);
   slider.ariaValueText = `tick ${name}, ${said}`;
   return `tick ${name} · ${said}`;
 }
@@ -27,12 +27,14 @@ function saidOfRound(path, round, count) {
   return `round ${round} of block ${path.join("/")}${count > 1 ? `, 0 to ${count - 1}` : ""}`;
 }
 
-// Says to readers what is seen of a qubit, or of none: the name of what acts on it, its letter of a region, whether its coin decides the
-// chosen bit, and the letter of an error.
-export function saySeen(where, qubit, { name, letter, hasCoin, error }) {
-  const words = [`qubit ${qubit}`, name ?? "", letter ? `region ${letter}` : "", hasCoin ? "its coin decides" : "", error ? `error ${error}` : ""];
+// Says to readers what is seen of a qubit, or of none: the name of what acts on it, how many items do in its tick if several do, its letter of
+// a region, whether its coin decides the chosen bit, and the letter of an error.
+export function saySeen(where, qubit, { name, count, letter, hasCoin, error }) {
+  const words = [`qubit ${qubit}`, name ?? "", count ? saidOften(count) : "", letter ? `region ${letter}` : "", hasCoin ? "its coin decides" : "", error ? `error ${error}` : ""];
   by("seen").textContent = qubit === null ? where : `${words.filter(Boolean).join(", ")}; ${where}`;
 }
+
+export const saidOften = (count) => `${count} items act on it in this tick`;
 
 // What is said of a bit beside the picture: {kind, region, coins}. `kind` says how it is drawn (state.js).
 export function aboutBit({ state, bit, moment }, { region, why, coins }, kind) {

@@ -1,3 +1,4 @@
+// @ts-check
 // Items of the text that have some words in them.
 
 // The path of the next item from one on, or with -1 of the one before, that has some words in its text or is at that path; null if none has.
@@ -12,7 +13,7 @@ export function nextWith(items, words, from, direction) {
 function* pathsWith(items, words, above) {
   for (let place = 0; place < items.length; place += 1) {
     const path = [...above, place];
-    if (items[place].text.toLowerCase().includes(words) || path.join("/") === words) yield path;
+    if (`${items[place].text} ${items[place].written?.text ?? ""}`.toLowerCase().includes(words) || path.join("/") === words) yield path;
     if (items[place].items) yield* pathsWith(items[place].items, words, path);
   }
 }

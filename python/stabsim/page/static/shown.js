@@ -1,17 +1,18 @@
+// @ts-check
 // What this tab shows of the circuit: a moment, the qubits and the detector that are chosen, and the tool at hand; drawn by the views.
 
+import { by } from "./by_id.js";
 import { blocksAround, itemAt, pathOf } from "./circuit.js";
 import { placesOfCoins } from "./coins.js";
 import { Followed } from "./followed.js";
 import { acts, qubitsOf } from "./instructions.js";
 import { pathThere, stillThere } from "./keeping.js";
 import { areFaces } from "./knowledge.js";
-import { endOf, momentAt, momentOf, momentsOf, momentsOfDetectors } from "./moments.js";
+import { Layers } from "./layers.js";
+import { actedOften, endOf, momentAt, momentOf, momentsOf, momentsOfDetectors, nameOf } from "./moments.js";
 import { sayNumbers, sayRandom } from "./numbers.js";
 import { aboutBit, sayMoment, saySeen } from "./saying.js";
 import { sceneOf, timeOf } from "./scene.js";
-
-const by = (id) => document.getElementById(id);
 
 // How long, in milliseconds, a moment is shown before all regions there are asked for.
 const PAUSE = 30;
@@ -30,6 +31,8 @@ export class Shown {
   since = "edit";
   hasFaces = true;
   instructions = [];
+  // The qubits on which several items act in the tick, with how many do.
+  often = new Map();
   // The errors of a set that flips an observable unseen, at their places (fault_set.js).
   set = [];
   #views;
@@ -45,6 +48,7 @@ export class Shown {
   constructor(views, knowledge) {
     this.#views = views;
     this.#knowledge = knowledge;
+    this.layers = new Layers((moment, qubit) => knowledge.flips(moment, qubit), () => this.#showLayers());
     this.#followed = new Followed(knowledge, {
       changed: () => this.#drawAll(), isRandom: (bit) => this.state.isRandom(bit), placesOfCoins: (numbers) => placesOfCoins(this.state.items, numbers),
     });
@@ -64,6 +68,7 @@ export class Shown {
       this.#views.text.show(state.items, (first, behind) => this.#flagOf(first, behind));
       this.#showEntry(kind === "opened");
       sayNumbers(state);
+      this.#sayLayers();
       this.#look(kind === "opened", true);
       this.chooseBit(this.bit);
     } else {
@@ -72,14 +77,17 @@ export class Shown {
       if (kind === "deterministic") this.#followed.explain();
       sayRandom(state.deterministic);
     }
-    if (kind !== "deterministic") this.#views.history.show(state.entries, state.position, state.markedAt);
+    if (kind !== "deterministic" && kind !== "written") this.#views.history.show(state.entries, state.position, state.markedAt);
     this.#sayBit();
   }
 
   // What was chosen stays so if it is still there; of another circuit nothing is.
   #keep(isOther) {
     const { state } = this;
-    if (isOther) [this.chosen, this.waiting, this.#faces] = [[], [], []];
+    if (isOther) {
+      [this.chosen, this.waiting, this.#faces] = [[], [], []];
+      this.layers.letGo();
+    } else this.layers.keep(state);
     const kept = stillThere({ ...this, hovered: this.#hovered, bit: this.bit }, state, momentsOf(state.items));
     [this.moment, this.chosen, this.waiting, this.#hovered] = [kept.moment, kept.chosen, kept.waiting, kept.hovered];
     this.#followed.take(kept.bit);
@@ -166,6 +174,19 @@ export class Shown {
     return done;
   }
 
+  #showLayers() {
+    if (!this.state) return;
+    this.#sayLayers();
+    this.#drawAll();
+  }
+
+  #sayLayers() {
+    const { layers } = this;
+    by("layer").hidden = layers.at === null;
+    by("layer").textContent = `marks ${layers.at}`;
+    this.#views.inspector.marks(layers, (moment) => nameOf(this.state.items, moment).name);
+  }
+
   // Shows a set of errors, or with an empty one none.
   showSet(set) {
     this.set = set;
@@ -181,6 +202,7 @@ export class Shown {
   // The table of faults has come.
   known() {
     this.#followed.known();
+    this.layers.learn();
     this.learn();
     this.#inspect();
   }
@@ -214,6 +236,7 @@ export class Shown {
 
   #look(isFresh, isEdited) {
     this.instructions = momentAt(this.state.items, this.moment);
+    this.often = actedOften(this.state.items, this.moment);
     this.#views.text.mark(this.instructions.filter(({ item }) => acts(item.name)).map(({ path }) => path));
     this.drawLayout(isFresh);
     this.#drawTime(isEdited);
@@ -260,7 +283,7 @@ export class Shown {
   // Shows the faces of checks, or none.
   takeFaces(hasFaces) {
     this.hasFaces = hasFaces;
-    by("faces").ariaPressed = hasFaces;
+    by("faces").ariaPressed = String(hasFaces);
     this.drawLayout();
   }
 
@@ -293,12 +316,12 @@ export class Shown {
     const at = qubit === null ? null : this.state.qubitCoordinates[qubit];
     inspector.qubit(qubit === null ? null : {
       qubit, kind: this.state.ancillas.has(qubit) ? "ancilla" : "data", at: at?.length ? at : null, name: found?.item.name, path: found?.path,
-      more: this.#hovered === null ? this.chosen.length - 1 : 0,
+      count: this.often.get(qubit), more: this.#hovered === null ? this.chosen.length - 1 : 0,
     }, this.where);
     const { coins, set } = this.scene();
     saySeen(this.where, qubit, {
       name: found?.item.name, letter: this.#followed.region[this.moment]?.[qubit], hasCoin: coins.has(qubit),
-      error: set.find((it) => it.qubit === qubit && it.isHere)?.letter,
+      error: set.find((it) => it.qubit === qubit && it.isHere)?.letter, count: this.often.get(qubit),
     });
     if (qubit === null) return void inspector.errors(null, null);
     const { moment } = this;

@@ -1,3 +1,4 @@
+// @ts-check
 // Where places of the grid are seen on a picture: all of them fitted in, or zoomed and panned.
 
 const MARGIN = { left: 48, right: 40, top: 44, bottom: 34 };
@@ -17,6 +18,8 @@ export class Sight {
   #scale = 0;
   #at = [0, 0];
   #fitted = 1;
+  // How much of the picture's lower end lies below something else.
+  #below = 0;
 
   // Whether anything can be seen: there are places, and a picture of some size.
   get isThere() {
@@ -52,11 +55,12 @@ export class Sight {
     const [width, height] = this.#size;
     if (!this.#box || !width) return;
     const { left, right, top, bottom } = this.#box;
-    const room = [width - MARGIN.left - MARGIN.right, height - MARGIN.top - MARGIN.bottom];
+    const end = MARGIN.bottom + this.#below;
+    const room = [width - MARGIN.left - MARGIN.right, height - MARGIN.top - end];
     this.#fitted = Math.max(1e-3, Math.min(room[0] / (right - left || 1), room[1] / (bottom - top || 1), MOST_FITTED / this.#near));
     this.#scale = this.#fitted;
     this.#at = [
-      (width + MARGIN.left - MARGIN.right - this.#fitted * (left + right)) / 2, (height + MARGIN.top - MARGIN.bottom - this.#fitted * (top + bottom)) / 2,
+      (width + MARGIN.left - MARGIN.right - this.#fitted * (left + right)) / 2, (height + MARGIN.top - end - this.#fitted * (top + bottom)) / 2,
     ];
   }
 
@@ -79,10 +83,11 @@ export class Sight {
     this.pan(into(x, width), into(y, height));
   }
 
-  resize(size) {
+  // Takes the size of the picture, and how much of its lower end lies below something else.
+  resize(size, below = 0) {
     const before = this.#size;
     const isFitted = !this.isThere || this.#scale === this.#fitted;
-    this.#size = size;
+    [this.#size, this.#below] = [size, below];
     if (isFitted) this.fit();
     else this.pan((size[0] - before[0]) / 2, (size[1] - before[1]) / 2);
   }
@@ -103,11 +108,13 @@ export class Sight {
   }
 
   // Where a place is seen.
+  /** @param {import("./types.js").Spot} place @returns {import("./types.js").Spot} */
   seen([x, y]) {
     return [this.#at[0] + x * this.#scale, this.#at[1] + y * this.#scale];
   }
 
   // The whole place that is nearest to a spot.
+  /** @param {import("./types.js").Spot} spot @returns {import("./types.js").Spot} */
   placeAt([x, y]) {
     return [Math.round((x - this.#at[0]) / this.#scale), Math.round((y - this.#at[1]) / this.#scale)];
   }

@@ -1,18 +1,19 @@
+// @ts-check
 // The circuit as a text that is edited as one. Ctrl-Enter has the circuit become what is written, as one entry of the history.
+
+import { by, fieldBy } from "./by_id.js";
 
 // A longer text is edited item by item.
 const MOST_LETTERS = 2_000_000;
 
-const by = (id) => document.getElementById(id);
-
 export class SourceView {
   #act;
 
-  // `act` has text(), which is the circuit's; send(text), which answers {refused, explanation} if it was refused; say(words, isBad); and
+  // `act` has text(), which answers the circuit's; send(text), which answers {refused, explanation} if it was refused; say(words, isBad); and
   // leave(), which is called once it is closed.
   constructor(act) {
     this.#act = act;
-    by("source-text").addEventListener("keydown", (event) => this.#key(event));
+    fieldBy("source-text").addEventListener("keydown", (event) => this.#key(event));
     by("apply").addEventListener("click", () => this.#apply());
     by("leave").addEventListener("click", () => this.close());
     by("wrap").addEventListener("click", () => this.#wrap());
@@ -27,20 +28,20 @@ export class SourceView {
     else this.open();
   }
 
-  open() {
-    const text = this.#act.text();
+  async open() {
+    const text = await this.#act.text();
     if (text.length > MOST_LETTERS) return void this.#act.say("the text is too long to be edited as one", true);
     by("source").hidden = false;
-    by("as-text").ariaPressed = true;
-    by("source-text").value = text;
+    by("as-text").ariaPressed = "true";
+    fieldBy("source-text").value = text;
     by("source-said").textContent = "";
-    by("source-text").focus();
-    by("source-text").setSelectionRange(0, 0);
+    fieldBy("source-text").focus();
+    fieldBy("source-text").setSelectionRange(0, 0);
   }
 
   close() {
     by("source").hidden = true;
-    by("as-text").ariaPressed = false;
+    by("as-text").ariaPressed = "false";
     this.#act.leave();
   }
 
@@ -55,7 +56,7 @@ export class SourceView {
   }
 
   async #apply() {
-    const { refused, explanation } = await this.#act.send(by("source-text").value);
+    const { refused, explanation } = await this.#act.send(fieldBy("source-text").value);
     by("source-said").textContent = refused ? (explanation?.split("\n").slice(2).join(" ") || refused) : "";
     if (refused) this.#mark(explanation ?? "");
     else this.close();
@@ -66,16 +67,16 @@ export class SourceView {
     const [line, carets = ""] = explanation.split("\n");
     const number = /^(\d+): /.exec(line);
     if (!number || !carets.includes("^")) return;
-    const lines = by("source-text").value.split("\n");
+    const lines = fieldBy("source-text").value.split("\n");
     const begin = lines.slice(0, Number(number[1]) - 1).reduce((sum, it) => sum + it.length + 1, 0);
     const from = begin + carets.indexOf("^") - number[0].length;
-    by("source-text").focus();
-    by("source-text").setSelectionRange(from, from + carets.lastIndexOf("^") + 1 - carets.indexOf("^"));
+    fieldBy("source-text").focus();
+    fieldBy("source-text").setSelectionRange(from, from + carets.lastIndexOf("^") + 1 - carets.indexOf("^"));
   }
 
   #wrap() {
     const isWrapped = by("wrap").ariaPressed !== "true";
-    by("wrap").ariaPressed = isWrapped;
-    by("source-text").wrap = isWrapped ? "soft" : "off";
+    by("wrap").ariaPressed = String(isWrapped);
+    fieldBy("source-text").wrap = isWrapped ? "soft" : "off";
   }
 }

@@ -1,6 +1,7 @@
+// @ts-check
 // What all views show of the circuit: the server's events alone change it.
 
-import { applyEdit, blocksAround, parseCircuit } from "./circuit.js";
+import { applyEdit, blocksAround, itemAt, parseCircuit, pathOf } from "./circuit.js";
 import { isPair, isRecord, pairsOf, qubitOf, qubitsOf } from "./instructions.js";
 import { placesOf } from "./places.js";
 import { Uses } from "./uses.js";
@@ -11,6 +12,32 @@ const ENCODER = new TextEncoder();
 const bitsOf = (line) => ENCODER.encode(line).map((letter) => letter & 1);
 
 export class State {
+  age = 0;
+  name = "";
+  /** @type {import("./types.js").Item[]} */
+  items = [];
+  numbers = { qubits: 0, steps: 0, records: 0, detectors: 0, observables: 0 };
+  /** @type {Uint8Array | null} */
+  deterministic = null;
+  /** @type {{text: string, changed: string[], seconds: number}[]} */
+  entries = [];
+  position = 0;
+  markedAt = 0;
+  savedAt = 0;
+  /** @type {Set<string>} */
+  flipped = new Set();
+  /** @type {Set<string>} */
+  marked = new Set();
+  uses = new Uses();
+  /** @type {import("./types.js").Placement | null} */
+  placement = null;
+  /** @type {Map<number, import("./types.js").Spot>} */
+  arranged = new Map();
+  /** The last edits, as applyEdit answers them. @type {import("./types.js").Move[]} */
+  moves = [];
+  // The items that have a line which was given for them.
+  #noted = [];
+
   constructor(event) {
     Object.assign(this, {
       age: event.age,
@@ -24,13 +51,9 @@ export class State {
       savedAt: event.saved_at,
       flipped: new Set(event.flipped),
       marked: new Set(event.marked),
-      uses: new Uses(),
-      placement: null,
-      arranged: new Map(),
-      // The last edits, as applyEdit answers them.
-      moves: [],
     });
     this.uses.count(this.items, 1);
+    this.takeWritten(event.written);
     this.#takeBits(event);
     this.#place();
   }
@@ -51,6 +74,21 @@ export class State {
     if (event.detectors === undefined) event.flipped.forEach((name) => this.#flip(name));
     else this.#takeBits(event);
     if (isMoved) this.#place();
+  }
+
+  // Notes at items which line was given for them: [the path of the first, how many they are, the line] of each.
+  takeWritten(written) {
+    for (const item of this.#noted) delete item.written;
+    this.#noted = [];
+    for (const [place, count, text] of written) this.#note(pathOf(place), count, text);
+  }
+
+  #note(path, count, text) {
+    for (let part = 0; part < count; part += 1) {
+      const item = itemAt(this.items, [...path.slice(0, -1), path.at(-1) + part]);
+      item.written = { text, count, part };
+      this.#noted.push(item);
+    }
   }
 
   #make(edit) {

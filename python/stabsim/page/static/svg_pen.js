@@ -1,3 +1,4 @@
+// @ts-check
 // Writes elements (glyphs.js) as SVG: `colour(name)` gives what is written for a colour or a family of letters.
 
 import { elementsOf, hatch } from "./glyphs.js";
@@ -31,6 +32,7 @@ function boxesOf({ boxes, fill, alpha }, colour) {
   return pathOf({ path, fill, alpha }, colour);
 }
 
+/** @param {import("./types.js").Element} element */
 function pathOf({ path, fill, stroke, width = 1, dash, alpha = 1, hatch: letter }, colour) {
   const line = stroke ? ` stroke="${colour(stroke)}" stroke-width="${number(width)}" stroke-linejoin="round" stroke-linecap="round"` : "";
   const broken = dash ? ` stroke-dasharray="${dash.join(" ")}"` : "";

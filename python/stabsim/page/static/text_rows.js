@@ -1,3 +1,4 @@
+// @ts-check
 // The rows of the text that are in the document. To build and lay out a row takes the browser many times as long as to move it, so that of
 // an item which says the same stays, wherever an edit or a scroll has put it.
 

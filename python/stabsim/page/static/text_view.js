@@ -1,12 +1,13 @@
+// @ts-check
 // The circuit as text: a tree of items with their paths, of which only the rows in sight are in the document.
 
 import { blocksAround, pathOf } from "./circuit.js";
 import { before } from "./counts.js";
 import { pathAfter, pathThere } from "./keeping.js";
 import { keyOf } from "./keys.js";
+import { foldOf, marksOf, saidOf, writtenOf } from "./row_parts.js";
 import { countRows, numberOfRow, rowsBetween } from "./rows.js";
-import { iconOf } from "./svg_pen.js";
-import { TextRows, span } from "./text_rows.js";
+import { TextRows } from "./text_rows.js";
 
 export class TextView {
   #place;
@@ -21,7 +22,10 @@ export class TextView {
   #isHead = false;
   // Where a range of lines begins that ends with the chosen one, in the same list; null if there is none.
   #anchor = null;
+  // The places of lines of that list that are chosen beside them, apart from each other.
+  #apart = new Set();
   #here = new Set();
+  /** @type {(first: number, behind: number) => string | null} */
   #flagOf = () => null;
   #refusal = null;
   #height = 0;
@@ -47,7 +51,7 @@ export class TextView {
       this.#top = place.scrollTop;
       this.#draw();
     });
-    list.addEventListener("click", ({ target, shiftKey }) => this.#click(this.#rowOf(target), target.matches(".fold"), shiftKey));
+    list.addEventListener("click", (event) => this.#click(this.#rowOf(event.target), /** @type {HTMLElement} */ (event.target).matches(".fold"), event));
     // A range of lines is chosen, and not their letters.
     list.addEventListener("mousedown", (event) => event.shiftKey && event.preventDefault());
     list.addEventListener("dblclick", ({ target }) => this.#write(this.#rowOf(target)));
@@ -68,7 +72,7 @@ export class TextView {
     }
     if (this.#selected === null) return;
     this.#selected = pathThere(items, moves.reduce(pathAfter, pathOf(this.#selected))).join("/");
-    this.#anchor = null;
+    this.#forgetOthers();
     this.#isHead &&= this.#selectedRow() !== null;
   }
 
@@ -99,26 +103,29 @@ export class TextView {
     return this.#selectedRow()?.item ?? null;
   }
 
-  // The chosen lines, as the path of their list, the place of the first, and how many they are; null if none is.
+  // The chosen lines, as the path of their list and their places in order; null if none is.
   get lines() {
     const item = this.item;
     if (!item) return null;
-    const list = pathOf(this.#selected).slice(0, -1);
-    const [first, last] = this.#range();
-    return { list, first, count: last - first + 1 };
+    return { list: this.#list, places: this.#places() };
   }
 
-  // The places of the first and the last chosen line.
-  #range() {
+  get #list() {
+    return pathOf(this.#selected).slice(0, -1);
+  }
+
+  // The places of the chosen lines.
+  #places() {
     const last = pathOf(this.#selected).at(-1);
     const first = this.#anchor === null ? last : pathOf(this.#anchor).at(-1);
-    return [Math.min(first, last), Math.max(first, last)];
+    const range = Array.from({ length: Math.abs(last - first) + 1 }, (_, i) => Math.min(first, last) + i);
+    return [...new Set([...range, ...this.#apart])].sort((a, b) => a - b);
   }
 
-  #isInRange(path) {
-    if (this.#selected === null || this.#isHead || path.slice(0, -1).join("/") !== pathOf(this.#selected).slice(0, -1).join("/")) return false;
-    const [first, last] = this.#range();
-    return path.at(-1) >= first && path.at(-1) <= last;
+  // Only the one line stays chosen.
+  #forgetOthers() {
+    this.#anchor = null;
+    this.#apart.clear();
   }
 
   // Chooses lines of a list.
@@ -132,14 +139,15 @@ export class TextView {
     const path = pathThere(this.#items, asked);
     this.#selected = path.join("/");
     this.#isHead = false;
-    this.#anchor = null;
+    this.#forgetOthers();
     for (const block of blocksAround(this.#items, path)) this.#unfolded.add(block);
     this.#bringIntoSight();
     this.#draw();
   }
 
   letGo() {
-    [this.#selected, this.#isHead, this.#anchor, this.#refusal, this.#unfolded] = [null, false, null, null, new WeakSet()];
+    [this.#selected, this.#isHead, this.#refusal, this.#unfolded] = [null, false, null, new WeakSet()];
+    this.#forgetOthers();
     this.#scrollTo(0);
     this.#draw();
   }
@@ -204,8 +212,9 @@ export class TextView {
     const first = Math.max(0, Math.floor(this.#top / this.#row) - 5);
     const { rows } = this.#rowsBetween(first, first + Math.ceil(this.#height / this.#row) + 10);
     const selected = this.#selectedRow()?.number;
+    const others = this.#anchor !== null || this.#apart.size ? new Set(this.#places()) : new Set();
     this.#sheet.style.height = `${height}px`;
-    this.#rows.show(rows.map((row) => this.#shown(row, row.number === selected || (this.#anchor !== null && this.#isInRange(row.path)))));
+    this.#rows.show(rows.map((row) => this.#shown(row, row.number === selected || (others.has(row.path.at(-1)) && this.#isBeside(row.path) && !row.run))));
     const active = rows.find(({ number }) => number === selected);
     if (active) this.#place.setAttribute("aria-activedescendant", idOf(active));
     else this.#place.removeAttribute("aria-activedescendant");
@@ -220,9 +229,10 @@ export class TextView {
     const flag = this.#flag(path, item, run);
     const refusal = this.#refusal?.place === path.join("/") && !run ? this.#refusal.words : "";
     const within = item?.items ? `${item.items.length} ${item.detectors}` : "";
+    const written = item?.written && writtenOf(blocksAround(this.#items, path).at(-1)?.items ?? this.#items, path.at(-1));
     return {
-      ...row, said: [item?.text, run, within, path.length, isOpen, flag, refusal].join("\n"),
-      parts: () => [foldOf(item, run, isOpen), ...saidOf(item, run, isOpen, path.length - 1), ...marksOf(flag, refusal)],
+      ...row, said: [item?.text, run, within, path.length, isOpen, flag, refusal, written?.text].join("\n"),
+      parts: () => [foldOf(item, run, isOpen), ...saidOf(item, run, isOpen, path.length - 1, written), ...marksOf(flag, refusal)],
       place: (line) => this.#placeRow(line, row, isSelected),
     };
   }
@@ -257,12 +267,27 @@ export class TextView {
     return row && pathThere(this.#items, row.path).join() === row.path.join() ? row : null;
   }
 
-  #click(row, isFold, isMore) {
+  #click(row, isFold, { shiftKey, ctrlKey, metaKey }) {
     if (!row) return;
     const { path, item, run } = row;
+    const isLine = item && !run && this.#isBeside(path) && !this.#isHead;
     if (isFold && (item?.items || run)) this.#toggle(item);
-    else if (isMore && this.#isBeside(path) && item) this.#extend(path);
+    else if (shiftKey && isLine) this.#extend(path);
+    else if ((ctrlKey || metaKey) && isLine) this.#exchange(path);
     else this.#choose(path, item, run);
+  }
+
+  // Chooses one more line beside the others, or one less.
+  #exchange(path) {
+    const places = new Set(this.#places());
+    const place = path.at(-1);
+    if (!places.delete(place)) places.add(place);
+    const now = places.has(place) ? place : [...places].at(-1);
+    if (now === undefined) return;
+    this.#choose([...path.slice(0, -1), now], null, 0);
+    places.delete(now);
+    this.#apart = places;
+    this.#draw();
   }
 
   // Whether a path is of the list of the chosen line.
@@ -301,7 +326,7 @@ export class TextView {
   #choose(path, item, run) {
     this.#selected = path.join("/");
     this.#isHead = run > 0;
-    this.#anchor = null;
+    this.#forgetOthers();
     this.#refusal = null;
     this.#draw();
     this.#place.focus();
@@ -353,25 +378,3 @@ export class TextView {
 }
 
 const idOf = ({ path, run }) => `row-${path.join("/")}${run ? "+" : ""}`;
-
-const foldOf = (item, run, isOpen) => span("fold", !item?.items && !run ? "" : isOpen ? "▾" : "▸");
-
-function saidOf(item, run, isOpen, depth) {
-  const margin = span("margin", "");
-  margin.style.paddingLeft = `${depth * 14}px`;
-  if (run) return [margin, span("inside", `${run} × ${item.name}`)];
-  if (!item) return [margin];
-  const [, name, rest] = /^(\S*?)((?:[[(\s].*)?)$/.exec(item.text);
-  const words = [margin, span("name", name), span("words", rest.slice(0, 300))];
-  if (item.items && !isOpen) words.push(span("inside", ` ${item.items.length} items, ${item.detectors} detectors`));
-  return words;
-}
-
-function marksOf(kind, refusal) {
-  const marks = refusal ? [span("refusal", refusal)] : [];
-  if (!kind) return marks;
-  const flag = span("flag", "");
-  flag.title = kind;
-  flag.innerHTML = iconOf(kind, kind === "random" ? 11 : 8, kind === "random" ? "quiet" : "flip");
-  return [flag, ...marks];
-}

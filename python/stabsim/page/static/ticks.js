@@ -1,3 +1,4 @@
+// @ts-check
 // The edits that put a TICK in, take one out, and move one; each answers what those of editing.js do.
 
 import { itemAt } from "./circuit.js";

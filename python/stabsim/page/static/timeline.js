@@ -1,3 +1,4 @@
+// @ts-check
 // What a timeline shows of a circuit: the moment and the row of each detector, the rounds of moments, and what happens in each.
 
 import { derived } from "./counts.js";

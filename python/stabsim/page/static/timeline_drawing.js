@@ -1,3 +1,4 @@
+// @ts-check
 // The drawing of a timeline, as layers of elements (glyphs.js).
 //
 // A sheet says what is shown and where: {line, shown, width, height, step, first, last, aim, gap, x(moment), at(bit), rowHeight, ground},
@@ -109,6 +110,7 @@ function thread({ shown: { bit, region }, first, last, x, at, step, height }) {
   const moments = Object.keys(region).map(Number);
   if (bit === null || !moments.length) return [];
   const [end, y] = bit.startsWith("D") ? at(bit) : [x(moments.at(-1)), height - 26];
+  /** @type {import("./types.js").Element[]} */
   const elements = [{ path: [["M", x(moments[0]) - step / 2, y], ["L", end, y]], stroke: "ink", width: 1.5 }];
   for (const moment of moments) {
     if (moment < first || moment > last) continue;
@@ -141,7 +143,12 @@ function dots(sheet) {
     return { ...dotOf(kind), x, y, side: kind === "bit1" ? size : Math.max(9, size), isLate: kind !== "bit1" };
   });
   const chosen = shown.bit?.startsWith("D") ? [{ path: circle(...at(shown.bit), 8), stroke: "accent", width: 2 }] : [];
-  return [...marks.filter(({ isLate }) => !isLate), ...marks.filter(({ isLate }) => isLate), ...chosen];
+  return [...marks.filter(({ isLate }) => !isLate), ...marks.filter(({ isLate }) => isLate), ...hits(sheet), ...chosen];
+}
+
+// A dark ring round each bit that the marks of the layer at hand flip.
+function hits({ shown: { hit = [], observables: { length } }, at }) {
+  return hit.filter((name) => name.startsWith("D") || Number(name.slice(1)) < length).map((name) => ({ path: circle(...at(name), 7), stroke: "ink", width: 2 }));
 }
 
 // All detectors as they are if nothing is known of them.
@@ -155,6 +162,7 @@ export function groundOf(sheet) {
 }
 
 function observables({ shown, at }, width, height) {
+  /** @type {import("./types.js").Element[]} */
   const elements = [{ path: box(0, height - 22, width, 22), fill: "sheet" }];
   shown.observables.forEach((_, number) => {
     const [x, y] = at(`L${number}`);

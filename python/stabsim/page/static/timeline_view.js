@@ -1,3 +1,4 @@
+// @ts-check
 // Time from left to right: rounds as bands, ticks with what happens there, and detectors at the moment that declares them, in a row for
 // each place. The region of the chosen detector is the thread that leads to it. A drag scrubs, and one of a tick's mark moves the tick.
 
@@ -187,6 +188,7 @@ export class TimelineView {
   // The detector or observable near a spot, or null.
   #bitAt(x, y) {
     let [best, least] = [null, NEAR];
+    /** @param {string} name @param {number[]} spot */
     const consider = (name, [left, top]) => {
       const far = Math.hypot(left - x, top - y);
       if (far < least) [best, least] = [name, far];

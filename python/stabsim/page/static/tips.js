@@ -1,3 +1,4 @@
+// @ts-check
 // What is said of a detector under the pointer, and of what an edit flipped.
 
 import { findNumbered } from "./circuit.js";

@@ -1,3 +1,4 @@
+// @ts-check
 // Work that is not saved, in the storage of the browser: a page that is opened again offers it.
 
 import { packed, unpacked } from "./files.js";
@@ -10,19 +11,23 @@ export class Unsaved {
   #key;
   #fail;
   #timer = 0;
+  #asked = 0;
 
   // `run` names the run of the server, each of which has its own work; `fail()` is called if it finds no room.
   constructor(run, fail) {
     [this.#key, this.#fail] = [KEY + run, fail];
   }
 
-  // Keeps what `work()` answers, as {name, text}, once nothing has changed for a while, or with null no longer keeps any.
+  // Keeps what `work()` answers some time, as {name, text}, once nothing has changed for a while, or with null no longer keeps any.
   keep(work) {
     clearTimeout(this.#timer);
-    this.#timer = setTimeout(() => this.#put(work()), PAUSE);
+    this.#asked += 1;
+    this.#timer = setTimeout(() => this.#put(work, this.#asked), PAUSE);
   }
 
-  async #put(work) {
+  async #put(make, asked) {
+    const work = await make();
+    if (asked !== this.#asked) return;
     if (!work) return void localStorage.removeItem(this.#key);
     const letters = await packed(work.text);
     try {

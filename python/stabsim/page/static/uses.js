@@ -1,3 +1,4 @@
+// @ts-check
 // On which qubits the items of a circuit act, and which are measured more than once, as ancillas are.
 
 import { isRecorded, qubitsOf, resets } from "./instructions.js";

@@ -4,5 +4,5 @@ use Rattle.stab_distance.proofs.sizes.of_one_more.Goals as goal
 
 pub returns-clause-none : goal.returns-clause-none
 returns-clause-none c =
-    none-more c.args.errors.now.table c.args.errors.now.pairs c.requires.pairs c.args.observing c.args.left c.requires.others c.requires.none
+    none-more c.args.errors.now.table c.args.errors.now.pairs c.args.firsts c.requires.pairs c.args.left c.requires.begun c.requires.none
     (λ f lt. c.firsts.invariant.tried f (omega (arith, lt, c.firsts-test.false)))

@@ -1,7 +1,7 @@
 use Rattle.std.specs.Prelude.{◌++◌}
 use Rattle.std.proofs.Math.Seq.{take-suc}
 use Rattle.stab_pauli.specs.Paulis.{identity}
-use Rattle.stab_tableau.proofs.Names.{◌≡◌, suc, sym, ◌∙◌, ap, ◌∷◌, [], take, ◌+◌, arith}
+use Rattle.stab_tableau.proofs.Names.{suc, sym, ◌∙◌, ap, ◌∷◌, [], take, ◌+◌, arith}
 use Rattle.stab_tableau.proofs.tableau.strings_of.Goals as goal
 
 pub loop-row-preserved : goal.loop-row-preserved

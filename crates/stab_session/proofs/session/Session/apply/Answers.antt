@@ -1,6 +1,6 @@
-use Rattle.stab_session.proofs.Names.{ap, sym, ◌∙◌, subst, ◌+◌, ◌-◌, ◌≤◌, arith, whole, IsCallFault, listed, unroll, observables_of, SessionState, checkpoint_steps}
+use Rattle.stab_session.proofs.Names.{ap, sym, ◌∙◌, subst, ◌+◌, ◌-◌, ◌≤◌, arith, whole, IsCallFault, listed, unroll, observables_of, SessionState, checkpoint_steps, AreRepeats}
 use Rattle.stab_session.proofs.SessionLemmas.{statement, few-checkpoints}
-use Rattle.stab_session.proofs.EditedLemmas.{session-verdict, run-fault, followed, agreed, counted_same, few-steps, new-run, edited-recorded, session-edited, edited-applied, edited-tried, edited-counted, edited-early, refused-asks}
+use Rattle.stab_session.proofs.EditedLemmas.{session-verdict, run-fault, followed, agreed, counted_same, few-steps, new-run, edited-recorded, edited-repeats, session-edited, edited-applied, edited-tried, edited-counted, edited-early, refused-asks}
 use Rattle.stab_session.proofs.session.Session.apply.Goals as goal
 
 pub returns-in-Ok-follow-clause-applied : goal.returns-in-Ok-follow-clause-applied
@@ -36,13 +36,20 @@ invariant_of-self-in-Ok-follow g c =
     let ran = c.in-Ok-follow.ensures {u = tt} in
     let coins = ap (λ (s : SessionState g.row.C.Denot). g.C.Coins.sequence s.coins) c.self.view_is in
     let run = followed c.len-n.result c.self.inside.recording.tableau.qubits _ _ c.self.inside.stride _ _ c.follow.new.self c.len-n.ensures.value coins ran.kept in
-    let recorded = c.self.invariant in
-    edited-recorded g.C.Coins.sequence c.args.edit c.args.self.now c.len-n.result c.self.inside.circuit c.begin.new.circuit c.in-Ok.begun.0 c.in-Ok.begun.1 begun.begun
-    (ap (λ (s : SessionState g.row.C.Denot). s.items) (sym c.self.view_is))
-    (ap (λ (s : SessionState g.row.C.Denot). s.qubits) (sym c.self.view_is) ∙ sym c.len-n.ensures.value)
-    c.finish.new.circuit c.finish.ensures.value c.self.inside.stride c.follow.new.coins c.follow.new.self
-    (ap (λ (s : SessionState g.row.C.Denot). s.stride) c.self.view_is) (ran.same_coins ∙ coins) run
-    ran.apart (subst (λ n. n ≤ 1024) (sym c.len-n.ensures.value) recorded.few) recorded.stride_above recorded.stride_within
+    let recorded = c.self.invariant.0 in (
+      edited-recorded g.C.Coins.sequence c.args.edit c.args.self.now c.len-n.result c.self.inside.circuit c.begin.new.circuit c.in-Ok.begun.0 c.in-Ok.begun.1 begun.begun
+          (ap (λ (s : SessionState g.row.C.Denot). s.items) (sym c.self.view_is))
+          (ap (λ (s : SessionState g.row.C.Denot). s.qubits) (sym c.self.view_is) ∙ sym c.len-n.ensures.value)
+          c.finish.new.circuit c.finish.ensures.value c.self.inside.stride c.follow.new.coins c.follow.new.self
+          (ap (λ (s : SessionState g.row.C.Denot). s.stride) c.self.view_is) (ran.same_coins ∙ coins) run
+          ran.apart (subst (λ n. n ≤ 1024) (sym c.len-n.ensures.value) recorded.few) recorded.stride_above recorded.stride_within,
+      edited-repeats g.C.Coins.sequence c.args.edit c.args.self.now c.len-n.result c.self.inside.circuit c.begin.new.circuit c.in-Ok.begun.0 c.in-Ok.begun.1 begun.begun
+          (ap (λ (s : SessionState g.row.C.Denot). s.items) (sym c.self.view_is))
+          (ap (λ (s : SessionState g.row.C.Denot). s.qubits) (sym c.self.view_is) ∙ sym c.len-n.ensures.value)
+          c.finish.new.circuit c.finish.ensures.value c.self.inside.stride c.follow.new.coins c.follow.new.self
+          (ap (λ (s : SessionState g.row.C.Denot). s.stride) c.self.view_is) (ran.same_coins ∙ coins) run
+          c.in-Ok-change_of.change.rounds.items (c.in-Ok-change_of.ensures {u = tt}).rounds,
+    )
 
 pub returns-in-Ok-follow-clause-statement : goal.returns-in-Ok-follow-clause-statement
 returns-in-Ok-follow-clause-statement g c =
@@ -77,7 +84,7 @@ overflow_add-result g c =
     few-steps g.C.Coins.sequence c.args.edit c.args.self.now c.len-n.result c.self.inside.circuit c.begin.new.circuit c.in-Ok.begun.0 c.in-Ok.begun.1 begun.begun
     (ap (λ (s : SessionState g.row.C.Denot). s.items) (sym c.self.view_is))
     (ap (λ (s : SessionState g.row.C.Denot). s.qubits) (sym c.self.view_is) ∙ sym c.len-n.ensures.value) in
-    omega (arith, few, ran.applied, ran.tried, c.self.invariant.stride_within)
+    omega (arith, few, ran.applied, ran.tried, c.self.invariant.0.stride_within)
 
 pub returns-in-Ok-follow-clause-framed : goal.returns-in-Ok-follow-clause-framed
 returns-in-Ok-follow-clause-framed g c =
@@ -122,7 +129,7 @@ returns-in-Ok-follow-clause-counted g c =
     (c.in-Ok-follow.followed.applied + ((c.in-Ok-follow.followed.framed + c.in-Ok-follow.followed.tried) - c.in-Ok-follow.followed.tried))
     (checkpoint_steps c.self.inside.recording.checkpoints.items) (omega arith) (ap (λ (s : SessionState g.row.C.Denot). s.checkpoints) c.self.view_is)
     (counted_same c.len-n.result c.self.inside.recording.tableau.qubits _ _ (unroll (listed c.self.inside.circuit)) (unroll (listed c.begin.new.circuit)) c.in-Ok.begun.1 _ _ _ c.len-n.ensures.value coins
-    (ran.counted (unroll (listed c.self.inside.circuit)) (observables_of (listed c.self.inside.circuit)) c.self.invariant.run begun.begun.span.span))
+    (ran.counted (unroll (listed c.self.inside.circuit)) (observables_of (listed c.self.inside.circuit)) c.self.invariant.0.run begun.begun.span.span))
 
 pub returns-in-Ok-follow-clause-early : goal.returns-in-Ok-follow-clause-early
 returns-in-Ok-follow-clause-early g c =
@@ -140,7 +147,7 @@ returns-in-Ok-follow-clause-early g c =
     (λ agree.
     omega (
       arith,
-      ran.few (unroll (listed c.self.inside.circuit)) (observables_of (listed c.self.inside.circuit)) far c.self.invariant.run begun.begun.span.span
+      ran.few (unroll (listed c.self.inside.circuit)) (observables_of (listed c.self.inside.circuit)) far c.self.invariant.0.run begun.begun.span.span
           (agreed c.len-n.result c.self.inside.recording.tableau.qubits _ _ (unroll (listed c.self.inside.circuit)) (unroll (listed c.begin.new.circuit)) c.in-Ok.begun.1 far c.len-n.ensures.value coins agree),
     ))
 
@@ -156,16 +163,16 @@ returns-in-Ok-follow-clause-few_checkpoints g c =
     (ap (λ (s : SessionState g.row.C.Denot). s.qubits) (sym c.self.view_is) ∙ sym c.len-n.ensures.value)
     c.finish.new.circuit c.finish.ensures.value c.self.inside.stride c.follow.new.coins c.follow.new.self
     (ap (λ (s : SessionState g.row.C.Denot). s.stride) c.self.view_is) (ran.same_coins ∙ coins) run)
-    c.self.invariant.stride_above
+    c.self.invariant.0.stride_above
 
-pub returns-in-Err-difference-clause-refused : goal.returns-in-Err-difference-clause-refused
-returns-in-Err-difference-clause-refused g c =
+pub returns-in-Err-change_of-clause-refused : goal.returns-in-Err-change_of-clause-refused
+returns-in-Err-change_of-clause-refused g c =
     let begun = c.in-Ok.ensures {u = tt} in
-    let told = c.in-Err-difference.ensures {u = tt} in
+    let told = c.in-Err-change_of.ensures {u = tt} in
     run-fault g.C.Coins.sequence c.args.edit c.args.self.now c.len-n.result c.self.inside.circuit c.begin.new.circuit c.in-Ok.begun.0 c.in-Ok.begun.1 begun.begun
     (ap (λ (s : SessionState g.row.C.Denot). s.items) (sym c.self.view_is))
     (ap (λ (s : SessionState g.row.C.Denot). s.qubits) (sym c.self.view_is) ∙ sym c.len-n.ensures.value)
-    c.whole.result (c.whole.ensures.value ∙ ap whole told.err)
+    c.refused.result.fault (c.refused.ensures.fault ∙ ap whole told.err)
 
 pub returns-in-Err-follow-clause-refused : goal.returns-in-Err-follow-clause-refused
 returns-in-Err-follow-clause-refused g c =
@@ -174,7 +181,7 @@ returns-in-Err-follow-clause-refused g c =
     run-fault g.C.Coins.sequence c.args.edit c.args.self.now c.len-n.result c.self.inside.circuit c.begin.new.circuit c.in-Ok.begun.0 c.in-Ok.begun.1 begun.begun
     (ap (λ (s : SessionState g.row.C.Denot). s.items) (sym c.self.view_is))
     (ap (λ (s : SessionState g.row.C.Denot). s.qubits) (sym c.self.view_is) ∙ sym c.len-n.ensures.value)
-    c.whole-in-Err-follow.result (c.whole-in-Err-follow.ensures.value ∙ ap whole ran.err)
+    c.refused-in-Err-follow.result.fault (c.refused-in-Err-follow.ensures.fault ∙ ap whole ran.err)
 
 pub returns-in-Err-follow-clause-refused_asks : goal.returns-in-Err-follow-clause-refused_asks
 returns-in-Err-follow-clause-refused_asks g c =
@@ -192,4 +199,12 @@ returns-in-Err-follow-clause-refused_asks g c =
 pub returns-in-Err-follow-clause-item : goal.returns-in-Err-follow-clause-item
 returns-in-Err-follow-clause-item g c =
     let begun = c.in-Ok.ensures {u = tt} in
-    c.take_back.ensures.item ∙ begun.begun.item
+    c.refused-in-Err-follow.ensures.item ∙ begun.begun.item
+
+pub change_of-requires-clause-old : goal.change_of-requires-clause-old
+change_of-requires-clause-old g c =
+    let begun = c.in-Ok.ensures {u = tt} in (
+      unroll (listed c.self.inside.circuit),
+      subst (AreRepeats 0 (unroll (listed c.self.inside.circuit))) (sym c.as_slice.ensures.value) c.self.invariant.1,
+      (c.self.invariant.0.run.few, begun.begun.span.span),
+    )

@@ -12,5 +12,5 @@ returns-clause-reduced_of_run g c =
     c.self.view_is
     (IfOk-weaker c.reduced_rows.result _ _
     (λ rows is. same-rows n (stabilises c.self.inside.recording.tableau) (member trace)
-    (recording-group sequence (circuit_items c.self.inside.circuit) c.self.inside.stride c.self.inside.coins c.self.inside.recording c.self.invariant.run) 0 rows.items is)
+    (recording-group sequence (circuit_items c.self.inside.circuit) c.self.inside.stride c.self.inside.coins c.self.inside.recording c.self.invariant.0.run) 0 rows.items is)
     c.reduced_rows.ensures.reduced)

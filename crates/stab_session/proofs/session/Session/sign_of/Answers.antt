@@ -12,6 +12,6 @@ returns-clause-sign g c =
     → IsSignIn (member (run_of s.qubits (sequence s.coins) s.items).trace) c.args.pauli.now c.sign_of.result)
     c.self.view_is
     (λ size. same-sign n (stabilises c.self.inside.recording.tableau) (member trace) c.args.pauli.now c.sign_of.result size
-    (recording-group sequence (circuit_items c.self.inside.circuit) c.self.inside.stride c.self.inside.coins c.self.inside.recording c.self.invariant.run)
+    (recording-group sequence (circuit_items c.self.inside.circuit) c.self.inside.stride c.self.inside.coins c.self.inside.recording c.self.invariant.0.run)
     (c.sign_of.ensures.some, c.sign_of.ensures.none))
     c.requires.same_length
