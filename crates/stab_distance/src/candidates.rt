@@ -13,7 +13,10 @@ use std::alloc::{AllocError, Global};
 /// The number of candidates for which memory is had at once.
 const USUAL_SIZE: usize = 32;
 
-/// Errors after the first one, of which each set of `left` errors has one that completes those chosen. `cover` is scratch, 0 between calls.
+/// With how many errors left all that flip one detector are taken: their keys say which of them one more completes, in less time than a cover.
+const PLAIN: usize = 2;
+
+/// Errors of which each set of `left` errors has one that completes those chosen. `cover` is scratch, 0 between calls.
 ///
 /// They are all that flip one detector, or all that flip many: of `left` errors that flip N detectors back, one flips N / `left` of them.
 pub fn candidates(
@@ -35,6 +38,11 @@ pub fn candidates(
     ensures cover { length cover.new ≡ length cover.old }
 {
     let detectors = errors.detectors_of(flipped);
+    if left == PLAIN {
+        let one = errors.flipping(seldom(errors, detectors));
+        let all = Vec::from_slice(alloc, one)?;
+        return Ok(all);
+    }
     count(errors, first, detectors, cover);
     leave_out(errors, path, cover);
     let rarest = errors.flipping(rarest(errors, first, detectors, cover));
@@ -109,6 +117,23 @@ fn set_zero(r: usize, cover: &mut [usize])
     if r < cover.len() {
         cover[r] = 0;
     }
+}
+
+/// The detector that the fewest errors flip.
+fn seldom(errors: &Errors, detectors: &[u32]) -> u32
+    requires some { 0 < length detectors.now }
+    ensures among { has result detectors.now ≡ true }
+{
+    let mut best = detectors[0];
+    let mut fewest = usize::MAX;
+    for d in detectors {
+        let count = errors.flipping(*d).len();
+        if count < fewest {
+            best = *d;
+            fewest = count;
+        }
+    }
+    best
 }
 
 /// The detector that the fewest errors flip that may be tried.

@@ -1,6 +1,17 @@
-use Rattle.stab_distance.proofs.Names.{◌≡◌, ◌<◌, ◌+◌, ◌-◌, ◌*◌, ◌/◌, ℕ, subst, sym, arith, length, Each, refl, false≢true, div-mul-le_self}
+use Rattle.stab_distance.proofs.Names.{◌≡◌, ◌<◌, ◌+◌, ◌-◌, ◌*◌, ◌/◌, ℕ, List, true, has, subst, sym, arith, length, Each, refl, false≢true, div-mul-le_self}
 use Rattle.stab_distance.proofs.CoverLemmas.{meet-rarest, meet-covering, shared}
 use Rattle.stab_distance.proofs.candidates.candidates.Goals as goal
+
+pub returns-then-left-eq-PLAIN-clause-meet : goal.returns-then-left-eq-PLAIN-clause-meet
+returns-then-left-eq-PLAIN-clause-meet c =
+    meet-rarest c.args.errors.now.table c.args.errors.now.pairs c.args.first c.args.path.now c.args.flipped.now c.detectors_of-detectors.result.now
+    c.detectors_of-detectors.ensures.inside c.detectors_of-detectors.ensures.flipped c.args.left c.seldom.result c.in_ok-all.all.items c.seldom.ensures.among
+    (λ e inside may flips. subst (λ (xs : List ℕ). has e xs ≡ true) (sym c.in_ok-all.ensures.items) (c.flipping-one.ensures.complete e inside flips))
+
+pub returns-then-len-clause-inside : goal.returns-then-len-clause-inside
+returns-then-len-clause-inside c =
+    let same : length c.leave_out.new.cover ≡ length c.args.errors.now.table.rows = omega (arith, c.requires.cover, c.count.ensures.length, c.leave_out.ensures.length) in
+    subst (λ n. Each (λ r. r < n) c.in_ok-by_rarest.by_rarest.items) same c.in_ok-by_rarest.ensures.inside
 
 pub returns-then-len-clause-meet : goal.returns-then-len-clause-meet
 returns-then-len-clause-meet c =
