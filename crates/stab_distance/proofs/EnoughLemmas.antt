@@ -1,5 +1,5 @@
 -- Errors that are enough: what holds of their logical errors holds of the table's.
-use Rattle.stab_distance.proofs.Names.{◌≡◌, ℕ, suc, ◌≤◌, ◌<◌, refl, sym, ◌∙◌, ap, subst, arith, List, [], ◌∷◌, length, map, slice_index, ◌⊕◌, ErrorTable, odd, row, flips, IsLogicalError, IsLeast, HasNone, HasSome, HasNoneWithin, Each, AreRowsOf, HasRow, IsShortest, IsGathered, HaveClasses, Splits, AreEnough, StandFor, length-map}
+use Rattle.stab_distance.proofs.Names.{◌≡◌, ℕ, ◌≤◌, ◌<◌, refl, sym, ◌∙◌, ap, subst, arith, List, [], ◌∷◌, length, map, slice_index, ◌⊕◌, ErrorTable, odd, row, flips, IsLogicalError, IsLeast, HasNone, HasSome, HasNoneWithin, Each, AreRowsOf, HasRow, IsShortest, IsGathered, HaveClasses, Splits, AreEnough, StandFor, length-map}
 use Rattle.stab_distance.proofs.ListLemmas.{each-all, all-each}
 use Rattle.stab_distance.proofs.ClassLemmas.{enough-classes}
 use Rattle.stab_distance.proofs.DistinctLemmas.{distinct-enough}

@@ -1,5 +1,5 @@
 -- Renumbering: errors are logical by old numbers of detectors and by new ones.
-use Rattle.stab_distance.proofs.Names.{◌≡◌, ℕ, zero, suc, ◌+◌, ◌≤◌, ◌<◌, ◌⊎◌, inl, inr, refl, sym, ◌∙◌, ap, subst, arith, Bool, true, false, List, [], ◌∷◌, length, get_or, cases_lt, slice_index, ◌==◌, eqb-true, eqb-false, eq-eqb, ne_eqb, ◌⊕◌, ErrorTable, odd, row, flips, IsLogicalError, Each, renumbered, Undoes, AreInverse, IsPlaced, ArePlaced, StandFor}
+use Rattle.stab_distance.proofs.Names.{◌≡◌, ℕ, zero, suc, ◌≤◌, ◌<◌, inl, inr, refl, sym, ◌∙◌, ap, subst, arith, List, [], ◌∷◌, length, get_or, cases_lt, slice_index, ◌==◌, eqb-true, eqb-false, eq-eqb, ne_eqb, ◌⊕◌, ErrorTable, odd, row, flips, IsLogicalError, Each, renumbered, Undoes, AreInverse, IsPlaced, ArePlaced, StandFor}
 use Rattle.stab_distance.proofs.EnoughLemmas.{stand-same}
 use Rattle.stab_distance.proofs.ListLemmas.{by-bit, each-all, all-each}
 
