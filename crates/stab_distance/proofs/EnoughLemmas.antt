@@ -1,7 +1,8 @@
 -- Errors that are enough: what holds of their logical errors holds of the table's.
-use Rattle.stab_distance.proofs.Names.{◌≡◌, ℕ, suc, ◌≤◌, ◌<◌, refl, sym, ◌∙◌, ap, subst, arith, List, [], ◌∷◌, length, map, slice_index, ◌⊕◌, ErrorTable, odd, row, flips, IsLogicalError, IsLeast, HasNone, HasSome, HasNoneWithin, Each, AreRowsOf, IsShortest, IsGathered, HaveClasses, Splits, AreEnough}
+use Rattle.stab_distance.proofs.Names.{◌≡◌, ℕ, ◌≤◌, ◌<◌, refl, sym, ◌∙◌, ap, subst, arith, List, [], ◌∷◌, length, map, slice_index, ◌⊕◌, ErrorTable, odd, row, flips, IsLogicalError, IsLeast, HasNone, HasSome, HasNoneWithin, Each, AreRowsOf, HasRow, IsShortest, IsGathered, HaveClasses, Splits, AreEnough, StandFor, length-map}
 use Rattle.stab_distance.proofs.ListLemmas.{each-all, all-each}
 use Rattle.stab_distance.proofs.ClassLemmas.{enough-classes}
+use Rattle.stab_distance.proofs.DistinctLemmas.{distinct-enough}
 
 module _ (rows chosen : List (List ℕ)) (numbers : List ℕ) (are : AreRowsOf rows chosen numbers) where
   numbers-inside : (xs : List ℕ) → Each (λ k. k < length chosen) xs → Each (λ r. r < length rows) (map (slice_index numbers) xs)
@@ -14,11 +15,21 @@ module _ (rows chosen : List (List ℕ)) (numbers : List ℕ) (are : AreRowsOf r
       ap (λ b. odd i (row rows (slice_index numbers x)) ⊕ b) (numbers-flips xs a.1 i)
       ∙ ap (λ (ys : List ℕ). odd i ys ⊕ flips chosen xs i) (sym (are.same x a.0).1)
 
-  numbers-length : (xs : List ℕ) → length (map (slice_index numbers) xs) ≡ length xs
-  numbers-length [] = refl
-  numbers-length (x ∷ xs) = ap suc (numbers-length xs)
+-- errors that are enough stand for those of the table
+pub enough-stand : (t fewer : ErrorTable) (numbers : List ℕ) → AreEnough t fewer numbers → StandFor t fewer numbers
+enough-stand t fewer numbers is = record { count = is.rows.count; logical = logical; enough = is.enough }
+  where
+    logical : (errors : List ℕ) → IsLogicalError fewer errors → IsLogicalError t (map (slice_index numbers) errors)
+    logical errors e =
+        let a = each-all (λ k. k < length fewer.rows) errors e.inside in
+        record {
+          inside = all-each (λ r. r < length t.rows) (map (slice_index numbers) errors) (numbers-inside t.rows fewer.rows numbers is.rows errors a);
+          undetected = λ d lt. numbers-flips t.rows fewer.rows numbers is.rows errors a d ∙ e.undetected d (subst (λ n. d < n) (sym is.detectors) lt);
+          observed = let o = e.observed.0 in
+              (o, subst (λ n. n ≤ o) is.detectors e.observed.1, numbers-flips t.rows fewer.rows numbers is.rows errors a o ∙ e.observed.2);
+        }
 
-module _ (t fewer : ErrorTable) (numbers : List ℕ) (is : AreEnough t fewer numbers) where
+module _ (t fewer : ErrorTable) (numbers : List ℕ) (is : StandFor t fewer numbers) where
   pub none-enough : HasNone fewer → HasNone t
   none-enough none errors logical = let other = is.enough errors logical in none other.0 other.1.0
 
@@ -29,31 +40,20 @@ module _ (t fewer : ErrorTable) (numbers : List ℕ) (is : AreEnough t fewer num
       let few = other.1.1 in
       omega arith
 
-  -- their logical errors are the table's
-  logical-numbered : (errors : List ℕ) → IsLogicalError fewer errors → IsLogicalError t (map (slice_index numbers) errors)
-  logical-numbered errors e =
-      let a = each-all (λ k. k < length fewer.rows) errors e.inside in
-      record {
-        inside = all-each (λ r. r < length t.rows) (map (slice_index numbers) errors) (numbers-inside t.rows fewer.rows numbers is.rows errors a);
-        undetected = λ d lt. numbers-flips t.rows fewer.rows numbers is.rows errors a d ∙ e.undetected d (subst (λ n. d < n) (sym is.detectors) lt);
-        observed = let o = e.observed.0 in
-            (o, subst (λ n. n ≤ o) is.detectors e.observed.1, numbers-flips t.rows fewer.rows numbers is.rows errors a o ∙ e.observed.2);
-      }
-
   pub none-within_fewer : (k : ℕ) → HasNoneWithin t k → HasNoneWithin fewer k
   none-within_fewer k none errors logical =
-      let more = none (map (slice_index numbers) errors) (logical-numbered errors logical) in
-      let same = numbers-length t.rows fewer.rows numbers is.rows errors in
+      let more = none (map (slice_index numbers) errors) (is.logical errors logical) in
+      let same = length-map errors (slice_index numbers) in
       omega arith
 
   pub some-enough : HasSome fewer → HasSome t
-  some-enough (errors, e) = (map (slice_index numbers) errors, logical-numbered errors e)
+  some-enough (errors, e) = (map (slice_index numbers) errors, is.logical errors e)
 
   -- the set of the table's errors that a shortest one is
   pub least-enough : (most : ℕ) (found set : List ℕ) → IsShortest fewer most found → IsGathered (map (slice_index numbers) found) set → IsLeast t most set
   least-enough most found set s g =
-      let logical = logical-numbered found s.logical in
-      let same = numbers-length t.rows fewer.rows numbers is.rows found in
+      let logical = is.logical found s.logical in
+      let same = length-map found (slice_index numbers) in
       let shorter = g.fewer in
       let within = s.within in
       record {
@@ -71,37 +71,54 @@ module _ (t fewer : ErrorTable) (numbers : List ℕ) (is : AreEnough t fewer num
             omega arith;
       }
 
-  -- of errors that are enough, those of one class each are
-  pub fewer-enough : (kept : ErrorTable) (classes chosen : List ℕ) → kept.detectors ≡ fewer.detectors → AreRowsOf t.rows kept.rows chosen → HaveClasses kept classes
-      → ((r : ℕ) → r < length fewer.rows → Splits kept classes (row fewer.rows r)) → AreEnough t kept chosen
-  fewer-enough kept classes chosen same rows have split = record {
-    detectors = same ∙ is.detectors;
-    rows = rows;
-    enough = λ errors logical.
-        let other = is.enough errors logical in
-        let parts = enough-classes fewer kept classes same have split other.0 other.1.0 in
-        let few = other.1.1 in
-        let fewer_still = parts.1.1 in
-        (parts.0, (parts.1.0, omega arith));
-  }
+-- distinct rows do
+pub distinct-stand : (t part : ErrorTable) (detectors : ℕ) (chosen : List (List ℕ)) → part ≡ record { detectors = detectors; rows = chosen } → detectors ≡ t.detectors
+    → ((r : ℕ) → r < length t.rows → HasRow chosen (row t.rows r)) → (numbers : List ℕ) → AreRowsOf t.rows chosen numbers → StandFor t part numbers
+distinct-stand t part detectors chosen is same all numbers are = enough-stand t part numbers (distinct-enough t part detectors chosen is same all numbers are)
 
--- errors that are enough of those that are enough, by their numbers in the table
-pub enough-enough : (t fewer part : ErrorTable) (numbers chosen found : List ℕ) → AreEnough t fewer numbers → AreEnough fewer part chosen → length found ≡ length chosen
-    → ((k : ℕ) → k < length chosen → slice_index found k ≡ slice_index numbers (slice_index chosen k)) → AreEnough t part found
-enough-enough t fewer part numbers chosen found outer inner count each = record {
-  detectors = inner.detectors ∙ outer.detectors;
-  rows = record {
-    count = count ∙ inner.rows.count;
-    same = λ k lt.
-        let at = inner.rows.same k lt in
-        let here = outer.rows.same (slice_index chosen k) at.0 in
-        let is = each k (subst (λ n. k < n) (sym inner.rows.count) lt) in
-        (subst (λ r. r < length t.rows) (sym is) here.0, at.1 ∙ here.1 ∙ ap (row t.rows) (sym is));
-  };
+-- of errors that are enough, those of one class each are
+pub fewer-enough : (t fewer : ErrorTable) (numbers : List ℕ) → AreEnough t fewer numbers
+    → (kept : ErrorTable) (classes chosen : List ℕ) → kept.detectors ≡ fewer.detectors → AreRowsOf t.rows kept.rows chosen → HaveClasses kept classes
+    → ((r : ℕ) → r < length fewer.rows → Splits kept classes (row fewer.rows r)) → AreEnough t kept chosen
+fewer-enough t fewer numbers is kept classes chosen same rows have split = record {
+  detectors = same ∙ is.detectors;
+  rows = rows;
+  enough = λ errors logical.
+      let other = is.enough errors logical in
+      let parts = enough-classes fewer kept classes same have split other.0 other.1.0 in
+      let few = other.1.1 in
+      let fewer_still = parts.1.1 in
+      (parts.0, (parts.1.0, omega arith));
+}
+
+-- errors that are enough of those that stand for a table's stand for them too, by their numbers in the table
+pub stand-enough : (t fewer part : ErrorTable) (numbers chosen found : List ℕ) → StandFor t fewer numbers → AreEnough fewer part chosen → length found ≡ length chosen
+    → ((k : ℕ) → k < length chosen → slice_index found k ≡ slice_index numbers (slice_index chosen k)) → StandFor t part found
+stand-enough t fewer part numbers chosen found outer inner count each = record {
+  count = count ∙ inner.rows.count;
+  logical = λ errors logical.
+      subst (IsLogicalError t) (twice errors (each-all (λ k. k < length part.rows) errors logical.inside))
+      (outer.logical (map (slice_index chosen) errors) ((enough-stand fewer part chosen inner).logical errors logical));
   enough = λ errors logical.
       let first = outer.enough errors logical in
       let second = inner.enough first.0 first.1.0 in
       let few = first.1.1 in
       let fewer_still = second.1.1 in
       (second.0, (second.1.0, omega arith));
+}
+  where
+    twice : (xs : List ℕ) → Each (λ k. k < length part.rows) xs → map (slice_index numbers) (map (slice_index chosen) xs) ≡ map (slice_index found) xs
+    twice [] a = refl
+    twice (x ∷ xs) a =
+        ap (λ k. k ∷ map (slice_index numbers) (map (slice_index chosen) xs)) (sym (each x (subst (λ n. x < n) (sym inner.rows.count) a.0)))
+        ∙ ap (λ (ks : List ℕ). slice_index found x ∷ ks) (twice xs a.1)
+
+-- and those of a table with the same logical errors
+pub stand-same : (t fewer others : ErrorTable) (numbers : List ℕ) → StandFor t fewer numbers → length others.rows ≡ length fewer.rows
+    → ((errors : List ℕ) → IsLogicalError others errors → IsLogicalError fewer errors) → ((errors : List ℕ) → IsLogicalError fewer errors → IsLogicalError others errors)
+    → StandFor t others numbers
+stand-same t fewer others numbers is count back there = record {
+  count = is.count ∙ sym count;
+  logical = λ errors logical. is.logical errors (back errors logical);
+  enough = λ errors logical. let other = is.enough errors logical in (other.0, (there other.0 other.1.0, other.1.1));
 }

@@ -11,6 +11,7 @@ pub mod CertificateLemmas
 pub mod DistinctLemmas
 pub mod ClassLemmas
 pub mod EnoughLemmas
+pub mod RenumberLemmas
 pub mod ShortestLemmas
 pub mod StepLemmas
 pub mod PairLemmas

@@ -25,7 +25,8 @@ pub use Rattle.stab_distance.specs.declared.answer.Answer.{Answer}
 pub use Rattle.stab_distance.specs.declared.answer.Answer.TheVariants.{Least, NoneWithin, NoneAtAll}
 pub use Rattle.stab_distance.specs.declared.edges.Edge.{Edge}
 pub use Rattle.stab_distance.specs.declared.labels.Labels.{Labels}
-pub use Rattle.stab_distance.specs.inner.Classes.{class_of, AreOfClass, HaveClasses, Counts, AreParts, Splits, AreEnough}
+pub use Rattle.stab_distance.specs.inner.Classes.{class_of, AreOfClass, HaveClasses, Counts, AreParts, Splits, AreEnough, StandFor}
+pub use Rattle.stab_distance.specs.inner.Renumbering.{renumbered, Undoes, AreInverse, IsPlaced, ArePlaced}
 pub use Rattle.stab_distance.specs.inner.Certificates.{odd_members, IsCertificate, FollowsDetectors}
 pub use Rattle.stab_distance.specs.inner.Covers.{shares, MayBe, Covers}
 pub use Rattle.stab_distance.specs.inner.Ends.{Completes, MayFollow, Ends, EndsWithin, NoEnds, NoEndsBy, Meet}

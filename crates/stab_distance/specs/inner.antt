@@ -1,6 +1,7 @@
 pub mod Lists
 pub mod Errors
 pub mod Classes
+pub mod Renumbering
 pub mod Ends
 pub mod Indexes
 pub mod Steps

@@ -2,7 +2,7 @@
 ghost use Rattle.std.specs.Prelude.{◌≡◌, ◌≢◌, ℕ, ◌<◌, true, false, List, length, map, slice_index, IfOk, OnOk};
 ghost use Rattle.stab_distance.specs.Ascending.{IsAscending};
 ghost use Rattle.stab_distance.specs.Tables.{ErrorTable, odd, row};
-ghost use Rattle.stab_distance.specs.inner.Classes.{class_of, AreOfClass, HaveClasses, Counts, AreParts, Splits, AreEnough};
+ghost use Rattle.stab_distance.specs.inner.Classes.{class_of, AreOfClass, HaveClasses, Counts, AreParts, Splits, AreEnough, StandFor};
 ghost use Rattle.stab_distance.specs.inner.Errors.{AreRowsOf};
 
 use crate::classes::{class_at, classes_of, parts_of};
@@ -10,6 +10,7 @@ use crate::distinct::{Distinct, rows_in_order};
 use crate::errors::Errors;
 use crate::logical::flipped_by;
 use crate::merging::merge_into;
+use crate::renumbering::number_anew;
 use crate::steps::{find_step, order_by};
 use std::alloc::{AllocError, Global};
 
@@ -22,16 +23,17 @@ pub struct Kept {
 
 /// Errors that are enough, in an order in which few can be first.
 pub fn keep_enough(alloc: Global, errors: Errors, numbers: Vec<usize>) -> Result<Kept, AllocError>
-    ensures enough { IfOk result (λ k. (t : ErrorTable) → AreEnough t errors.table numbers.items → AreEnough t k.errors.table k.numbers.items) }
+    ensures stand { IfOk result (λ k. (t : ErrorTable) → AreEnough t errors.table numbers.items → StandFor t k.errors.table k.numbers.items) }
 {
     let kept = keep_one_class(alloc, errors, numbers)?;
-    let ordered = put_firsts(alloc, kept)?;
+    let numbered = number_anew(alloc, kept)?;
+    let ordered = put_firsts(alloc, numbered)?;
     Ok(ordered)
 }
 
 /// The errors with those first that no step moves down, if there is a step that moves down most of them.
 fn put_firsts(alloc: Global, kept: Kept) -> Result<Kept, AllocError>
-    ensures enough { IfOk result (λ k. (t : ErrorTable) → AreEnough t kept.errors.table kept.numbers.items → AreEnough t k.errors.table k.numbers.items) }
+    ensures stand { IfOk result (λ k. (t : ErrorTable) → StandFor t kept.errors.table kept.numbers.items → StandFor t k.errors.table k.numbers.items) }
 {
     match find_step(&kept.errors) {
         None => Ok(kept),
@@ -46,7 +48,7 @@ fn put_in_order(
     numbers: &[usize],
     step: usize,
 ) -> Result<Kept, AllocError>
-    ensures enough { IfOk result (λ k. (t : ErrorTable) → AreEnough t errors.now.table numbers.now → AreEnough t k.errors.table k.numbers.items) }
+    ensures stand { IfOk result (λ k. (t : ErrorTable) → StandFor t errors.now.table numbers.now → StandFor t k.errors.table k.numbers.items) }
 {
     let order = order_by(alloc, errors, step)?;
     let chosen = rows_in_order(alloc, errors.rows(), order.errors.as_slice())?;

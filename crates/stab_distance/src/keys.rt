@@ -84,12 +84,16 @@ impl Keys {
     }
 }
 
-/// The least number of places for each row.
+/// The least number of places for each row, if there are not many.
 const PLACES: u64 = 4;
+
+/// With more places than this there is one for each row, as each takes memory.
+const MANY_PLACES: u64 = 65_535;
 
 /// The low bits of a key by which rows are listed: one less than a power of two, from 255 to 2^20 - 1.
 fn mask_for(rows: usize) -> u64 {
-    let wanted = (rows as u64).saturating_mul(PLACES);
+    let rows = rows as u64;
+    let wanted = rows.max(rows.saturating_mul(PLACES).min(MANY_PLACES));
     let mut mask: u64 = 255;
     for _ in 0..12 {
         if mask < wanted {

@@ -2,7 +2,7 @@ ghost use Rattle.std.specs.Prelude.{◌≡◌, ◌≤◌, length, IfOk, IfErr};
 ghost use Rattle.stab_io.specs.declared.refusal.Refusal.TheVariants.{OutOfMemory};
 ghost use Rattle.stab_distance.specs.LogicalErrors.{IsAnswer, HasNoneWithin};
 ghost use Rattle.stab_distance.specs.Progress.{TellsSearch};
-ghost use Rattle.stab_distance.specs.inner.Classes.{AreEnough};
+ghost use Rattle.stab_distance.specs.inner.Classes.{StandFor};
 ghost use Rattle.stab_distance.specs.inner.Shortest.{IsFound};
 ghost use Rattle.stab_distance.specs.inner.Tellings.{TellsAnswer};
 
@@ -81,7 +81,7 @@ fn least_of_kept<P: Progress>(
     progress: &mut P,
 ) -> Result<Answer, Refusal>
     requires order { from ≤ most }
-    requires enough { AreEnough table.now kept.errors.table kept.numbers.items }
+    requires stand { StandFor table.now kept.errors.table kept.numbers.items }
     requires none { HasNoneWithin table.now from }
     ensures answer { IfOk result (IsAnswer table.now most) }
     ensures refusal { IfErr result (λ e. e ≡ OutOfMemory) }

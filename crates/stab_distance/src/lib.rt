@@ -2,7 +2,7 @@
 //!
 //! - `row`, `table`: what each error flips. `answer`: the answers, and the trait that reports progress.
 //! - `least`: the call. `distinct`: errors that flip the same count once. `kept`: errors that are enough, of one of the `classes` of detectors
-//!   each. `sets`: what is found, in order.
+//!   each. `renumbering`: these by other numbers of detectors. `sets`: what is found, in order.
 //! - `sizes`: one error is tried, then two, and so on. `searching`: the search itself. `merging`: what errors flip together.
 //! - `steps`: which errors can be the first of a set. `errors`: the errors ready for a search. `index`, `keys`: which errors to try. `candidates`: of which each set has one. `pairs`: which are never
 //!   tried together.
@@ -44,6 +44,7 @@ mod logical;
 mod merging;
 mod pairs;
 mod parts;
+mod renumbering;
 mod row;
 mod searching;
 mod sets;

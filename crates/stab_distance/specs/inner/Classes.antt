@@ -38,3 +38,9 @@ pub record AreEnough (t fewer : ErrorTable) (numbers : List ℕ) : Type 0 where
   pub detectors : fewer.detectors ≡ t.detectors
   pub rows : AreRowsOf t.rows fewer.rows numbers
   pub enough : (errors : List ℕ) → IsLogicalError t errors → (others : List ℕ) × (IsLogicalError fewer others × (length others ≤ length errors))
+
+-- errors that stand for those of a table: their logical errors are the table's by these numbers, and for each of the table's they have one of no more errors
+pub record StandFor (t fewer : ErrorTable) (numbers : List ℕ) : Type 0 where
+  pub count : length numbers ≡ length fewer.rows
+  pub logical : (errors : List ℕ) → IsLogicalError fewer errors → IsLogicalError t (map (slice_index numbers) errors)
+  pub enough : (errors : List ℕ) → IsLogicalError t errors → (others : List ℕ) × (IsLogicalError fewer others × (length others ≤ length errors))

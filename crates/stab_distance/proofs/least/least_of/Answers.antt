@@ -1,6 +1,6 @@
 use Rattle.stab_distance.proofs.Names.{◌≡◌, ◌≤◌, ◌+◌, ℕ, List, subst, arith, map, slice_index, length, length-map, IsGathered}
 use Rattle.stab_distance.proofs.DistinctLemmas.{distinct-enough}
-use Rattle.stab_distance.proofs.EnoughLemmas.{none-within_enough, least-enough}
+use Rattle.stab_distance.proofs.EnoughLemmas.{none-within_enough, least-enough, distinct-stand}
 use Rattle.stab_distance.proofs.TellingLemmas.{told-early, told-after}
 use Rattle.stab_distance.proofs.least.least_of.Goals as goal
 
@@ -8,7 +8,7 @@ pub returns-in_err-found-clause-told : goal.returns-in_err-found-clause-told
 returns-in_err-found-clause-told g c =
     told-early _ _ _ c.args.table.now c.in_ok-errors.errors.table c.min-first.result c.args.most _ _ _ c.from_residual-in_err-found.result
     (none-within_enough c.args.table.now c.in_ok-errors.errors.table c.in_ok-distinct.distinct.numbers.items
-    (distinct-enough c.args.table.now c.in_ok-errors.errors.table c.detectors.result c.in_ok-distinct.distinct.rows.items c.in_ok-errors.ensures.table c.detectors.ensures.value
+    (distinct-stand c.args.table.now c.in_ok-errors.errors.table c.detectors.result c.in_ok-distinct.distinct.rows.items c.in_ok-errors.ensures.table c.detectors.ensures.value
     c.in_ok-distinct.ensures.all c.in_ok-distinct.distinct.numbers.items c.in_ok-distinct.ensures.rows))
     c.in_err-found.ensures.told c.from_residual-in_err-found.ensures.1
 
@@ -16,7 +16,7 @@ pub returns-in_err-set-in-Some-clause-told : goal.returns-in_err-set-in-Some-cla
 returns-in_err-set-in-Some-clause-told g c =
     told-early _ _ _ c.args.table.now c.in_ok-errors.errors.table c.min-first.result c.args.most _ _ _ c.from_residual-in_err-set-in-Some.result
     (none-within_enough c.args.table.now c.in_ok-errors.errors.table c.in_ok-distinct.distinct.numbers.items
-    (distinct-enough c.args.table.now c.in_ok-errors.errors.table c.detectors.result c.in_ok-distinct.distinct.rows.items c.in_ok-errors.ensures.table c.detectors.ensures.value
+    (distinct-stand c.args.table.now c.in_ok-errors.errors.table c.detectors.result c.in_ok-distinct.distinct.rows.items c.in_ok-errors.ensures.table c.detectors.ensures.value
     c.in_ok-distinct.ensures.all c.in_ok-distinct.distinct.numbers.items c.in_ok-distinct.ensures.rows))
     c.in_ok-found.ensures.told c.from_residual-in_err-set-in-Some.ensures.1
 
@@ -24,7 +24,7 @@ gathered-in : goal.returns-in-Some-clause-answer
 gathered-in g c =
     let s = rw c.in-Some.is at c.in_ok-found.ensures.some in
     least-enough c.args.table.now c.in_ok-errors.errors.table c.in_ok-distinct.distinct.numbers.items
-    (distinct-enough c.args.table.now c.in_ok-errors.errors.table c.detectors.result c.in_ok-distinct.distinct.rows.items c.in_ok-errors.ensures.table c.detectors.ensures.value
+    (distinct-stand c.args.table.now c.in_ok-errors.errors.table c.detectors.result c.in_ok-distinct.distinct.rows.items c.in_ok-errors.ensures.table c.detectors.ensures.value
     c.in_ok-distinct.ensures.all c.in_ok-distinct.distinct.numbers.items c.in_ok-distinct.ensures.rows)
     c.args.most c.in-Some.found.items c.in_ok-set-in-Some.set.items
     (record { logical = s.logical; within = omega (arith, s.within, c.min-first.ensures); least = s.least })
@@ -39,7 +39,7 @@ pub returns-in-Some-clause-told : goal.returns-in-Some-clause-told
 returns-in-Some-clause-told g c =
     let tells = rw c.in-Some.is at c.in_ok-found.ensures.told in
     let none = (none-within_enough c.args.table.now c.in_ok-errors.errors.table c.in_ok-distinct.distinct.numbers.items
-    (distinct-enough c.args.table.now c.in_ok-errors.errors.table c.detectors.result c.in_ok-distinct.distinct.rows.items c.in_ok-errors.ensures.table c.detectors.ensures.value
+    (distinct-stand c.args.table.now c.in_ok-errors.errors.table c.detectors.result c.in_ok-distinct.distinct.rows.items c.in_ok-errors.ensures.table c.detectors.ensures.value
     c.in_ok-distinct.ensures.all c.in_ok-distinct.distinct.numbers.items c.in_ok-distinct.ensures.rows)) in
     let found = subst (λ (xs : List ℕ). IsGathered (map (slice_index c.as_slice-in-Some.result.now) xs) c.in_ok-set-in-Some.set.items) c.as_slice.ensures.value c.in_ok-set-in-Some.ensures.gathered in
     let fewer : length c.in_ok-set-in-Some.set.items ≤ length c.in-Some.found.items =
@@ -52,20 +52,20 @@ pub returns-in_err-kept-clause-told : goal.returns-in_err-kept-clause-told
 returns-in_err-kept-clause-told g c =
     told-early _ _ _ c.args.table.now c.in_ok-errors.errors.table c.min-first.result c.args.most _ _ _ c.from_residual-in_err-kept.result
     (none-within_enough c.args.table.now c.in_ok-errors.errors.table c.in_ok-distinct.distinct.numbers.items
-    (distinct-enough c.args.table.now c.in_ok-errors.errors.table c.detectors.result c.in_ok-distinct.distinct.rows.items c.in_ok-errors.ensures.table c.detectors.ensures.value
+    (distinct-stand c.args.table.now c.in_ok-errors.errors.table c.detectors.result c.in_ok-distinct.distinct.rows.items c.in_ok-errors.ensures.table c.detectors.ensures.value
     c.in_ok-distinct.ensures.all c.in_ok-distinct.distinct.numbers.items c.in_ok-distinct.ensures.rows))
     c.in_ok-found.ensures.told c.from_residual-in_err-kept.ensures.1
 
-pub least_of_kept-requires-clause-enough : goal.least_of_kept-requires-clause-enough
-least_of_kept-requires-clause-enough g c =
-    c.in_ok-kept.ensures.enough c.args.table.now
+pub least_of_kept-requires-clause-stand : goal.least_of_kept-requires-clause-stand
+least_of_kept-requires-clause-stand g c =
+    c.in_ok-kept.ensures.stand c.args.table.now
     (distinct-enough c.args.table.now c.in_ok-errors.errors.table c.detectors.result c.in_ok-distinct.distinct.rows.items c.in_ok-errors.ensures.table c.detectors.ensures.value
     c.in_ok-distinct.ensures.all c.in_ok-distinct.distinct.numbers.items c.in_ok-distinct.ensures.rows)
 
 pub least_of_kept-requires-clause-none : goal.least_of_kept-requires-clause-none
 least_of_kept-requires-clause-none g c =
     none-within_enough c.args.table.now c.in_ok-errors.errors.table c.in_ok-distinct.distinct.numbers.items
-    (distinct-enough c.args.table.now c.in_ok-errors.errors.table c.detectors.result c.in_ok-distinct.distinct.rows.items c.in_ok-errors.ensures.table c.detectors.ensures.value
+    (distinct-stand c.args.table.now c.in_ok-errors.errors.table c.detectors.result c.in_ok-distinct.distinct.rows.items c.in_ok-errors.ensures.table c.detectors.ensures.value
     c.in_ok-distinct.ensures.all c.in_ok-distinct.distinct.numbers.items c.in_ok-distinct.ensures.rows)
     c.min-first.result (rw c.in-None.is at c.in_ok-found.ensures.none)
 

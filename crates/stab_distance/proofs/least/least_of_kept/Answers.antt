@@ -6,25 +6,25 @@ use Rattle.stab_distance.proofs.least.least_of_kept.Goals as goal
 pub find-requires : goal.find-requires
 find-requires g c = record {
   order = c.requires.order;
-  none = none-within_fewer c.args.table.now c.args.kept.errors.table c.args.kept.numbers.items c.requires.enough c.args.from c.requires.none;
+  none = none-within_fewer c.args.table.now c.args.kept.errors.table c.args.kept.numbers.items c.requires.stand c.args.from c.requires.none;
 }
 
 pub returns-in_err-found-clause-told : goal.returns-in_err-found-clause-told
 returns-in_err-found-clause-told g c =
     told-table _ _ c.args.table.now c.args.kept.errors.table c.args.from c.args.most _ _ _ c.from_residual.result
-    (none-within_enough c.args.table.now c.args.kept.errors.table c.args.kept.numbers.items c.requires.enough)
+    (none-within_enough c.args.table.now c.args.kept.errors.table c.args.kept.numbers.items c.requires.stand)
     c.in_err-found.ensures.told (ok-of_err _ _ _ (λ a. IsExcludedBy c.args.most a c.in_err-found.ensures.told.last) c.from_residual.result c.from_residual.ensures.1)
 
 pub returns-in_err-set-in-Least-clause-told : goal.returns-in_err-set-in-Least-clause-told
 returns-in_err-set-in-Least-clause-told g c =
     told-table _ _ c.args.table.now c.args.kept.errors.table c.args.from c.args.most _ _ _ c.from_residual-in_err-set-in-Least.result
-    (none-within_enough c.args.table.now c.args.kept.errors.table c.args.kept.numbers.items c.requires.enough)
+    (none-within_enough c.args.table.now c.args.kept.errors.table c.args.kept.numbers.items c.requires.stand)
     c.in_ok-found.ensures.told
     (ok-of_err _ _ _ (λ a. IsExcludedBy c.args.most a c.in_ok-found.ensures.told.last) c.from_residual-in_err-set-in-Least.result c.from_residual-in_err-set-in-Least.ensures.1)
 
 gathered-in : goal.returns-in-Least-clause-answer
 gathered-in g c =
-    least-enough c.args.table.now c.args.kept.errors.table c.args.kept.numbers.items c.requires.enough c.args.most c.in-Least.found.items c.in_ok-set-in-Least.set.items
+    least-enough c.args.table.now c.args.kept.errors.table c.args.kept.numbers.items c.requires.stand c.args.most c.in-Least.found.items c.in_ok-set-in-Least.set.items
     (rw c.in-Least.is at c.in_ok-found.ensures.found)
     (subst (λ (xs : List ℕ). IsGathered (map (slice_index xs) c.in-Least.found.items) c.in_ok-set-in-Least.set.items) c.as_slice-in-Least.ensures.value
     (subst (λ (xs : List ℕ). IsGathered (map (slice_index c.as_slice-in-Least.result.now) xs) c.in_ok-set-in-Least.set.items) c.as_slice.ensures.value
@@ -36,7 +36,7 @@ returns-in-Least-clause-answer g c = gathered-in g c
 pub returns-in-Least-clause-told : goal.returns-in-Least-clause-told
 returns-in-Least-clause-told g c =
     let tells = rw c.in-Least.is at c.in_ok-found.ensures.told in
-    let none = none-within_enough c.args.table.now c.args.kept.errors.table c.args.kept.numbers.items c.requires.enough in
+    let none = none-within_enough c.args.table.now c.args.kept.errors.table c.args.kept.numbers.items c.requires.stand in
     let found = subst (λ (xs : List ℕ). IsGathered (map (slice_index c.as_slice-in-Least.result.now) xs) c.in_ok-set-in-Least.set.items) c.as_slice.ensures.value c.in_ok-set-in-Least.ensures.gathered in
     let fewer : length c.in_ok-set-in-Least.set.items ≤ length c.in-Least.found.items =
     omega (arith, found.fewer, length-map c.in-Least.found.items (slice_index c.as_slice-in-Least.result.now)) in
@@ -47,24 +47,24 @@ returns-in-Least-clause-told g c =
 pub returns-in-NoneWithin-clause-answer : goal.returns-in-NoneWithin-clause-answer
 returns-in-NoneWithin-clause-answer g c =
     let found = rw c.in-NoneWithin.is at c.in_ok-found.ensures.found in (
-      none-within_enough c.args.table.now c.args.kept.errors.table c.args.kept.numbers.items c.requires.enough c.args.most found.0,
-      some-enough c.args.table.now c.args.kept.errors.table c.args.kept.numbers.items c.requires.enough found.1,
+      none-within_enough c.args.table.now c.args.kept.errors.table c.args.kept.numbers.items c.requires.stand c.args.most found.0,
+      some-enough c.args.table.now c.args.kept.errors.table c.args.kept.numbers.items c.requires.stand found.1,
     )
 
 pub returns-in-NoneWithin-clause-told : goal.returns-in-NoneWithin-clause-told
 returns-in-NoneWithin-clause-told g c =
     let tells = rw c.in-NoneWithin.is at c.in_ok-found.ensures.told in
     told-table _ _ c.args.table.now c.args.kept.errors.table c.args.from c.args.most _ _ _ _
-    (none-within_enough c.args.table.now c.args.kept.errors.table c.args.kept.numbers.items c.requires.enough)
+    (none-within_enough c.args.table.now c.args.kept.errors.table c.args.kept.numbers.items c.requires.stand)
     tells tells.all
 
 pub returns-clause-answer : goal.returns-clause-answer
 returns-clause-answer g c =
-    none-enough c.args.table.now c.args.kept.errors.table c.args.kept.numbers.items c.requires.enough (rw c.in-NoneAtAll.is at c.in_ok-found.ensures.found)
+    none-enough c.args.table.now c.args.kept.errors.table c.args.kept.numbers.items c.requires.stand (rw c.in-NoneAtAll.is at c.in_ok-found.ensures.found)
 
 pub returns-clause-told : goal.returns-clause-told
 returns-clause-told g c =
     let tells = rw c.in-NoneAtAll.is at c.in_ok-found.ensures.told in
     told-table _ _ c.args.table.now c.args.kept.errors.table c.args.from c.args.most _ _ _ _
-    (none-within_enough c.args.table.now c.args.kept.errors.table c.args.kept.numbers.items c.requires.enough)
+    (none-within_enough c.args.table.now c.args.kept.errors.table c.args.kept.numbers.items c.requires.stand)
     tells tells.all
