@@ -29,6 +29,8 @@ mod clauses;
 #[cfg(test)]
 mod coins;
 #[cfg(test)]
+mod counts;
+#[cfg(test)]
 mod cursors;
 #[cfg(test)]
 mod devices;
