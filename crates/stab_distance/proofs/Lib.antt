@@ -7,6 +7,8 @@ pub mod FlipLemmas
 pub mod IndexLemmas
 pub mod CoverLemmas
 pub mod EndLemmas
+pub mod WayLemmas
+pub mod ChoiceLemmas
 pub mod CertificateLemmas
 pub mod DistinctLemmas
 pub mod ClassLemmas

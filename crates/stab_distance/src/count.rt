@@ -1,3 +1,9 @@
+ghost use Rattle.std.specs.Prelude.{◌≡◌, ℕ, ◌<◌, ◌≤◌, true, length, IfOk, IfErr};
+ghost use Rattle.stab_io.specs.declared.refusal.Refusal.TheVariants.{OutOfMemory};
+ghost use Rattle.stab_distance.specs.Counts.{HasNoneBelow, IsCount};
+ghost use Rattle.stab_distance.specs.Tables.{odd, row};
+ghost use Rattle.stab_distance.specs.inner.Lists.{Each, has};
+
 use crate::counting::try_each;
 use crate::errors::Errors;
 use crate::groups::groups_of;
@@ -10,6 +16,9 @@ use std::alloc::{AllocError, Global};
 ///
 /// The only refusal is `OutOfMemory`.
 pub fn count_least(alloc: Global, table: &Table, size: usize) -> Result<Option<u64>, Refusal>
+    requires least { HasNoneBelow table.now size }
+    ensures count { IfOk result (IsCount table.now size) }
+    ensures refusal { IfErr result (λ e. e ≡ OutOfMemory) }
 {
     if size == 0 {
         return Ok(Some(0));
@@ -34,6 +43,8 @@ pub fn count_least(alloc: Global, table: &Table, size: usize) -> Result<Option<u
 
 /// The errors that flip an observable.
 fn observing(alloc: Global, errors: &Errors) -> Result<Vec<usize>, AllocError>
+    ensures inside { IfOk result (λ v. Each (λ r. r < length errors.now.table.rows) v.items) }
+    ensures all { IfOk result (λ v. (r o : ℕ) → r < length errors.now.table.rows → errors.now.table.detectors ≤ o → odd o (row errors.now.table.rows r) ≡ true → has r v.items ≡ true) }
 {
     let mut found = Vec::new(alloc);
     'rows: for r in 0..errors.len() {

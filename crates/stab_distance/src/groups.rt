@@ -1,3 +1,8 @@
+ghost use Rattle.std.specs.Prelude.{◌≡◌, ℕ, ◌<◌, ◌^◌, ◌-◌, List, length, slice_index, IfOk, IfSome, OnOk};
+ghost use Rattle.stab_distance.specs.Ascending.{IsAscending};
+ghost use Rattle.stab_distance.specs.Tables.{ErrorTable, row};
+ghost use Rattle.stab_distance.specs.inner.Ways.{AreGroups, IsAdded};
+
 use crate::distinct::place_of;
 use crate::index::{list, rows_at};
 use crate::row::Row;
@@ -13,6 +18,7 @@ pub struct Groups {
 
 /// The rows of a table, each with the number of errors that have it.
 pub fn groups_of(alloc: Global, table: &Table) -> Result<Groups, AllocError>
+    ensures groups { IfOk result (λ g. AreGroups table.now g.rows.items g.weights.items) }
 {
     let mut groups = Groups {
         rows: Vec::new(alloc),
@@ -34,6 +40,9 @@ fn add(
     numbers: &[u32],
     size: usize,
 ) -> Result<(), AllocError>
+    requires ascending { IsAscending numbers.now }
+    requires count { length groups.old.weights.items ≡ length groups.old.rows.items }
+    ensures added { OnOk result (IsAdded numbers.now groups.old.rows.items groups.old.weights.items groups.new.rows.items groups.new.weights.items) }
 {
     let place = place_of(numbers, size);
     let found = find(
@@ -58,6 +67,7 @@ fn add(
 
 /// One of the candidates that is this row, and can have one more error.
 fn find(rows: &[Row], weights: &[u64], candidates: &[usize], numbers: &[u32]) -> Option<usize>
+    ensures found { IfSome result (λ k. (k < length rows.now) × ((k < length weights.now) × ((slice_index weights.now k < 2 ^ 64 - 1) × (row rows.now k ≡ numbers.now)))) }
 {
     'candidates: for k in candidates {
         let k = *k;
