@@ -1,5 +1,5 @@
 -- Ways: of none but observables, of what is flipped alike, with one weight changed, and the errors behind them.
-use Rattle.stab_distance.proofs.Names.{eqb-true, ◌≡◌, ℕ, zero, suc, ◌+◌, ◌*◌, ◌≤◌, ◌<◌, ◌⊎◌, inl, inr, refl, sym, ◌∙◌, ap, subst, arith, Bool, true, false, ◌||◌, List, [], ◌∷◌, ◌++◌, length, map, set, cases_lt, false≢true, ◌==◌, nat_lt, if◌then◌else◌, and_parts, or_left, or_right, lt-ltb, ltb-true, length-map, list_any, eq-eqb, ◌⊕◌, parity-comm, parity-assoc, parity-twice, parity-false, ErrorTable, odd, row, flips, Each, has, Completes, leaf, ways, IsWay}
+use Rattle.stab_distance.proofs.Names.{eqb-true, ◌≡◌, ℕ, zero, suc, ◌+◌, ◌*◌, ◌≤◌, ◌<◌, ◌⊎◌, inl, inr, refl, sym, ◌∙◌, ap, subst, arith, Bool, true, false, ◌||◌, List, [], ◌∷◌, ◌++◌, length, map, set, slice_index, cases_lt, false≢true, ◌==◌, nat_lt, if◌then◌else◌, and_parts, or_left, or_right, lt-ltb, ltb-true, length-map, list_any, eq-eqb, ◌⊕◌, parity-comm, parity-assoc, parity-twice, parity-false, ErrorTable, odd, row, flips, Each, has, Completes, leaf, ways, IsWay}
 use Rattle.std.specs.Prelude.{◌&&◌}
 use Rattle.std.proofs.Math.Nat.{mul-add, add-mul, mul_left_comm, mul-zero}
 use Rattle.stab_distance.proofs.ListLemmas.{by-bit, has-here, has-there}
@@ -29,10 +29,10 @@ any-one p (x ∷ xs) e =
 -- without another error there is one way, or none
 
 module _ (t : ErrorTable) (s : List ℕ) where
-  detected : Bool
+  abbrev detected : Bool
   detected = list_any (λ k. nat_lt k t.detectors && odd k s) s
 
-  observed : Bool
+  abbrev observed : Bool
   observed = list_any (λ k. odd k s) s
 
   leaf-detected : detected ≡ true → leaf t.detectors s ≡ 0
@@ -226,10 +226,10 @@ each-shift P Q f [] a = tt
 each-shift P Q f (e ∷ es) a = (f e a.0, each-shift P Q f es a.1)
 
 module _ (detectors : ℕ) (r : List ℕ) (rows : List (List ℕ)) (s es : List ℕ) where
-  part : ErrorTable
+  abbrev part : ErrorTable
   part = record { detectors = detectors; rows = rows }
 
-  whole : ErrorTable
+  abbrev whole : ErrorTable
   whole = record { detectors = detectors; rows = r ∷ rows }
 
   inside-shift : Each (λ e. e < length rows) es → Each (λ e. e < suc (length rows)) (map suc es)
@@ -265,13 +265,13 @@ positive zero n lt = absurd (omega arith)
 positive (suc w) zero lt = let none = mul-zero (suc w) in absurd (omega arith)
 positive (suc w) (suc n) lt = (omega arith, omega arith)
 
+others-some : (a b : ℕ) → 0 < a + b → a ≤ 0 → 0 < b
+others-some a b some none = omega arith
+
 pub found : (detectors : ℕ) (rows : List (List ℕ)) (weights : List ℕ) (left : ℕ) (s : List ℕ) → length weights ≡ length rows
     → 0 < ways detectors rows weights left s → (rest : List ℕ) × IsWay (record { detectors = detectors; rows = rows }) weights s left rest
 found detectors rows weights zero s count some =
-    ([], record { completes = inside_any (leaf-some (record { detectors = detectors; rows = rows }) s some); weighted = tt; count = refl })
-  where
-    inside_any : Completes (record { detectors = detectors; rows = rows }) s [] → Completes (record { detectors = detectors; rows = rows }) s []
-    inside_any c = c
+    ([], record { completes = leaf-some (record { detectors = detectors; rows = rows }) s some; weighted = tt; count = refl })
 found detectors [] weights (suc left) s count some = absurd (omega arith)
 found detectors (r ∷ rows) [] (suc left) s count some = absurd (omega arith)
 found detectors (r ∷ rows) (w ∷ weights) (suc left) s count some =
@@ -281,17 +281,17 @@ found detectors (r ∷ rows) (w ∷ weights) (suc left) s count some =
             map suc other.0,
             record {
               completes = completes-skip detectors r rows s other.0 other.1.completes;
-              weighted = each-shift _ _ (λ e h. h) other.0 other.1.weighted;
+              weighted = each-shift (λ e. 0 < slice_index weights e) (λ e. 0 < slice_index (w ∷ weights) e) (λ e h. h) other.0 other.1.weighted;
               count = length-map other.0 suc ∙ other.1.count;
             },
           )
       | inr le ↦
-          let both = positive w (ways detectors rows weights left (r ++ s)) (omega arith) in
+          let both = positive w (ways detectors rows weights left (r ++ s)) (others-some (ways detectors rows weights (suc left) s) (w * ways detectors rows weights left (r ++ s)) some le) in
           let other = found detectors rows weights left (r ++ s) (omega arith) both.1 in (
             0 ∷ map suc other.0,
             record {
               completes = completes-take detectors r rows s other.0 other.1.completes;
-              weighted = (both.0, each-shift _ _ (λ e h. h) other.0 other.1.weighted);
+              weighted = (both.0, each-shift (λ e. 0 < slice_index weights e) (λ e. 0 < slice_index (w ∷ weights) e) (λ e h. h) other.0 other.1.weighted);
               count = ap suc (length-map other.0 suc ∙ other.1.count);
             },
           )

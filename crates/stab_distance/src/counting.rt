@@ -6,7 +6,7 @@ ghost use Rattle.stab_distance.specs.Tables.{row};
 ghost use Rattle.stab_distance.specs.LogicalErrors.{HasNoneWithin};
 ghost use Rattle.stab_distance.specs.inner.Errors.{key_of};
 ghost use Rattle.stab_distance.specs.inner.Lists.{Each, has};
-ghost use Rattle.stab_distance.specs.inner.Ways.{ways, Fits, HasNoFewer, IsPart};
+ghost use Rattle.stab_distance.specs.inner.Ways.{ways, Tells, HasNoFewer, IsPart};
 
 use crate::choices::choices;
 use crate::errors::Errors;
@@ -30,7 +30,7 @@ pub fn ways(
     requires fewer { HasNoFewer errors.now.table flipped.now left }
     requires weights { length weights.old ≡ length errors.now.table.rows }
     requires cover { length cover.old ≡ length errors.now.table.rows }
-    ensures count { IfOk result (Fits (ways errors.now.table.detectors errors.now.table.rows weights.old left flipped.now)) }
+    ensures count { IfOk result (Tells (ways errors.now.table.detectors errors.now.table.rows weights.old left flipped.now)) }
     ensures weights { OnOk result (weights.new ≡ weights.old) }
     ensures cover { length cover.new ≡ length cover.old }
 {
@@ -113,7 +113,7 @@ fn try_error(
     requires inside { g < length errors.now.table.rows }
     requires weights { length weights.old ≡ length errors.now.table.rows }
     requires cover { length cover.old ≡ length errors.now.table.rows }
-    ensures count { IfOk result (Fits (slice_index weights.old g * ways errors.now.table.detectors errors.now.table.rows (slice_set weights.old g 0) rest (row errors.now.table.rows g ++ flipped.now))) }
+    ensures count { IfOk result (Tells (slice_index weights.old g * ways errors.now.table.detectors errors.now.table.rows (slice_set weights.old g 0) rest (row errors.now.table.rows g ++ flipped.now))) }
     ensures weights { OnOk result (weights.new ≡ slice_set weights.old g 0) }
     ensures length { length weights.new ≡ length weights.old }
     ensures cover { length cover.new ≡ length cover.old }
@@ -204,7 +204,7 @@ fn put_back(errors: &[usize], before: &[u64], weights: &mut [u64])
 
 /// The sum of two numbers, if it fits in 64 bits.
 fn plus(a: Option<u64>, b: Option<u64>) -> Option<u64>
-    ensures sum { (m n : ℕ) → Fits m a → Fits n b → Fits (m + n) result }
+    ensures sum { (m n : ℕ) → Tells m a → Tells n b → Tells (m + n) result }
 {
     match (a, b) {
         (Some(a), Some(b)) => a.checked_add(b),
@@ -215,7 +215,7 @@ fn plus(a: Option<u64>, b: Option<u64>) -> Option<u64>
 /// The product of a weight and a number, if it fits in 64 bits.
 fn times(weight: u64, number: Option<u64>) -> Option<u64>
     requires some { 0 < weight }
-    ensures product { (n : ℕ) → Fits n number → Fits (weight * n) result }
+    ensures product { (n : ℕ) → Tells n number → Tells (weight * n) result }
 {
     match number {
         Some(number) => weight.checked_mul(number),
