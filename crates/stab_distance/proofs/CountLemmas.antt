@@ -13,9 +13,12 @@ record IsSetFor (t : ErrorTable) (left : ℕ) (s es : List ℕ) : Type 0 where
 
 -- ascending numbers, each one more or one less
 
+up-one : (e : ℕ) → suc (e + 1) ≡ suc e + 1
+up-one e = omega arith
+
 up-ascends : (m : ℕ) (es : List ℕ) → AscendsFrom m es → AscendsFrom (suc m) (map suc es)
 up-ascends m [] a = tt
-up-ascends m (e ∷ es) a = (let h = a.0 in omega arith, up-ascends (e + 1) es a.1)
+up-ascends m (e ∷ es) a = (let h = a.0 in omega arith, subst (λ n. AscendsFrom n (map suc es)) (up-one e) (up-ascends (e + 1) es a.1))
 
 lower : (m k : ℕ) (es : List ℕ) → m ≤ k → AscendsFrom k es → AscendsFrom m es
 lower m k [] le a = tt
@@ -31,7 +34,7 @@ is-up : (m : ℕ) (es : List ℕ) → AscendsFrom (suc m) es → IsUp m es
 is-up m [] a = record { down = []; same = refl; ascending = tt }
 is-up m (zero ∷ es) a = absurd (let h = a.0 in omega arith)
 is-up m (suc e ∷ es) a =
-    let later = is-up (e + 1) es a.1 in
+    let later = is-up (e + 1) es (subst (λ n. AscendsFrom n es) (sym (up-one e)) a.1) in
     record { down = e ∷ later.down; same = ap (λ (xs : List ℕ). suc e ∷ xs) later.same; ascending = (let h = a.0 in omega arith, later.ascending) }
 
 abbrev pred-of : ℕ → ℕ

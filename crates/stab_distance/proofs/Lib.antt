@@ -9,6 +9,9 @@ pub mod CoverLemmas
 pub mod EndLemmas
 pub mod WayLemmas
 pub mod ChoiceLemmas
+pub mod GroupLemmas
+pub mod CountLemmas
+pub mod TryLemmas
 pub mod CertificateLemmas
 pub mod DistinctLemmas
 pub mod ClassLemmas

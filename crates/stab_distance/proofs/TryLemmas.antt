@@ -6,7 +6,7 @@ use Rattle.stab_distance.proofs.EndLemmas.{completes-push}
 use Rattle.stab_distance.proofs.ListLemmas.{by-bit, each-has}
 use Rattle.stab_distance.proofs.ScanLemmas.{left-over, none-left, is-among}
 use Rattle.stab_distance.proofs.Totals.{odd-append}
-use Rattle.std.proofs.Math.Nat.{mul-zero}
+use Rattle.std.proofs.Math.Nat.{mul-zero, zero-mul}
 use Rattle.stab_distance.proofs.WayLemmas.{linear, no-ways}
 
 -- what is flipped after an error
@@ -54,7 +54,10 @@ part-more t before now next s g rest sum more total lt count is part told plus =
     sums n one next none now before e f g = omega arith
 
 pub part-none : (t : ErrorTable) (weights s : List ℕ) (left : ℕ) (a : Option ℕ) → Tells 0 a → IsPart t weights weights left s a
-part-none t weights s left a told = (0, (told, refl))
+part-none t weights s left a told = (0, (told, nothing-more (ways t.detectors t.rows weights left s)))
+  where
+    nothing-more : (n : ℕ) → 0 + n ≡ n
+    nothing-more n = omega arith
 
 pub part-whole : (t : ErrorTable) (before after s : List ℕ) (left : ℕ) (a : Option ℕ) → IsPart t before after left s a → ways t.detectors t.rows after left s ≡ 0
     → Tells (ways t.detectors t.rows before left s) a
@@ -66,7 +69,7 @@ part-whole t before after s left a part none =
 -- without a weight, or without a last error that has the key, nothing is added
 
 pub nothing-weighs : (w n : ℕ) → w ≡ 0 → 0 ≡ w * n
-nothing-weighs w n none = sym (ap (λ v. v * n) none)
+nothing-weighs w n none = sym (ap (λ v. v * n) none ∙ zero-mul n)
 
 pub nothing-last : (t : ErrorTable) (numbers weights s x : List ℕ) (w rest : ℕ) → length numbers ≤ t.detectors → length weights ≡ length t.rows → rest ≡ 1
     → ((e : ℕ) → e < length t.rows → key_of numbers (row t.rows e) ≡ key_of numbers (x ++ s) → slice_index weights e ≡ 0)
@@ -92,10 +95,10 @@ put-step errors before was now next k e lt inside is each so_far =
     (λ same.
     let here : get_or errors k 0 ≡ e = eqb-true (get_or errors k 0) e same in
     inr (
-      ap (λ (ws : List ℕ). get_or ws e 0) is
-      ∙ ap (λ j. get_or (set now (get_or errors k 0) (get_or before k 0)) j 0) (sym here)
-      ∙ get_or-set_same now (get_or errors k 0) (get_or before k 0) 0 (each-has (λ g. g < length now) (get_or errors k 0) errors inside (is-among errors k lt))
-      ∙ each k lt ∙ ap (λ j. get_or was j 0) here
+    ap (λ (ws : List ℕ). get_or ws e 0) is
+    ∙ ap (λ j. get_or (set now (get_or errors k 0) (get_or before k 0)) j 0) (sym here)
+    ∙ get_or-set_same now (get_or errors k 0) (get_or before k 0) 0 (each-has (λ g. g < length now) (get_or errors k 0) errors inside (is-among errors k lt))
+    ∙ each k lt ∙ ap (λ j. get_or was j 0) here
     ))
     (λ other.
     let apart : get_or errors k 0 ≢ e = eqb-false (get_or errors k 0) e other in
@@ -103,9 +106,9 @@ put-step errors before was now next k e lt inside is each so_far =
       | inl left ↦ inl (left-over e errors k lt left (λ same. absurd (apart same)) (λ later. later))
       | inr same ↦
           inr (
-            ap (λ (ws : List ℕ). get_or ws e 0) is
-            ∙ get_or-set_other now (get_or errors k 0) e (get_or before k 0) 0 (λ q. apart (sym q))
-            ∙ same
+          ap (λ (ws : List ℕ). get_or ws e 0) is
+          ∙ get_or-set_other now (get_or errors k 0) e (get_or before k 0) 0 (λ q. apart (sym q))
+          ∙ same
           )
     ])
 
@@ -125,10 +128,10 @@ pub none-first : (t : ErrorTable) (before after : List ℕ) (left : ℕ) (at : L
     → ((e o : ℕ) → e < length t.rows → t.detectors ≤ o → odd o (row t.rows e) ≡ true → has e at ≡ true)
     → ((e : ℕ) → has e at ≡ true → slice_index after e ≡ 0) → ((e : ℕ) → has e at ≡ false → slice_index after e ≡ slice_index before e)
     → ways t.detectors t.rows after left [] ≡ 0
-none-first t before after left at count all zero others =
+none-first t before after left at count all weightless others =
     none-after t before after [] left at count
     (λ rest way.
     let o = way.completes.observed in
     meet-flipping t before [] left at rest o.0 way (sym (parity-false (flips t.rows rest o.0)) ∙ o.2)
     (λ e inside some flips. all e o.0 inside o.1 flips))
-    zero others
+    weightless others
