@@ -1,9 +1,11 @@
 -- Counts: as many sets as ways, if each row has weight 1.
-use Rattle.stab_distance.proofs.Names.{◌≡◌, ℕ, zero, suc, ◌+◌, ◌*◌, ◌-◌, ◌≤◌, ◌<◌, ◌⊎◌, inl, inr, refl, sym, ◌∙◌, ap, subst, arith, Bool, true, false, List, [], ◌∷◌, ◌++◌, length, length-map, map, drop, nat_lt, cases_lt, lt-ltb, le-ltb, false≢true, if◌then◌else◌, ◌⊕◌, parity-comm, parity-assoc, parity-twice, AscendsFrom, IsAscending, ErrorTable, odd, row, flips, IsLogicalError, Each, Completes, ways, ones, IsLogicalSetOf, AreAsMany, IsCount, Tells, Option, Some, None}
+use Rattle.stab_distance.proofs.Names.{◌≡◌, ℕ, zero, suc, ◌+◌, ◌*◌, ◌-◌, ◌≤◌, ◌<◌, ◌⊎◌, inl, inr, refl, sym, ◌∙◌, ap, subst, arith, Bool, true, false, List, [], ◌∷◌, ◌++◌, length, length-map, map, drop, nat_lt, cases_lt, lt-ltb, le-ltb, false≢true, if◌then◌else◌, ◌⊕◌, parity-comm, parity-assoc, parity-twice, AscendsFrom, IsAscending, ErrorTable, odd, row, flips, IsLogicalError, Each, Completes, ways, ones, IsLogicalSetOf, AreAsMany, IsCount, HasNoneBelow, HasNoneWithin, HasBound, HasNoFewer, AreGroups, Tells, Option, Some, None}
 use Rattle.stab_distance.proofs.ChoiceLemmas.{completes-logical, logical-completes}
+use Rattle.stab_distance.proofs.DistinctLemmas.{bound-whole}
+use Rattle.stab_distance.proofs.EndLemmas.{completes-nothing}
 use Rattle.stab_distance.proofs.ListLemmas.{each-all}
 use Rattle.stab_distance.proofs.Totals.{odd-append}
-use Rattle.stab_distance.proofs.WayLemmas.{decide, flips-shift, completes-skip, completes-take}
+use Rattle.stab_distance.proofs.WayLemmas.{decide, leaf-none, flips-shift, completes-skip, completes-take}
 
 -- a set of errors, each once, that completes what is flipped
 record IsSetFor (t : ErrorTable) (left : ℕ) (s es : List ℕ) : Type 0 where
@@ -257,3 +259,31 @@ as-many-logical t size =
 pub count-told : (t : ErrorTable) (size n : ℕ) (answer : Option ℕ) → Tells n answer → n ≡ ways t.detectors t.rows (ones t.rows) size [] → IsCount t size answer
 count-told t size n (Some k) told is = subst (AreAsMany (IsLogicalSetOf t size)) (sym (told ∙ is)) (as-many-logical t size)
 count-told t size n None told is = (n, (told, subst (AreAsMany (IsLogicalSetOf t size)) (sym is) (as-many-logical t size)))
+
+pub count-nothing : (t : ErrorTable) (size : ℕ) → size ≡ 0 → IsCount t size (Some 0)
+count-nothing t size is =
+    subst (λ n. IsCount t n (Some 0)) (sym is) (count-told t 0 0 (Some 0) refl (sym (leaf-none t [] (λ c. completes-nothing t [] c refl))))
+
+-- the groups of a table
+
+module _ (t part : ErrorTable) (detectors : ℕ) (rows : List (List ℕ)) (weights : List ℕ) (is : part ≡ record { detectors = detectors; rows = rows })
+    (same : detectors ≡ t.detectors) (groups : AreGroups t rows weights) (size : ℕ) (least : HasNoneBelow t size) where
+  is_part : part ≡ record { detectors = t.detectors; rows = rows }
+  is_part = is ∙ ap {B = ErrorTable} (λ d. record { detectors = d; rows = rows }) same
+
+  bound : HasBound part size
+  bound = subst (λ p. HasBound p size) (sym is_part) (bound-whole t.detectors rows t.rows groups.rows_of size least)
+
+  pub groups-count : length weights ≡ length part.rows
+  groups-count = groups.count ∙ ap (λ (p : ErrorTable). length p.rows) (sym is_part)
+
+  pub groups-none : (n : ℕ) → n < size → HasNoneWithin part n
+  groups-none n lt errors logical = let more = bound errors logical in omega arith
+
+  pub groups-fewer : (n : ℕ) → n ≤ size → HasNoFewer part [] n
+  groups-fewer n le rest c = let more = bound rest (completes-logical part [] rest refl c) in omega arith
+
+  pub groups-told : (n : ℕ) (answer : Option ℕ) → n ≡ size → Tells (ways part.detectors part.rows weights n []) answer → IsCount t size answer
+  groups-told n answer all told =
+      count-told t size (ways part.detectors part.rows weights n []) answer told
+      (ap (λ (p : ErrorTable). ways p.detectors p.rows weights n []) is_part ∙ ap (λ m. ways t.detectors rows weights m []) all ∙ groups.same size least)

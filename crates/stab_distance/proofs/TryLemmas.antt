@@ -1,13 +1,14 @@
 -- Tries: an error is tried, the ways with it are added up, and its weight is put back.
-use Rattle.stab_distance.proofs.Names.{◌≡◌, ◌≢◌, ℕ, zero, suc, ◌+◌, ◌*◌, ◌≤◌, ◌<◌, ◌⊎◌, inl, inr, refl, sym, ◌∙◌, ap, subst, arith, true, false, List, [], ◌∷◌, ◌++◌, length, drop, get_or, set, slice_index, ◌==◌, eqb-true, eqb-false, ◌⊕◌, parity-comm, bit_xor, Option, IsAscending, ErrorTable, odd, row, HasNoneWithin, Each, has, key_of, Completes, flips, parity-false, false≢true, length-append, ways, Tells, HasNoFewer, IsPart, HasNoneBelow, IsWay, AreGroups}
+use Rattle.stab_distance.proofs.Names.{◌≡◌, ◌≢◌, ℕ, zero, suc, ◌+◌, ◌*◌, ◌≤◌, ◌<◌, ◌⊎◌, inl, inr, refl, sym, ◌∙◌, ap, subst, arith, true, false, List, [], ◌∷◌, ◌++◌, length, drop, get_or, set, slice_index, cases_lt, ◌==◌, eqb-true, eqb-false, ◌⊕◌, parity-comm, bit_xor, Option, IsAscending, ErrorTable, odd, row, HasNoneWithin, Each, has, key_of, Completes, flips, parity-false, false≢true, length-append, ways, Tells, HasNoFewer, IsPart, HasNoneBelow, IsWay, AreGroups}
 use Rattle.std.proofs.lemmas.List.{get_or-set_same, get_or-set_other, set-get_or, ext_get_or}
-use Rattle.stab_distance.proofs.ChoiceLemmas.{meet-keyed, meet-flipping, completes-logical, none-after}
-use Rattle.stab_distance.proofs.EndLemmas.{completes-push}
+use Rattle.stab_distance.proofs.ChoiceLemmas.{meet-keyed, meet-flipping, nothing-left, none-after}
+use Rattle.stab_distance.proofs.EndLemmas.{completes-push, completes-observed, completes-detected, completes-nothing}
 use Rattle.stab_distance.proofs.ListLemmas.{by-bit, each-has}
 use Rattle.stab_distance.proofs.ScanLemmas.{left-over, none-left, is-among}
 use Rattle.stab_distance.proofs.Totals.{odd-append}
 use Rattle.std.proofs.Math.Nat.{mul-zero, zero-mul}
-use Rattle.stab_distance.proofs.WayLemmas.{linear, no-ways}
+use Rattle.stab_distance.proofs.FlipLemmas.{key-sum}
+use Rattle.stab_distance.proofs.WayLemmas.{linear, no-ways, leaf-none, leaf-one}
 
 -- what is flipped after an error
 pub alike-after : (s next x : List ℕ) → ((i : ℕ) → odd i next ≡ odd i s ⊕ odd i x) → (i : ℕ) → odd i next ≡ odd i (x ++ s)
@@ -135,3 +136,57 @@ none-first t before after left at count all weightless others =
     meet-flipping t before [] left at rest o.0 way (sym (parity-false (flips t.rows rest o.0)) ∙ o.2)
     (λ e inside some flips. all e o.0 inside o.1 flips))
     weightless others
+
+-- weights after one is set to 0
+
+pub zero-here : (ws next : List ℕ) (g : ℕ) → g < length ws → next ≡ set ws g 0 → get_or next g 0 ≡ 0
+zero-here ws next g lt is = ap (λ (xs : List ℕ). get_or xs g 0) is ∙ get_or-set_same ws g 0 0 lt
+
+pub others-kept : (ws next : List ℕ) (g e : ℕ) → g ≢ e → next ≡ set ws g 0 → get_or next e 0 ≡ get_or ws e 0
+others-kept ws next g e other is = ap (λ (xs : List ℕ). get_or xs e 0) is ∙ get_or-set_other ws g e 0 0 (λ q. other (sym q))
+
+pub zero-kept : (ws next : List ℕ) (g e : ℕ) → g < length ws → next ≡ set ws g 0 → get_or ws e 0 ≡ 0 → get_or next e 0 ≡ 0
+zero-kept ws next g e lt is none =
+    by-bit (g == e)
+    (λ same. subst (λ j. get_or next j 0 ≡ 0) (eqb-true g e same) (zero-here ws next g lt is))
+    (λ other. others-kept ws next g e (eqb-false g e other) is ∙ none)
+
+pub length-set : (xs : List ℕ) (j a : ℕ) → length (set xs j a) ≡ length xs
+length-set [] j a = refl
+length-set (x ∷ xs) zero a = refl
+length-set (x ∷ xs) (suc j) a = ap suc (length-set xs j a)
+
+pub key-after : (numbers s x : List ℕ) → key_of numbers (x ++ s) ≡ bit_xor (key_of numbers s) (key_of numbers x)
+key-after numbers s x = key-sum numbers (x ++ s) s x (λ d lt. odd-append d x s ∙ parity-comm (odd d x) (odd d s))
+
+-- what is flipped has no detector, or no error is left
+
+pub without-detector : (t : ErrorTable) (weights s : List ℕ) (left n : ℕ) → length weights ≡ length t.rows → IsAscending s → HasNoneWithin t left → HasNoFewer t s left
+    → (s ≡ []) ⊎ ((0 < length s) × (t.detectors ≤ get_or s 0 0))
+    → (left ≡ 0 → 0 < length s → n ≡ 1) → (0 < left → n ≡ 0) → (s ≡ [] → n ≡ 0) → n ≡ ways t.detectors t.rows weights left s
+without-detector t weights s zero n count a none fewer (inl nothing) one zeros empty =
+    empty nothing ∙ sym (leaf-none t s (λ c. completes-nothing t s c nothing))
+without-detector t weights s zero n count a none fewer (inr first) one zeros empty =
+    one refl first.0 ∙ sym (leaf-one t s (completes-observed t s a first.0 first.1))
+without-detector t weights s (suc left) n count a none fewer first one zeros empty =
+    zeros (omega arith) ∙ sym (nothing-left t weights s (suc left) count a none fewer (omega arith) first)
+
+pub detector-none : (t : ErrorTable) (weights s : List ℕ) (left : ℕ) → left ≡ 0 → IsAscending s → (0 < length s) × (get_or s 0 0 < t.detectors)
+    → 0 ≡ ways t.detectors t.rows weights left s
+detector-none t weights s left over a first =
+    sym (ap (λ n. ways t.detectors t.rows weights n s) over ∙ leaf-none t s (completes-detected t s a first.0 first.1))
+
+-- errors that flip an observable, with one more
+
+pub observed-more : (t : ErrorTable) (found next : List ℕ) (r : ℕ)
+    → ((q o : ℕ) → q < r → t.detectors ≤ o → odd o (row t.rows q) ≡ true → has q found ≡ true)
+    → ((q : ℕ) → has q found ≡ true → has q next ≡ true)
+    → ((o : ℕ) → t.detectors ≤ o → odd o (row t.rows r) ≡ true → has r next ≡ true)
+    → (q o : ℕ) → q < r + 1 → t.detectors ≤ o → odd o (row t.rows q) ≡ true → has q next ≡ true
+observed-more t found next r all kept taken q o lt le flips =
+    elim (cases_lt q r) [
+      | inl less ↦ kept q (all q o less le flips)
+      | inr more ↦
+          let same : q ≡ r = omega arith in
+          subst (λ k. has k next ≡ true) (sym same) (taken o le (subst (λ k. odd o (row t.rows k) ≡ true) same flips))
+    ]

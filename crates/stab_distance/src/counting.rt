@@ -41,19 +41,12 @@ pub fn ways(
         return Ok(Some(0));
     }
     let next = choices(alloc, errors, weights, flipped, key, left, cover)?;
-    let before = weights_at(alloc, next.as_slice(), weights)?;
+    let tried = next.as_slice();
+    let kept = weights_at(alloc, tried, weights)?;
+    let before = kept.as_slice();
     let rest = left - 1;
-    let sum = try_each(
-        alloc,
-        errors,
-        next.as_slice(),
-        weights,
-        flipped,
-        key,
-        rest,
-        cover,
-    )?;
-    put_back(next.as_slice(), before.as_slice(), weights);
+    let sum = try_each(alloc, errors, tried, weights, flipped, key, rest, cover)?;
+    put_back(tried, before, weights);
     Ok(sum)
 }
 
@@ -121,7 +114,10 @@ fn try_error(
     let weight = weights[g];
     weights[g] = 0;
     let next_key = key ^ errors.key(g);
-    if weight == 0 || (rest == 1 && !is_live_key(errors, weights, next_key)) {
+    if weight == 0 {
+        return Ok(Some(0));
+    }
+    if rest == 1 && !is_live_key(errors, weights, next_key) {
         return Ok(Some(0));
     }
     merge_into(next, flipped, errors.row(g))?;
