@@ -96,9 +96,10 @@ ways-returns-then-left-eq0-clause-count t c =
     (some.0, omega (arith, some.1, c.detectors.ensures.value))
 
 pub ways-weights_at-requires : goal.ways-weights_at-requires
-ways-weights_at-requires t c =
-    subst (λ n. Each (λ e. e < n) c.as_slice-tried.result.now) (sym c.requires.weights)
-    (subst (Each (λ e. e < length c.args.errors.now.table.rows)) (sym c.as_slice-tried.ensures.value) c.in_ok-next.ensures.inside)
+ways-weights_at-requires t c = record {
+  inside = subst (λ n. Each (λ e. e < n) c.as_slice-tried.result.now) (sym c.requires.weights)
+      (subst (Each (λ e. e < length c.args.errors.now.table.rows)) (sym c.as_slice-tried.ensures.value) c.in_ok-next.ensures.inside);
+}
 
 pub ways-try_each-requires : goal.ways-try_each-requires
 ways-try_each-requires t c =
