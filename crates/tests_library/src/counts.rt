@@ -15,26 +15,16 @@ const CASES: &[Case] = &[
     // A repetition code has one, of all its errors.
     (2, &[0b1_01, 0b11, 0b10], 3, 1),
     // Errors that flip the same: two times three times one.
-    (
-        2,
-        &[0b1_01, 0b11, 0b10, 0b11, 0b1_01, 0b11],
-        3,
-        6,
-    ),
+    (2, &[0b1_01, 0b11, 0b10, 0b11, 0b1_01, 0b11], 3, 6),
     // Two paths between two ends, one of which has two errors for a step.
-    (
-        3,
-        &[0b1_001, 0b011, 0b101, 0b010, 0b100, 0b010],
-        3,
-        3,
-    ),
+    (3, &[0b1_001, 0b011, 0b101, 0b010, 0b100, 0b010], 3, 3),
     // Errors that no detector sees: one for each observable, and one of them twice.
     (2, &[0b1_00, 0b10_00, 0b1_00, 0b11, 0, 0b1_01], 1, 3),
     // Two errors that differ by observables alone, and each two of three do.
     (2, &[0b01_11, 0b10_11, 0b11_11, 0b11_11], 2, 5),
     // Two errors that flip three detectors, with one that flips all of them, or three that flip one each.
     (3, &[0b1_111, 0b001, 0b010, 0b100], 4, 1),
-    // There is none of no errors.
+    // There is none without errors, and none of one that is seen.
     (2, &[], 0, 0),
     (2, &[0b1_01], 0, 0),
     // A shortest path across a square lattice of two by three detectors, straight: one for each of two rows.
@@ -71,11 +61,10 @@ fn table_of(alloc: Global, detectors: usize, rows: &[u32]) -> Result<Table, Refu
 }
 
 /// How many errors the least logical error has, 0 if there is none, and how many such sets there are.
-fn counted(alloc: Global, detectors: usize, rows: &[u32]) -> Result<(usize, Option<u64>), Refusal> {
-    let table = table_of(alloc, detectors, rows)?;
-    match least_logical_error(alloc, &table, rows.len(), &mut Unwatched)? {
+fn counted(alloc: Global, table: &Table) -> Result<(usize, Option<u64>), Refusal> {
+    match least_logical_error(alloc, table, table.len(), &mut Unwatched)? {
         Answer::Least(errors) => {
-            let count = count_least(alloc, &table, errors.len())?;
+            let count = count_least(alloc, table, errors.len())?;
             Ok((errors.len(), count))
         }
         _ => Ok((0, Some(0))),
@@ -86,24 +75,28 @@ fn counted(alloc: Global, detectors: usize, rows: &[u32]) -> Result<(usize, Opti
 fn sets_of_worked_tables_are_counted(rt: HostRuntime) -> Result<(), Fail> {
     for (number, &(detectors, rows, size, wanted)) in CASES.iter().enumerate() {
         let table = table_of(rt.alloc(), detectors, rows)?;
-        let count = count_least(rt.alloc(), &table, size)?;
-        let right = count == Some(wanted);
+        let found = counted(rt.alloc(), &table)?;
+        let right = found.0 == size && found.1 == Some(wanted);
         assert!(rt; right, "case {number}");
     }
     Ok(())
 }
 
-/// A line of detectors, with this many errors for each step: the number of sets is this to the power of the steps.
+/// A line of this many steps between detectors, with `times` errors for each: the sets are `times` to the power of the steps.
 fn sets_of_a_line(alloc: Global, steps: u32, times: usize) -> Result<Option<u64>, Refusal> {
     let mut table = Table::new(alloc, 31);
-    for step in 0..steps {
-        let here = if step == 0 { 1 << 31 } else { 1 << (step - 1) };
-        let next = if step + 1 == steps { 0 } else { 1 << step };
+    let mut here: u32 = 1 << 31;
+    let mut next: u32 = 1;
+    for step in 1..=steps {
+        let bits = if step == steps { here } else { here | next };
         for _ in 0..times {
-            table.push(numbers_of(alloc, here | next)?.as_slice())?;
+            table.push(numbers_of(alloc, bits)?.as_slice())?;
         }
+        here = next;
+        next = next.wrapping_mul(2);
     }
-    count_least(alloc, &table, steps as usize)
+    let (_, count) = counted(alloc, &table)?;
+    Ok(count)
 }
 
 #[test]
@@ -140,12 +133,16 @@ fn drawn(alloc: Global, state: &mut u64) -> Result<Vec<u32>, AllocError> {
 
 /// The same, of few different rows.
 fn drawn_alike(alloc: Global, state: &mut u64) -> Result<Vec<u32>, AllocError> {
-    let mut rows = drawn(alloc, state)?;
+    let rows = drawn(alloc, state)?;
     let kinds = (*state >> 20) as usize % 5 + 2;
-    for r in kinds..rows.len() {
-        rows[r] = rows[r % kinds];
+    let mut alike = Vec::new(alloc);
+    for r in 0..rows.len() {
+        let k = r % kinds;
+        if k < rows.len() {
+            alike.push(rows[k])?;
+        }
     }
-    Ok(rows)
+    Ok(alike)
 }
 
 /// What the errors with these bits flip together.
@@ -171,7 +168,11 @@ fn counted_by_trying(rows: &[u32]) -> (usize, u64) {
         let chosen: u32 = chosen;
         let size = chosen.count_ones();
         if is_logical(flipped(rows, chosen)) && (fewest == 0 || size <= fewest) {
-            count = if size == fewest { count.saturating_add(1) } else { 1 };
+            count = if size == fewest {
+                count.saturating_add(1)
+            } else {
+                1
+            };
             fewest = size;
         }
     }
@@ -188,7 +189,8 @@ fn tables_at_random_are_counted_as_all_sets_of_their_errors(rt: HostRuntime) -> 
             drawn_alike(rt.alloc(), &mut state)?
         };
         let (size, count) = counted_by_trying(rows.as_slice());
-        let found = counted(rt.alloc(), DETECTORS as usize, rows.as_slice())?;
+        let table = table_of(rt.alloc(), DETECTORS as usize, rows.as_slice())?;
+        let found = counted(rt.alloc(), &table)?;
         let right = found.0 == size && found.1 == Some(count);
         assert!(rt; right, "table {number}");
     }
