@@ -1,5 +1,5 @@
 -- Choices: of errors with weights that complete what is flipped one is among those listed.
-use Rattle.stab_distance.proofs.Names.{◌≡◌, ℕ, ◌+◌, ◌-◌, ◌*◌, ◌≤◌, ◌<◌, ◌⊎◌, inl, inr, refl, sym, ◌∙◌, ap, subst, arith, true, false, List, [], ◌∷◌, length, get_or, slice_index, false≢true, ◌⊕◌, parity-false, IsAscending, ErrorTable, odd, row, flips, IsLogicalError, HasNoneWithin, Each, has, key_of, shares, Completes, ways, HasNoFewer, IsWay, MeetsEach}
+use Rattle.stab_distance.proofs.Names.{◌≡◌, ℕ, ◌-◌, ◌*◌, ◌≤◌, ◌<◌, ◌⊎◌, inl, inr, sym, ◌∙◌, ap, arith, true, false, List, [], ◌∷◌, length, get_or, slice_index, ◌⊕◌, parity-false, IsAscending, ErrorTable, odd, row, flips, IsLogicalError, HasNoneWithin, Each, has, key_of, shares, Completes, ways, HasNoFewer, IsWay, MeetsEach}
 use Rattle.stab_distance.proofs.CoverLemmas.{no-fewer, above, some-shared}
 use Rattle.stab_distance.proofs.EndLemmas.{completes-observed}
 use Rattle.stab_distance.proofs.FlipLemmas.{namer, key-same}

@@ -1,5 +1,5 @@
 -- Counts: as many sets as ways, if each row has weight 1.
-use Rattle.stab_distance.proofs.Names.{◌≡◌, ℕ, zero, suc, ◌+◌, ◌*◌, ◌-◌, ◌≤◌, ◌<◌, ◌⊎◌, inl, inr, refl, sym, ◌∙◌, ap, subst, arith, Bool, true, false, List, [], ◌∷◌, ◌++◌, length, length-map, map, drop, nat_lt, cases_lt, lt-ltb, le-ltb, false≢true, if◌then◌else◌, ◌⊕◌, parity-comm, parity-assoc, parity-twice, AscendsFrom, IsAscending, ErrorTable, odd, row, flips, IsLogicalError, Each, Completes, ways, ones, IsLogicalSetOf, AreAsMany, IsCount, HasNoneBelow, HasNoneWithin, HasBound, HasNoFewer, AreGroups, Tells, Option, Some, None}
+use Rattle.stab_distance.proofs.Names.{◌≡◌, ℕ, zero, suc, ◌+◌, ◌*◌, ◌-◌, ◌≤◌, ◌<◌, ◌⊎◌, inl, inr, refl, sym, ◌∙◌, ap, subst, arith, Bool, List, [], ◌∷◌, ◌++◌, length, length-map, map, drop, nat_lt, cases_lt, lt-ltb, le-ltb, if◌then◌else◌, ◌⊕◌, parity-comm, parity-assoc, parity-twice, AscendsFrom, IsAscending, ErrorTable, odd, flips, Each, Completes, ways, ones, IsLogicalSetOf, AreAsMany, IsCount, HasNoneBelow, HasNoneWithin, HasBound, HasNoFewer, AreGroups, Tells, Option, Some, None}
 use Rattle.stab_distance.proofs.ChoiceLemmas.{completes-logical, logical-completes}
 use Rattle.stab_distance.proofs.DistinctLemmas.{bound-whole}
 use Rattle.stab_distance.proofs.EndLemmas.{completes-nothing}

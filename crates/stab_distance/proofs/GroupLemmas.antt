@@ -1,5 +1,5 @@
 -- Groups: errors that flip the same, taken together with their number as weight, have as many ways.
-use Rattle.stab_distance.proofs.Names.{◌≡◌, ℕ, zero, suc, ◌+◌, ◌*◌, ◌≤◌, ◌<◌, inl, inr, refl, sym, ◌∙◌, ap, subst, arith, List, [], ◌∷◌, ◌++◌, append-nil, append_assoc, length, length-append, drop, drop-cons, drop_of_length-le, get_or, set, slice_index, ErrorTable, row, HasRow, HasBound, HasNoneBelow, ways, ones, IsWay, AreGroups, IsAdded}
+use Rattle.stab_distance.proofs.Names.{◌≡◌, ℕ, zero, suc, ◌+◌, ◌*◌, ◌≤◌, ◌<◌, inl, inr, refl, sym, ◌∙◌, ap, subst, arith, List, [], ◌∷◌, ◌++◌, append-nil, append_assoc, length, length-append, drop, drop-cons, drop_of_length-le, get_or, set, ErrorTable, row, HasRow, HasBound, HasNoneBelow, ways, ones, AreGroups, IsAdded}
 use Rattle.std.proofs.lemmas.List.{set-append_left, set-get_or}
 use Rattle.std.proofs.Math.Nat.{add-mul, mul-zero}
 use Rattle.stab_distance.proofs.ChoiceLemmas.{completes-logical}

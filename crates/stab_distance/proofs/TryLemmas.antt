@@ -1,5 +1,5 @@
 -- Tries: an error is tried, the ways with it are added up, and its weight is put back.
-use Rattle.stab_distance.proofs.Names.{◌≡◌, ◌≢◌, ℕ, zero, suc, ◌+◌, ◌*◌, ◌≤◌, ◌<◌, ◌⊎◌, inl, inr, refl, sym, ◌∙◌, ap, subst, arith, true, false, List, [], ◌∷◌, ◌++◌, length, drop, get_or, set, slice_index, cases_lt, ◌==◌, eqb-true, eqb-false, ◌⊕◌, parity-comm, bit_xor, Option, IsAscending, ErrorTable, odd, row, HasNoneWithin, Each, has, key_of, Completes, flips, parity-false, false≢true, length-append, ways, Tells, HasNoFewer, IsPart, HasNoneBelow, IsWay, AreGroups}
+use Rattle.stab_distance.proofs.Names.{◌≡◌, ◌≢◌, ℕ, zero, suc, ◌+◌, ◌*◌, ◌≤◌, ◌<◌, ◌⊎◌, inl, inr, refl, sym, ◌∙◌, ap, subst, arith, true, false, List, [], ◌∷◌, ◌++◌, length, drop, get_or, set, slice_index, cases_lt, ◌==◌, eqb-true, eqb-false, ◌⊕◌, parity-comm, bit_xor, Option, IsAscending, ErrorTable, odd, row, HasNoneWithin, Each, has, key_of, flips, parity-false, false≢true, length-append, ways, Tells, HasNoFewer, IsPart}
 use Rattle.std.proofs.lemmas.List.{get_or-set_same, get_or-set_other, set-get_or, ext_get_or}
 use Rattle.stab_distance.proofs.ChoiceLemmas.{meet-keyed, meet-flipping, nothing-left, none-after}
 use Rattle.stab_distance.proofs.EndLemmas.{completes-push, completes-observed, completes-detected, completes-nothing}

@@ -1,6 +1,5 @@
 use Rattle.stab_distance.proofs.Names.{◌≡◌, ◌<◌, ◌+◌, ◌-◌, ◌*◌, ◌/◌, ℕ, ◌∙◌, subst, sym, arith, length, Each, div-mul-le_self}
 use Rattle.stab_distance.proofs.ChoiceLemmas.{meet-keyed, meet-detector, meet-many}
-use Rattle.stab_distance.proofs.CoverLemmas.{shared}
 use Rattle.stab_distance.proofs.choices.choices.Goals as goal
 
 pub returns-then-left-eq1-clause-meet : goal.returns-then-left-eq1-clause-meet

@@ -1,4 +1,4 @@
-use Rattle.stab_distance.proofs.Names.{◌≡◌, ◌<◌, inl, inr, subst, sym, arith, true, length, slice_index, has}
+use Rattle.stab_distance.proofs.Names.{◌≡◌, ◌<◌, inl, inr, subst, sym, true, length, slice_index, has}
 use Rattle.stab_distance.proofs.ScanLemmas.{left-over, none-left}
 use Rattle.stab_distance.proofs.choices.live.Goals as goal
 

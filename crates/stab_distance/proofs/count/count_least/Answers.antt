@@ -1,4 +1,4 @@
-use Rattle.stab_distance.proofs.Names.{◌≡◌, ◌<◌, ◌≤◌, ◌+◌, ◌-◌, ℕ, List, [], ◌∙◌, sym, ap, subst, arith, length, Each, has, ways, Tells}
+use Rattle.stab_distance.proofs.Names.{◌≡◌, ◌<◌, ◌+◌, ◌-◌, ℕ, List, [], ◌∙◌, sym, ap, subst, arith, length, Each, has, ways, Tells}
 use Rattle.stab_distance.proofs.CountLemmas.{count-nothing, groups-count, groups-none, groups-fewer, groups-told}
 use Rattle.stab_distance.proofs.TryLemmas.{part-whole, none-first}
 use Rattle.stab_distance.proofs.count.count_least.Goals as goal

@@ -1,4 +1,4 @@
-use Rattle.stab_distance.proofs.Names.{rules, ◌≡◌, ◌<◌, ◌≤◌, ◌⊎◌, [], ℕ, ◌+◌, ◌-◌, ◌*◌, List, ◌++◌, ◌∙◌, sym, ap, subst, arith, below_more, length, get_or, set, slice_index, bit_xor, ◌⊕◌, IsAscending, odd, row, Each, has, key_of, ways, Tells, HasNoFewer, MeetsEach}
+use Rattle.stab_distance.proofs.Names.{rules, ◌≡◌, ◌<◌, ◌≤◌, ◌⊎◌, [], ℕ, ◌+◌, ◌-◌, ◌*◌, List, ◌++◌, ◌∙◌, sym, ap, subst, arith, below_more, length, get_or, set, slice_index, bit_xor, ◌⊕◌, IsAscending, odd, row, Each, ways, Tells, HasNoFewer, MeetsEach}
 use Rattle.stab_distance.proofs.ChoiceLemmas.{none-after}
 use Rattle.stab_distance.proofs.FlipLemmas.{key-sum}
 use Rattle.stab_distance.proofs.ListLemmas.{each-has, has-at}

@@ -1,4 +1,4 @@
-use Rattle.stab_distance.proofs.Names.{rules, ◌<◌, inl, inr, sym, subst, arith, length, Each}
+use Rattle.stab_distance.proofs.Names.{rules, ◌<◌, inl, inr, sym, subst, arith, Each}
 use Rattle.stab_distance.proofs.ListLemmas.{by-bit}
 use Rattle.stab_distance.proofs.TryLemmas.{put-step, put-all}
 use Rattle.stab_distance.proofs.counting.put_back.Goals as goal

@@ -1,4 +1,3 @@
-use Rattle.stab_distance.proofs.Names.{length, drop, ErrorTable}
 use Rattle.stab_distance.proofs.GroupLemmas.{AreSoFar}
 use Rattle.stab_distance.proofs.groups.groups_of.Given as goal
 
