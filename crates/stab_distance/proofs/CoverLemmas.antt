@@ -31,7 +31,7 @@ one-of rows d g (x ∷ xs) e flips =
         (λ other. ap (λ b. b || has g xs) (sym other) ∙ e)
 
 -- errors that flip each of some detectors flip as many at least
-no-fewer : (t : ErrorTable) (es ds : List ℕ) → Each (λ d. flips t.rows es d ≡ true) ds → length ds ≤ all-shares t.rows es ds
+pub no-fewer : (t : ErrorTable) (es ds : List ℕ) → Each (λ d. flips t.rows es d ≡ true) ds → length ds ≤ all-shares t.rows es ds
 no-fewer t es [] a = omega arith
 no-fewer t es (d ∷ ds) a =
     let later = no-fewer t es ds a.1 in
@@ -41,7 +41,7 @@ no-fewer t es (d ∷ ds) a =
     omega arith
 
 -- one of some errors has more than a bound if all together have more than the bound for each
-above : (rows : List (List ℕ)) (es ds : List ℕ) (m : ℕ) → m * length es < all-shares rows es ds → (e : ℕ) × ((has e es ≡ true) × (m < shares rows e ds))
+pub above : (rows : List (List ℕ)) (es ds : List ℕ) (m : ℕ) → m * length es < all-shares rows es ds → (e : ℕ) × ((has e es ≡ true) × (m < shares rows e ds))
 above rows [] ds m lt = absurd (omega arith)
 above rows (e ∷ es) ds m lt =
     elim (cases_lt m (shares rows e ds)) [

@@ -7,6 +7,11 @@ pub mod FlipLemmas
 pub mod IndexLemmas
 pub mod CoverLemmas
 pub mod EndLemmas
+pub mod WayLemmas
+pub mod ChoiceLemmas
+pub mod GroupLemmas
+pub mod CountLemmas
+pub mod TryLemmas
 pub mod CertificateLemmas
 pub mod DistinctLemmas
 pub mod ClassLemmas

@@ -40,3 +40,5 @@ pub use Rattle.stab_distance.specs.inner.Pairs.{KeepFirst, IsLeftOut, by_one, by
 pub use Rattle.stab_distance.specs.inner.Steps.{IsMoved, AreMoved, MovesDown, MoveDown, HasBefore, BeginsBefore}
 pub use Rattle.stab_distance.specs.inner.Shortest.{IsShortest, IsLogicalSet, IsGathered, IsLogicalWithin, IsFound, Decides}
 pub use Rattle.stab_distance.specs.inner.Tellings.{HearsOn, IsLast, TellsSizes, TellsAnswer}
+pub use Rattle.stab_distance.specs.inner.Ways.{leaf, ways, Tells, HasNoFewer, IsWay, MeetsEach, IsPart, ones, AreGroups, IsAdded}
+pub use Rattle.stab_distance.specs.Counts.{HasNoneBelow, IsLogicalSetOf, AreAsMany, IsCount}

@@ -7,6 +7,7 @@ pub mod Indexes
 pub mod Steps
 pub mod Pairs
 pub mod Covers
+pub mod Ways
 pub mod Certificates
 pub mod Shortest
 pub mod Tellings

@@ -156,7 +156,7 @@ fn has_row(rows: &[Row], candidates: &[usize], numbers: &[u32]) -> bool
 }
 
 /// The place at which rows of these numbers are listed, below the number of rows.
-fn place_of(numbers: &[u32], size: usize) -> usize {
+pub(crate) fn place_of(numbers: &[u32], size: usize) -> usize {
     let mut hash: u64 = 0;
     for n in numbers {
         hash = (hash ^ u64::from(*n)).wrapping_mul(0x9e3779b97f4a7c15);

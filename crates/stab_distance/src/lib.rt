@@ -11,6 +11,8 @@
 //! - `graphlike`: the call for only those errors that flip at most two detectors. `parts`: these errors of a table.
 //! - `edges`, `graph`: these errors as edges. `cycles`, `sources`, `labels`: shortest paths. `bounds`: what labels
 //!   prove.
+//! - `count`: the call for how many least logical errors there are. `groups`: rows with the number of errors that have each. `counting`: the
+//!   search that counts. `choices`: which errors it tries.
 //! - `laws`: each table has an answer.
 //!
 //! Source: C. Gidney, Stim: a fast stabilizer circuit simulator (2021), for detectors, observables and tables of
@@ -18,14 +20,17 @@
 //!
 //! Proved: the answer is as `specs/LogicalErrors.antt` says: a shortest logical error, or that each one has more
 //! errors than asked for, or that none exists; and the same of errors that flip at most two detectors
-//! (`specs/Graphlike.antt`).
+//! (`specs/Graphlike.antt`). The count is that of `specs/Counts.antt`.
 #![tactic(auto)]
 
 mod answer;
 mod bounds;
 mod candidates;
 mod certificate;
+mod choices;
 mod classes;
+mod count;
+mod counting;
 mod cycles;
 mod distinct;
 mod edges;
@@ -34,6 +39,7 @@ mod errors;
 mod existence;
 mod graph;
 mod graphlike;
+mod groups;
 mod index;
 mod kept;
 mod keys;
@@ -54,6 +60,7 @@ mod steps;
 mod table;
 
 pub use answer::{Answer, Progress, Unwatched};
+pub use count::count_least;
 pub use edges::is_graphlike;
 pub use graphlike::least_graphlike_error;
 pub use least::least_logical_error;

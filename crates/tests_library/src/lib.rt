@@ -11,7 +11,7 @@
 //! - `coins`, `samplers`: coins, and runs by them. `results`: entries of results.
 //! - `rounds`: where rounds are that come again, in blocks and written out, and that their pivots count once.
 //! - `sessions`, `session_edits`: sessions that are refused, and what edits cost.
-//! - `distances`: the search for a least logical error.
+//! - `distances`: the search for a least logical error. `counts`: how many there are.
 //! - `answers`: what is found beside what is wanted.
 //! - `clauses`: callers that are proved for what they ensure, and never run.
 //!
@@ -28,6 +28,8 @@ mod circuits;
 mod clauses;
 #[cfg(test)]
 mod coins;
+#[cfg(test)]
+mod counts;
 #[cfg(test)]
 mod cursors;
 #[cfg(test)]
