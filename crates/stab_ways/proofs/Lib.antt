@@ -4,3 +4,9 @@ pub mod EnoughLemmas
 pub mod BlankLemmas
 pub mod GateLemmas
 pub mod RunLemmas
+pub mod WalkedLemmas
+pub mod StringLemmas
+pub mod PassLemmas
+pub mod ItemLemmas
+pub mod WalkLemmas
+pub mod EndLemmas

@@ -7,5 +7,4 @@ ghost use Rattle.stab_ways.specs.Laws.{FixedOutcomesKeepCoins, StringsFlipRuns};
 pub fn strings_flip_runs()
     ensures law { StringsFlipRuns }
     ensures fixed { FixedOutcomesKeepCoins }
-{
-}
+{}

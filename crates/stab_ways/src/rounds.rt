@@ -2,7 +2,7 @@
 
 ghost use Rattle.std.specs.Prelude.{◌≡◌, ◌+◌, ◌*◌, ◌≤◌, All, length, OnOk};
 ghost use Rattle.stab_items.specs.Items.{before, done, listed};
-ghost use Rattle.stab_items.specs.Steps.{unroll, most_steps};
+ghost use Rattle.stab_items.specs.Steps.{rounds, unroll, most_steps};
 ghost use Rattle.stab_run.specs.ProgramStates.{StepFits};
 ghost use Rattle.stab_ways.specs.Ways.{part_rounds, parts_of};
 ghost use Rattle.stab_ways.specs.inner.Walks.{walked, walk_shown, IsWalk};
@@ -14,12 +14,7 @@ use std::alloc::{AllocError, Global};
 
 /// Passes an item.
 #[cycle(walking)]
-fn over_item(
-    alloc: Global,
-    walk: &mut Walk,
-    string: &Pauli,
-    item: &Item,
-) -> Result<(), AllocError>
+fn over_item(alloc: Global, walk: &mut Walk, string: &Pauli, item: &Item) -> Result<(), AllocError>
     requires walks { IsWalk (length string.now.letters) walk.old }
     requires fits { All (StepFits (length string.now.letters)) (unroll (before item.now done)) }
     requires few { walk.old.steps + length (unroll (before item.now done)) ≤ most_steps }
@@ -28,11 +23,13 @@ fn over_item(
 {
     match item.part() {
         Part::Tick => Ok(()),
-        Part::Operation { kind, .. } => over_instruction(alloc, walk, string, kind),
-        // However many its rounds, a block without steps is passed at once.
-        Part::Block { kept, .. } if kept.steps == 0 => Ok(()),
+        Part::Operation { kind, .. } => {
+            over_instruction(alloc, walk, string, kind)?;
+            Ok(())
+        }
         Part::Block { count, body, .. } => {
-            over_rounds(alloc, walk, string, body, count.number())
+            over_rounds(alloc, walk, string, body, count.number())?;
+            Ok(())
         }
     }
 }
@@ -47,13 +44,18 @@ fn over_rounds(
     count: u64,
 ) -> Result<(), AllocError>
     requires walks { IsWalk (length string.now.letters) walk.old }
-    requires fits { All (StepFits (length string.now.letters)) (unroll (listed body.now)) }
+    requires fits { All (StepFits (length string.now.letters)) (rounds count (unroll (listed body.now))) }
     requires few { walk.old.steps + count * length (unroll (listed body.now)) ≤ most_steps }
     ensures walks { OnOk result (IsWalk (length string.now.letters) walk.new) }
     ensures over { OnOk result (walk_shown walk.new ≡ walked (length string.now.letters) string.now.letters (part_rounds count (parts_of (listed body.now))) (walk_shown walk.old)) }
 {
     'rounds: for _ in 0..count {
+        let steps = walk.steps;
         over_items(alloc, walk, string, body)?;
+        // Rounds without a step change nothing, however many they are.
+        if walk.steps == steps {
+            return Ok(());
+        }
     }
     Ok(())
 }

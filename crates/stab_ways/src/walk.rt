@@ -1,9 +1,11 @@
 //! A string on its way over the instructions of a circuit.
 
-ghost use Rattle.std.specs.Prelude.{◌≡◌, ◌+◌, ◌-◌, ◌^◌, ◌<◌, ◌≤◌, None, Some, All, length, take, drop, OnOk};
-ghost use Rattle.stab_items.specs.Steps.{steps_of, most_steps, IsApart};
+ghost use Rattle.std.specs.Prelude.{◌≡◌, ◌+◌, ◌-◌, ◌^◌, ◌<◌, ◌≤◌, [], None, Some, All, length, take, drop, map, ◌++◌, OnOk};
+ghost use Rattle.stab_items.specs.Steps.{steps_of, most_steps};
 ghost use Rattle.stab_run.specs.ProgramStates.{StepFits};
-ghost use Rattle.stab_ways.specs.inner.Walks.{told, put_in as put_in_of, past_steps as past_of, over_part, walk_shown, IsWalk};
+ghost use Rattle.stab_frames.specs.Propagations.{IsPlaced};
+ghost use Rattle.stab_ways.specs.Ways.{turned, turn_shown};
+ghost use Rattle.stab_ways.specs.inner.Walks.{passed, told, put_in as put_in_of, past_steps as past_of, over_part, ended, walk_shown, IsWalk};
 
 use crate::strings::{differ, placed};
 use crate::way::Turn;
@@ -29,6 +31,42 @@ pub(crate) struct Walk {
     pub strings: Pivots,
 }
 
+/// Passes steps of an instruction with a frame, from one to another, and counts them.
+fn pass(
+    propagation: &mut Propagation,
+    strings: &Pivots,
+    kind: &Kind,
+    from: usize,
+    to: usize,
+    framed: &mut u64,
+) -> Result<(), AllocError>
+    requires none { (strings.now.qubits ≡ length propagation.old.letters) × (strings.now.strings ≡ []) }
+    requires placed { IsPlaced [] propagation.old }
+    requires fits { All (StepFits (length propagation.old.letters)) (steps_of kind.now) }
+    requires within { (from ≤ to) × (to ≤ length (steps_of kind.now)) }
+    requires few { propagation.old.coin + (to - from) < 2 ^ 63 }
+    requires few_framed { framed.old + (to - from) < 2 ^ 63 }
+    ensures counted { OnOk result (framed.new ≡ framed.old + (to - from)) }
+    ensures length { length propagation.new.letters ≡ length propagation.old.letters }
+    ensures passed { OnOk result (propagation.new ≡ passed (length propagation.old.letters) (take (to - from) (drop from (steps_of kind.now))) propagation.old) }
+{
+    let known = Known {
+        strings,
+        free: &[],
+        draw: &SameCoins,
+    };
+    let mut none = ListCoins::new(&[]);
+    let mut place = from;
+    'steps: while place < to {
+        let Some(steps) = steps_from(kind, place, to - place) else {
+            return Ok(());
+        };
+        let went = propagate_instruction(propagation, known, &mut none, steps, framed)?;
+        place += went;
+    }
+    Ok(())
+}
+
 /// Passes steps of an instruction, from one to another.
 fn past_steps(walk: &mut Walk, kind: &Kind, from: usize, to: usize) -> Result<(), AllocError>
     requires walks { IsWalk (length walk.old.propagation.letters) walk.old }
@@ -39,25 +77,31 @@ fn past_steps(walk: &mut Walk, kind: &Kind, from: usize, to: usize) -> Result<()
     ensures walks { OnOk result (IsWalk (length walk.old.propagation.letters) walk.new) }
     ensures passed { OnOk result (walk_shown walk.new ≡ past_of (length walk.old.propagation.letters) (take (to - from) (drop from (steps_of kind.now))) (walk_shown walk.old)) }
 {
-    let known = Known {
-        strings: &walk.strings,
-        free: &[],
-        draw: &SameCoins,
-    };
-    let mut none = ListCoins::new(&[]);
-    let mut place = from;
-    'steps: while place < to {
-        let Some(steps) = steps_from(kind, place, to - place) else {
-            return Ok(());
-        };
-        propagate_instruction(
-            &mut walk.propagation,
-            known,
-            &mut none,
-            steps,
-            &mut walk.steps,
-        )?;
-        place += steps.len();
+    pass(
+        &mut walk.propagation,
+        &walk.strings,
+        kind,
+        from,
+        to,
+        &mut walk.steps,
+    )?;
+    Ok(())
+}
+
+/// Puts a string with its place after others, if it is another one than it was.
+fn tell(
+    alloc: Global,
+    turns: &mut Vec<Turn>,
+    after: usize,
+    old: &[Letter],
+    new: &[Letter],
+) -> Result<(), AllocError>
+    requires same_length { length new.now ≡ length old.now }
+    ensures told { OnOk result (map turn_shown turns.new.items ≡ map turn_shown turns.old.items ++ turned after old.now new.now) }
+{
+    if differ(old, new) {
+        let string = placed(alloc, new)?;
+        turns.push(Turn { after, string })?;
     }
     Ok(())
 }
@@ -80,13 +124,13 @@ fn tell_steps(
 {
     let before = Vec::from_slice(alloc, walk.propagation.letters())?;
     past_steps(walk, kind, from, to)?;
-    let letters = walk.propagation.letters();
-    if differ(before.as_slice(), letters) {
-        walk.turns.push(Turn {
-            after: walk.steps as usize,
-            string: placed(alloc, letters)?,
-        })?;
-    }
+    tell(
+        alloc,
+        &mut walk.turns,
+        walk.steps as usize,
+        before.as_slice(),
+        walk.propagation.letters(),
+    )?;
     Ok(())
 }
 
@@ -98,6 +142,17 @@ pub(crate) fn put_in(walk: &mut Walk, string: &Pauli)
 {
     walk.propagation.multiply(string);
     walk.waits = None;
+}
+
+/// Puts the string in at the end, if it was not yet.
+pub(crate) fn finish(walk: &mut Walk, string: &Pauli)
+    requires walks { IsWalk (length string.now.letters) walk.old }
+    ensures value { walk_shown walk.new ≡ ended walk.old.waits string.now.letters (walk_shown walk.old) }
+{
+    match walk.waits {
+        Some(_) => put_in(walk, string),
+        None => {}
+    }
 }
 
 /// Passes an instruction.
@@ -115,11 +170,15 @@ pub(crate) fn over_instruction(
 {
     let count = step_count(kind);
     match walk.waits {
-        None => tell_steps(alloc, walk, kind, 0, count),
+        None => {
+            tell_steps(alloc, walk, kind, 0, count)?;
+            Ok(())
+        }
         Some(left) if left < count => {
             past_steps(walk, kind, 0, left)?;
             put_in(walk, string);
-            tell_steps(alloc, walk, kind, left, count)
+            tell_steps(alloc, walk, kind, left, count)?;
+            Ok(())
         }
         Some(left) => {
             past_steps(walk, kind, 0, count)?;

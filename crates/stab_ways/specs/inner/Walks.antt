@@ -1,5 +1,5 @@
 -- Walks: a string on its way over the instructions of a circuit, from the first one on, and what is known of it so far.
-use Rattle.std.specs.Prelude.{◌≡◌, ℕ, ◌+◌, ◌-◌, nat_lt, List, [], ◌∷◌, ◌++◌, length, take, drop, map, Option, Some, None, if◌then◌else◌}
+use Rattle.std.specs.Prelude.{◌≡◌, ◌≤◌, ℕ, ◌+◌, ◌-◌, nat_lt, List, [], ◌∷◌, ◌++◌, length, take, drop, map, Option, Some, None, if◌then◌else◌}
 use Rattle.stab_gates.specs.declared.letter.Letter.{Letter}
 use Rattle.stab_pauli.specs.Paulis.{string_product}
 use Rattle.stab_items.specs.Steps.{Step}
@@ -30,6 +30,11 @@ pub record WalkState : Type 0 where
 abbrev pub put_in : List Letter → WalkState → WalkState
 put_in string w = record w { waits = None; frame = record w.frame { letters = string_product w.frame.letters string } }
 
+-- at the end, if it was not yet
+abbrev pub ended : Option ℕ → List Letter → WalkState → WalkState
+ended None string w = w
+ended (Some k) string w = put_in string w
+
 -- further steps of an instruction are passed, and nothing is told
 abbrev pub past_steps : ℕ → List Step → WalkState → WalkState
 past_steps n ys w = record w { steps = w.steps + length ys; frame = passed n ys w.frame }
@@ -54,7 +59,10 @@ walked n string (ys ∷ parts) w = walked n string parts (over_part n string ys 
 abbrev pub walk_shown : Walk → WalkState
 walk_shown w = record { steps = w.steps; waits = w.waits; frame = w.propagation; turns = map turn_shown w.turns.items }
 
--- a walk on n qubits
+-- a walk on n qubits, which no pivot is known for
 pub record IsWalk (n : ℕ) (w : Walk) : Type 0 where
   pub size : length w.propagation.letters ≡ n
   pub placed : IsPlaced [] w.propagation
+  pub coins : w.propagation.coin ≤ w.steps
+  pub qubits : w.strings.qubits ≡ n
+  pub none : w.strings.strings ≡ []

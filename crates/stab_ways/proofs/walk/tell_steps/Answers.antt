@@ -1,0 +1,1 @@
+use Rattle.stab_ways.proofs.walk.tell_steps.Goals as goal
