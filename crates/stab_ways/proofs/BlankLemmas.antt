@@ -1,5 +1,5 @@
 -- Blank frames: the identity goes over steps as the identity, and flips no record.
-use Rattle.stab_ways.proofs.Names.{◌≡◌, ℕ, ◌+◌, refl, sym, ◌∙◌, ap, Bool, true, false, ◌&&◌, List, [], ◌∷◌, ◌++◌, replicate, get_or, set, arith, append-nil, replicate_more, Letter, I, single, strings_anticommute, strings_anticommute-blank, get_or-blank, set-blank, letter_image, pair_letters, letter_at, image, image_pair, Gate, PairGate, Step, one, two, controlled, collapse, product, detector, observable, makes, records_of, looked_up, looked_up-zeros, when, string_of, flip_of, coins_of, Frame, plus, times_where, identity_frame, frame_after, frame_over, by_letters}
+use Rattle.stab_ways.proofs.Names.{◌≡◌, ℕ, ◌+◌, refl, sym, ◌∙◌, ap, Bool, true, false, ◌&&◌, List, [], ◌∷◌, ◌++◌, replicate, set, arith, append-nil, replicate_more, Letter, I, single, strings_anticommute, strings_anticommute-blank, get_or-blank, set-blank, letter_image, pair_letters, letter_at, image, image_pair, Gate, PairGate, Step, one, two, controlled, collapse, product, detector, observable, makes, records_of, looked_up-zeros, when, string_of, flip_of, coins_of, plus, times_where, identity_frame, frame_after, frame_over, by_letters}
 use Rattle.stab_gates.specs.declared.gate.Gate.TheVariants as on
 use Rattle.stab_gates.specs.declared.gate.PairGate.TheVariants as pair
 

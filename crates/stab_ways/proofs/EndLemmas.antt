@@ -1,7 +1,7 @@
 -- Ends: what a walk over a whole circuit comes to, once the string is put in.
-use Rattle.stab_ways.proofs.Names.{◌≡◌, ℕ, ◌+◌, ◌-◌, ◌<◌, ◌≤◌, refl, sym, ◌∙◌, ap, subst, List, [], length, take, drop, replicate, arith, ◌⊎◌, inl, inr, cases_lt, take_all, drop_all, append-nil, Option, Some, None, Letter, I, string_product, string_product-blank, Items, unroll, Step, records_of, RunOutput, nothing, joined, Frame, frame_of, identity_frame, frame_over, flips_over, PropagationState, frame_at, by_letters, frame_begun, string_after, string_flips, parts_of, parts_after, string_turns, Turn, turns, passed, WalkState, put_in, ended, walked}
+use Rattle.stab_ways.proofs.Names.{◌≡◌, ℕ, ◌+◌, ◌<◌, ◌≤◌, sym, ◌∙◌, ap, subst, List, [], length, take, drop, replicate, arith, ◌⊎◌, inl, inr, cases_lt, take_all, drop_all, Some, Letter, I, string_product, string_product-blank, Items, unroll, Step, records_of, nothing, joined, Frame, frame_of, identity_frame, frame_over, flips_over, PropagationState, frame_at, by_letters, frame_begun, string_after, string_flips, parts_of, parts_after, string_turns, Turn, turns, passed, WalkState, put_in, ended, walked}
 use Rattle.stab_ways.proofs.BlankLemmas.{blank-over}
-use Rattle.stab_ways.proofs.WalkedLemmas.{frame-passed, passed-none, under_way, waiting, with_letters, put_at, passed_by, walked-put, walked-past, none-after, steps_in}
+use Rattle.stab_ways.proofs.WalkedLemmas.{frame-passed, passed-none, under_way, waiting, with_letters, put_at, walked-put, walked-past, none-after, steps_in}
 use Rattle.stab_ways.proofs.ItemLemmas.{steps-unrolled}
 
 -- where a walk begins

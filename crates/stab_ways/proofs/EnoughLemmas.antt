@@ -1,5 +1,5 @@
 -- Enough: a frame that takes each outcome as a fixed one needs no pivot, if exactly the coins of those free outcomes differ that it flips.
-use Rattle.stab_ways.proofs.Names.{◌≡◌, ℕ, zero, suc, ◌+◌, ◌<◌, refl, sym, ◌∙◌, ap, subst, Bool, true, false, ◌&&◌, List, [], ◌∷◌, ◌++◌, length, get_or, arith, None, IfSome, length-append, ◌⊕◌, Signed, single, strings_anticommute, member, is_free, is_free_by, Step, one, two, controlled, collapse, product, detector, observable, when, string_of, measured_by, Point, RunOutput, joined, given, coins_of, all_coins_of, next_point, outputs, Frame, RunPivots, no_strings, IsEnough, flips_given, frame_after, flips_over, IsEnoughAt, AreEnough, by_letters}
+use Rattle.stab_ways.proofs.Names.{◌≡◌, ℕ, zero, suc, ◌+◌, ◌<◌, refl, sym, ◌∙◌, ap, subst, Bool, true, false, ◌&&◌, List, [], ◌∷◌, ◌++◌, length, get_or, arith, length-append, ◌⊕◌, single, strings_anticommute, is_free, Step, one, two, controlled, collapse, product, detector, observable, string_of, Point, coins_of, all_coins_of, next_point, outputs, Frame, RunPivots, no_strings, flips_given, frame_after, flips_over, IsEnoughAt, AreEnough, by_letters}
 use Rattle.stab_ways.proofs.FixedLemmas.{fixed-after}
 
 -- a free outcome whose coin differs exactly if the frame anticommutes

@@ -1,5 +1,5 @@
 -- Fixed outcomes: if no pivot is known, a frame goes the same way whichever coins differ and whatever their numbers.
-use Rattle.stab_ways.proofs.Names.{◌≡◌, ℕ, ◌+◌, refl, sym, ◌∙◌, ap, false, ◌&&◌, List, [], ◌∷◌, ◌++◌, Option, None, Letter, Signed, single, string_product, Step, one, two, controlled, collapse, product, detector, observable, when, string_of, flip_of, RunOutput, nothing, joined, coins_of, all_coins_of, Frame, times_where, RunPivots, flipped_by, letters_by, frame_after, flips_given, frame_over, flips_over, frame-append, flips-append, by_letters}
+use Rattle.stab_ways.proofs.Names.{◌≡◌, ℕ, ◌+◌, refl, ◌∙◌, ap, false, ◌&&◌, List, [], ◌∷◌, ◌++◌, None, single, Step, one, two, controlled, collapse, product, detector, observable, when, string_of, flip_of, nothing, joined, coins_of, all_coins_of, Frame, times_where, RunPivots, flipped_by, letters_by, frame_after, flips_given, frame_over, flips_over, frame-append, flips-append, by_letters}
 
 module _ (n : ℕ) (pivots : RunPivots) (none : (t : ℕ) → pivots.strings t ≡ None) where
   pub fixed-after : (x : Step) (c d : ℕ) (f : Frame) → frame_after n pivots x c f ≡ frame_after n by_letters x d f

@@ -1,5 +1,5 @@
 -- Gates of a string: those of its letters, put after steps, multiply it onto the frame there.
-use Rattle.stab_ways.proofs.Names.{◌≡◌, ℕ, zero, suc, ◌+◌, ◌<◌, ◌≤◌, refl, sym, ◌∙◌, ap, subst, Bool, List, [], ◌∷◌, ◌++◌, length, replicate, arith, append_assoc, append-nil, All-nil, All-cons, Letter, I, single, string_product, string_product-blank, string_product-blank_right, string_product-assoc, length-replicate, length-one_letter, length-string_product, letter_product-I, letter_product, Step, one, gate_of, RunOutput, Frame, letters_on, AreFronts, fronts-take-paulis, letter_gates}
+use Rattle.stab_ways.proofs.Names.{◌≡◌, ℕ, zero, suc, ◌+◌, ◌<◌, ◌≤◌, refl, sym, ◌∙◌, ap, subst, Bool, List, [], ◌∷◌, ◌++◌, length, replicate, arith, append_assoc, append-nil, All-nil, All-cons, Letter, I, single, string_product, string_product-blank, string_product-blank_right, string_product-assoc, length-one_letter, length-string_product, letter_product-I, Step, one, gate_of, RunOutput, Frame, AreFronts, fronts-take-paulis, letter_gates}
 
 -- the product of the letters, each at its qubit
 abbrev pub product_from : ℕ → ℕ → List Letter → List Letter

@@ -1,5 +1,5 @@
 -- Items: their instructions one after another and in rounds, and the walk over them.
-use Rattle.stab_ways.proofs.Names.{◌≡◌, ℕ, zero, suc, ◌+◌, ◌-◌, ◌*◌, ◌<◌, ◌≤◌, refl, sym, ◌∙◌, ap, subst, Bool, false, List, [], ◌∷◌, ◌++◌, length, take, drop, All, get_or, nat_lt, arith, append_assoc, append-nil, length-append, length-take, length-drop, le-ltb, true, put_in, take-append-drop, take_more, take-append_seam, drop-append_seam, All-take, All-drop, Option, Some, None, if◌then◌else◌, flat_map, flat_map-append, Letter, Items, OneItem, next, block, done, before, listed, join, listed-append, listed_pushed, Step, steps_of, unroll, rounds, length-rounds, unroll-join, StepFits, turned, parts_of, part_rounds, passed, WalkState, past_steps, told, over_part, walked}
+use Rattle.stab_ways.proofs.Names.{◌≡◌, ℕ, zero, suc, ◌+◌, ◌-◌, ◌*◌, ◌<◌, ◌≤◌, refl, sym, ◌∙◌, ap, subst, Bool, false, List, [], ◌∷◌, ◌++◌, length, take, drop, All, get_or, nat_lt, arith, append_assoc, append-nil, length-append, length-take, length-drop, le-ltb, true, put_in, take-append-drop, take_more, take-append_seam, drop-append_seam, All-take, All-drop, Option, Some, None, if◌then◌else◌, flat_map-append, Letter, Items, OneItem, next, block, done, before, listed, join, listed-append, listed_pushed, Step, steps_of, unroll, rounds, length-rounds, unroll-join, StepFits, parts_of, part_rounds, WalkState, past_steps, told, over_part, walked}
 use Rattle.stab_ways.proofs.WalkedLemmas.{steps_in, walked-append, passed-none, turned-same}
 
 -- the instructions of items one after another

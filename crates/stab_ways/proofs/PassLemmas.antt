@@ -1,5 +1,5 @@
 -- Passed: what a frame is after steps that it goes over with no pivot known.
-use Rattle.stab_ways.proofs.Names.{◌≡◌, ℕ, zero, suc, ◌+◌, ◌-◌, ◌<◌, ◌≤◌, refl, sym, ◌∙◌, ap, subst, Bool, false, List, [], ◌∷◌, ◌++◌, length, take, drop, All, get_or, arith, length-drop, take-add, take-append_seam, take-length, take_all, drop-drop, None, Letter, Step, ones, all_coins_of, coins-few, cases_lt, ◌⊎◌, inl, inr, StepFits, joined, frame_over, flips_over, PropagationState, frame_at, IsPlaced, PropagatesOver, pivot_at, pivot-none, never, GoesOver, IsMissing, propagation-same, fits-over, by_letters, passed}
+use Rattle.stab_ways.proofs.Names.{◌≡◌, ℕ, zero, suc, ◌+◌, ◌-◌, ◌<◌, ◌≤◌, refl, sym, ◌∙◌, ap, subst, false, List, [], ◌++◌, length, take, drop, get_or, arith, take-add, take-append_seam, take_all, drop-drop, None, Letter, Step, ones, coins-few, cases_lt, ◌⊎◌, inl, inr, joined, PropagationState, frame_at, IsPlaced, PropagatesOver, pivot_at, pivot-none, never, GoesOver, IsMissing, propagation-same, passed}
 use Rattle.stab_frames.specs.RunPivots.{same_coins}
 use Rattle.stab_ways.proofs.FixedLemmas.{fixed-frame, fixed-flips}
 use Rattle.stab_ways.proofs.WalkedLemmas.{passed-none, passed-more}

@@ -1,5 +1,5 @@
 -- Runs: what a string that is put in flips in them.
-use Rattle.stab_ways.proofs.Names.{◌≡◌, ℕ, ◌+◌, ◌-◌, ◌<◌, ◌≤◌, refl, sym, ◌∙◌, ap, subst, Bool, false, ◌&&◌, List, [], ◌∷◌, ◌++◌, length, take, drop, All, replicate, get_or, arith, zero, suc, take-take, take-append-drop, All-take, All-nil, All-drop, Letter, I, string_product, string_product-blank, ◌⊕◌, member, IsConjugated, Step, records_of, State, start, run, Point, RunOutput, origin, nothing, joined, all_coins_of, point_after, outputs, StepFits, coins-are, flags-counted, after-append, outputs-append, run-state, length-replicate, Frame, frame_of, identity_frame, RunPivots, no_strings, changed, frame_over, flips_over, AreEnough, AreFronts, IsFlippedRun, framed-same, fronts-flip, fronts-go-on, enough-before, letter_gates, with_string, by_letters, frame_begun, string_after, string_flips, exchanged, FlipsRun, coins_with, StringsFlipRuns, FixedOutcomesKeepCoins}
+use Rattle.stab_ways.proofs.Names.{◌≡◌, ℕ, ◌+◌, ◌-◌, ◌<◌, ◌≤◌, refl, sym, ◌∙◌, ap, subst, Bool, false, ◌&&◌, List, [], ◌∷◌, ◌++◌, length, take, drop, All, replicate, get_or, arith, zero, suc, take-take, take-append-drop, All-take, All-nil, All-drop, Letter, I, string_product, string_product-blank, ◌⊕◌, member, IsConjugated, Step, records_of, State, start, run, Point, RunOutput, origin, nothing, joined, all_coins_of, point_after, outputs, StepFits, coins-are, flags-counted, outputs-append, run-state, length-replicate, Frame, frame_of, identity_frame, RunPivots, no_strings, frame_over, flips_over, AreEnough, AreFronts, IsFlippedRun, framed-same, fronts-flip, fronts-go-on, enough-before, letter_gates, with_string, by_letters, frame_begun, string_after, string_flips, coins_with, StringsFlipRuns, FixedOutcomesKeepCoins}
 use Rattle.stab_ways.proofs.FixedLemmas.{fixed-frame, fixed-flips}
 use Rattle.stab_ways.proofs.EnoughLemmas.{Differ, differ-enough, get_or-behind, get_or-front, long-flips}
 use Rattle.stab_ways.proofs.BlankLemmas.{blank-over}

@@ -1,5 +1,5 @@
 -- Strings: whether two differ, and their letters, from one qubit to the next.
-use Rattle.stab_ways.proofs.Names.{◌≡◌, ℕ, suc, ◌+◌, ◌<◌, ◌≤◌, refl, sym, ◌∙◌, ap, Bool, true, false, ◌||◌, List, [], ◌∷◌, ◌++◌, length, drop, get_or, arith, append_assoc, drop_more, drop_all, list_any, Letter, I, X, Y, Z, letter_product, acts, string_product, differ, PlacedLetter, placed}
+use Rattle.stab_ways.proofs.Names.{◌≡◌, ℕ, ◌+◌, ◌<◌, ◌≤◌, refl, sym, ◌∙◌, ap, Bool, true, false, ◌||◌, List, [], ◌∷◌, ◌++◌, length, drop, get_or, append_assoc, drop_more, drop_all, Letter, I, X, Y, Z, letter_product, acts, differ, PlacedLetter, placed}
 
 or-false : (b : Bool) → b ≡ (b || false)
 or-false true = refl

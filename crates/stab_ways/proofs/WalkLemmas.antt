@@ -1,5 +1,5 @@
 -- Walks: what the values of the code show of a walk, after steps and after an instruction.
-use Rattle.stab_ways.proofs.Names.{◌≡◌, ℕ, ◌+◌, ◌-◌, ◌<◌, ◌≤◌, refl, sym, ◌∙◌, ap, subst, Bool, false, true, List, [], ◌++◌, length, take, drop, map, nat_lt, le-ltb, arith, length-take, length-drop, take_all, coins-few, Option, Some, None, if◌then◌else◌, Letter, Step, PropagationState, turned, turn_shown, passed, WalkState, put_in, past_steps, told, over_part, walk_shown, IsWalk}
+use Rattle.stab_ways.proofs.Names.{◌≡◌, ℕ, ◌+◌, ◌-◌, ◌<◌, ◌≤◌, sym, ◌∙◌, ap, Bool, List, ◌++◌, length, take, drop, le-ltb, arith, length-take, length-drop, take_all, coins-few, Option, Some, None, if◌then◌else◌, Letter, Step, PropagationState, turned, passed, WalkState, put_in, past_steps, told, over_part, IsWalk}
 use Rattle.std.proofs.Common.{lt-ltb}
 use Rattle.stab_ways.specs.declared.walk.Walk.{Walk}
 use Rattle.stab_ways.proofs.PassLemmas.{none-placed}

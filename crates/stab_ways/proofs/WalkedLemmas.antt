@@ -1,6 +1,6 @@
 -- Walked: instructions one after another on the way of a string, and what the walk comes to.
-use Rattle.stab_ways.proofs.Names.{◌≡◌, ℕ, zero, suc, ◌+◌, ◌-◌, ◌<◌, ◌≤◌, refl, sym, ◌∙◌, ap, subst, Bool, true, false, ◌||◌, List, [], ◌∷◌, ◌++◌, length, take, drop, replicate, nat_lt, le-ltb, ltb-true, ltb-false, arith, append_assoc, append-nil, length-append, length-take, length-drop, Option, Some, None, if◌then◌else◌, flat_map, list_any, Letter, I, acts, string_product, string_product-self, Step, RunOutput, nothing, joined, joined-assoc, joined-nothing, coins_of, all_coins_of, coins-append, Frame, identity_frame, flips_given, frame_after, frame_over, flips_over, PropagationState, frame_at, by_letters, Turn, placed, differ, turned, turns, parts_after, passed, WalkState, put_in, past_steps, told, over_part, walked}
-use Rattle.stab_ways.proofs.FixedLemmas.{frame-more, flips-more, fixed-frame, fixed-flips}
+use Rattle.stab_ways.proofs.Names.{◌≡◌, ℕ, zero, suc, ◌+◌, ◌-◌, ◌<◌, ◌≤◌, refl, sym, ◌∙◌, ap, Bool, true, false, List, [], ◌∷◌, ◌++◌, length, take, drop, replicate, nat_lt, le-ltb, ltb-true, ltb-false, arith, append_assoc, append-nil, length-append, length-take, length-drop, Some, None, if◌then◌else◌, flat_map, list_any, Letter, I, acts, string_product, string_product-self, Step, joined, joined-assoc, joined-nothing, coins_of, all_coins_of, coins-append, Frame, flips_given, frame_after, frame_over, flips_over, PropagationState, frame_at, by_letters, Turn, placed, turned, turns, parts_after, passed, WalkState, put_in, past_steps, told, over_part, walked}
+use Rattle.stab_ways.proofs.FixedLemmas.{frame-more, flips-more}
 
 -- a frame's flips are the records that it flipped
 

@@ -1,5 +1,5 @@
-use Rattle.stab_ways.proofs.Names.{◌≡◌, refl, sym, ap, subst, All, arith, length, map, StepFits, listed, unroll, circuit_items, check-fits, check-whole, few_steps, turn_shown, walk_shown}
-use Rattle.stab_ways.proofs.EndLemmas.{IsEnd, walk-found}
+use Rattle.stab_ways.proofs.Names.{refl, sym, ap, subst, All, arith, length, map, StepFits, listed, unroll, circuit_items, check-fits, check-whole, few_steps, turn_shown, walk_shown}
+use Rattle.stab_ways.proofs.EndLemmas.{walk-found}
 use Rattle.stab_ways.proofs.whole.way_of.Goals as goal
 
 pub over_items-requires-clause-fits : goal.over_items-requires-clause-fits

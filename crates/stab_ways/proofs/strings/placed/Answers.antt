@@ -1,2 +1,0 @@
-use Rattle.stab_ways.proofs.StringLemmas.{placed-next}
-use Rattle.stab_ways.proofs.strings.placed.Goals as goal

@@ -1,1 +1,0 @@
-use Rattle.stab_ways.proofs.walk.over_instruction.Goals as goal

@@ -1,1 +1,0 @@
-use Rattle.stab_ways.proofs.walk.tell_steps.Goals as goal
