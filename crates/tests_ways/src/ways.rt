@@ -23,11 +23,17 @@ type Case = (
 );
 
 const X0: Letters = &[(0, Letter::X)];
+
 const X1: Letters = &[(1, Letter::X)];
+
 const Y0: Letters = &[(0, Letter::Y)];
+
 const Z0: Letters = &[(0, Letter::Z)];
+
 const X0_X1: Letters = &[(0, Letter::X), (1, Letter::X)];
+
 const X0_Z1: Letters = &[(0, Letter::X), (1, Letter::Z)];
+
 const Z0_Z1: Letters = &[(0, Letter::Z), (1, Letter::Z)];
 
 const CASES: &[Case] = &[
@@ -51,13 +57,31 @@ const CASES: &[Case] = &[
     ("SWAP 0 1", 0, X0, &[(1, X1)], &[], &[], &[], X1),
     ("SWAP 0 1 0 1", 0, X0, &[], &[], &[], &[], X0),
     // A reset ends it, and so does a measurement that resets, once it is flipped.
-    ("CX 0 1\nR 0 1\nM 0 1", 0, X0, &[(1, X0_X1), (3, &[])], &[], &[], &[], &[]),
+    (
+        "CX 0 1\nR 0 1\nM 0 1",
+        0,
+        X0,
+        &[(1, X0_X1), (3, &[])],
+        &[],
+        &[],
+        &[],
+        &[],
+    ),
     ("MR 0\nM 0", 0, X0, &[(1, &[])], &[0], &[], &[], &[]),
     ("MR 0\nM 0", 1, X0, &[], &[1], &[], &[], X0),
     // Z anticommutes with X X, and commutes with Z Z.
     ("MPP X0*X1 Z0*Z1", 0, Z0, &[], &[0], &[], &[], Z0),
     // A flipped record puts X on another qubit, where its own measurement shows it.
-    ("M 0\nCX rec[-1] 1\nM 1", 0, X0, &[(2, X0_X1)], &[0, 1], &[], &[], X0_X1),
+    (
+        "M 0\nCX rec[-1] 1\nM 1",
+        0,
+        X0,
+        &[(2, X0_X1)],
+        &[0, 1],
+        &[],
+        &[],
+        X0_X1,
+    ),
     ("M 0\nCX rec[-1] 1\nM 1", 1, X0, &[], &[], &[], &[], X0),
     // After two rounds the string is as it was.
     (
@@ -70,7 +94,16 @@ const CASES: &[Case] = &[
         &[],
         X0,
     ),
-    ("REPEAT 4 {\nSWAP 0 1\n}", 2, X0, &[(3, X1), (4, X0)], &[], &[], &[], X0),
+    (
+        "REPEAT 4 {\nSWAP 0 1\n}",
+        2,
+        X0,
+        &[(3, X1), (4, X0)],
+        &[],
+        &[],
+        &[],
+        X0,
+    ),
     (
         "REPEAT 2 {\nREPEAT 2 {\nS 0\n}\nM 0\n}",
         3,
@@ -82,7 +115,16 @@ const CASES: &[Case] = &[
         X0,
     ),
     // X X stabilises the pair: of two random outcomes that agree it flips both.
-    ("H 0\nCX 0 1\nM 0 1", 2, X0_X1, &[], &[0, 1], &[], &[], X0_X1),
+    (
+        "H 0\nCX 0 1\nM 0 1",
+        2,
+        X0_X1,
+        &[],
+        &[0, 1],
+        &[],
+        &[],
+        X0_X1,
+    ),
     // Of the records of one instruction those after the string are flipped.
     ("M 0 0 0", 1, X0, &[], &[1, 2], &[], &[], X0),
     (
@@ -99,7 +141,16 @@ const CASES: &[Case] = &[
     ("H 0\nH 1", 2, X0_X1, &[], &[], &[], &[], X0_X1),
     ("", 0, X0, &[], &[], &[], &[], X0),
     // A block without steps is passed at once.
-    ("REPEAT 1000000000000 {\nTICK\n}\nH 0", 0, X0, &[(1, Z0)], &[], &[], &[], Z0),
+    (
+        "REPEAT 1000000000000 {\nTICK\n}\nH 0",
+        0,
+        X0,
+        &[(1, Z0)],
+        &[],
+        &[],
+        &[],
+        Z0,
+    ),
 ];
 
 /// Whether these are the letters of a string.
@@ -168,18 +219,20 @@ fn turns(way: &Way, wanted: &[(usize, Letters)]) -> bool {
     same
 }
 
+/// Puts a letter at a qubit, if the string has one there.
+fn set(string: &mut Pauli, qubit: usize, letter: Letter) {
+    if qubit < string.len() {
+        string.set(qubit, letter);
+    }
+}
+
 /// The way of a string of two letters, of which these are not I.
 fn way(alloc: Global, circuit: &Circuit, place: usize, letters: Letters) -> Option<Way> {
     let mut string = Pauli::identity(alloc, 2).ok()?;
     for (qubit, letter) in letters {
-        if *qubit < 2 {
-            string.set(*qubit, *letter);
-        }
+        set(&mut string, *qubit, *letter);
     }
-    circuit.check(2).ok()?;
-    if place > circuit.steps() {
-        return None;
-    }
+    circuit.check(string.len()).ok()?;
     way_of(alloc, circuit, place, &string).ok()
 }
 
