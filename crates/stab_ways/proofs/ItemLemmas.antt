@@ -80,9 +80,6 @@ item-fits n xs k x lt is fits =
 pub block-steps : (count : ℕ) (tag : List ℕ) (body : Items) → length (unroll (block count tag body done)) ≡ count * length (unroll body)
 block-steps count tag body = ap length (append-nil (rounds count (unroll body))) ∙ length-rounds count (unroll body)
 
-pub block-parts : (count : ℕ) (tag : List ℕ) (body : Items) → parts_of (block count tag body done) ≡ part_rounds count (parts_of body)
-block-parts count tag body = append-nil (part_rounds count (parts_of body))
-
 -- how many steps a walk passes
 
 after-steps : (n k : ℕ) (string : List Letter) (ys : List Step) (w : WalkState) (b : Bool)

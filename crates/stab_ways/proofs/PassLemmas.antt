@@ -2,7 +2,7 @@
 use Rattle.stab_ways.proofs.Names.{◌≡◌, ℕ, zero, suc, ◌+◌, ◌-◌, ◌<◌, ◌≤◌, refl, sym, ◌∙◌, ap, subst, false, List, [], ◌++◌, length, take, drop, get_or, arith, take-add, take-append_seam, take_all, drop-drop, None, Letter, Step, ones, coins-few, cases_lt, ◌⊎◌, inl, inr, joined, PropagationState, frame_at, IsPlaced, PropagatesOver, pivot_at, pivot-none, never, GoesOver, IsMissing, propagation-same, passed}
 use Rattle.stab_frames.specs.RunPivots.{same_coins}
 use Rattle.stab_ways.proofs.FixedLemmas.{fixed-frame, fixed-flips}
-use Rattle.stab_ways.proofs.WalkedLemmas.{passed-none, passed-more}
+use Rattle.stab_ways.proofs.WalkedLemmas.{passed-more}
 
 no-flag : (t : ℕ) → get_or [] t false ≡ false
 no-flag zero = refl
@@ -53,9 +53,6 @@ passed-next n m from place count strings xs ys rest start old new le e all same 
     ∙ ap (passed n ys) is
     ∙ sym (passed-more n (take (place - from) (drop from xs)) ys start)
     ∙ ap (λ zs. passed n zs start) (sym (part-next from place xs ys rest le e))
-
-pub passed-begin : (n from : ℕ) (xs : List Step) (start : PropagationState) → start ≡ passed n (take (from - from) (drop from xs)) start
-passed-begin n from xs start = let none : 0 ≡ from - from = omega arith in sym (passed-none n start) ∙ ap (λ m. passed n (take m (drop from xs)) start) none
 
 pub whole : (went long : ℕ) → went ≤ long → (went < long → ⊥) → went ≡ long
 whole went long le stops = by_size (cases_lt went long)
