@@ -106,7 +106,7 @@ fn tell(
     Ok(())
 }
 
-/// Passes the steps of an instruction from one on, and tells the string if it is another one after them.
+/// Passes the steps of an instruction from one on, and notes the string if it is another one after them.
 fn tell_steps(
     alloc: Global,
     walk: &mut Walk,
