@@ -1,0 +1,12 @@
+mod Names
+pub mod FixedLemmas
+pub mod EnoughLemmas
+pub mod BlankLemmas
+pub mod GateLemmas
+pub mod RunLemmas
+pub mod WalkedLemmas
+pub mod StringLemmas
+pub mod PassLemmas
+pub mod ItemLemmas
+pub mod WalkLemmas
+pub mod EndLemmas

@@ -1,0 +1,159 @@
+-- Runs: what a string that is put in flips in them.
+use Rattle.stab_ways.proofs.Names.{◌≡◌, ℕ, ◌+◌, ◌-◌, ◌<◌, ◌≤◌, refl, sym, ◌∙◌, ap, subst, Bool, false, ◌&&◌, List, [], ◌∷◌, ◌++◌, length, take, drop, All, replicate, get_or, arith, zero, suc, take-take, take-append-drop, All-take, All-nil, All-drop, Letter, I, string_product, string_product-blank, ◌⊕◌, member, IsConjugated, Step, records_of, State, start, run, Point, RunOutput, origin, nothing, joined, all_coins_of, point_after, outputs, StepFits, coins-are, flags-counted, outputs-append, run-state, length-replicate, Frame, frame_of, identity_frame, RunPivots, no_strings, frame_over, flips_over, AreEnough, AreFronts, IsFlippedRun, framed-same, fronts-flip, fronts-go-on, enough-before, letter_gates, with_string, by_letters, frame_begun, string_after, string_flips, coins_with, StringsFlipRuns, FixedOutcomesKeepCoins}
+use Rattle.stab_ways.proofs.FixedLemmas.{fixed-frame, fixed-flips}
+use Rattle.stab_ways.proofs.EnoughLemmas.{Differ, differ-enough, get_or-behind, get_or-front, long-flips}
+use Rattle.stab_ways.proofs.BlankLemmas.{blank-over}
+use Rattle.stab_ways.proofs.GateLemmas.{product-whole, letters-put}
+
+-- steps after the first k, up to the first k + j
+
+take-none : (j : ℕ) → ◌≡◌ {A = List Step} [] (take j [])
+take-none zero = refl
+take-none (suc j) = refl
+
+drop-taken : (k j : ℕ) (xs : List Step) → drop k (take (k + j) xs) ≡ take j (drop k xs)
+drop-taken zero j xs = let same : 0 + j ≡ j = omega arith in ap (λ m. take m xs) same
+drop-taken (suc k) j [] = let next : suc k + j ≡ suc (k + j) = omega arith in ap (λ m. drop (suc k) (take m [])) next ∙ take-none j
+drop-taken (suc k) j (x ∷ xs) = let next : suc k + j ≡ suc (k + j) = omega arith in ap (λ m. drop (suc k) (take m (x ∷ xs))) next ∙ drop-taken k j xs
+
+-- a flag for each coin
+long-flags : (n : ℕ) (coins : ℕ → Bool) (xs : List Step) → length (outputs n coins xs origin).free ≡ all_coins_of xs
+long-flags n coins xs = omega (arith, flags-counted n coins xs origin, coins-are n coins xs origin)
+
+module _ (n k : ℕ) (string : List Letter) (xs : List Step) (coins : ℕ → Bool) (fits : All (StepFits n) xs) (size : length string ≡ n) where
+  abbrev front : List Step
+  front = take k xs
+
+  abbrev back : List Step
+  back = drop k xs
+
+  abbrev front_flips : RunOutput
+  front_flips = flips_over n by_letters front 0 (identity_frame n 0)
+
+  abbrev begun : Frame
+  begun = frame_begun k string xs
+
+  abbrev flags : List Bool
+  flags = (run n coins xs (start 0)).free
+
+  abbrev flips : List Bool
+  flips = (string_flips n k string xs).outcomes
+
+  abbrev changes : ℕ → Bool
+  changes t = get_or flags t false && get_or flips t false
+
+  abbrev pivots : RunPivots
+  pivots = no_strings changes
+
+  abbrev others : ℕ → Bool
+  others = coins_with n k string xs coins
+
+  abbrev there : Point
+  there = point_after n coins front origin
+
+  fits-front : All (StepFits n) front
+  fits-front = All-take (StepFits n) k xs fits
+
+  fits-back : All (StepFits n) back
+  fits-back = All-drop (StepFits n) k xs fits
+
+  -- the flags in two parts
+  flags-parts : flags ≡ (outputs n coins front origin).free ++ (outputs n coins back there).free
+  flags-parts =
+      ap (λ (s : State). s.free) (run-state n coins xs (start 0))
+      ∙ ap (λ ys. (outputs n coins ys origin).free) (sym (take-append-drop k xs))
+      ∙ ap (λ (o : RunOutput). o.free) (outputs-append n coins front back origin)
+
+  differ-front : Differ n coins changes front 0 (identity_frame n 0) origin
+  differ-front t lt =
+      let none : 0 + t ≡ t = omega arith in
+      ap changes none
+      ∙ (λ i. (ap (λ fs. get_or fs t false) flags-parts ∙ get_or-front (outputs n coins front origin).free (outputs n coins back there).free t
+      (subst (λ m. t < m) (sym (long-flags n coins front)) lt)) i
+      && get_or-front front_flips.outcomes (flips_over n by_letters back 0 begun).outcomes t (subst (λ m. t < m) (sym (long-flips n by_letters front 0 (identity_frame n 0))) lt) i)
+
+  differ-back : Differ n coins changes back 0 begun there
+  differ-back t lt =
+      ap (λ c. changes (c + t)) coin
+      ∙ (λ i. (ap (λ fs. get_or fs (all_coins_of front + t) false) flags-parts
+      ∙ get_or-behind (outputs n coins front origin).free (outputs n coins back there).free (all_coins_of front) t (long-flags n coins front)) i
+      && get_or-behind front_flips.outcomes (flips_over n by_letters back 0 begun).outcomes (all_coins_of front) t (long-flips n by_letters front 0 (identity_frame n 0)) i)
+    where
+      coin : there.coin ≡ all_coins_of front
+      coin = omega (arith, coins-are n coins front origin)
+
+  enough-front : AreEnough n coins pivots front (identity_frame n 0) origin
+  enough-front = differ-enough n coins changes front 0 (identity_frame n 0) origin differ-front
+
+  enough-back : AreEnough n coins pivots back begun there
+  enough-back = differ-enough n coins changes back 0 begun there differ-back
+
+  -- where the string is put in
+
+  before : AreFronts n coins others front front (frame_over n pivots front 0 (identity_frame n 0)) (flips_over n pivots front 0 (identity_frame n 0))
+  before =
+      fronts-go-on n coins pivots [] [] front (identity_frame n 0) nothing (All-nil (StepFits n)) fits-front
+      (record { framed = framed-same n origin; given = refl; matches = record { records = refl; free = refl; outcomes = refl; detectors = refl; observables = refl } })
+      enough-front
+
+  none-more : 0 + records_of front ≡ records_of front
+  none-more = omega arith
+
+  blank : frame_over n pivots front 0 (identity_frame n 0) ≡ identity_frame n (records_of front)
+  blank = fixed-frame n pivots (λ t. refl) front 0 0 (identity_frame n 0) ∙ blank-over n front 0 0 ∙ ap (identity_frame n) none-more
+
+  same-flips : flips_over n pivots front 0 (identity_frame n 0) ≡ front_flips
+  same-flips = fixed-flips n pivots (λ t. refl) front 0 0 (identity_frame n 0)
+
+  before-blank : AreFronts n coins others front front (identity_frame n (records_of front)) front_flips
+  before-blank =
+      subst (AreFronts n coins others front front (identity_frame n (records_of front))) same-flips
+      (subst (λ f. AreFronts n coins others front front f (flips_over n pivots front 0 (identity_frame n 0))) blank before)
+
+  put : AreFronts n coins others front (front ++ letter_gates 0 string) begun front_flips
+  put =
+      subst (λ s. AreFronts n coins others front (front ++ letter_gates 0 string) (frame_of s (records_of front)) front_flips)
+      (ap (string_product (replicate n I)) (product-whole n string size) ∙ string_product-blank n string size)
+      (letters-put n coins others front front_flips front (identity_frame n (records_of front)) 0 string (length-replicate n I) (omega (arith, size)) before-blank)
+
+  -- over the first steps after it
+
+  abbrev part : ℕ → List Step
+  part m = drop k (take m xs)
+
+  part-is : (m : ℕ) → k ≤ m → part m ≡ take (m - k) back
+  part-is m le = let whole : m ≡ k + (m - k) = omega (arith, le) in ap part whole ∙ drop-taken k (m - k) xs
+
+  enough-part : (m : ℕ) → k ≤ m → AreEnough n coins pivots (part m) begun there
+  enough-part m le =
+      subst (λ ys. AreEnough n coins pivots ys begun there) (sym (part-is m le)) (enough-before n coins pivots (m - k) back begun there enough-back)
+
+  fits-part : (m : ℕ) → All (StepFits n) (part m)
+  fits-part m = All-drop (StepFits n) k (take m xs) (All-take (StepFits n) m xs fits)
+
+  front-is : (m : ℕ) → k ≤ m → front ≡ take k (take m xs)
+  front-is m le = sym (take-take k m xs le)
+
+  states : (m : ℕ) → k ≤ m → IsConjugated n (string_after n k string xs m) (member (point_after n coins (take m xs) origin).trace)
+      (member (point_after n others (with_string k string (take m xs)) origin).trace)
+  states m le =
+      let shown = (fronts-flip n coins pivots front (front ++ letter_gates 0 string) (part m) begun front_flips fits-front (fits-part m) put (enough-part m le)).1.group in
+      subst (λ ys. IsConjugated n (string_after n k string xs m) (member (point_after n coins ys origin).trace) (member (point_after n others (with_string k string (take m xs)) origin).trace))
+      (ap (λ us. us ++ part m) (front-is m le) ∙ take-append-drop k (take m xs))
+      (subst (λ us. IsConjugated n (string_after n k string xs m) (member (point_after n coins (front ++ part m) origin).trace)
+      (member (point_after n others ((us ++ letter_gates 0 string) ++ part m) origin).trace)) (front-is m le)
+      (subst (λ s. IsConjugated n s (member (point_after n coins (front ++ part m) origin).trace)
+      (member (point_after n others ((front ++ letter_gates 0 string) ++ part m) origin).trace))
+      (ap (λ (f : Frame). f.letters) (fixed-frame n pivots (λ t. refl) (part m) there.coin 0 begun)) shown))
+
+  whole : IsFlippedRun n coins others xs (with_string k string xs) (string_flips n k string xs)
+  whole =
+      subst (λ ys. IsFlippedRun n coins others ys (with_string k string xs) (string_flips n k string xs)) (take-append-drop k xs)
+      (subst (λ o. IsFlippedRun n coins others (front ++ back) (with_string k string xs) (joined front_flips o)) (fixed-flips n pivots (λ t. refl) back there.coin 0 begun)
+      (fronts-flip n coins pivots front (front ++ letter_gates 0 string) back begun front_flips fits-front fits-back put enough-back).0)
+
+pub strings-flip : StringsFlipRuns
+strings-flip n k string xs coins fits size = record { run = whole n k string xs coins fits size; states = states n k string xs coins fits size }
+
+pub fixed-coins : FixedOutcomesKeepCoins
+fixed-coins n k string xs coins fixed t = ap (λ b. (b && get_or (string_flips n k string xs).outcomes t false) ⊕ coins t) (fixed t)

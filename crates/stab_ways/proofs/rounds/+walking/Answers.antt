@@ -1,0 +1,82 @@
+use Rattle.stab_ways.proofs.Names.{◌≡◌, ◌∙◌, ◌*◌, refl, sym, ap, subst, All, arith, length, append-nil, StepFits, listed, repeat, before, done, nested_in, depth_at, part_of, unroll, rounds, walk_shown}
+use Rattle.stab_ways.proofs.ItemLemmas.{block-steps, item-fits, item-steps, steps-within, tick-none, walked-item, walked-round, no-rounds, round-fits, round-steps, times-more}
+use Rattle.stab_ways.proofs.rounds.+walking.Goals as goal
+
+pub over_item-over_rounds-requires : goal.over_item-over_rounds-requires
+over_item-over_rounds-requires t c =
+    let body = listed c.in-Block.body.now in
+    let is : c.args.item.now ≡ repeat c.in-Block.count c.in-Block.tag.now body = c.part.ensures.value ∙ ap part_of c.in-Block.is in (
+      omega (arith, c.decreases, ap nested_in is),
+      (
+        c.requires.walks,
+        (
+          subst (All (StepFits (length c.args.string.now.letters)))
+              (ap (λ x. unroll (before x done)) is ∙ append-nil (rounds c.in-Block.count (unroll body)) ∙ ap (λ k. rounds k (unroll body)) (sym c.number.ensures.value)) c.requires.fits,
+          omega (arith, c.requires.few, ap (λ x. length (unroll (before x done))) is, block-steps c.in-Block.count c.in-Block.tag.now body, ap (λ n. n * length (unroll body)) c.number.ensures.value),
+        ),
+      ),
+    )
+
+pub over_item-returns-in-Tick-clause-over : goal.over_item-returns-in-Tick-clause-over
+over_item-returns-in-Tick-clause-over t c =
+    tick-none c.args.item.now _ (length c.args.string.now.letters) c.args.string.now.letters (walk_shown c.args.walk.now) (c.part.ensures.value ∙ ap part_of c.in-Tick.is) refl
+    c.requires.walks.size
+
+pub over_items-over_item-requires : goal.over_items-over_item-requires
+over_items-over_item-requires t c =
+    let n = length c.args.string.now.letters in
+    let xs = c.args.items.now in
+    let k = c.items.item-index in
+    let x = c.item-item.result in (
+      omega (arith, c.decreases, depth_at xs k x c.items-test.true c.item-item.is),
+      (
+        c.items.invariant.walks,
+        (
+          item-fits n xs k x c.items-test.true c.item-item.is c.requires.fits,
+          omega (
+            arith,
+            c.requires.few,
+            item-steps n k c.args.string.now.letters xs (walk_shown c.args.walk.now) (walk_shown c.items.walk) c.items.invariant.over,
+            steps-within xs k x c.items-test.true c.item-item.is,
+          ),
+        ),
+      ),
+    )
+
+pub over_items-items-preserved : goal.over_items-items-preserved
+over_items-items-preserved t c = record {
+  walks = c.in_ok-over_item.ensures.walks;
+  over = walked-item (length c.args.string.now.letters) c.items.item-index c.args.string.now.letters c.args.items.now c.item-item.result (walk_shown c.args.walk.now)
+      (walk_shown c.items.walk) (walk_shown c.over_item.new.walk) c.items-test.true c.item-item.is c.items.invariant.over c.in_ok-over_item.ensures.over;
+}
+
+pub over_rounds-over_items-requires : goal.over_rounds-over_items-requires
+over_rounds-over_items-requires t c =
+    let n = length c.args.string.now.letters in
+    let body = listed c.args.body.now in (
+      omega (arith, c.decreases),
+      (
+        c.rounds.invariant.walks,
+        (
+          round-fits n c.args.count (unroll body) (omega (arith, c.rounds-test.true)) c.requires.fits,
+          omega (
+            arith,
+            c.requires.few,
+            round-steps n c.rounds.counter c.args.string.now.letters body (walk_shown c.args.walk.now) (walk_shown c.rounds.walk) c.rounds.invariant.over,
+            times-more c.rounds.counter c.args.count (length (unroll body)) c.rounds-test.true,
+          ),
+        ),
+      ),
+    )
+
+pub over_rounds-returns-then-walk-steps-clause-over : goal.over_rounds-returns-then-walk-steps-clause-over
+over_rounds-returns-then-walk-steps-clause-over t c =
+    no-rounds (length c.args.string.now.letters) c.rounds.counter c.args.count c.args.string.now.letters (listed c.args.body.now) (walk_shown c.args.walk.now) (walk_shown c.rounds.walk)
+    (walk_shown c.over_items.new.walk) c.rounds.invariant.over c.in_ok-over_items.ensures.over (omega (arith, c.if-walk-steps.true)) c.requires.walks.size
+
+pub over_rounds-rounds-preserved : goal.over_rounds-rounds-preserved
+over_rounds-rounds-preserved t c = record {
+  walks = c.in_ok-over_items.ensures.walks;
+  over = walked-round (length c.args.string.now.letters) c.rounds.counter c.args.string.now.letters (listed c.args.body.now) (walk_shown c.args.walk.now) (walk_shown c.rounds.walk)
+      (walk_shown c.over_items.new.walk) c.rounds.invariant.over c.in_ok-over_items.ensures.over;
+}

@@ -1,0 +1,23 @@
+use Rattle.stab_ways.proofs.Names.{◌≡◌, ◌+◌, ◌*◌, take, length, listed, depth, nested_in, parts_of, part_rounds, walked, walk_shown, IsWalk}
+use Rattle.stab_ways.proofs.rounds.+walking.Given as goal
+
+abbrev pub decreases-over_item : goal.decreases-over_item
+decreases-over_item l = 3 * nested_in l.item.now
+
+abbrev pub decreases-over_items : goal.decreases-over_items
+decreases-over_items l = 3 * depth (listed l.items.now) + 1
+
+abbrev pub decreases-over_rounds : goal.decreases-over_rounds
+decreases-over_rounds l = 3 * depth (listed l.body.now) + 2
+
+abbrev pub invariant-over_items-items : goal.invariant-over_items-items
+invariant-over_items-items l = record {
+  walks : IsWalk (length l.string.letters) l.walk;
+  over : walk_shown l.walk ≡ walked (length l.string.letters) l.string.letters (parts_of (listed (take l.item-index l.items))) (walk_shown l.initial.walk);
+}
+
+abbrev pub invariant-over_rounds-rounds : goal.invariant-over_rounds-rounds
+invariant-over_rounds-rounds l = record {
+  walks : IsWalk (length l.string.letters) l.walk;
+  over : walk_shown l.walk ≡ walked (length l.string.letters) l.string.letters (part_rounds l.counter (parts_of (listed l.body))) (walk_shown l.initial.walk);
+}

@@ -1,0 +1,34 @@
+-- Laws of strings that are put in: what runs show of them.
+use Rattle.std.specs.Prelude.{◌≡◌, ℕ, ◌≤◌, Bool, false, List, All, length, take, slice_index_or}
+use Rattle.stab_gates.specs.declared.letter.Letter.{Letter}
+use Rattle.stab_tableau.specs.Traces.{member}
+use Rattle.stab_tableau.specs.Conjugations.{IsConjugated}
+use Rattle.stab_items.specs.Steps.{Step}
+use Rattle.stab_run.specs.Runs.{start, run}
+use Rattle.stab_run.specs.Points.{origin, point_after}
+use Rattle.stab_run.specs.ProgramStates.{StepFits}
+use Rattle.stab_frames.specs.Fronts.{IsFlippedRun}
+use Rattle.stab_ways.specs.PutIn.{with_string, string_after, string_flips, exchanged}
+
+-- with other coins the run of the steps with a string put in after k of them has the records, flags, detectors and observables of the run
+-- without it, flipped as the string flips them; and after each m steps its state is the other's, with what the string is there applied
+pub record FlipsRun (n k : ℕ) (string : List Letter) (xs : List Step) (coins others : ℕ → Bool) : Type 0 where
+  pub run : IsFlippedRun n coins others xs (with_string k string xs) (string_flips n k string xs)
+  pub states : (m : ℕ) → k ≤ m → IsConjugated n (string_after n k string xs m) (member (point_after n coins (take m xs) origin).trace)
+      (member (point_after n others (with_string k string (take m xs)) origin).trace)
+
+-- the coins of the free outcomes that it flips, exchanged
+abbrev pub coins_with : ℕ → ℕ → List Letter → List Step → (ℕ → Bool) → ℕ → Bool
+coins_with n k string xs coins = exchanged (run n coins xs (start 0)).free (string_flips n k string xs).outcomes coins
+
+-- so it is with exactly these coins exchanged, whatever the coins
+abbrev pub StringsFlipRuns : Type 0
+StringsFlipRuns =
+    (n k : ℕ) (string : List Letter) (xs : List Step) (coins : ℕ → Bool) → All (StepFits n) xs → length string ≡ n →
+    FlipsRun n k string xs coins (coins_with n k string xs coins)
+
+-- and where no outcome is free, the coins are the same
+abbrev pub FixedOutcomesKeepCoins : Type 0
+FixedOutcomesKeepCoins =
+    (n k : ℕ) (string : List Letter) (xs : List Step) (coins : ℕ → Bool) → ((t : ℕ) → slice_index_or (run n coins xs (start 0)).free t false ≡ false) →
+    (t : ℕ) → coins_with n k string xs coins t ≡ coins t

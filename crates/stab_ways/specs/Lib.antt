@@ -1,0 +1,4 @@
+pub mod PutIn
+pub mod Ways
+pub mod Laws
+pub mod inner

@@ -1,0 +1,68 @@
+-- Walks: a string on its way over the instructions of a circuit, from the first one on, and what is known of it so far.
+use Rattle.std.specs.Prelude.{◌≡◌, ◌≤◌, ℕ, ◌+◌, ◌-◌, nat_lt, List, [], ◌∷◌, ◌++◌, length, take, drop, map, Option, Some, None, if◌then◌else◌}
+use Rattle.stab_gates.specs.declared.letter.Letter.{Letter}
+use Rattle.stab_pauli.specs.Paulis.{string_product}
+use Rattle.stab_items.specs.Steps.{Step}
+use Rattle.stab_run.specs.Points.{joined, all_coins_of}
+use Rattle.stab_frames.specs.Propagations.{PropagationState, frame_at, IsPlaced}
+use Rattle.stab_frames.specs.FrameSteps.{frame_over, flips_over}
+use Rattle.stab_ways.specs.declared.walk.Walk.{Walk}
+use Rattle.stab_ways.specs.PutIn.{by_letters}
+use Rattle.stab_ways.specs.Ways.{Turn, turned, turn_shown}
+
+-- a frame after steps, with what it has flipped
+abbrev pub passed : ℕ → List Step → PropagationState → PropagationState
+passed n ys p = record {
+  letters = (frame_over n by_letters ys 0 (frame_at 0 p)).letters;
+  flips = joined p.flips (flips_over n by_letters ys 0 (frame_at 0 p));
+  coin = p.coin + all_coins_of ys;
+  number = p.number;
+}
+
+-- how many steps were passed, after how many more the string is put in, if it was not yet, the frame so far, and where the string became another one
+pub record WalkState : Type 0 where
+  pub steps : ℕ
+  pub waits : Option ℕ
+  pub frame : PropagationState
+  pub turns : List Turn
+
+-- the string is put in
+abbrev pub put_in : List Letter → WalkState → WalkState
+put_in string w = record w { waits = None; frame = record w.frame { letters = string_product w.frame.letters string } }
+
+-- at the end, if it was not yet
+abbrev pub ended : Option ℕ → List Letter → WalkState → WalkState
+ended None string w = w
+ended (Some k) string w = put_in string w
+
+-- further steps of an instruction are passed, and nothing is told
+abbrev pub past_steps : ℕ → List Step → WalkState → WalkState
+past_steps n ys w = record w { steps = w.steps + length ys; frame = passed n ys w.frame }
+
+-- and the string is told if it is another one after them
+abbrev pub told : ℕ → List Step → WalkState → WalkState
+told n ys w = record (past_steps n ys w) { turns = w.turns ++ turned (w.steps + length ys) w.frame.letters (passed n ys w.frame).letters }
+
+-- over an instruction with the string under way, or not yet put in
+abbrev pub over_part : ℕ → List Letter → List Step → Option ℕ → WalkState → WalkState
+over_part n string ys None w = told n ys w
+over_part n string ys (Some k) w =
+    if nat_lt k (length ys) then told n (drop k ys) (put_in string (past_steps n (take k ys) w))
+    else record (past_steps n ys w) { waits = Some (k - length ys) }
+
+-- over instructions one after another
+abbrev pub walked : ℕ → List Letter → List (List Step) → WalkState → WalkState
+walked n string [] w = w
+walked n string (ys ∷ parts) w = walked n string parts (over_part n string ys w.waits w)
+
+-- what is known of a walk
+abbrev pub walk_shown : Walk → WalkState
+walk_shown w = record { steps = w.steps; waits = w.waits; frame = w.propagation; turns = map turn_shown w.turns.items }
+
+-- a walk on n qubits, which no pivot is known for
+pub record IsWalk (n : ℕ) (w : Walk) : Type 0 where
+  pub size : length w.propagation.letters ≡ n
+  pub placed : IsPlaced [] w.propagation
+  pub coins : w.propagation.coin ≤ w.steps
+  pub qubits : w.strings.qubits ≡ n
+  pub none : w.strings.strings ≡ []

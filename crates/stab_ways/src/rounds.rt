@@ -1,0 +1,81 @@
+//! A string on its way over items, and rounds of blocks.
+
+ghost use Rattle.std.specs.Prelude.{◌≡◌, ◌+◌, ◌*◌, ◌≤◌, All, length, OnOk};
+ghost use Rattle.stab_items.specs.Items.{before, done, listed};
+ghost use Rattle.stab_items.specs.Steps.{rounds, unroll, most_steps};
+ghost use Rattle.stab_run.specs.ProgramStates.{StepFits};
+ghost use Rattle.stab_ways.specs.Ways.{part_rounds, parts_of};
+ghost use Rattle.stab_ways.specs.inner.Walks.{walked, walk_shown, IsWalk};
+
+use crate::walk::{Walk, over_instruction};
+use stab_items::{Item, Part};
+use stab_pauli::Pauli;
+use std::alloc::{AllocError, Global};
+
+/// Passes an item.
+#[cycle(walking)]
+fn over_item(alloc: Global, walk: &mut Walk, string: &Pauli, item: &Item) -> Result<(), AllocError>
+    requires walks { IsWalk (length string.now.letters) walk.old }
+    requires fits { All (StepFits (length string.now.letters)) (unroll (before item.now done)) }
+    requires few { walk.old.steps + length (unroll (before item.now done)) ≤ most_steps }
+    ensures walks { OnOk result (IsWalk (length string.now.letters) walk.new) }
+    ensures over { OnOk result (walk_shown walk.new ≡ walked (length string.now.letters) string.now.letters (parts_of (before item.now done)) (walk_shown walk.old)) }
+{
+    match item.part() {
+        Part::Tick => Ok(()),
+        Part::Operation { kind, .. } => {
+            over_instruction(alloc, walk, string, kind)?;
+            Ok(())
+        }
+        Part::Block { count, body, .. } => {
+            over_rounds(alloc, walk, string, body, count.number())?;
+            Ok(())
+        }
+    }
+}
+
+/// Passes this many rounds of items.
+#[cycle(walking)]
+fn over_rounds(
+    alloc: Global,
+    walk: &mut Walk,
+    string: &Pauli,
+    body: &[Item],
+    count: u64,
+) -> Result<(), AllocError>
+    requires walks { IsWalk (length string.now.letters) walk.old }
+    requires fits { All (StepFits (length string.now.letters)) (rounds count (unroll (listed body.now))) }
+    requires few { walk.old.steps + count * length (unroll (listed body.now)) ≤ most_steps }
+    ensures walks { OnOk result (IsWalk (length string.now.letters) walk.new) }
+    ensures over { OnOk result (walk_shown walk.new ≡ walked (length string.now.letters) string.now.letters (part_rounds count (parts_of (listed body.now))) (walk_shown walk.old)) }
+{
+    'rounds: for _ in 0..count {
+        let steps = walk.steps;
+        over_items(alloc, walk, string, body)?;
+        // Rounds without a step change nothing, however many they are.
+        if walk.steps == steps {
+            return Ok(());
+        }
+    }
+    Ok(())
+}
+
+/// Passes items.
+#[cycle(walking)]
+pub(crate) fn over_items(
+    alloc: Global,
+    walk: &mut Walk,
+    string: &Pauli,
+    items: &[Item],
+) -> Result<(), AllocError>
+    requires walks { IsWalk (length string.now.letters) walk.old }
+    requires fits { All (StepFits (length string.now.letters)) (unroll (listed items.now)) }
+    requires few { walk.old.steps + length (unroll (listed items.now)) ≤ most_steps }
+    ensures walks { OnOk result (IsWalk (length string.now.letters) walk.new) }
+    ensures over { OnOk result (walk_shown walk.new ≡ walked (length string.now.letters) string.now.letters (parts_of (listed items.now)) (walk_shown walk.old)) }
+{
+    'items: for item in items {
+        over_item(alloc, walk, string, item)?;
+    }
+    Ok(())
+}

@@ -1,0 +1,189 @@
+//! A string on its way over the instructions of a circuit.
+
+ghost use Rattle.std.specs.Prelude.{◌≡◌, ◌+◌, ◌-◌, ◌^◌, ◌<◌, ◌≤◌, [], None, Some, All, length, take, drop, map, ◌++◌, OnOk};
+ghost use Rattle.stab_items.specs.Steps.{steps_of, most_steps};
+ghost use Rattle.stab_run.specs.ProgramStates.{StepFits};
+ghost use Rattle.stab_frames.specs.Propagations.{IsPlaced};
+ghost use Rattle.stab_ways.specs.Ways.{turned, turn_shown};
+ghost use Rattle.stab_ways.specs.inner.Walks.{passed, told, put_in as put_in_of, past_steps as past_of, over_part, ended, walk_shown, IsWalk};
+
+use crate::strings::{differ, placed};
+use crate::way::Turn;
+use stab_frames::{Known, Pivots, Propagation, SameCoins, propagate_instruction};
+use stab_gates::Letter;
+use stab_items::{step_count, steps_from};
+use stab_lines::Kind;
+use stab_pauli::Pauli;
+use stab_run::ListCoins;
+use std::alloc::{AllocError, Global};
+
+/// A string on its way from the first step of a circuit on, and what is known of it so far.
+#[derive(Drop)]
+pub(crate) struct Walk {
+    pub propagation: Propagation,
+    /// Where it became another one.
+    pub turns: Vec<Turn>,
+    /// After how many more steps it is put in, or `None` if it was.
+    pub waits: Option<usize>,
+    /// How many steps were passed.
+    pub steps: u64,
+    /// None: no run is known, so each outcome is taken as a fixed one.
+    pub strings: Pivots,
+}
+
+/// Passes steps of an instruction with a frame, from one to another, and counts them.
+fn pass(
+    propagation: &mut Propagation,
+    strings: &Pivots,
+    kind: &Kind,
+    from: usize,
+    to: usize,
+    framed: &mut u64,
+) -> Result<(), AllocError>
+    requires none { (strings.now.qubits ≡ length propagation.old.letters) × (strings.now.strings ≡ []) }
+    requires placed { IsPlaced [] propagation.old }
+    requires fits { All (StepFits (length propagation.old.letters)) (steps_of kind.now) }
+    requires within { (from ≤ to) × (to ≤ length (steps_of kind.now)) }
+    requires few { propagation.old.coin + (to - from) < 2 ^ 63 }
+    requires few_framed { framed.old + (to - from) < 2 ^ 63 }
+    ensures counted { OnOk result (framed.new ≡ framed.old + (to - from)) }
+    ensures length { length propagation.new.letters ≡ length propagation.old.letters }
+    ensures passed { OnOk result (propagation.new ≡ passed (length propagation.old.letters) (take (to - from) (drop from (steps_of kind.now))) propagation.old) }
+{
+    let known = Known {
+        strings,
+        free: &[],
+        draw: &SameCoins,
+    };
+    let mut none = ListCoins::new(&[]);
+    let mut place = from;
+    'steps: while place < to {
+        let Some(steps) = steps_from(kind, place, to - place) else {
+            return Ok(());
+        };
+        let went = propagate_instruction(propagation, known, &mut none, steps, framed)?;
+        place += went;
+    }
+    Ok(())
+}
+
+/// Passes steps of an instruction, from one to another.
+fn past_steps(walk: &mut Walk, kind: &Kind, from: usize, to: usize) -> Result<(), AllocError>
+    requires walks { IsWalk (length walk.old.propagation.letters) walk.old }
+    requires fits { All (StepFits (length walk.old.propagation.letters)) (steps_of kind.now) }
+    requires order { from ≤ to }
+    requires within { to ≤ length (steps_of kind.now) }
+    requires few { walk.old.steps + (to - from) ≤ most_steps }
+    ensures walks { OnOk result (IsWalk (length walk.old.propagation.letters) walk.new) }
+    ensures passed { OnOk result (walk_shown walk.new ≡ past_of (length walk.old.propagation.letters) (take (to - from) (drop from (steps_of kind.now))) (walk_shown walk.old)) }
+{
+    pass(
+        &mut walk.propagation,
+        &walk.strings,
+        kind,
+        from,
+        to,
+        &mut walk.steps,
+    )?;
+    Ok(())
+}
+
+/// Puts a string with its place after others, if it is another one than it was.
+fn tell(
+    alloc: Global,
+    turns: &mut Vec<Turn>,
+    after: usize,
+    old: &[Letter],
+    new: &[Letter],
+) -> Result<(), AllocError>
+    requires same_length { length new.now ≡ length old.now }
+    ensures told { OnOk result (map turn_shown turns.new.items ≡ map turn_shown turns.old.items ++ turned after old.now new.now) }
+{
+    if differ(old, new) {
+        let string = placed(alloc, new)?;
+        turns.push(Turn { after, string })?;
+    }
+    Ok(())
+}
+
+/// Passes the steps of an instruction from one on, and notes the string if it is another one after them.
+fn tell_steps(
+    alloc: Global,
+    walk: &mut Walk,
+    kind: &Kind,
+    from: usize,
+    to: usize,
+) -> Result<(), AllocError>
+    requires walks { IsWalk (length walk.old.propagation.letters) walk.old }
+    requires fits { All (StepFits (length walk.old.propagation.letters)) (steps_of kind.now) }
+    requires order { from ≤ to }
+    requires within { to ≤ length (steps_of kind.now) }
+    requires few { walk.old.steps + (to - from) ≤ most_steps }
+    ensures walks { OnOk result (IsWalk (length walk.old.propagation.letters) walk.new) }
+    ensures told { OnOk result (walk_shown walk.new ≡ told (length walk.old.propagation.letters) (take (to - from) (drop from (steps_of kind.now))) (walk_shown walk.old)) }
+{
+    let before = Vec::from_slice(alloc, walk.propagation.letters())?;
+    past_steps(walk, kind, from, to)?;
+    tell(
+        alloc,
+        &mut walk.turns,
+        walk.steps as usize,
+        before.as_slice(),
+        walk.propagation.letters(),
+    )?;
+    Ok(())
+}
+
+/// Puts the string in.
+pub(crate) fn put_in(walk: &mut Walk, string: &Pauli)
+    requires walks { IsWalk (length string.now.letters) walk.old }
+    ensures walks { IsWalk (length string.now.letters) walk.new }
+    ensures value { walk_shown walk.new ≡ put_in_of string.now.letters (walk_shown walk.old) }
+{
+    walk.propagation.multiply(string);
+    walk.waits = None;
+}
+
+/// Puts the string in at the end, if it was not yet.
+pub(crate) fn finish(walk: &mut Walk, string: &Pauli)
+    requires walks { IsWalk (length string.now.letters) walk.old }
+    ensures value { walk_shown walk.new ≡ ended walk.old.waits string.now.letters (walk_shown walk.old) }
+{
+    match walk.waits {
+        Some(_) => put_in(walk, string),
+        None => {}
+    }
+}
+
+/// Passes an instruction.
+pub(crate) fn over_instruction(
+    alloc: Global,
+    walk: &mut Walk,
+    string: &Pauli,
+    kind: &Kind,
+) -> Result<(), AllocError>
+    requires walks { IsWalk (length string.now.letters) walk.old }
+    requires fits { All (StepFits (length string.now.letters)) (steps_of kind.now) }
+    requires few { walk.old.steps + length (steps_of kind.now) ≤ most_steps }
+    ensures walks { OnOk result (IsWalk (length string.now.letters) walk.new) }
+    ensures over { OnOk result (walk_shown walk.new ≡ over_part (length string.now.letters) string.now.letters (steps_of kind.now) walk.old.waits (walk_shown walk.old)) }
+{
+    let count = step_count(kind);
+    match walk.waits {
+        None => {
+            tell_steps(alloc, walk, kind, 0, count)?;
+            Ok(())
+        }
+        Some(left) if left < count => {
+            past_steps(walk, kind, 0, left)?;
+            put_in(walk, string);
+            tell_steps(alloc, walk, kind, left, count)?;
+            Ok(())
+        }
+        Some(left) => {
+            past_steps(walk, kind, 0, count)?;
+            walk.waits = Some(left - count);
+            Ok(())
+        }
+    }
+}

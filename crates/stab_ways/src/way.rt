@@ -1,0 +1,28 @@
+use stab_frames::Propagation;
+use stab_gates::Letter;
+
+/// A letter X, Y or Z on a qubit.
+#[derive(Clone, Copy, Debug, PartialEq, Eq)]
+pub struct PlacedLetter {
+    pub letter: Letter,
+    pub qubit: usize,
+}
+
+/// Where a string becomes another one: after an instruction.
+#[derive(Drop)]
+pub struct Turn {
+    /// How many steps there are before the place.
+    pub after: usize,
+    /// The letters of the string there, by qubit. There is none if it is gone.
+    pub string: Vec<PlacedLetter>,
+}
+
+/// The way of a string that was put in.
+#[derive(Drop)]
+pub struct Way {
+    /// Where it became another one, in order.
+    pub turns: Vec<Turn>,
+    /// The string at the end of the circuit, and which outcomes, records, detectors and additions to observables
+    /// it has flipped, of all those of the circuit.
+    pub end: Propagation,
+}

@@ -1,0 +1,262 @@
+//! Strings put into small circuits: after which instructions they are others, and what they flip.
+use stab_circuit::{Circuit, read_circuit};
+use stab_pauli::{Letter, MemoryInput, Pauli};
+use stab_run::Addition;
+use stab_ways::{PlacedLetter, Way, way_of};
+use std::alloc::Global;
+use std::test::Fail;
+
+/// Letters of a string, by qubit.
+type Letters = &'static [(usize, Letter)];
+
+/// A circuit, after how many of its steps a string is put in, and the string; where it is another one, the numbers of the records, detectors
+/// and additions to observables that it flips, and the string at the end.
+type Case = (
+    &'static str,
+    usize,
+    Letters,
+    &'static [(usize, Letters)],
+    &'static [usize],
+    &'static [usize],
+    &'static [usize],
+    Letters,
+);
+
+const X0: Letters = &[(0, Letter::X)];
+
+const X1: Letters = &[(1, Letter::X)];
+
+const Y0: Letters = &[(0, Letter::Y)];
+
+const Z0: Letters = &[(0, Letter::Z)];
+
+const X0_X1: Letters = &[(0, Letter::X), (1, Letter::X)];
+
+const X0_Z1: Letters = &[(0, Letter::X), (1, Letter::Z)];
+
+const Z0_Z1: Letters = &[(0, Letter::Z), (1, Letter::Z)];
+
+const CASES: &[Case] = &[
+    // CX takes X of its control to its target, and Z of its target to its control; H exchanges X and Z.
+    (
+        "R 0 1\nTICK\nCX 0 1\nTICK\nH 1\nTICK\nM 0 1",
+        2,
+        X0,
+        &[(3, X0_X1), (4, X0_Z1)],
+        &[0],
+        &[],
+        &[],
+        X0_Z1,
+    ),
+    ("CX 1 0", 0, Z0, &[(1, Z0_Z1)], &[], &[], &[], Z0_Z1),
+    ("CZ 0 1", 0, X0, &[(1, X0_Z1)], &[], &[], &[], X0_Z1),
+    // S makes Y of X, and X of Y up to its sign.
+    ("S 0\nS 0", 0, X0, &[(1, Y0), (2, X0)], &[], &[], &[], X0),
+    ("H 0\nH 1", 0, X0, &[(1, Z0)], &[], &[], &[], Z0),
+    // In one instruction the string is told after all its targets alone.
+    ("SWAP 0 1", 0, X0, &[(1, X1)], &[], &[], &[], X1),
+    ("SWAP 0 1 0 1", 0, X0, &[], &[], &[], &[], X0),
+    // A reset ends it, and so does a measurement that resets, once it is flipped.
+    (
+        "CX 0 1\nR 0 1\nM 0 1",
+        0,
+        X0,
+        &[(1, X0_X1), (3, &[])],
+        &[],
+        &[],
+        &[],
+        &[],
+    ),
+    ("MR 0\nM 0", 0, X0, &[(1, &[])], &[0], &[], &[], &[]),
+    ("MR 0\nM 0", 1, X0, &[], &[1], &[], &[], X0),
+    // Z anticommutes with X X, and commutes with Z Z.
+    ("MPP X0*X1 Z0*Z1", 0, Z0, &[], &[0], &[], &[], Z0),
+    // A flipped record puts X on another qubit, where its own measurement shows it.
+    (
+        "M 0\nCX rec[-1] 1\nM 1",
+        0,
+        X0,
+        &[(2, X0_X1)],
+        &[0, 1],
+        &[],
+        &[],
+        X0_X1,
+    ),
+    ("M 0\nCX rec[-1] 1\nM 1", 1, X0, &[], &[], &[], &[], X0),
+    // After two rounds the string is as it was.
+    (
+        "REPEAT 4 {\nSWAP 0 1\n}",
+        0,
+        X0,
+        &[(1, X1), (2, X0), (3, X1), (4, X0)],
+        &[],
+        &[],
+        &[],
+        X0,
+    ),
+    (
+        "REPEAT 4 {\nSWAP 0 1\n}",
+        2,
+        X0,
+        &[(3, X1), (4, X0)],
+        &[],
+        &[],
+        &[],
+        X0,
+    ),
+    (
+        "REPEAT 2 {\nREPEAT 2 {\nS 0\n}\nM 0\n}",
+        3,
+        X0,
+        &[(4, Y0), (5, X0)],
+        &[1],
+        &[],
+        &[],
+        X0,
+    ),
+    // X X stabilises the pair: of two random outcomes that agree it flips both.
+    (
+        "H 0\nCX 0 1\nM 0 1",
+        2,
+        X0_X1,
+        &[],
+        &[0, 1],
+        &[],
+        &[],
+        X0_X1,
+    ),
+    // Of the records of one instruction those after the string are flipped.
+    ("M 0 0 0", 1, X0, &[], &[1, 2], &[], &[], X0),
+    (
+        "M 0 1\nDETECTOR rec[-1]\nDETECTOR rec[-2]\nDETECTOR rec[-1] rec[-2]\nOBSERVABLE_INCLUDE(0) rec[-1]\nOBSERVABLE_INCLUDE(0) rec[-2]",
+        0,
+        X1,
+        &[],
+        &[1],
+        &[0, 2],
+        &[0],
+        X1,
+    ),
+    // At the end nothing follows.
+    ("H 0\nH 1", 2, X0_X1, &[], &[], &[], &[], X0_X1),
+    ("", 0, X0, &[], &[], &[], &[], X0),
+    // A block without steps is passed at once.
+    (
+        "REPEAT 1000000000000 {\nTICK\n}\nH 0",
+        0,
+        X0,
+        &[(1, Z0)],
+        &[],
+        &[],
+        &[],
+        Z0,
+    ),
+];
+
+/// Whether these are the letters of a string.
+fn are(found: &[PlacedLetter], wanted: Letters) -> bool {
+    let mut same = found.len() == wanted.len();
+    for place in 0..found.len().min(wanted.len()) {
+        let (qubit, letter) = wanted[place];
+        same = same && found[place].qubit == qubit && found[place].letter == letter;
+    }
+    same
+}
+
+/// Whether a string has these letters, and no others.
+fn left(letters: &[Letter], wanted: Letters) -> bool {
+    let mut next = 0;
+    for qubit in 0..letters.len() {
+        if letters[qubit] == Letter::I {
+            continue;
+        }
+        if next >= wanted.len() || wanted[next].0 != qubit || wanted[next].1 != letters[qubit] {
+            return false;
+        }
+        next += 1;
+    }
+    next == wanted.len()
+}
+
+/// Whether bits are 1 at these numbers alone.
+fn ones(bits: &[bool], wanted: &[usize]) -> bool {
+    let mut next = 0;
+    for number in 0..bits.len() {
+        if !bits[number] {
+            continue;
+        }
+        if next >= wanted.len() || wanted[next] != number {
+            return false;
+        }
+        next += 1;
+    }
+    next == wanted.len()
+}
+
+/// Whether additions are flipped at these numbers alone.
+fn flipped(additions: &[Addition], wanted: &[usize]) -> bool {
+    let mut next = 0;
+    for number in 0..additions.len() {
+        if !additions[number].bit {
+            continue;
+        }
+        if next >= wanted.len() || wanted[next] != number {
+            return false;
+        }
+        next += 1;
+    }
+    next == wanted.len()
+}
+
+/// Whether a string becomes these.
+fn turns(way: &Way, wanted: &[(usize, Letters)]) -> bool {
+    let found = way.turns.as_slice();
+    let mut same = found.len() == wanted.len();
+    for place in 0..found.len().min(wanted.len()) {
+        let (after, string) = wanted[place];
+        same = same && found[place].after == after && are(found[place].string.as_slice(), string);
+    }
+    same
+}
+
+/// Puts a letter at a qubit, if the string has one there.
+fn set(string: &mut Pauli, qubit: usize, letter: Letter) {
+    if qubit < string.len() {
+        string.set(qubit, letter);
+    }
+}
+
+/// The way of a string of two letters, of which these are not I.
+fn way(alloc: Global, circuit: &Circuit, place: usize, letters: Letters) -> Option<Way> {
+    let mut string = Pauli::identity(alloc, 2).ok()?;
+    for (qubit, letter) in letters {
+        set(&mut string, *qubit, *letter);
+    }
+    circuit.check(string.len()).ok()?;
+    way_of(alloc, circuit, place, &string).ok()
+}
+
+fn answers(alloc: Global, case: &Case) -> bool {
+    let (text, place, letters, told, records, detectors, additions, end) = *case;
+    let Ok(circuit) = read_circuit(alloc, &mut MemoryInput::new(text.as_bytes())) else {
+        return false;
+    };
+    let Some(found) = way(alloc, &circuit, place, letters) else {
+        return false;
+    };
+    turns(&found, told)
+        && ones(found.end.records(), records)
+        && ones(found.end.detectors(), detectors)
+        && flipped(found.end.additions(), additions)
+        && left(found.end.letters(), end)
+}
+
+#[test]
+fn strings_go_as_worked_by_hand(rt: HostRuntime) -> Result<(), Fail> {
+    for case in CASES {
+        let right = answers(rt.alloc(), case);
+        let text = case.0;
+        assert!(rt; right, "{text}");
+    }
+    Ok(())
+}
