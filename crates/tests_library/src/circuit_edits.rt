@@ -9,7 +9,7 @@ const ROUNDS: &str = "REPEAT 3 {\n    X 0\n    M 0\n}\nM 0\n";
 
 /// What is done with an item at a path.
 #[derive(Clone, Copy)]
-enum Call {
+pub(crate) enum Call {
     Insert,
     Replace,
     Delete,
@@ -62,17 +62,9 @@ fn told(answer: Result<(Span, Option<Item>), Refused>) -> (u8, bool, [usize; 3])
     }
 }
 
-/// What an edit on this many qubits answers.
-fn judged(
-    alloc: Global,
-    circuit: &mut Circuit,
-    n: usize,
-    call: Call,
-    numbers: &[usize],
-    item: &str,
-) -> Result<(u8, bool, [usize; 3]), Fault> {
-    let place = path_of(numbers);
-    let edit = match call {
+/// The edit that this call is, with the item of a text unless it takes one out.
+pub(crate) fn edit_of(alloc: Global, call: Call, place: Path, item: &str) -> Result<Edit, Fault> {
+    Ok(match call {
         Call::Insert => Edit::Insert {
             place,
             item: read_item(alloc, item.as_bytes())?,
@@ -82,7 +74,19 @@ fn judged(
             item: read_item(alloc, item.as_bytes())?,
         },
         Call::Delete => Edit::Delete { place },
-    };
+    })
+}
+
+/// What an edit on this many qubits answers.
+fn judged(
+    alloc: Global,
+    circuit: &mut Circuit,
+    n: usize,
+    call: Call,
+    numbers: &[usize],
+    item: &str,
+) -> Result<(u8, bool, [usize; 3]), Fault> {
+    let edit = edit_of(alloc, call, path_of(numbers), item)?;
     Ok(told(circuit.edit(n, edit)))
 }
 

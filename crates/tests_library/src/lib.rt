@@ -9,7 +9,8 @@
 //! - `made_items`: an item that is made and not read.
 //! - `circuits`, `circuit_edits`, `cursors`, `gaps`, `step_items`: circuits, their edits and their steps.
 //! - `coins`, `samplers`: coins, and runs by them. `results`: entries of results.
-//! - `rounds`: where rounds are that come again, in blocks and written out, and that their pivots count once.
+//! - `rounds`: where rounds are that come again, in blocks and written out, and that their pivots count once. `kept_rounds`: which of
+//!   them an edit leaves.
 //! - `sessions`, `session_edits`: sessions that are refused, and what edits cost.
 //! - `distances`: the search for a least logical error. `counts`: how many there are.
 //! - `answers`: what is found beside what is wanted.
@@ -38,6 +39,8 @@ mod devices;
 mod distances;
 #[cfg(test)]
 mod gaps;
+#[cfg(test)]
+mod kept_rounds;
 #[cfg(test)]
 mod letters;
 pub mod made_items;
