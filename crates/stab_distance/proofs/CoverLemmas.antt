@@ -1,5 +1,5 @@
 -- Covers: of some errors that flip N detectors back, one flips at least N over their number.
-use Rattle.stab_distance.proofs.Names.{◌≡◌, ℕ, zero, suc, ◌⊎◌, ◌+◌, ◌-◌, ◌*◌, ◌≤◌, ◌<◌, inl, inr, refl, sym, ◌∙◌, ap, subst, arith, true, false, ◌||◌, List, [], ◌∷◌, length, get_or, cases_lt, false≢true, if◌then◌else◌, ◌==◌, eqb-true, ErrorTable, odd, row, flips, Each, has, Vec, shares, MayBe, Ends, Meet}
+use Rattle.stab_distance.proofs.Names.{◌≡◌, ℕ, ◌+◌, ◌-◌, ◌*◌, ◌≤◌, ◌<◌, inl, inr, refl, sym, ◌∙◌, ap, subst, arith, true, false, ◌||◌, List, [], ◌∷◌, length, get_or, cases_lt, false≢true, if◌then◌else◌, ◌==◌, eqb-true, ErrorTable, odd, row, flips, Each, has, Vec, shares, MayBe, Ends, Meet}
 use Rattle.stab_distance.proofs.FlipLemmas.{namer}
 use Rattle.stab_distance.proofs.ListLemmas.{by-bit, each-has, has-here, has-there, has-at}
 
@@ -49,40 +49,8 @@ above rows (e ∷ es) ds m lt =
       | inr few ↦ let later = above rows es ds m (omega arith) in (later.0, (has-there later.0 e es later.1.0, later.1.1))
     ]
 
--- errors that flip few each flip few together, but for one of them
-
-all-within : (rows : List (List ℕ)) (es ds : List ℕ) (most : ℕ) → ((r : ℕ) → has r es ≡ true → shares rows r ds ≤ most) → all-shares rows es ds ≤ most * length es
-all-within rows [] ds most few = omega arith
-all-within rows (x ∷ xs) ds most few =
-    let here = few x (has-here x xs) in
-    let later = all-within rows xs ds most (λ r there. few r (has-there r x xs there)) in
-    omega arith
-
-times-less : (m n : ℕ) → 0 < n → m * n ≡ m + m * (n - 1)
-times-less m zero lt = absurd (omega arith)
-times-less m (suc n) lt = let same : suc n - 1 ≡ n = omega arith in let is = ap (λ k. m * k) same in omega arith
-
-all-but : (rows : List (List ℕ)) (es ds : List ℕ) (most e : ℕ) → has e es ≡ true → ((r : ℕ) → has r es ≡ true → shares rows r ds ≤ most)
-    → all-shares rows es ds ≤ shares rows e ds + most * (length es - 1)
-all-but rows [] ds most e there few = absurd (false≢true there)
-all-but rows (x ∷ xs) ds most e there few =
-    let shorter : length (x ∷ xs) - 1 ≡ length xs = omega arith in
-    let times = ap (λ n. most * n) shorter in
-    by-bit (x == e)
-    (λ same.
-    let is = ap (λ r. shares rows r ds) (eqb-true x e same) in
-    let later = all-within rows xs ds most (λ r more. few r (has-there r x xs more)) in
-    omega arith)
-    (λ other.
-    let in_rest : has e xs ≡ true = ap (λ b. b || has e xs) (sym other) ∙ there in
-    let some = (has-at e xs in_rest).1.0 in
-    let here = few x (has-here x xs) in
-    let less = times-less most (length xs) (omega arith) in
-    let later = all-but rows xs ds most e in_rest (λ r more. few r (has-there r x xs more)) in
-    omega arith)
-
 -- an error that flips some of the detectors flips one of them
-pub some-shared : (rows : List (List ℕ)) (e : ℕ) (ds : List ℕ) → 0 < shares rows e ds → (d : ℕ) × ((has d ds ≡ true) × (odd d (row rows e) ≡ true))
+some-shared : (rows : List (List ℕ)) (e : ℕ) (ds : List ℕ) → 0 < shares rows e ds → (d : ℕ) × ((has d ds ≡ true) × (odd d (row rows e) ≡ true))
 some-shared rows e [] lt = absurd (omega arith)
 some-shared rows e (d ∷ ds) lt =
     by-bit (odd d (row rows e))
@@ -134,23 +102,6 @@ module _ (t : ErrorTable) (pairs : List (Vec ℕ)) (first : ℕ) (path flipped d
       at-place rest at one.0
       (all one.0 (each-has (λ r. r < length t.rows) one.0 rest ends.completes.inside one.1.0) (may-be t pairs first path flipped rest one.0 ends one.1.0) one.1.1)
       one.1.0
-
-  -- all errors that flip one of the detectors, and as many as others leave that flip `most` each
-  pub meet-needed : (d most need : ℕ) (at : List ℕ) → has d ds ≡ true
-      → ((e : ℕ) → e < length t.rows → MayBe pairs first path e → shares t.rows e ds ≤ most)
-      → (need ≤ 1) ⊎ (need + most * (left - 1) ≤ length ds)
-      → ((e : ℕ) → e < length t.rows → MayBe pairs first path e → odd d (row t.rows e) ≡ true → need ≤ shares t.rows e ds → has e at ≡ true)
-      → Meet t pairs first path flipped left at
-  meet-needed d most need at among few bound all rest ends count =
-      let one = namer t.rows rest d (each-has (λ k. flips t.rows rest k ≡ true) d ds (flip-each rest ends) among) in
-      let inside : (r : ℕ) → has r rest ≡ true → r < length t.rows = λ r there. each-has (λ q. q < length t.rows) r rest ends.completes.inside there in
-      let may : (r : ℕ) → has r rest ≡ true → MayBe pairs first path r = λ r there. may-be t pairs first path flipped rest r ends there in
-      let whole = no-fewer t rest ds (flip-each rest ends) in
-      let others = all-but t.rows rest ds most one.0 one.1.0 (λ r there. few r (inside r there) (may r there)) in
-      let same = ap (λ n. most * (n - 1)) count in
-      let some = shared t.rows one.0 d ds among one.1.1 in
-      let enough : need ≤ shares t.rows one.0 ds = elim bound [ inl small ↦ omega arith | inr less ↦ omega arith ] in
-      at-place rest at one.0 (all one.0 (inside one.0 one.1.0) (may one.0 one.1.0) one.1.1 enough) one.1.0
 
   -- all errors that flip many of them
   pub meet-covering : (least : ℕ) (at : List ℕ) → 0 < least → (least - 1) * left < length ds

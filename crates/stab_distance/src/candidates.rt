@@ -1,5 +1,5 @@
 //! Errors of which each set that completes those chosen has one: few are tried where few are enough.
-ghost use Rattle.std.specs.Prelude.{◌≡◌, ◌≢◌, ℕ, ◌+◌, ◌-◌, ◌*◌, ◌⊎◌, ◌<◌, ◌≤◌, true, false, List, length, slice_index, IfOk, OnOk, [], ◌^◌};
+ghost use Rattle.std.specs.Prelude.{◌≡◌, ◌≢◌, ℕ, ◌+◌, ◌-◌, ◌<◌, ◌≤◌, true, false, List, length, slice_index, IfOk, OnOk, [], ◌^◌};
 ghost use Rattle.stab_distance.specs.Ascending.{IsAscending};
 ghost use Rattle.stab_distance.specs.inner.Covers.{MayBe, Covers};
 ghost use Rattle.stab_distance.specs.inner.Ends.{Meet};
@@ -18,8 +18,7 @@ const PLAIN: usize = 2;
 
 /// Errors of which each set of `left` errors has one that completes those chosen. `cover` is scratch, 0 between calls.
 ///
-/// They are those that flip one detector and enough of the others, or all that flip many: of `left` errors that flip N detectors back, one
-/// flips N / `left` of them, and each flips those that the others can't flip.
+/// They are all that flip one detector, or all that flip many: of `left` errors that flip N detectors back, one flips N / `left` of them.
 pub fn candidates(
     alloc: Global,
     errors: &Errors,
@@ -47,9 +46,7 @@ pub fn candidates(
     count(errors, first, detectors, cover);
     leave_out(errors, path, cover);
     let rarest = errors.flipping(rarest(errors, first, detectors, cover));
-    let most = greatest(errors, first, detectors, cover);
-    let need = needed(detectors.len(), most, left - 1);
-    let by_rarest = live(alloc, rarest, first, need, cover)?;
+    let by_rarest = live(alloc, rarest, first, cover)?;
     let least = (detectors.len() - 1) / left + 1;
     let by_cover = covering(alloc, errors, first, detectors, least, cover)?;
     if by_rarest.len() < by_cover.len() {
@@ -178,61 +175,19 @@ fn live_count(rows: &[usize], first: usize, cover: &[usize], end: usize) -> usiz
     count
 }
 
-/// How many of `count` detectors an error flips at least, if some others flip at most `most` each; at least 1.
-fn needed(count: usize, most: usize, others: usize) -> usize
-    ensures needed { (result ≤ 1) ⊎ (result + most * others ≤ count) }
-{
-    count.saturating_sub(most.saturating_mul(others)).max(1)
-}
-
-/// The greatest number of these detectors that an error flips which may be tried, or more.
-fn greatest(errors: &Errors, first: usize, detectors: &[u32], cover: &[usize]) -> usize
-    ensures greatest { (e d : ℕ) → e < length cover.now → first < e → has d detectors.now ≡ true → e < length errors.now.table.rows → odd d (row errors.now.table.rows e) ≡ true → slice_index cover.now e ≤ result }
-{
-    let mut most = 0;
-    for d in detectors {
-        most = greatest_of(errors.flipping(*d), first, cover, most);
-    }
-    most
-}
-
-/// The greatest cover of these errors after the first one, or `least` if that is greater.
-fn greatest_of(rows: &[usize], first: usize, cover: &[usize], least: usize) -> usize
-    ensures greatest { (e : ℕ) → e < length cover.now → first < e → has e rows.now ≡ true → slice_index cover.now e ≤ result }
-    ensures least { least ≤ result }
-{
-    let mut most = least;
-    for r in rows {
-        most = most.max(cover_after(*r, first, cover));
-    }
-    most
-}
-
-/// The cover of error r if it is after the first one, else 0.
-fn cover_after(r: usize, first: usize, cover: &[usize]) -> usize
-    ensures value { first < r → r < length cover.now → slice_index cover.now r ≤ result }
-{
-    if r > first && r < cover.len() {
-        cover[r]
-    } else {
-        0
-    }
-}
-
-/// Those of these errors that may be tried, and flip at least this many of the detectors.
+/// Those of these errors that may be tried.
 fn live(
     alloc: Global,
     rows: &[usize],
     first: usize,
-    least: usize,
     cover: &[usize],
 ) -> Result<Vec<usize>, AllocError>
     ensures inside { IfOk result (λ v. Each (λ r. r < length cover.now) v.items) }
-    ensures all { IfOk result (λ v. (e : ℕ) → has e rows.now ≡ true → first < e → e < length cover.now → least ≤ slice_index cover.now e → has e v.items ≡ true) }
+    ensures all { IfOk result (λ v. (e : ℕ) → has e rows.now ≡ true → first < e → e < length cover.now → 1 ≤ slice_index cover.now e → has e v.items ≡ true) }
 {
     let mut found = Vec::with_capacity(alloc, rows.len())?;
     for r in rows {
-        take_live(*r, first, least, cover, &mut found)?;
+        take_live(*r, first, 1, cover, &mut found)?;
     }
     Ok(found)
 }

@@ -1,5 +1,5 @@
-use Rattle.stab_distance.proofs.Names.{inl, inr, ◌≤◌, cases_lt, slice_index, shares, MayBe, ◌≡◌, ◌<◌, ◌+◌, ◌-◌, ◌*◌, ◌/◌, ℕ, List, true, has, subst, sym, arith, length, Each, refl, false≢true, div-mul-le_self}
-use Rattle.stab_distance.proofs.CoverLemmas.{meet-rarest, meet-needed, meet-covering, some-shared}
+use Rattle.stab_distance.proofs.Names.{◌≡◌, ◌<◌, ◌+◌, ◌-◌, ◌*◌, ◌/◌, ℕ, List, true, has, subst, sym, arith, length, Each, refl, false≢true, div-mul-le_self}
+use Rattle.stab_distance.proofs.CoverLemmas.{meet-rarest, meet-covering, shared}
 use Rattle.stab_distance.proofs.candidates.candidates.Goals as goal
 
 pub returns-then-left-eq-PLAIN-clause-meet : goal.returns-then-left-eq-PLAIN-clause-meet
@@ -17,24 +17,14 @@ pub returns-then-len-clause-meet : goal.returns-then-len-clause-meet
 returns-then-len-clause-meet c =
     let t = c.args.errors.now.table in
     let ds = c.detectors_of-detectors.result.now in
-    let n = length t.rows in
-    let covered : (e : ℕ) → e < n → MayBe c.args.errors.now.pairs c.args.first c.args.path.now e → shares t.rows e ds ≤ slice_index c.leave_out.new.cover e =
-    λ e inside may.
+    meet-rarest t c.args.errors.now.pairs c.args.first c.args.path.now c.args.flipped.now ds c.detectors_of-detectors.ensures.inside
+    c.detectors_of-detectors.ensures.flipped c.args.left c.rarest.result c.in_ok-by_rarest.by_rarest.items c.rarest.ensures.among
+    (λ e inside may flips.
     let covered = c.count.ensures.covers e inside (record { later = may.later; fresh = refl; unpaired = λ a none. absurd (false≢true none) }) in
-    omega (arith, covered, c.leave_out.ensures.others e may.fresh may.unpaired) in
-    let within : (e : ℕ) → e < n → e < length c.leave_out.new.cover = λ e inside. omega (arith, inside, c.requires.cover, c.count.ensures.length, c.leave_out.ensures.length) in
-    meet-needed t c.args.errors.now.pairs c.args.first c.args.path.now c.args.flipped.now ds c.detectors_of-detectors.ensures.inside
-    c.detectors_of-detectors.ensures.flipped c.args.left c.rarest.result c.greatest-most.result c.needed-need.result c.in_ok-by_rarest.by_rarest.items c.rarest.ensures.among
-    (λ e inside may.
-    elim (cases_lt 0 (shares t.rows e ds)) [
-      | inl some ↦
-          let d = some-shared t.rows e ds some in
-          omega (arith, covered e inside may, c.greatest-most.ensures.greatest e d.0 (within e inside) may.later d.1.0 inside d.1.1)
-      | inr none ↦ omega (arith, none)
-    ])
-    c.needed-need.ensures.needed
-    (λ e inside may flips many.
-    c.in_ok-by_rarest.ensures.all e (c.flipping-rarest.ensures.complete e inside flips) may.later (within e inside) (omega (arith, covered e inside may, many)))
+    let same = c.leave_out.ensures.others e may.fresh may.unpaired in
+    let some = shared t.rows e c.rarest.result ds c.rarest.ensures.among flips in
+    c.in_ok-by_rarest.ensures.all e (c.flipping-rarest.ensures.complete e inside flips) may.later
+    (omega (arith, inside, c.requires.cover, c.count.ensures.length, c.leave_out.ensures.length)) (omega (arith, covered, same, some)))
 
 pub returns-else-len-clause-inside : goal.returns-else-len-clause-inside
 returns-else-len-clause-inside c =

@@ -10,7 +10,7 @@ loop-r-preserved c = record {
         | inl left ↦ left-over e c.args.rows.now c.loop-r.r-index c.loop-r-test.true left
             (λ same. inr (subst (λ r. has r c.take_live.new.found.items ≡ true) same
             (c.in_ok-take_live.ensures.taken (subst (λ r. c.args.first < r) (sym same) after) (subst (λ r. r < length c.args.cover.now) (sym same) inside)
-            (subst (λ r. c.args.least ≤ slice_index c.args.cover.now r) (sym same) some))))
+            (subst (λ r. 1 ≤ slice_index c.args.cover.now r) (sym same) some))))
             (λ later. inl later)
         | inr found ↦ inr (c.in_ok-take_live.ensures.kept e found)
       ];
