@@ -50,7 +50,7 @@ above rows (e ∷ es) ds m lt =
     ]
 
 -- an error that flips some of the detectors flips one of them
-some-shared : (rows : List (List ℕ)) (e : ℕ) (ds : List ℕ) → 0 < shares rows e ds → (d : ℕ) × ((has d ds ≡ true) × (odd d (row rows e) ≡ true))
+pub some-shared : (rows : List (List ℕ)) (e : ℕ) (ds : List ℕ) → 0 < shares rows e ds → (d : ℕ) × ((has d ds ≡ true) × (odd d (row rows e) ≡ true))
 some-shared rows e [] lt = absurd (omega arith)
 some-shared rows e (d ∷ ds) lt =
     by-bit (odd d (row rows e))
