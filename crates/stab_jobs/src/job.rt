@@ -86,6 +86,8 @@ pub enum Command {
     },
     /// Writes the least number of errors that flip an observable and no detector, and that many such errors.
     Distance(DistanceOptions),
+    /// Writes what `Distance` does for each observable in turn.
+    EachDistance(DistanceOptions),
     /// Writes the errors that `Distance` searches, a line each, and what each flips.
     SearchedErrors(DistanceOptions),
     /// Edits the circuit by a script, on this many qubits or on as many as it names, and writes the
