@@ -1,10 +1,12 @@
 -- Laws of answers about each observable in turn: how they are found, and written one after another.
-use Rattle.stab_analysis.proofs.Names.{◌≡◌, Option, None, refl, sym, ap, subst, ℕ, zero, suc, ◌+◌, add-one, drop-cons, ◌<◌, arith, List, [], ◌∷◌, ◌++◌, length, drop, get_or, Result, Ok, Err, IfOk, inl, inr, IsErrAnd, InputView, OutputView, Fault, Items, RefusesText, IsFaultOf, FaultsRefused, fault_of, DistanceOptions, Heard, SendsFound, SendsAtOnce, AreErrorsOf, IsDistanceOf, answer_text}
+use Rattle.stab_analysis.proofs.Names.{◌≡◌, Bool, Option, None, OutOfMemory, whole, GoesOn, random_of, refl, sym, ap, ◌∙◌, subst, ℕ, zero, suc, ◌+◌, add-one, drop-cons, ◌<◌, arith, List, [], ◌∷◌, ◌++◌, length, drop, get_or, Result, Ok, Err, IfOk, inl, inr, IsErrAnd, InputView, OutputView, Fault, Items, RefusesText, IsFaultOf, FaultsRefused, fault_of, DistanceOptions, Heard, SendsFound, SendsAtOnce, AreErrorsOf, IsDistanceOf, answer_text}
 use Rattle.stab_io.specs.declared.refusal.Refusal.{Refusal}
 use Rattle.stab_circuit.specs.Steps.{observables_of, qubits_of}
 use Rattle.stab_distance.specs.declared.answer.Answer.{Answer}
+use Rattle.stab_distance.specs.declared.answer.Answer.TheVariants.{NoneAtAll}
 use Rattle.stab_errors.specs.ErrorTables.{ErrorTableState, IsErrorTable}
 use Rattle.stab_errors.specs.Unseen.{IsDistance}
+use Rattle.stab_distance.specs.Progress.{Hears, begins}
 use Rattle.stab_texts.specs.Endings.{GaveCircuit}
 use Rattle.stab_texts.specs.Distances.{AreAnswers, HearsErrors, IsEachText, TellsEach, answer_texts, for_observable}
 use Rattle.stab_analysis.proofs.FoundLaws.{found_at_once}
@@ -28,10 +30,17 @@ answer_of_number options items t first (x ∷ answers) zero d are less = subst (
 answer_of_number options items t first (x ∷ answers) (suc k) d are less =
     subst (λ j. IsDistanceOf (for_observable options j) items t (get_or answers k d)) (omega arith) (answer_of_number options items t (first + 1) answers k d are.1 (omega (arith, less)))
 
+-- the same from the first observable on, by the answer that is read there
+pub answer_read : (options : DistanceOptions) (items : Items) (t : ErrorTableState) (answers : List Answer) (k : ℕ) (a : Answer) → AreAnswers options items t 0 answers → k < length answers → get_or answers k NoneAtAll ≡ a
+    → IsDistanceOf (for_observable options k) items t a
+answer_read options items t answers k a are less read = subst (IsDistanceOf (for_observable options k) items t) read (answer_of_number options items t 0 answers k NoneAtAll are less)
+
 -- what is left to write from a number on: its own answer, and those after it
-pub texts_left : (options : DistanceOptions) (items : Items) (t : ErrorTableState) (answers : List Answer) (k : ℕ) (d : Answer) → k < length answers
-    → answer_texts options items t k (drop k answers) ≡ answer_text (for_observable options k) items t (get_or answers k d) ++ answer_texts options items t (k + 1) (drop (k + 1) answers)
-texts_left options items t answers k d less = rw (add-one) (ap (answer_texts options items t k) (drop-cons answers k d less))
+pub texts_left : (options : DistanceOptions) (items : Items) (t : ErrorTableState) (answers : List Answer) (k : ℕ) (a : Answer) → k < length answers → get_or answers k NoneAtAll ≡ a
+    → answer_texts options items t k (drop k answers) ≡ answer_text (for_observable options k) items t a ++ answer_texts options items t (k + 1) (drop (k + 1) answers)
+texts_left options items t answers k a less read =
+    let split : drop k answers ≡ a ∷ drop (k + 1) answers = rw (add-one) (drop-cons answers k NoneAtAll less ∙ ap (λ x. x ∷ drop (suc k) answers) read) in
+    ap (answer_texts options items t k) split
 
 -- what a search for one observable found
 pub found_for : (options asked : DistanceOptions) (j : ℕ) (t : ErrorTableState) (r : Result Answer Refusal) → asked ≡ for_observable options j
@@ -59,3 +68,15 @@ each_unheard options i i' heard f (Err y) refused is = inl (refl, subst (λ (z :
 pub each_heard : {T : Type 0} (options : DistanceOptions) (i i' : InputView) (old new : Option (List Heard)) (items : Items) (r : Result T FaultsRefused) (x : FaultsRefused)
     → GaveCircuit i i' items → HearsErrors options items old new → r ≡ Err x → TellsEach options i i' old new (fault_of r)
 each_heard options i i' old new items r x gave heard is = subst (λ s. TellsEach options i i' old new (fault_of s)) (sym is) (inr (items, gave, heard))
+
+-- what was heard before the first search: over how many errors it is
+pub heard_over : (options : DistanceOptions) (items : Items) (t : ErrorTableState) (old new : Option (List Heard)) (count : ℕ) → AreErrorsOf options items t → count ≡ length t.errors
+    → Hears old new (begins count ∷ []) → HearsErrors options items old new
+heard_over options items t old new count are is hears = inr (t, are, subst (λ n. Hears old new (begins n ∷ [])) is hears)
+
+-- memory was refused before anything was written
+pub each_unsent : {T : Type 0} (are : List ℕ → Type 0) (deterministic_only : Bool) (items : Items) (f : Fault) (r : Result T FaultsRefused) (old : OutputView) → f ≡ whole OutOfMemory
+    → IsErrAnd r (λ y. y ≡ record { fault = f; random = None }) → GoesOn are deterministic_only items (random_of r) old old (fault_of r)
+each_unsent are deterministic_only items f (Ok x) old memory is = absurd is
+each_unsent {T} are deterministic_only items f (Err y) old memory is =
+    subst (λ (z : FaultsRefused). GoesOn {T = T} are deterministic_only items z.random old old (Err z.fault)) (sym is) (inr (memory, refl))

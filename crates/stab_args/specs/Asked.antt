@@ -180,7 +180,7 @@ each_fault = codes "stabsim: --each is for all observables, and is not beside --
 abbrev pub IsEachBeside : List Row → Type 0
 IsEachBeside options =
     IsSet (one_of (codes "each") options) true
-    × ((table : Bool) (asked : DistanceOptions) × IsSet (one_of (codes "table") options) table × IsAskedDistance options asked × (is_beside_each table asked ≡ true))
+    × ((table : Bool) × (asked : DistanceOptions) × IsSet (one_of (codes "table") options) table × IsAskedDistance options asked × (is_beside_each table asked ≡ true))
 
 -- a distance is refused for lack of memory, or by options that are beside others
 abbrev pub RefusesDistance : List Row → Usage → Type 0

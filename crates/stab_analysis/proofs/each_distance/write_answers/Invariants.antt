@@ -1,5 +1,4 @@
-use Rattle.stab_analysis.proofs.Names.{drop, circuit_items}
-use Rattle.stab_texts.proofs.Names.{WroteUpTo}
+use Rattle.stab_analysis.proofs.Names.{drop, WroteUpTo, circuit_items}
 use Rattle.stab_texts.specs.Distances.{answer_texts}
 use Rattle.stab_analysis.proofs.each_distance.write_answers.Given as goal
 
