@@ -67,4 +67,4 @@ pub use faults::run_faults;
 pub use reasons::{has_bit, run_explain, write_why};
 pub use searched::run_searched_errors;
 pub use stab_errors::{Progress, Unwatched};
-pub use stab_jobs::{DistanceOptions, ErrorLetters, FaultLayout, Source};
+pub use stab_jobs::{DistanceOptions, ErrorLetters, FaultLayout, SearchedLayout, Source};

@@ -20,6 +20,7 @@ use Rattle.stab_jobs.specs.declared.job.Job.{Job}
 use Rattle.stab_jobs.specs.declared.job.Command.{Command}
 use Rattle.stab_jobs.specs.declared.job.Command.TheVariants.{Sample, Detect, Stabilisers, Check, Deterministic, Explain, Faults, Coins, Distance, EachDistance, SearchedErrors, Edit}
 use Rattle.stab_jobs.specs.declared.job.DistanceOptions.{DistanceOptions}
+use Rattle.stab_jobs.specs.declared.job.SearchedLayout.TheVariants.{Table, Wcnf}
 use Rattle.stab_jobs.specs.declared.job.ErrorLetters.{ErrorLetters}
 use Rattle.stab_jobs.specs.declared.job.ErrorLetters.TheVariants.{All as AllLetters, XAndZ}
 use Rattle.stab_jobs.specs.declared.job.FaultLayout.{FaultLayout}
@@ -105,6 +106,10 @@ pub record IsAskedDistance (options : List Row) (asked : DistanceOptions) : Type
 abbrev pub is_about_search : DistanceOptions → Bool
 is_about_search asked = is_some asked.observable || (is_some asked.most || asked.progress)
 
+-- whether something is asked beside the errors as a problem: their table, each observable, only some errors, or what is about a search
+abbrev pub is_beside_problem : (table each : Bool) → DistanceOptions → Bool
+is_beside_problem table each asked = table || (each || (asked.graphlike || is_about_search asked))
+
 -- whether something is asked that is not asked of each observable: the table of errors, one observable, or the progress of one search
 abbrev pub is_beside_each : (table : Bool) → DistanceOptions → Bool
 is_beside_each table asked = table || (is_some asked.observable || asked.progress)
@@ -122,11 +127,14 @@ IsCommand name options (Faults layout everywhere deterministic_only) =
     × IsSet (one_of (codes "everywhere") options) everywhere × IsSet (one_of (codes "deterministic_only") options) deterministic_only
 IsCommand name options (Coins layout) = (name ≡ codes "coins") × IsLayout (first_of (codes "out_format") options) layout
 IsCommand name options (Distance asked) =
-    (name ≡ codes "distance") × IsSet (one_of (codes "table") options) false × IsSet (one_of (codes "each") options) false × IsAskedDistance options asked
+    (name ≡ codes "distance") × IsSet (one_of (codes "wcnf") options) false × IsSet (one_of (codes "table") options) false × IsSet (one_of (codes "each") options) false × IsAskedDistance options asked
 IsCommand name options (EachDistance asked) =
-    (name ≡ codes "distance") × IsSet (one_of (codes "table") options) false × IsSet (one_of (codes "each") options) true × IsAskedDistance options asked × (is_beside_each false asked ≡ false)
-IsCommand name options (SearchedErrors asked) =
-    (name ≡ codes "distance") × IsSet (one_of (codes "table") options) true × IsSet (one_of (codes "each") options) false × IsAskedDistance options asked × (is_about_search asked ≡ false)
+    (name ≡ codes "distance") × IsSet (one_of (codes "wcnf") options) false × IsSet (one_of (codes "table") options) false × IsSet (one_of (codes "each") options) true × IsAskedDistance options asked × (is_beside_each false asked ≡ false)
+IsCommand name options (SearchedErrors Wcnf asked) =
+    (name ≡ codes "distance") × IsSet (one_of (codes "wcnf") options) true × IsSet (one_of (codes "table") options) false × IsSet (one_of (codes "each") options) false × IsAskedDistance options asked
+    × (is_beside_problem false false asked ≡ false)
+IsCommand name options (SearchedErrors Table asked) =
+    (name ≡ codes "distance") × IsSet (one_of (codes "wcnf") options) false × IsSet (one_of (codes "table") options) true × IsSet (one_of (codes "each") options) false × IsAskedDistance options asked × (is_about_search asked ≡ false)
 IsCommand name options (Edit framed qubits stride) =
     (name ≡ codes "edit") × IsSet (one_of (codes "framed") options) framed × IsWrittenIfGiven 0 most_qubits (one_of (codes "qubits") options) qubits × IsWritten 1 most_stride (one_of (codes "stride") options) stride
 
@@ -182,10 +190,22 @@ IsEachBeside options =
     IsSet (one_of (codes "each") options) true
     × ((table : Bool) × (asked : DistanceOptions) × IsSet (one_of (codes "table") options) table × IsAskedDistance options asked × (is_beside_each table asked ≡ true))
 
+-- the line for the errors as a problem beside what is not asked with it
+abbrev pub problem_fault : Text
+problem_fault = codes "stabsim: --wcnf searches nothing, and is not beside --table, --each, --graphlike, --observable, --most or --progress\n"
+
+-- they are asked for beside it
+abbrev pub IsProblemBeside : List Row → Type 0
+IsProblemBeside options =
+    IsSet (one_of (codes "wcnf") options) true
+    × ((table each : Bool) × (asked : DistanceOptions) × IsSet (one_of (codes "table") options) table × IsSet (one_of (codes "each") options) each × IsAskedDistance options asked
+    × (is_beside_problem table each asked ≡ true))
+
 -- a distance is refused for lack of memory, or by options that are beside others
 abbrev pub RefusesDistance : List Row → Usage → Type 0
 RefusesDistance options Memory = ⊤
-RefusesDistance options (Fault line) = ((string_bytes line ≡ table_fault) × IsTableBesideSearch options) ⊎ ((string_bytes line ≡ each_fault) × IsEachBeside options)
+RefusesDistance options (Fault line) =
+    ((string_bytes line ≡ table_fault) × IsTableBesideSearch options) ⊎ (((string_bytes line ≡ each_fault) × IsEachBeside options) ⊎ ((string_bytes line ≡ problem_fault) × IsProblemBeside options))
 RefusesDistance options usage = ⊥
 
 -- a command is refused by its shots, or as a distance

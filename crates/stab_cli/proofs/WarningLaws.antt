@@ -37,5 +37,5 @@ untouched (Coins layout) i i' e e' f same = same
 untouched (Faults layout everywhere deterministic_only) i i' e e' f same = same
 untouched (Distance options) i i' e e' f same = same
 untouched (EachDistance options) i i' e e' f same = same
-untouched (SearchedErrors options) i i' e e' f same = same
+untouched (SearchedErrors layout options) i i' e e' f same = same
 untouched (Edit framed qubits stride) i i' e e' f same = same

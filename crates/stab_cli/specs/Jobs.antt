@@ -48,7 +48,7 @@ EndsCommand (Deterministic format) source i i' s s' o o' r random = NamesNone (E
 EndsCommand Explain source i i' s s' o o' r random = NamesNone (EndsExplain i i' o o') r random
 EndsCommand (Coins layout) source i i' s s' o o' r random = NamesNone (EndsCoins layout i i' o o') r random
 EndsCommand (Faults layout everywhere deterministic_only) source i i' s s' o o' r random = RefusesNone (λ answer. EndsFaults layout everywhere deterministic_only i i' o o' answer random) r
-EndsCommand (SearchedErrors options) source i i' s s' o o' r random = RefusesNone (λ answer. EndsSearched options i i' o o' answer random) r
+EndsCommand (SearchedErrors layout options) source i i' s s' o o' r random = RefusesNone (λ answer. EndsSearched layout options i i' o o' answer random) r
 EndsCommand (EachDistance options) source i i' s s' o o' r random = RefusesNone (λ answer. EndsEach options i i' o o' answer random) r
 EndsCommand (Distance options) source i i' s s' o o' r random = RefusesNone (λ answer. EndsDistance options i i' o o' answer random) r
 EndsCommand (Edit framed qubits stride) source i i' s s' o o' r random = (random ≡ None) × EndsEdit framed qubits source i i' s s' o o' r
@@ -76,7 +76,7 @@ status_of (Err f) = 1
 abbrev pub CommandWarns : Command → InputView → InputView → OutputView → OutputView → Result Bool Fault → Type 0
 CommandWarns Check i i' old new r = Warns false i i' old new r
 CommandWarns (Faults layout everywhere deterministic_only) i i' old new r = Warns everywhere i i' old new r
-CommandWarns (SearchedErrors options) i i' old new r = Warns options.everywhere i i' old new r
+CommandWarns (SearchedErrors layout options) i i' old new r = Warns options.everywhere i i' old new r
 CommandWarns (EachDistance options) i i' old new r = Warns options.everywhere i i' old new r
 CommandWarns (Distance options) i i' old new r = WarnsOf options.everywhere options.observable i i' old new r
 CommandWarns command i i' old new r = new ≡ old

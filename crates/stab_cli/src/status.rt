@@ -119,8 +119,8 @@ fn run_command<I: Input, S: Input, O: Output, E: Output, W: Watcher<S, O>, P: Pr
             everywhere,
             deterministic_only: only,
         } => refuses_none(run_faults(alloc, input, out, err, layout, everywhere, only)),
-        Command::SearchedErrors(options) => {
-            refuses_none(run_searched_errors(alloc, input, out, err, options))
+        Command::SearchedErrors { layout, options } => {
+            refuses_none(run_searched_errors(alloc, input, out, err, layout, options))
         }
         Command::EachDistance(options) => {
             refuses_none(run_each_distance(alloc, input, out, err, options, progress))

@@ -22,4 +22,5 @@ pub use Rattle.stab_maxsat.specs.declared.sums.Parities.{Parities}
 pub use Rattle.stab_maxsat.specs.declared.problem.Problem.{Problem}
 pub use Rattle.stab_maxsat.specs.Problems.{Clauses, holds, meets, IsWithin, literal_text, clause_text, head_text, problem_text}
 pub use Rattle.stab_maxsat.specs.Questions.{without, errors_in, Asks}
-pub use Rattle.stab_maxsat.specs.inner.Sums.{value, AreSums, IsSumAt, AreFrom, flipped_by, parity, AreParities, Adds, AreBuilt, sum_clauses, is_false, variables_of, one_of, clauses_of, IsCountable}
+pub use Rattle.stab_maxsat.specs.inner.Sums.{value, AreSums, IsSumAt, AreFrom, flipped_by, parity, AreParities, Adds, AreBuilt, variables_of, one_of}
+pub use Rattle.stab_maxsat.specs.Made.{sum_clauses, is_false, clauses_of, IsCountable}

@@ -1,7 +1,8 @@
 //! The problem of a table of errors.
 ghost use Rattle.std.specs.Prelude.{◌≡◌, ◌<◌, ◌≤◌, ◌+◌, ◌^◌, length, IfOk, IfErr, min, take, drop};
 ghost use Rattle.stab_io.specs.declared.refusal.Refusal.TheVariants.{OutOfMemory};
-ghost use Rattle.stab_maxsat.specs.inner.Sums.{IsCountable, clauses_of, one_of, variables_of};
+ghost use Rattle.stab_maxsat.specs.Made.{IsCountable, clauses_of};
+ghost use Rattle.stab_maxsat.specs.inner.Sums.{one_of, variables_of};
 ghost use Rattle.stab_maxsat.specs.Questions.{Asks};
 
 use crate::literal::Literal;

@@ -4,7 +4,7 @@ ghost use Rattle.std.specs.List.{flat_map, range_with_len};
 ghost use Rattle.stab_io.specs.Devices.{WritesAll};
 ghost use Rattle.stab_maxsat.specs.Problems.{clause_text, head_text, literal_text, problem_text};
 ghost use Rattle.stab_maxsat.specs.Questions.{without};
-ghost use Rattle.stab_maxsat.specs.inner.Sums.{IsCountable, clauses_of, is_false, sum_clauses};
+ghost use Rattle.stab_maxsat.specs.Made.{IsCountable, clauses_of, is_false, sum_clauses};
 
 use crate::literal::Literal;
 use crate::literal::Literal::{Is, IsNot};

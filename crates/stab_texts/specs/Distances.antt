@@ -18,7 +18,11 @@ use Rattle.stab_distance.specs.declared.answer.Answer.{Answer}
 use Rattle.stab_distance.specs.declared.answer.Answer.TheVariants.{Least, NoneWithin, NoneAtAll}
 use Rattle.stab_distance.specs.Tables.{row}
 use Rattle.stab_distance.specs.Progress.{Heard, Hears, begins}
+use Rattle.stab_maxsat.specs.Problems.{Clauses, problem_text}
+use Rattle.stab_maxsat.specs.Questions.{Asks}
 use Rattle.stab_jobs.specs.declared.job.DistanceOptions.{DistanceOptions}
+use Rattle.stab_jobs.specs.declared.job.SearchedLayout.{SearchedLayout}
+use Rattle.stab_jobs.specs.declared.job.SearchedLayout.TheVariants.{Table, Wcnf}
 use Rattle.stab_errors.specs.Errors.{Error, letter, letters, wrong_record, first_fault, errors_of}
 use Rattle.stab_errors.specs.Parts.{AreSearched}
 use Rattle.stab_errors.specs.ErrorTables.{ErrorTableState, IsErrorTable}
@@ -111,9 +115,14 @@ IsDistanceText options items bytes = (t : ErrorTableState) × (answer : Answer) 
 abbrev pub error_lines : Items → ErrorTableState → List ℕ
 error_lines items t = flat_map (numbered_line items t) (range_with_len 0 (length t.errors))
 
--- the bytes are those of these errors
-abbrev pub IsSearchedText : DistanceOptions → Items → List ℕ → Type 0
-IsSearchedText options items bytes = (t : ErrorTableState) × AreErrorsOf options items t × (bytes ≡ error_lines items t)
+-- the bytes are those of these errors: a line for each, or a problem that asks for a least set of them
+abbrev pub IsErrorsText : SearchedLayout → Items → ErrorTableState → List ℕ → Type 0
+IsErrorsText Table items t bytes = bytes ≡ error_lines items t
+IsErrorsText Wcnf items t bytes = (p : Clauses) × Asks t.table p × (bytes ≡ problem_text p)
+
+-- the bytes are those of the errors of a circuit that are asked for
+abbrev pub IsSearchedText : SearchedLayout → DistanceOptions → Items → List ℕ → Type 0
+IsSearchedText layout options items bytes = (t : ErrorTableState) × AreErrorsOf options items t × IsErrorsText layout items t bytes
 
 -- the same options, for one observable
 abbrev pub for_observable : DistanceOptions → ℕ → DistanceOptions
@@ -148,8 +157,8 @@ abbrev pub EndsDistance : {T : Type 0} → DistanceOptions → InputView → Inp
 EndsDistance options i i' o o' r random = EndsOrNames (IsDistanceText options) options.deterministic_only i i' o o' r random
 
 -- How a call ends that writes the errors that are searched.
-abbrev pub EndsSearched : {T : Type 0} → DistanceOptions → InputView → InputView → OutputView → OutputView → Result T Fault → Option Random → Type 0
-EndsSearched options i i' o o' r random = EndsOrNames (IsSearchedText options) options.deterministic_only i i' o o' r random
+abbrev pub EndsSearched : {T : Type 0} → SearchedLayout → DistanceOptions → InputView → InputView → OutputView → OutputView → Result T Fault → Option Random → Type 0
+EndsSearched layout options i i' o o' r random = EndsOrNames (IsSearchedText layout options) options.deterministic_only i i' o o' r random
 
 -- How a call ends that writes the distance of each observable in turn.
 abbrev pub EndsEach : {T : Type 0} → DistanceOptions → InputView → InputView → OutputView → OutputView → Result T Fault → Option Random → Type 0

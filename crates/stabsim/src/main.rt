@@ -248,7 +248,7 @@ fn is_on_no_marks(command: Command, is_over_nothing: bool, is_empty: bool) -> bo
         Command::Distance(options) | Command::EachDistance(options) => {
             is_over_nothing && !options.everywhere
         }
-        Command::SearchedErrors(options) => is_empty && !options.everywhere,
+        Command::SearchedErrors { options, .. } => is_empty && !options.everywhere,
         _ => false,
     }
 }
@@ -258,7 +258,7 @@ fn no_marks(command: Command) -> &'static str {
     match command {
         Command::Distance(options)
         | Command::EachDistance(options)
-        | Command::SearchedErrors(options) => match options.letters {
+        | Command::SearchedErrors { options, .. } => match options.letters {
             ErrorLetters::XAndZ => NO_LETTERS,
             ErrorLetters::All => NO_MARKS,
         },

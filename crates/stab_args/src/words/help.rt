@@ -187,7 +187,9 @@ set flips observable 0, and the first line ends in `for L0`; --each answers so f
 --graphlike the answer is for those errors alone that flip at most two detectors, and its first line says so. The
 X and the Z at each of its qubits take the place of an error that flips more. With --table all these errors are
 written in place of an answer, so that anyone can add up what a set flips; it is not beside --observable, --each,
---most or --progress, nor --each beside --observable or --progress.
+--most or --progress, nor --each beside --observable or --progress. With --wcnf they are written as a problem for
+MaxSAT solvers: the least weight that an assignment breaks is the distance, and the first variables that are true
+are a set. It is beside --everywhere, --letters and --deterministic_only alone.
 A circuit in which a detector or observable depends on the coins is refused 18: --deterministic_only leaves
 it out. That option is found as --sure_only too.
 
@@ -233,6 +235,9 @@ pub(crate) const EACH: &str =
 
 pub(crate) const TABLE: &str =
     "Writes the errors to be searched, a line each with what it flips, and searches none";
+
+pub(crate) const WCNF: &str =
+    "Writes the errors to be searched as a problem for MaxSAT solvers, and searches none";
 
 pub(crate) const PROGRESS: &str =
     "Writes each number of errors that is excluded to standard error at once";

@@ -8,9 +8,6 @@ use Rattle.stab_maxsat.specs.declared.literal.Literal.{Literal}
 use Rattle.stab_maxsat.specs.declared.literal.Literal.TheVariants.{Is, IsNot}
 use Rattle.stab_maxsat.specs.declared.sums.Sum.{Sum}
 use Rattle.stab_maxsat.specs.declared.sums.Parities.{Parities}
-use Rattle.stab_maxsat.specs.declared.problem.Problem.{Problem}
-use Rattle.stab_maxsat.specs.Problems.{Clauses}
-use Rattle.stab_maxsat.specs.Questions.{without}
 
 -- the value of a variable; number 0 stands for false
 abbrev pub value : (ℕ → Bool) → ℕ → Bool
@@ -58,18 +55,6 @@ pub record AreBuilt (p : Parities) : Type 0 where
   pub sums : AreFrom p.first p.sums.items
   pub parities : All (λ v. v < p.first + length p.sums.items) p.parities.items
 
--- the clauses of a sum
-abbrev pub sum_clauses : Sum → List (List Literal)
-sum_clauses s =
-    (IsNot s.left ∷ IsNot s.right ∷ IsNot s.both ∷ [])
-    ∷ (Is s.left ∷ Is s.right ∷ IsNot s.both ∷ [])
-    ∷ (Is s.left ∷ IsNot s.right ∷ Is s.both ∷ [])
-    ∷ (IsNot s.left ∷ Is s.right ∷ Is s.both ∷ []) ∷ []
-
--- a variable is false
-abbrev pub is_false : ℕ → List Literal
-is_false v = IsNot v ∷ []
-
 -- variables other than 0
 abbrev pub variables_of : List ℕ → List ℕ
 variables_of parities = filter (λ p. nat_lt 0 p) parities
@@ -77,17 +62,3 @@ variables_of parities = filter (λ p. nat_lt 0 p) parities
 -- a variable is true only if one of these is
 abbrev pub one_of : (variable : ℕ) → List ℕ → List Literal
 one_of variable others = IsNot variable ∷ map (λ v. Is v) others
-
--- the problem: variables 1 to `errors` are the errors, the next one says that an observable is flipped, and the others are sums
-abbrev pub clauses_of : Problem → Clauses
-clauses_of p = record {
-  variables = p.errors + 1 + length p.sums.items;
-  soft = map without (range_with_len 0 p.errors);
-  hard = flat_map sum_clauses p.sums.items ++ (map is_false p.undetected.items ++ (Is (p.errors + 1) ∷ []) ∷ p.observed.items ∷ []);
-}
-
--- the clauses of a problem can be counted
-pub record IsCountable (p : Problem) : Type 0 where
-  pub errors : p.errors < 2 ^ 60
-  pub sums : length p.sums.items ≤ 2 ^ 60
-  pub undetected : length p.undetected.items < 2 ^ 60

@@ -14,7 +14,7 @@ returns-in-Faults-clause-ends g c =
 pub returns-in-SearchedErrors-clause-ends : goal.returns-in-SearchedErrors-clause-ends
 returns-in-SearchedErrors-clause-ends g c =
     let ends = subst
-    (λ u. EndsSearched c.in-SearchedErrors.options (g.I.Input.seen c.args.input.now) (g.I.Input.seen c.run_searched_errors.new.input) (g.O.Output.seen c.args.out.now) (g.O.Output.seen c.run_searched_errors.new.out) (fault_of c.run_searched_errors.result) u)
+    (λ u. EndsSearched c.in-SearchedErrors.layout c.in-SearchedErrors.options (g.I.Input.seen c.args.input.now) (g.I.Input.seen c.run_searched_errors.new.input) (g.O.Output.seen c.args.out.now) (g.O.Output.seen c.run_searched_errors.new.out) (fault_of c.run_searched_errors.result) u)
     (sym c.refuses_none-in-SearchedErrors.ensures.same) c.run_searched_errors.ensures.ends in
     rw c.in-SearchedErrors.is (fault_of c.run_searched_errors.result, ends, c.refuses_none-in-SearchedErrors.ensures.value)
 
