@@ -1,4 +1,4 @@
-use Rattle.stab_analysis.proofs.Names.{◌+◌, ◌∙◌, [], ◌∷◌, length, sym, subst, ap, arith, length-append, IsDistanceOf}
+use Rattle.stab_analysis.proofs.Names.{◌∙◌, [], ◌∷◌, length, sym, subst, ap, arith, length-append, IsDistanceOf}
 use Rattle.stab_texts.specs.Distances.{AreAnswers, for_observable}
 use Rattle.stab_analysis.proofs.EachLaws.{more_answers}
 use Rattle.stab_analysis.proofs.each_distance.answers_of.Goals as goal

@@ -1,4 +1,4 @@
-use Rattle.stab_analysis.proofs.Names.{◌≡◌, ◌∙◌, drop, get_or, get_or_read, sym, subst, circuit_items, failed_on, wrote_part, wrote_and_failed, Took, TookAndFailed, IsDistanceOf, answer_text, DistanceOptions}
+use Rattle.stab_analysis.proofs.Names.{drop, get_or_read, sym, subst, circuit_items, failed_on, wrote_part, wrote_and_failed, Took, TookAndFailed, IsDistanceOf, answer_text, DistanceOptions}
 use Rattle.stab_distance.specs.declared.answer.Answer.TheVariants.{NoneAtAll}
 use Rattle.stab_texts.specs.Distances.{answer_texts}
 use Rattle.stab_analysis.proofs.EachLaws.{answer_read, texts_left}
