@@ -1,6 +1,5 @@
 -- Laws of answers about each observable in turn: how they are found, and written one after another.
-use Rattle.stab_analysis.proofs.Names.{◌≡◌, Bool, Option, None, OutOfMemory, whole, GoesOn, random_of, refl, sym, ap, ◌∙◌, subst, ℕ, zero, suc, ◌+◌, add-one, drop-cons, ◌<◌, arith, List, [], ◌∷◌, ◌++◌, length, drop, get_or, Result, Ok, Err, IfOk, inl, inr, IsErrAnd, InputView, OutputView, Fault, Items, RefusesText, IsFaultOf, FaultsRefused, fault_of, DistanceOptions, Heard, SendsFound, SendsAtOnce, AreErrorsOf, IsDistanceOf, answer_text}
-use Rattle.stab_io.specs.declared.refusal.Refusal.{Refusal}
+use Rattle.stab_analysis.proofs.Names.{◌≡◌, Bool, Option, None, OutOfMemory, whole, GoesOn, random_of, refl, sym, ap, ◌∙◌, subst, ℕ, zero, suc, ◌+◌, add-one, drop-cons, ◌<◌, arith, List, [], ◌∷◌, ◌++◌, length, drop, get_or, Result, Ok, Err, inl, inr, IsErrAnd, InputView, OutputView, Fault, Items, RefusesText, IsFaultOf, FaultsRefused, fault_of, DistanceOptions, Heard, SendsFound, SendsAtOnce, AreErrorsOf, IsDistanceOf, answer_text}
 use Rattle.stab_circuit.specs.Steps.{observables_of, qubits_of}
 use Rattle.stab_distance.specs.declared.answer.Answer.{Answer}
 use Rattle.stab_distance.specs.declared.answer.Answer.TheVariants.{NoneAtAll}
@@ -33,7 +32,8 @@ answer_of_number options items t first (x ∷ answers) (suc k) d are less =
 -- the same from the first observable on, by the answer that is read there
 pub answer_read : (options : DistanceOptions) (items : Items) (t : ErrorTableState) (answers : List Answer) (k : ℕ) (a : Answer) → AreAnswers options items t 0 answers → k < length answers → get_or answers k NoneAtAll ≡ a
     → IsDistanceOf (for_observable options k) items t a
-answer_read options items t answers k a are less read = subst (IsDistanceOf (for_observable options k) items t) read (answer_of_number options items t 0 answers k NoneAtAll are less)
+answer_read options items t answers k a are less read =
+    subst (IsDistanceOf (for_observable options k) items t) read (subst (λ j. IsDistanceOf (for_observable options j) items t (get_or answers k NoneAtAll)) (omega arith) (answer_of_number options items t 0 answers k NoneAtAll are less))
 
 -- what is left to write from a number on: its own answer, and those after it
 pub texts_left : (options : DistanceOptions) (items : Items) (t : ErrorTableState) (answers : List Answer) (k : ℕ) (a : Answer) → k < length answers → get_or answers k NoneAtAll ≡ a
@@ -43,11 +43,10 @@ texts_left options items t answers k a less read =
     ap (answer_texts options items t k) split
 
 -- what a search for one observable found
-pub found_for : (options asked : DistanceOptions) (j : ℕ) (t : ErrorTableState) (r : Result Answer Refusal) → asked ≡ for_observable options j
-    → IfOk r (λ a. (n : ℕ) (items : Items) → IsErrorTable n items t → IsDistance asked.graphlike asked.observable n items t.errors asked.most a)
-    → IfOk r (λ a. (items : Items) → AreErrorsOf options items t → IsDistanceOf (for_observable options j) items t a)
-found_for options asked j t (Err e) is found = tt
-found_for options asked j t (Ok a) is found = λ items are. record {
+pub found_for : (options asked : DistanceOptions) (j : ℕ) (t : ErrorTableState) (a : Answer) → asked ≡ for_observable options j
+    → ((n : ℕ) (items : Items) → IsErrorTable n items t → IsDistance asked.graphlike asked.observable n items t.errors asked.most a) → (items : Items) → AreErrorsOf options items t
+    → IsDistanceOf (for_observable options j) items t a
+found_for options asked j t a is found items are = record {
   are = same_errors options j items t are;
   distance = subst (λ (o : DistanceOptions). IsDistance o.graphlike o.observable (qubits_of items) items t.errors o.most a) is (found (qubits_of items) items are.table);
 }

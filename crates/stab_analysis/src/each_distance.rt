@@ -2,6 +2,7 @@
 ghost use Rattle.std.specs.Prelude.{◌≡◌, None, length, IfOk, IfErr};
 ghost use Rattle.stab_io.specs.Devices.{WritesAll};
 ghost use Rattle.stab_io.specs.declared.refusal.Refusal.TheVariants.{OutOfMemory};
+ghost use Rattle.stab_io.specs.Refusals.{whole};
 ghost use Rattle.stab_circuit.specs.Items.{Items};
 ghost use Rattle.stab_circuit.specs.Steps.{check_of};
 ghost use Rattle.stab_edits.specs.Views.{circuit_items};
@@ -37,12 +38,20 @@ fn answer_of(
     errors: &ErrorTable,
     number: usize,
     options: DistanceOptions,
-) -> Result<Answer, Refusal>
+) -> Result<Answer, Fault>
     ensures found { IfOk result (λ a. (items : Items) → AreErrorsOf options items errors.now → IsDistanceOf (for_observable options number) items errors.now a) }
-    ensures err { IfErr result (λ r. r ≡ OutOfMemory) }
+    ensures err { IfErr result (λ f. f ≡ whole OutOfMemory) }
 {
     let mut progress = Unwatched;
-    search(alloc, errors, for_observable(options, number), &mut progress)
+    match search(
+        alloc,
+        errors,
+        for_observable(options, number),
+        &mut progress,
+    ) {
+        Ok(answer) => Ok(answer),
+        Err(refusal) => Err(Fault::whole(refusal)),
+    }
 }
 
 /// The answers about this many observables, from the first on. The only refusal is `OutOfMemory`.
@@ -51,10 +60,10 @@ fn answers_of(
     errors: &ErrorTable,
     count: usize,
     options: DistanceOptions,
-) -> Result<Vec<Answer>, Refusal>
+) -> Result<Vec<Answer>, Fault>
     ensures found { IfOk result (λ v. (items : Items) → AreErrorsOf options items errors.now → AreAnswers options items errors.now 0 v.items) }
     ensures each { IfOk result (λ v. length v.items ≡ count) }
-    ensures err { IfErr result (λ r. r ≡ OutOfMemory) }
+    ensures err { IfErr result (λ f. f ≡ whole OutOfMemory) }
 {
     let mut answers = Vec::new(alloc);
     'observables: for number in 0..count {
@@ -115,7 +124,7 @@ fn send_each_distance<O: Output, P: Progress>(
 {
     let errors = searched_errors(alloc, circuit, options)?;
     progress.begins(errors.len());
-    let answers = answers_of(alloc, &errors, circuit.observables(), options).map_err(Fault::whole)?;
+    let answers = answers_of(alloc, &errors, circuit.observables(), options)?;
     Ok(send_answers(out, circuit, &errors, answers.as_slice(), options)?)
 }
 

@@ -7,8 +7,8 @@ ghost use Rattle.stab_editor.specs.ScriptTurns.{EditsInTurn};
 ghost use Rattle.stab_cli.specs.Jobs.{CommandInTurn, CommandTells, CommandWarns, EndsCommand, EndsJob, JobInTurn, JobTells, reads_script, refusing_none};
 
 use stab_analysis::{
-    Progress, Unwatched, run_check, run_coins, run_deterministic, run_distance,
-    run_each_distance, run_explain, run_faults, run_searched_errors,
+    Progress, Unwatched, run_check, run_coins, run_deterministic, run_distance, run_each_distance,
+    run_explain, run_faults, run_searched_errors,
 };
 use stab_commands::{run_detect_shots, run_sample_shots, run_stabilisers};
 use stab_editor::run_edit_watched;

@@ -31,7 +31,8 @@ const FIRST_BESIDE_COINS: &str =
     "stabsim: --first_shot is of a seed, and not beside --coins or --coins_in\n";
 
 // What is said of each observable beside what is not asked of each.
-const EACH_BESIDE: &str = "stabsim: --each is for all observables, and is not beside --observable, --table or --progress\n";
+const EACH_BESIDE: &str =
+    "stabsim: --each is for all observables, and is not beside --observable, --table or --progress\n";
 
 // What is said of the errors as a problem beside what is not asked with it.
 const PROBLEM_BESIDE: &str = "stabsim: --wcnf searches nothing, and is not beside --table, --each, --graphlike, --observable, --most or --progress\n";
