@@ -90,8 +90,10 @@ fn send_problem_of<O: Output>(
 ) -> Result<(), Fault>
     ensures sends { SendsFound (λ bytes. (p : Clauses) × Asks errors.now.table p × (bytes ≡ problem_text p)) (O.seen out.old) (O.seen out.new) result }
 {
-    let problem = Problem::of(alloc, errors.table()).map_err(Fault::whole)?;
-    send_problem(out, &problem)
+    match Problem::of(alloc, errors.table()) {
+        Ok(problem) => send_problem(out, &problem),
+        Err(refusal) => Err(Fault::whole(refusal)),
+    }
 }
 
 /// Writes errors as the layout says, and flushes.

@@ -1,5 +1,5 @@
 //! What the words say to each option.
-ghost use Rattle.std.specs.Prelude.{◌≡◌, ◌≤◌, ℕ, Option, Some, None, IfOk, IfErr, IfSome, IfNone, option_map, codes, string_bytes};
+ghost use Rattle.std.specs.Prelude.{◌≡◌, ◌≤◌, ℕ, Option, Some, None, IfOk, IfErr, IfSome, IfNone, option_map, codes, string_bytes, false};
 ghost use Rattle.clap.specs.Words.{IsUnsignedIn, first_of, found_of, has_subcommand, one_of, rows_of, subcommand_rows_of};
 ghost use Rattle.stab_gates.specs.Limits.{most_qubits};
 ghost use Rattle.stab_circuit.specs.Limits.{most_stride};
