@@ -79,6 +79,7 @@ distance --in marked.stim
 distance --observable 0 --in marked.stim
 distance --each --in marked.stim
 distance --table --in marked.stim
+distance --wcnf --in marked.stim
 """
 
 Done = subprocess.CompletedProcess[bytes]
