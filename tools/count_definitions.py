@@ -21,7 +21,7 @@ THEOREMS = {
     "deterministic": ["stab_texts.Deterministic.EndsDeterministic"],
     "faults, coins and deterministic --explain": [
         "stab_texts.FaultTables.EndsFaults", "stab_texts.CoinTables.EndsCoins", "stab_texts.Reasons.EndsExplain"],
-    "distance": ["stab_texts.Distances.EndsDistance", "stab_texts.Distances.EndsSearched"],
+    "distance": ["stab_texts.Distances.EndsDistance", "stab_texts.Distances.EndsSearched", "stab_texts.Distances.EndsEach"],
     "errors everywhere": [
         "stab_errors.EverywhereLaws.WrongRecordsAreInverted", "stab_errors.EverywhereLaws.LettersAreErrors", "stab_errors.EverywhereLaws.StringsAreErrors"],
     "edit": ["stab_editor.ScriptEndings.EndsPlainEdit"],

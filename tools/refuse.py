@@ -77,7 +77,9 @@ faults --in marked.stim
 faults --out_format 01 --in marked.stim
 distance --in marked.stim
 distance --observable 0 --in marked.stim
+distance --each --in marked.stim
 distance --table --in marked.stim
+distance --wcnf --in marked.stim
 """
 
 Done = subprocess.CompletedProcess[bytes]

@@ -111,3 +111,27 @@ def test_a_model_that_flips_no_observable_has_a_problem_without_solution():
 def test_an_error_without_a_chance_is_no_variable():
     model = stabsim.ErrorModel.from_dem("error(0) L0\nerror(0.1) L0")
     assert read(model.shortest_error_sat_problem())[0] == 1
+
+
+def asked_of(circuit, letters):
+    """What the program writes of a circuit's errors everywhere as a problem."""
+    words = [stabsim.program.find_program(), "distance", "--everywhere", "--letters", letters, "--wcnf"]
+    return subprocess.run(words, input=str(circuit), capture_output=True, text=True, check=True).stdout
+
+
+def test_the_least_weight_of_the_program_s_problem_is_the_distance():
+    circuit = codes.repetition_code(3, 2)
+    problem = asked_of(circuit, "XZ")
+    distance = circuit.distance(everywhere=True, letters="XZ")
+    assert least_weight(problem) == distance.distance == 3
+    # Its first variables are the errors that are searched, a clause of weight 1 for each.
+    _, top, clauses = read(problem)
+    assert [clause for weight, clause in clauses if weight != top] == [(-number,) for number in range(1, top)]
+
+
+@pytest.mark.skipif(not shutil.which("toulbar2"), reason="no toulbar2")
+def test_a_solver_finds_the_distance_by_the_program_s_problem(tmp_path):
+    path = tmp_path / "surface.wcnf"
+    path.write_text(asked_of(codes.surface_code(3, 2), "XZ"))
+    told = subprocess.run(["toulbar2", str(path)], capture_output=True, text=True, timeout=60, check=False).stdout
+    assert "Optimum: 3 " in told

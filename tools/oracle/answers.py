@@ -1,5 +1,6 @@
 """Runs of the program that are tried: their words, and what the definitions say of what the program answers."""
 
+import re
 from collections.abc import Callable
 from dataclasses import dataclass, replace
 from functools import cached_property, lru_cache
@@ -65,6 +66,7 @@ DRAWN: dict[str, Callable[[Random], Any]] = {
     "most": lambda dice: dice.choice((None, None, 1, 2, 3)),
     "graphlike": lambda dice: dice.random() < 0.4,
     "observable": lambda dice: dice.choice((None, None, 0, 0, 1, 2, 4095)),
+    "each": lambda dice: dice.random() < 0.3,
     "table": lambda dice: dice.random() < 0.3,
 }
 OPTIONS = {
@@ -75,7 +77,7 @@ OPTIONS = {
     "deterministic": ("out_format", "explain"),
     "faults": ("out_format", "everywhere", "deterministic_only"),
     "coins": ("out_format",),
-    "distance": ("letters", "most", "graphlike", "observable", "table"),
+    "distance": ("letters", "most", "graphlike", "observable", "each", "table"),
     "check": (),
 }
 
@@ -83,13 +85,16 @@ OPTIONS = {
 def random_case(dice: Random, command: str, text: bytes, script: bytes | None = None, **fixed: Any) -> Case:
     """A case with options by chance, except for those that are given."""
     settings = {name: DRAWN[name](dice) for name in OPTIONS[command]} | fixed
-    # A first shot is one of a seed, and not beside coins; what is explained has no format; and a table is not beside what is about a search.
+    # A first shot is one of a seed, and not beside coins; what is explained has no format; a table is not beside what is about
+    # a search; and each observable is not beside one.
     if settings.get("coins") is not None:
         settings["first_shot"] = None
     if settings.get("explain"):
         settings["out_format"] = None
     if settings.get("table"):
-        settings["most"] = settings["observable"] = None
+        settings["most"] = settings["observable"] = settings["each"] = None
+    if settings.get("each"):
+        settings["observable"] = None
     return Case(command, text, tuple(settings.items()), script)
 
 
@@ -181,15 +186,29 @@ def expected(case: Case) -> Ended | None:
     return expected_at_any_stride(replace(case, settings=tuple(it for it in case.settings if it[0] != "stride")))
 
 
+def distance_of(items: Items, case: Case, observable: int | None) -> Distance:
+    """What the definitions say of the distance of one observable, or of any."""
+    return Distance(items, case.setting("everywhere", False), case.setting("letters", "XYZ"), case.setting("graphlike", False), observable)
+
+
+def wrong_for_each(items: Items, case: Case, answer: bytes) -> str | None:
+    """What is wrong of the answers about each observable, if anything is."""
+    before, *parts = re.split(rb"(?m)^(?=distance |none)", answer)
+    if before or len(parts) != numbers.observables(items):
+        return f"{len(parts)} answers about {numbers.observables(items)} observables, after {before!r}"
+    wrongs = (distance_of(items, case, number).wrong(part, case.setting("most")) for number, part in enumerate(parts))
+    return next((it for it in wrongs if it is not None), None)
+
+
 def distance(items: Items, case: Case, answer: Ended) -> Ended:
-    """The answer, if it is the table of errors, or an unseen set of errors and no set of fewer is unseen, as far as all sets are tried; else what is wrong with it."""
+    """The answer, if it is the table of errors, or an unseen set of errors and no set of fewer is unseen, as far as all sets are tried, or such a set for each observable; else what is wrong with it."""
     observable = case.setting("observable")
-    found = Distance(items, case.setting("everywhere", False), case.setting("letters", "XYZ"), case.setting("graphlike", False), observable)
+    found = distance_of(items, case, observable)
     told = b"" if case.setting("everywhere", False) else doubts.told(items)
     if case.setting("table"):
         is_none = not found.table and not case.setting("everywhere", False)
         return 0, found.lines().encode(), told + is_none * (NO_LETTERS if case.setting("letters") else NO_MARKS)
-    wrong = found.wrong(answer[1], case.setting("most"))
+    wrong = wrong_for_each(items, case, answer[1]) if case.setting("each") else found.wrong(answer[1], case.setting("most"))
     if observable is not None and observable >= numbers.observables(items):
         told += f"stabsim: the circuit has no L{observable}, observables: {numbers.observables(items)}\n".encode()
     # That nothing is marked, or no letter is left, is told last.

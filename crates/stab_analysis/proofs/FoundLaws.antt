@@ -16,3 +16,9 @@ pub found_at_once : {T : Type 0} (are : List ℕ → Type 0) (old new : OutputVi
 found_at_once are old new bytes (Ok x) is sent = (bytes, is, sent)
 found_at_once are old new bytes (Err f) is (inl failed) = inl (failed.0, bytes, is, failed.1)
 found_at_once are old new bytes (Err f) is (inr memory) = inr memory
+
+-- bytes like these are bytes like those
+pub found_as : {T : Type 0} (are like : List ℕ → Type 0) (old new : OutputView) (r : Result T Fault) → ((bytes : List ℕ) → are bytes → like bytes) → SendsFound are old new r → SendsFound like old new r
+found_as are like old new (Ok x) as_those (bytes, is, sent) = (bytes, as_those bytes is, sent)
+found_as are like old new (Err f) as_those (inl (fault, bytes, is, failed)) = inl (fault, bytes, as_those bytes is, failed)
+found_as are like old new (Err f) as_those (inr memory) = inr memory

@@ -2,6 +2,7 @@ mod Names
 pub mod FoundLaws
 pub mod DistanceLaws
 pub mod EndingLaws
+pub mod EachLaws
 pub mod CheckLaws
 pub mod CountLaws
 pub mod LineLaws

@@ -3,7 +3,7 @@ pub use Rattle.std.proofs.Common.{◌≡◌, refl, sym, ap, subst, ℕ, ◌+◌,
 pub use Rattle.std.proofs.Math.Seq.{drop-cons, set-append_seam}
 pub use Rattle.std.proofs.lemmas.Bool.{cases_eq, cases_lt}
 pub use Rattle.std.proofs.lemmas.Bool.Decides.{nat_tests}
-pub use Rattle.std.proofs.lemmas.List.{get_or-map, length-append, length-map, map-append, length-replicate, length-set, take_all, take_more, length-drop, length-take}
+pub use Rattle.std.proofs.lemmas.List.{get_or_read, get_or-map, length-append, length-map, map-append, length-replicate, length-set, take_all, take_more, length-drop, length-take}
 pub use Rattle.std.proofs.lemmas.List.Elements.{All-nil, All-cons, All-take, All-head, All-tail, All-map}
 pub use Rattle.std.proofs.lemmas.Result.{err_from_is_err_and}
 pub use Rattle.std.specs.Global.{Vec}

@@ -40,7 +40,7 @@ impl Drop for Distance {
 }
 
 /// Searches the errors of a circuit as the options ask for.
-fn search<P: Progress>(
+pub(crate) fn search<P: Progress>(
     alloc: Global,
     errors: &ErrorTable,
     options: DistanceOptions,
@@ -165,6 +165,31 @@ fn write_none<O: Output>(
 
 /// Writes an answer: `distance W of all marked errors` and a line for each of the errors, such as
 /// `1207 3/0/2 X17*Z4 D24 L0`, or `none`, or `none up to W`.
+pub(crate) fn write_answer<O: Output>(
+    out: &mut O,
+    circuit: &Circuit,
+    options: DistanceOptions,
+    errors: &ErrorTable,
+    answer: &Answer,
+) -> Result<(), Refusal>
+    requires checked { check_of (circuit_items circuit.now) ≡ None }
+    requires found { IsDistanceOf options (circuit_items circuit.now) errors.now answer.now }
+    requires steps { StepsInside (circuit_items circuit.now) errors.now.errors }
+    ensures writes { WritesAll (O.seen out.old) (O.seen out.new) (answer_text options (circuit_items circuit.now) errors.now answer.now) result }
+{
+    match answer {
+        Answer::Least(numbers) => {
+            let kinds = kinds_of(circuit, errors.deterministic().len());
+            write_count(out, numbers.len(), options)?;
+            write_errors(out, circuit, kinds, errors, numbers.as_slice())
+        }
+        Answer::NoneWithin => write_none(out, options.most, options),
+        Answer::NoneAtAll => write_none(out, None, options),
+    }
+}
+
+/// Writes what was found: `distance W of all marked errors` and a line for each of the errors, such as
+/// `1207 3/0/2 X17*Z4 D24 L0`, or `none`, or `none up to W`.
 ///
 /// Refusal `WriteFault` after a prefix of the lines.
 pub fn write_distance<O: Output>(
@@ -178,15 +203,7 @@ pub fn write_distance<O: Output>(
     requires steps { StepsInside (circuit_items circuit.now) found.now.errors.errors }
     ensures writes { WritesAll (O.seen out.old) (O.seen out.new) (answer_text options (circuit_items circuit.now) found.now.errors found.now.answer) result }
 {
-    match &found.answer {
-        Answer::Least(numbers) => {
-            let kinds = kinds_of(circuit, found.errors.deterministic().len());
-            write_count(out, numbers.len(), options)?;
-            write_errors(out, circuit, kinds, &found.errors, numbers.as_slice())
-        }
-        Answer::NoneWithin => write_none(out, options.most, options),
-        Answer::NoneAtAll => write_none(out, None, options),
-    }
+    write_answer(out, circuit, options, &found.errors, &found.answer)
 }
 
 /// Writes an answer, and flushes.

@@ -12,6 +12,7 @@
 //! - `faults`: the command that writes which detectors and observables each fault flips.
 //! - `searched`: the errors that a distance is searched among, and the command that writes them.
 //! - `distance`: the command that finds the least number of errors that flip an observable and no detector.
+//! - `each_distance`: the command that finds this number for each observable in turn.
 //! - `coins`: the command that writes which bits of a run each coin decides.
 //! - `reasons`: the command that names the coins which decide those that are not the same for all coins.
 //! - `laws`: reduced rows tell their group; `check` counts what runs give; circuits have tables of coins, in which no coin
@@ -50,6 +51,7 @@ mod deciders;
 mod deterministic;
 mod distance;
 mod doubts;
+mod each_distance;
 mod faults;
 pub mod laws;
 mod reasons;
@@ -60,8 +62,9 @@ pub use coin_runs::CoinRuns;
 pub use coins::{run_coins, write_coins};
 pub use deterministic::run_deterministic;
 pub use distance::{Distance, find_distance, run_distance, write_distance};
+pub use each_distance::run_each_distance;
 pub use faults::run_faults;
 pub use reasons::{has_bit, run_explain, write_why};
 pub use searched::run_searched_errors;
 pub use stab_errors::{Progress, Unwatched};
-pub use stab_jobs::{DistanceOptions, ErrorLetters, FaultLayout, Source};
+pub use stab_jobs::{DistanceOptions, ErrorLetters, FaultLayout, SearchedLayout, Source};

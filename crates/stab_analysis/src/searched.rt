@@ -5,7 +5,11 @@ ghost use Rattle.stab_edits.specs.Views.{circuit_items};
 ghost use Rattle.stab_errors.specs.ErrorTables.{IsErrorTable, StepsInside};
 ghost use Rattle.stab_texts.specs.FaultTables.{GoesOn, fault_of, random_of};
 ghost use Rattle.stab_texts.specs.DoubtLines.{Warns};
-ghost use Rattle.stab_texts.specs.Distances.{AreErrorsOf, EndsSearched, IsRefusedFor, IsSearchedText, error_lines};
+ghost use Rattle.stab_texts.specs.Distances.{AreErrorsOf, EndsSearched, IsErrorsText, IsRefusedFor, IsSearchedText, error_lines};
+ghost use Rattle.stab_texts.specs.Endings.{SendsFound};
+ghost use Rattle.stab_maxsat.specs.Made.{IsCountable, clauses_of};
+ghost use Rattle.stab_maxsat.specs.Problems.{Clauses, problem_text};
+ghost use Rattle.stab_maxsat.specs.Questions.{Asks};
 ghost use Rattle.stab_analysis.specs.inner.Faults.{SendsAtOnce};
 
 use crate::deterministic::kinds_of;
@@ -14,7 +18,8 @@ use crate::faults::refused_for;
 use stab_circuit::{Circuit, read_circuit};
 use stab_errors::{ErrorTable, errors};
 use stab_io::{Fault, Input, Output, Refusal};
-use stab_jobs::DistanceOptions;
+use stab_jobs::{DistanceOptions, SearchedLayout};
+use stab_maxsat::{Problem, write_problem};
 use stab_texts::{FaultsRefused, finish, tell_doubts, write_all_errors};
 use std::alloc::Global;
 
@@ -68,22 +73,66 @@ fn send_errors<O: Output>(out: &mut O, circuit: &Circuit, errors: &ErrorTable) -
     finish(out)
 }
 
+/// Writes a problem, and flushes.
+fn send_problem<O: Output>(out: &mut O, problem: &Problem) -> Result<(), Fault>
+    requires countable { IsCountable problem.now }
+    ensures sends { SendsAtOnce (problem_text (clauses_of problem.now)) (O.seen out.old) (O.seen out.new) result }
+{
+    write_problem(out, problem).map_err(Fault::whole)?;
+    finish(out)
+}
+
+/// Writes the problem of errors, and flushes. Memory may be refused before the first byte.
+fn send_problem_of<O: Output>(
+    alloc: Global,
+    out: &mut O,
+    errors: &ErrorTable,
+) -> Result<(), Fault>
+    ensures sends { SendsFound (λ bytes. (p : Clauses) × Asks errors.now.table p × (bytes ≡ problem_text p)) (O.seen out.old) (O.seen out.new) result }
+{
+    match Problem::of(alloc, errors.table()) {
+        Ok(problem) => send_problem(out, &problem),
+        Err(refusal) => Err(Fault::whole(refusal)),
+    }
+}
+
+/// Writes errors as the layout says, and flushes.
+fn send_layout<O: Output>(
+    alloc: Global,
+    circuit: &Circuit,
+    out: &mut O,
+    layout: SearchedLayout,
+    errors: &ErrorTable,
+) -> Result<(), Fault>
+    requires checked { check_of (circuit_items circuit.now) ≡ None }
+    requires table { IsErrorTable (qubits_of (circuit_items circuit.now)) (circuit_items circuit.now) errors.now }
+    requires steps { StepsInside (circuit_items circuit.now) errors.now.errors }
+    ensures sends { SendsFound (IsErrorsText layout (circuit_items circuit.now) errors.now) (O.seen out.old) (O.seen out.new) result }
+{
+    match layout {
+        SearchedLayout::Table => send_errors(out, circuit, errors),
+        SearchedLayout::Wcnf => send_problem_of(alloc, out, errors),
+    }
+}
+
 /// Writes the errors of a circuit, and flushes; or names a bit that is not deterministic.
 fn send_searched_errors<O: Output>(
     alloc: Global,
     circuit: &Circuit,
     out: &mut O,
+    layout: SearchedLayout,
     options: DistanceOptions,
 ) -> Result<(), FaultsRefused>
     requires checked { check_of (circuit_items circuit.now) ≡ None }
-    ensures goes_on { GoesOn (IsSearchedText options (circuit_items circuit.now)) options.deterministic_only (circuit_items circuit.now) (random_of result) (O.seen out.old) (O.seen out.new) (fault_of result) }
+    ensures goes_on { GoesOn (IsSearchedText layout options (circuit_items circuit.now)) options.deterministic_only (circuit_items circuit.now) (random_of result) (O.seen out.old) (O.seen out.new) (fault_of result) }
 {
     let errors = searched_errors(alloc, circuit, options)?;
-    Ok(send_errors(out, circuit, &errors)?)
+    Ok(send_layout(alloc, circuit, out, layout, &errors)?)
 }
 
-/// Reads a circuit, and writes the errors that `run_distance` searches with these options, a line each in its form, such as
-/// `1207 3/0/2 X17*Z4 D24 L0`. The errors of a set flip together what an odd number of their lines name.
+/// Reads a circuit, and writes the errors that `run_distance` searches with these options. As a table they have a line each in its form,
+/// such as `1207 3/0/2 X17*Z4 D24 L0`, and the errors of a set flip together what an odd number of their lines name. As a problem in the
+/// format `p wcnf` they are its first variables, in order, and a solution that breaks W clauses of weight 1 is a least set of W errors.
 ///
 /// The options `observable`, `most` and `progress` change nothing. Faults are those of `run_distance`. Unless errors are `everywhere`,
 /// marks that may be meant in another way are reported on `err` after a call without a fault.
@@ -92,14 +141,15 @@ pub fn run_searched_errors<I: Input, O: Output, E: Output>(
     input: &mut I,
     out: &mut O,
     err: &mut E,
+    layout: SearchedLayout,
     options: DistanceOptions,
 ) -> Result<(), FaultsRefused>
-    ensures ends { EndsSearched options (I.seen input.old) (I.seen input.new) (O.seen out.old) (O.seen out.new) (fault_of result) (random_of result) }
+    ensures ends { EndsSearched layout options (I.seen input.old) (I.seen input.new) (O.seen out.old) (O.seen out.new) (fault_of result) (random_of result) }
     ensures warns { Warns options.everywhere (I.seen input.old) (I.seen input.new) (E.seen err.old) (E.seen err.new) (fault_of result) }
 {
     let circuit = read_circuit(alloc, input)?;
     let doubts = doubts_of(alloc, &circuit, options.everywhere)?;
-    send_searched_errors(alloc, &circuit, out, options)?;
+    send_searched_errors(alloc, &circuit, out, layout, options)?;
     tell_doubts(err, &circuit, doubts.as_slice());
     Ok(())
 }

@@ -18,8 +18,9 @@ use Rattle.stab_args.specs.declared.words.Usage.{Usage}
 use Rattle.stab_args.specs.declared.words.Usage.TheVariants.{Help, Fault, Memory}
 use Rattle.stab_jobs.specs.declared.job.Job.{Job}
 use Rattle.stab_jobs.specs.declared.job.Command.{Command}
-use Rattle.stab_jobs.specs.declared.job.Command.TheVariants.{Sample, Detect, Stabilisers, Check, Deterministic, Explain, Faults, Coins, Distance, SearchedErrors, Edit}
+use Rattle.stab_jobs.specs.declared.job.Command.TheVariants.{Sample, Detect, Stabilisers, Check, Deterministic, Explain, Faults, Coins, Distance, EachDistance, SearchedErrors, Edit}
 use Rattle.stab_jobs.specs.declared.job.DistanceOptions.{DistanceOptions}
+use Rattle.stab_jobs.specs.declared.job.SearchedLayout.TheVariants.{Table, Wcnf}
 use Rattle.stab_jobs.specs.declared.job.ErrorLetters.{ErrorLetters}
 use Rattle.stab_jobs.specs.declared.job.ErrorLetters.TheVariants.{All as AllLetters, XAndZ}
 use Rattle.stab_jobs.specs.declared.job.FaultLayout.{FaultLayout}
@@ -105,6 +106,14 @@ pub record IsAskedDistance (options : List Row) (asked : DistanceOptions) : Type
 abbrev pub is_about_search : DistanceOptions → Bool
 is_about_search asked = is_some asked.observable || (is_some asked.most || asked.progress)
 
+-- whether something is asked beside the errors as a problem: their table, each observable, only some errors, or what is about a search
+abbrev pub is_beside_problem : (table each : Bool) → DistanceOptions → Bool
+is_beside_problem table each asked = table || (each || (asked.graphlike || is_about_search asked))
+
+-- whether something is asked that is not asked of each observable: the table of errors, one observable, or the progress of one search
+abbrev pub is_beside_each : (table : Bool) → DistanceOptions → Bool
+is_beside_each table asked = table || (is_some asked.observable || asked.progress)
+
 -- the command of a name, with what its options say
 abbrev pub IsCommand : Text → List Row → Command → Type 0
 IsCommand name options (Sample format shots) = (name ≡ codes "sample") × HasShots options format shots
@@ -117,8 +126,15 @@ IsCommand name options (Faults layout everywhere deterministic_only) =
     (name ≡ codes "faults") × IsLayout (first_of (codes "out_format") options) layout
     × IsSet (one_of (codes "everywhere") options) everywhere × IsSet (one_of (codes "deterministic_only") options) deterministic_only
 IsCommand name options (Coins layout) = (name ≡ codes "coins") × IsLayout (first_of (codes "out_format") options) layout
-IsCommand name options (Distance asked) = (name ≡ codes "distance") × IsSet (one_of (codes "table") options) false × IsAskedDistance options asked
-IsCommand name options (SearchedErrors asked) = (name ≡ codes "distance") × IsSet (one_of (codes "table") options) true × IsAskedDistance options asked × (is_about_search asked ≡ false)
+IsCommand name options (Distance asked) =
+    (name ≡ codes "distance") × IsSet (one_of (codes "wcnf") options) false × IsSet (one_of (codes "table") options) false × IsSet (one_of (codes "each") options) false × IsAskedDistance options asked
+IsCommand name options (EachDistance asked) =
+    (name ≡ codes "distance") × IsSet (one_of (codes "wcnf") options) false × IsSet (one_of (codes "table") options) false × IsSet (one_of (codes "each") options) true × IsAskedDistance options asked × (is_beside_each false asked ≡ false)
+IsCommand name options (SearchedErrors Wcnf asked) =
+    (name ≡ codes "distance") × IsSet (one_of (codes "wcnf") options) true × IsSet (one_of (codes "table") options) false × IsSet (one_of (codes "each") options) false × IsAskedDistance options asked
+    × (is_beside_problem false false asked ≡ false)
+IsCommand name options (SearchedErrors Table asked) =
+    (name ≡ codes "distance") × IsSet (one_of (codes "wcnf") options) false × IsSet (one_of (codes "table") options) true × IsSet (one_of (codes "each") options) false × IsAskedDistance options asked × (is_about_search asked ≡ false)
 IsCommand name options (Edit framed qubits stride) =
     (name ≡ codes "edit") × IsSet (one_of (codes "framed") options) framed × IsWrittenIfGiven 0 most_qubits (one_of (codes "qubits") options) qubits × IsWritten 1 most_stride (one_of (codes "stride") options) stride
 
@@ -160,16 +176,41 @@ RefusesShots options usage = ⊥
 abbrev pub table_fault : Text
 table_fault = codes "stabsim: --table searches nothing, and is not beside --observable, --most or --progress\n"
 
--- a table of errors is refused for lack of memory, or beside what is about a search
-abbrev pub RefusesTable : List Row → Usage → Type 0
-RefusesTable options Memory = ⊤
-RefusesTable options (Fault line) =
-    (string_bytes line ≡ table_fault) × IsSet (one_of (codes "table") options) true × ((asked : DistanceOptions) × IsAskedDistance options asked × (is_about_search asked ≡ true))
-RefusesTable options usage = ⊥
+-- it is asked for beside what is about a search
+abbrev pub IsTableBesideSearch : List Row → Type 0
+IsTableBesideSearch options = IsSet (one_of (codes "table") options) true × ((asked : DistanceOptions) × IsAskedDistance options asked × (is_about_search asked ≡ true))
 
--- a command is refused by its shots, or by its table of errors
+-- the line for each observable beside what is not asked of each
+abbrev pub each_fault : Text
+each_fault = codes "stabsim: --each is for all observables, and is not beside --observable, --table or --progress\n"
+
+-- each observable is asked for beside what is not asked of each
+abbrev pub IsEachBeside : List Row → Type 0
+IsEachBeside options =
+    IsSet (one_of (codes "each") options) true
+    × ((table : Bool) × (asked : DistanceOptions) × IsSet (one_of (codes "table") options) table × IsAskedDistance options asked × (is_beside_each table asked ≡ true))
+
+-- the line for the errors as a problem beside what is not asked with it
+abbrev pub problem_fault : Text
+problem_fault = codes "stabsim: --wcnf searches nothing, and is not beside --table, --each, --graphlike, --observable, --most or --progress\n"
+
+-- they are asked for beside it
+abbrev pub IsProblemBeside : List Row → Type 0
+IsProblemBeside options =
+    IsSet (one_of (codes "wcnf") options) true
+    × ((table each : Bool) × (asked : DistanceOptions) × IsSet (one_of (codes "table") options) table × IsSet (one_of (codes "each") options) each × IsAskedDistance options asked
+    × (is_beside_problem table each asked ≡ true))
+
+-- a distance is refused for lack of memory, or by options that are beside others
+abbrev pub RefusesDistance : List Row → Usage → Type 0
+RefusesDistance options Memory = ⊤
+RefusesDistance options (Fault line) =
+    ((string_bytes line ≡ table_fault) × IsTableBesideSearch options) ⊎ (((string_bytes line ≡ each_fault) × IsEachBeside options) ⊎ ((string_bytes line ≡ problem_fault) × IsProblemBeside options))
+RefusesDistance options usage = ⊥
+
+-- a command is refused by its shots, or as a distance
 abbrev pub RefusesCommand : List Row → Usage → Type 0
-RefusesCommand options usage = RefusesShots options usage ⊎ RefusesTable options usage
+RefusesCommand options usage = RefusesShots options usage ⊎ RefusesDistance options usage
 
 -- the line for a first shot beside coins
 abbrev pub beside_fault : Text
@@ -181,7 +222,7 @@ RefusesFirst options Memory = ⊤
 RefusesFirst options (Fault line) = (string_bytes line ≡ beside_fault) × (first_beside_coins options ≡ true)
 RefusesFirst options usage = ⊥
 
--- options that the reader takes are refused by their shots, a table of errors beside what is about a search, a first shot beside coins, or their coins
+-- options that the reader takes are refused by their shots, as a distance, by a first shot beside coins, or by their coins
 abbrev pub RefusesOptions : List Row → Usage → Type 0
 RefusesOptions options usage =
     RefusesFirst options usage ⊎ (RefusesCommand options usage ⊎ RefusesCoins (first_of (codes "coins") options) (first_of (codes "coins_in") options) usage)

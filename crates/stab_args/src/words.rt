@@ -59,9 +59,9 @@ fn usage_of(alloc: Global, error: &Error) -> Usage
 ///
 /// No job comes from words that ask for help or the version (`Usage::Help`), of words that the command
 /// line reader doesn't take, whose shots go beyond the last of a seed or have a first beside coins, which
-/// ask for a table of errors and something about a search, or whose coins are not characters 0 and 1
-/// (`Usage::Fault`), or if memory was refused (`Usage::Memory`). Of these, a first shot beside coins is
-/// looked for first, and the coins last.
+/// ask for a table of errors or a problem and something about a search, or for each observable and what is not
+/// asked of each, or whose coins are not characters 0 and 1 (`Usage::Fault`), or if memory was refused
+/// (`Usage::Memory`). Of these, a first shot beside coins is looked for first, and the coins last.
 pub fn parse_words(alloc: Global, words: &[&str]) -> Result<Job, Usage>
     ensures ends { EndsReading (map (λ w. w.now) words.now) result }
 {

@@ -12,7 +12,7 @@ use Rattle.stab_texts.specs.Deterministic.{EndsDeterministic}
 use Rattle.stab_texts.specs.FaultTables.{EndsFaults}
 use Rattle.stab_texts.specs.CoinTables.{EndsCoins}
 use Rattle.stab_texts.specs.Reasons.{EndsExplain}
-use Rattle.stab_texts.specs.Distances.{EndsDistance, EndsSearched, TellsDistance}
+use Rattle.stab_texts.specs.Distances.{EndsDistance, EndsEach, EndsSearched, TellsDistance, TellsEach}
 use Rattle.stab_texts.specs.DoubtLines.{Warns}
 use Rattle.stab_texts.specs.MissingObservables.{WarnsOf}
 use Rattle.stab_distance.specs.Progress.{Heard}
@@ -22,7 +22,7 @@ use Rattle.stab_script.specs.Watchers.{Asked}
 use Rattle.stab_texts.specs.declared.random.Random.{Random}
 use Rattle.stab_jobs.specs.declared.job.Source.{Source}
 use Rattle.stab_jobs.specs.declared.job.Command.{Command}
-use Rattle.stab_jobs.specs.declared.job.Command.TheVariants.{Sample, Detect, Stabilisers, Check, Deterministic, Explain, Coins, Faults, Distance, SearchedErrors, Edit}
+use Rattle.stab_jobs.specs.declared.job.Command.TheVariants.{Sample, Detect, Stabilisers, Check, Deterministic, Explain, Coins, Faults, Distance, EachDistance, SearchedErrors, Edit}
 use Rattle.stab_jobs.specs.declared.job.Job.{Job}
 
 -- a call that reads no script refuses no line of it
@@ -48,7 +48,8 @@ EndsCommand (Deterministic format) source i i' s s' o o' r random = NamesNone (E
 EndsCommand Explain source i i' s s' o o' r random = NamesNone (EndsExplain i i' o o') r random
 EndsCommand (Coins layout) source i i' s s' o o' r random = NamesNone (EndsCoins layout i i' o o') r random
 EndsCommand (Faults layout everywhere deterministic_only) source i i' s s' o o' r random = RefusesNone (λ answer. EndsFaults layout everywhere deterministic_only i i' o o' answer random) r
-EndsCommand (SearchedErrors options) source i i' s s' o o' r random = RefusesNone (λ answer. EndsSearched options i i' o o' answer random) r
+EndsCommand (SearchedErrors layout options) source i i' s s' o o' r random = RefusesNone (λ answer. EndsSearched layout options i i' o o' answer random) r
+EndsCommand (EachDistance options) source i i' s s' o o' r random = RefusesNone (λ answer. EndsEach options i i' o o' answer random) r
 EndsCommand (Distance options) source i i' s s' o o' r random = RefusesNone (λ answer. EndsDistance options i i' o o' answer random) r
 EndsCommand (Edit framed qubits stride) source i i' s s' o o' r random = (random ≡ None) × EndsEdit framed qubits source i i' s s' o o' r
 
@@ -57,9 +58,11 @@ abbrev pub CommandInTurn : Command → Source → InputView → InputView → In
 CommandInTurn (Edit framed qubits stride) source i i' s s' o o' log log' r = EditsInTurn framed qubits source i i' s s' o o' log log' r
 CommandInTurn command source i i' s s' o o' log log' r = log' ≡ log
 
--- what is heard of a call: how far the search of `distance` is, and of any other command nothing
+-- what is heard of a call: how far the search of `distance` is, or over how many errors it searches for each observable, and of any other
+-- command nothing
 abbrev pub CommandTells : Command → InputView → InputView → Option (List Heard) → Option (List Heard) → Result Bool Fault → Type 0
 CommandTells (Distance options) i i' old new r = RefusesNone (TellsDistance options i i' old new) r
+CommandTells (EachDistance options) i i' old new r = RefusesNone (TellsEach options i i' old new) r
 CommandTells command i i' old new r = new ≡ old
 
 -- the status of a run: 0 without a fault, 3 if a line of the script was refused, 1 with a fault
@@ -73,7 +76,8 @@ status_of (Err f) = 1
 abbrev pub CommandWarns : Command → InputView → InputView → OutputView → OutputView → Result Bool Fault → Type 0
 CommandWarns Check i i' old new r = Warns false i i' old new r
 CommandWarns (Faults layout everywhere deterministic_only) i i' old new r = Warns everywhere i i' old new r
-CommandWarns (SearchedErrors options) i i' old new r = Warns options.everywhere i i' old new r
+CommandWarns (SearchedErrors layout options) i i' old new r = Warns options.everywhere i i' old new r
+CommandWarns (EachDistance options) i i' old new r = Warns options.everywhere i i' old new r
 CommandWarns (Distance options) i i' old new r = WarnsOf options.everywhere options.observable i i' old new r
 CommandWarns command i i' old new r = new ≡ old
 

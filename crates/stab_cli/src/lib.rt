@@ -19,8 +19,8 @@ mod status;
 mod usage;
 
 pub use stab_analysis::{
-    Progress, Unwatched, run_check, run_coins, run_deterministic, run_distance, run_explain,
-    run_faults, run_searched_errors,
+    Progress, Unwatched, run_check, run_coins, run_deterministic, run_distance, run_each_distance,
+    run_explain, run_faults, run_searched_errors,
 };
 pub use stab_args::{CoinsFault, NO_COINS, Usage, parse_words, read_coins};
 pub use stab_commands::{

@@ -7,8 +7,8 @@ ghost use Rattle.stab_editor.specs.ScriptTurns.{EditsInTurn};
 ghost use Rattle.stab_cli.specs.Jobs.{CommandInTurn, CommandTells, CommandWarns, EndsCommand, EndsJob, JobInTurn, JobTells, reads_script, refusing_none};
 
 use stab_analysis::{
-    Progress, Unwatched, run_check, run_coins, run_deterministic, run_distance, run_explain,
-    run_faults, run_searched_errors,
+    Progress, Unwatched, run_check, run_coins, run_deterministic, run_distance, run_each_distance,
+    run_explain, run_faults, run_searched_errors,
 };
 use stab_commands::{run_detect_shots, run_sample_shots, run_stabilisers};
 use stab_editor::run_edit_watched;
@@ -119,8 +119,11 @@ fn run_command<I: Input, S: Input, O: Output, E: Output, W: Watcher<S, O>, P: Pr
             everywhere,
             deterministic_only: only,
         } => refuses_none(run_faults(alloc, input, out, err, layout, everywhere, only)),
-        Command::SearchedErrors(options) => {
-            refuses_none(run_searched_errors(alloc, input, out, err, options))
+        Command::SearchedErrors { layout, options } => {
+            refuses_none(run_searched_errors(alloc, input, out, err, layout, options))
+        }
+        Command::EachDistance(options) => {
+            refuses_none(run_each_distance(alloc, input, out, err, options, progress))
         }
         Command::Distance(options) => {
             refuses_none(run_distance(alloc, input, out, err, options, progress))

@@ -39,6 +39,15 @@ pub struct DistanceOptions {
     pub progress: bool,
 }
 
+/// How the errors that a distance is searched among are written.
+#[derive(Clone, Copy, Debug, PartialEq, Eq)]
+pub enum SearchedLayout {
+    /// A line for each error: where it is, its name, and what it flips.
+    Table,
+    /// A problem for MaxSAT solvers in the format `p wcnf`, whose solution is a least set.
+    Wcnf,
+}
+
 /// How a table of faults or coins is written.
 #[derive(Clone, Copy, Debug, PartialEq, Eq)]
 pub enum FaultLayout {
@@ -86,8 +95,13 @@ pub enum Command {
     },
     /// Writes the least number of errors that flip an observable and no detector, and that many such errors.
     Distance(DistanceOptions),
-    /// Writes the errors that `Distance` searches, a line each, and what each flips.
-    SearchedErrors(DistanceOptions),
+    /// Writes what `Distance` does for each observable in turn.
+    EachDistance(DistanceOptions),
+    /// Writes the errors that `Distance` searches, and what each flips.
+    SearchedErrors {
+        layout: SearchedLayout,
+        options: DistanceOptions,
+    },
     /// Edits the circuit by a script, on this many qubits or on as many as it names, and writes the
     /// replies, framed if a program is to read them.
     Edit {

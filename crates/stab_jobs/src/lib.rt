@@ -15,5 +15,5 @@
 mod job;
 mod numbers;
 
-pub use job::{Command, DistanceOptions, ErrorLetters, FaultLayout, Job, Source};
+pub use job::{Command, DistanceOptions, ErrorLetters, FaultLayout, Job, SearchedLayout, Source};
 pub use numbers::{QubitCount, Shots, Stride};

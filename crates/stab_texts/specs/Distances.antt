@@ -1,6 +1,6 @@
 -- Distances: what `distance` writes of the errors of a circuit, and how a call of it ends.
 -- Source: this project's own.
-use Rattle.std.specs.Prelude.{◌≡◌, ℕ, ◌<◌, Bool, true, false, List, [], ◌++◌, length, codes, decimal, Option, Some, None, Result, Ok, Err, IfOk, ◌⊎◌}
+use Rattle.std.specs.Prelude.{◌≡◌, ℕ, ◌+◌, ◌<◌, Bool, true, false, List, [], ◌∷◌, ◌++◌, length, codes, decimal, Option, Some, None, Result, Ok, Err, IfOk, ◌⊎◌}
 use Rattle.std.specs.List.{flat_map, range_with_len}
 use Rattle.stab_io.specs.Devices.{InputView, OutputView}
 use Rattle.stab_io.specs.declared.refusal.Refusal.{Refusal}
@@ -9,7 +9,7 @@ use Rattle.stab_io.specs.declared.refusal.Fault.{Fault}
 use Rattle.stab_io.specs.Refusals.{whole}
 use Rattle.stab_gates.specs.LetterTexts.{letter_text}
 use Rattle.stab_circuit.specs.Items.{Items}
-use Rattle.stab_circuit.specs.Steps.{qubits_of}
+use Rattle.stab_circuit.specs.Steps.{observables_of, qubits_of}
 use Rattle.stab_edits.specs.Paths.{Path, path_text}
 use Rattle.stab_results.specs.declared.format.Kinds.{Kinds}
 use Rattle.stab_results.specs.Formats.{entry}
@@ -17,8 +17,12 @@ use Rattle.stab_regions.specs.Faults.{FaultPlace, bits_in, IsDeterministic}
 use Rattle.stab_distance.specs.declared.answer.Answer.{Answer}
 use Rattle.stab_distance.specs.declared.answer.Answer.TheVariants.{Least, NoneWithin, NoneAtAll}
 use Rattle.stab_distance.specs.Tables.{row}
-use Rattle.stab_distance.specs.Progress.{Heard}
+use Rattle.stab_distance.specs.Progress.{Heard, Hears, begins}
+use Rattle.stab_maxsat.specs.Problems.{Clauses, problem_text}
+use Rattle.stab_maxsat.specs.Questions.{Asks}
 use Rattle.stab_jobs.specs.declared.job.DistanceOptions.{DistanceOptions}
+use Rattle.stab_jobs.specs.declared.job.SearchedLayout.{SearchedLayout}
+use Rattle.stab_jobs.specs.declared.job.SearchedLayout.TheVariants.{Table, Wcnf}
 use Rattle.stab_errors.specs.Errors.{Error, letter, letters, wrong_record, first_fault, errors_of}
 use Rattle.stab_errors.specs.Parts.{AreSearched}
 use Rattle.stab_errors.specs.ErrorTables.{ErrorTableState, IsErrorTable}
@@ -111,9 +115,37 @@ IsDistanceText options items bytes = (t : ErrorTableState) × (answer : Answer) 
 abbrev pub error_lines : Items → ErrorTableState → List ℕ
 error_lines items t = flat_map (numbered_line items t) (range_with_len 0 (length t.errors))
 
--- the bytes are those of these errors
-abbrev pub IsSearchedText : DistanceOptions → Items → List ℕ → Type 0
-IsSearchedText options items bytes = (t : ErrorTableState) × AreErrorsOf options items t × (bytes ≡ error_lines items t)
+-- the bytes are those of these errors: a line for each, or a problem that asks for a least set of them
+abbrev pub IsErrorsText : SearchedLayout → Items → ErrorTableState → List ℕ → Type 0
+IsErrorsText Table items t bytes = bytes ≡ error_lines items t
+IsErrorsText Wcnf items t bytes = (p : Clauses) × Asks t.table p × (bytes ≡ problem_text p)
+
+-- the bytes are those of the errors of a circuit that are asked for
+abbrev pub IsSearchedText : SearchedLayout → DistanceOptions → Items → List ℕ → Type 0
+IsSearchedText layout options items bytes = (t : ErrorTableState) × AreErrorsOf options items t × IsErrorsText layout items t bytes
+
+-- the same options, for one observable
+abbrev pub for_observable : DistanceOptions → ℕ → DistanceOptions
+for_observable options j = record options { observable = Some j }
+
+-- an answer about each observable in turn, from this one on
+abbrev pub AreAnswers : DistanceOptions → Items → ErrorTableState → (first : ℕ) → List Answer → Type 0
+AreAnswers options items t first [] = Unit {0}
+AreAnswers options items t first (answer ∷ answers) = IsDistanceOf (for_observable options first) items t answer × AreAnswers options items t (first + 1) answers
+
+-- what is written of them, in order
+abbrev pub answer_texts : DistanceOptions → Items → ErrorTableState → (first : ℕ) → List Answer → List ℕ
+answer_texts options items t first [] = []
+answer_texts options items t first (answer ∷ answers) = answer_text (for_observable options first) items t answer ++ answer_texts options items t (first + 1) answers
+
+-- the bytes are those of an answer about each observable of the circuit, and of the same errors
+pub record IsEachText (options : DistanceOptions) (items : Items) (bytes : List ℕ) : Type 0 where
+  pub t : ErrorTableState
+  pub are : AreErrorsOf options items t
+  pub answers : List Answer
+  pub each : length answers ≡ observables_of items
+  pub distances : AreAnswers options items t 0 answers
+  pub text : bytes ≡ answer_texts options items t 0 answers
 
 -- why there is no answer: a bit that is not deterministic, or memory that was refused
 abbrev pub IsRefusedFor : (deterministic_only : Bool) → Items → Option Random → Fault → Type 0
@@ -125,8 +157,12 @@ abbrev pub EndsDistance : {T : Type 0} → DistanceOptions → InputView → Inp
 EndsDistance options i i' o o' r random = EndsOrNames (IsDistanceText options) options.deterministic_only i i' o o' r random
 
 -- How a call ends that writes the errors that are searched.
-abbrev pub EndsSearched : {T : Type 0} → DistanceOptions → InputView → InputView → OutputView → OutputView → Result T Fault → Option Random → Type 0
-EndsSearched options i i' o o' r random = EndsOrNames (IsSearchedText options) options.deterministic_only i i' o o' r random
+abbrev pub EndsSearched : {T : Type 0} → SearchedLayout → DistanceOptions → InputView → InputView → OutputView → OutputView → Result T Fault → Option Random → Type 0
+EndsSearched layout options i i' o o' r random = EndsOrNames (IsSearchedText layout options) options.deterministic_only i i' o o' r random
+
+-- How a call ends that writes the distance of each observable in turn.
+abbrev pub EndsEach : {T : Type 0} → DistanceOptions → InputView → InputView → OutputView → OutputView → Result T Fault → Option Random → Type 0
+EndsEach options i i' o o' r random = EndsOrNames (IsEachText options) options.deterministic_only i i' o o' r random
 
 -- what is heard of a search among the errors of a circuit that are asked for, and what it found
 pub record HearsSearch (options : DistanceOptions) (items : Items) (old new : Option (List Heard)) (result : Result Answer Refusal) : Type 0 where
@@ -143,3 +179,11 @@ HearsDistance options items old new (Err f) = (new ≡ old) ⊎ ((answer : Resul
 -- What is heard of a call of `distance`, over an input.
 abbrev pub TellsDistance : {T : Type 0} → DistanceOptions → InputView → InputView → Option (List Heard) → Option (List Heard) → Result T Fault → Type 0
 TellsDistance options i i' old new r = Ends (λ _. new ≡ old) (λ items. HearsDistance options items old new) i i' r
+
+-- what is heard of a call with the items of a circuit that searches for each observable: nothing, or how many errors it searches
+abbrev pub HearsErrors : DistanceOptions → Items → Option (List Heard) → Option (List Heard) → Type 0
+HearsErrors options items old new = (new ≡ old) ⊎ ((t : ErrorTableState) × AreErrorsOf options items t × Hears old new (begins (length t.errors) ∷ []))
+
+-- What is heard of a call that writes the distance of each observable in turn, over an input.
+abbrev pub TellsEach : {T : Type 0} → DistanceOptions → InputView → InputView → Option (List Heard) → Option (List Heard) → Result T Fault → Type 0
+TellsEach options i i' old new r = Ends (λ _. new ≡ old) (λ items _. HearsErrors options items old new) i i' r

@@ -237,7 +237,7 @@ fn shows_progress(command: Command) -> bool {
 }
 
 /// Whether a command looked at marked places alone, and shows that there are none: `distance` by a search over no
-/// errors, and its table and `faults` by no byte, except in the format b8, in which a fault may be of no byte.
+/// errors, also for each observable, and its table and `faults` by no byte, except in the format b8, in which a fault may be of no byte.
 fn is_on_no_marks(command: Command, is_over_nothing: bool, is_empty: bool) -> bool {
     match command {
         Command::Faults {
@@ -245,8 +245,10 @@ fn is_on_no_marks(command: Command, is_over_nothing: bool, is_empty: bool) -> bo
             everywhere,
             ..
         } => is_empty && !everywhere && layout != FaultLayout::Shots(Format::B8),
-        Command::Distance(options) => is_over_nothing && !options.everywhere,
-        Command::SearchedErrors(options) => is_empty && !options.everywhere,
+        Command::Distance(options) | Command::EachDistance(options) => {
+            is_over_nothing && !options.everywhere
+        }
+        Command::SearchedErrors { options, .. } => is_empty && !options.everywhere,
         _ => false,
     }
 }
@@ -254,7 +256,9 @@ fn is_on_no_marks(command: Command, is_over_nothing: bool, is_empty: bool) -> bo
 /// What is said if there are none: a mark may have Y alone, which some letters leave out.
 fn no_marks(command: Command) -> &'static str {
     match command {
-        Command::Distance(options) | Command::SearchedErrors(options) => match options.letters {
+        Command::Distance(options)
+        | Command::EachDistance(options)
+        | Command::SearchedErrors { options, .. } => match options.letters {
             ErrorLetters::XAndZ => NO_LETTERS,
             ErrorLetters::All => NO_MARKS,
         },

@@ -89,7 +89,9 @@ stabsim distance|Distance(DistanceOptions { everywhere: false, letters: All, gra
 stabsim distance --everywhere --letters=XZ --most 1000000000 --in=a.stim|Distance(DistanceOptions { everywhere: true, letters: XAndZ, graphlike: false, observable: None, most: Some(1000000000), deterministic_only: false, progress: false }) Seed(0) Some("a.stim") None
 stabsim distance --most=0 --graphlike --progress --deterministic_only --letters all|Distance(DistanceOptions { everywhere: false, letters: All, graphlike: true, observable: None, most: Some(0), deterministic_only: true, progress: true }) Seed(0) None None
 stabsim distance --observable 4095|Distance(DistanceOptions { everywhere: false, letters: All, graphlike: false, observable: Some(4095), most: None, deterministic_only: false, progress: false }) Seed(0) None None
-stabsim distance --table --everywhere|SearchedErrors(DistanceOptions { everywhere: true, letters: All, graphlike: false, observable: None, most: None, deterministic_only: false, progress: false }) Seed(0) None None
+stabsim distance --each --most 3 --graphlike|EachDistance(DistanceOptions { everywhere: false, letters: All, graphlike: true, observable: None, most: Some(3), deterministic_only: false, progress: false }) Seed(0) None None
+stabsim distance --table --everywhere|SearchedErrors { layout: Table, options: DistanceOptions { everywhere: true, letters: All, graphlike: false, observable: None, most: None, deterministic_only: false, progress: false } } Seed(0) None None
+stabsim distance --wcnf --letters XZ|SearchedErrors { layout: Wcnf, options: DistanceOptions { everywhere: false, letters: XAndZ, graphlike: false, observable: None, most: None, deterministic_only: false, progress: false } } Seed(0) None None
 stabsim distance --sure_only|Distance(DistanceOptions { everywhere: false, letters: All, graphlike: false, observable: None, most: None, deterministic_only: true, progress: false }) Seed(0) None None"#;
 
 #[test]

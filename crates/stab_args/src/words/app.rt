@@ -273,7 +273,9 @@ fn distance_command<'a>(alloc: Global, letters: &'a [&'a str]) -> Result<Command
         command,
         ranged(alloc, "observable", 0, LAST_OBSERVABLE, help::OBSERVABLE),
     );
+    let command = with_option(command, flag(alloc, "each", help::EACH));
     let command = with_option(command, flag(alloc, "table", help::TABLE));
+    let command = with_option(command, flag(alloc, "wcnf", help::WCNF));
     let command = with_option(command, only);
     let command = with_option(command, flag(alloc, "progress", help::PROGRESS));
     with_files(alloc, command, help::IN)

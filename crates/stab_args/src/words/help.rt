@@ -183,10 +183,13 @@ measured qubit, and each record wrong by itself.
 The answer is exact, for any code: `distance W of all marked errors` and then W errors, each on a line such
 as `faults` writes, if no fewer errors flip an observable and no detector; or `none up to W`, with --most W; or
 `none`, if no set of errors does. The time grows by a factor with each further error. With --observable 0 the
-set flips observable 0, and the first line ends in `for L0`. With --graphlike the answer is for those errors
-alone that flip at most two detectors, and its first line says so. The X and the Z at each of its qubits take
-the place of an error that flips more. With --table all these errors are written in place of an answer, so that
-anyone can add up what a set flips; it is not beside --observable, --most or --progress.
+set flips observable 0, and the first line ends in `for L0`; --each answers so for each observable in turn. With
+--graphlike the answer is for those errors alone that flip at most two detectors, and its first line says so. The
+X and the Z at each of its qubits take the place of an error that flips more. With --table all these errors are
+written in place of an answer, so that anyone can add up what a set flips; it is not beside --observable, --each,
+--most or --progress, nor --each beside --observable or --progress. With --wcnf they are written as a problem for
+MaxSAT solvers: the least weight that an assignment breaks is the distance, and the first variables that are true
+are a set. It is beside --everywhere, --letters and --deterministic_only alone.
 A circuit in which a detector or observable depends on the coins is refused 18: --deterministic_only leaves
 it out. That option is found as --sure_only too.
 
@@ -227,8 +230,14 @@ pub(crate) const GRAPHLIKE: &str =
 pub(crate) const OBSERVABLE: &str =
     "Looks for errors that flip this observable, from 0 to 4095; any if not given";
 
+pub(crate) const EACH: &str =
+    "Looks for errors that flip each observable of the circuit in turn, and answers for each";
+
 pub(crate) const TABLE: &str =
     "Writes the errors to be searched, a line each with what it flips, and searches none";
+
+pub(crate) const WCNF: &str =
+    "Writes the errors to be searched as a problem for MaxSAT solvers, and searches none";
 
 pub(crate) const PROGRESS: &str =
     "Writes each number of errors that is excluded to standard error at once";

@@ -1,10 +1,10 @@
 //! What the words say to each option.
-ghost use Rattle.std.specs.Prelude.{◌≡◌, ◌≤◌, ℕ, Option, Some, None, IfOk, IfErr, IfSome, IfNone, option_map, codes, string_bytes};
+ghost use Rattle.std.specs.Prelude.{◌≡◌, ◌≤◌, ℕ, Option, Some, None, IfOk, IfErr, IfSome, IfNone, option_map, codes, string_bytes, false};
 ghost use Rattle.clap.specs.Words.{IsUnsignedIn, first_of, found_of, has_subcommand, one_of, rows_of, subcommand_rows_of};
 ghost use Rattle.stab_gates.specs.Limits.{most_qubits};
 ghost use Rattle.stab_circuit.specs.Limits.{most_stride};
 ghost use Rattle.stab_jobs.specs.Limits.{last_shot, most_shots, shots_of_seed};
-ghost use Rattle.stab_args.specs.Asked.{AreLetters, AreShots, IsAskedDistance, IsCommand, IsFirst, IsJob, IsLayout, IsNamed, IsSet, IsSource, IsWritten, IsWrittenIfGiven, RefusesCoins, RefusesCommand, RefusesOptions, RefusesShots, RefusesTable, first_beside_coins, is_about_search};
+ghost use Rattle.stab_args.specs.Asked.{AreLetters, AreShots, IsAskedDistance, IsCommand, IsFirst, IsJob, IsLayout, IsNamed, IsSet, IsSource, IsWritten, IsWrittenIfGiven, RefusesCoins, RefusesCommand, RefusesDistance, RefusesOptions, RefusesShots, first_beside_coins, is_about_search, is_beside_each, is_beside_problem};
 ghost use Rattle.stab_args.specs.Options.{last_observable, most_errors, most_seed};
 ghost use Rattle.stab_args.specs.declared.words.Usage.{Usage};
 ghost use Rattle.stab_args.specs.inner.Parts.{IsCommandName};
@@ -14,7 +14,8 @@ use crate::words::Usage;
 use crate::words::app::{LAST_OBSERVABLE, MOST_ERRORS};
 use clap::ArgMatches;
 use stab_jobs::{
-    Command, DistanceOptions, ErrorLetters, FaultLayout, Job, QubitCount, Shots, Source, Stride,
+    Command, DistanceOptions, ErrorLetters, FaultLayout, Job, QubitCount, SearchedLayout, Shots,
+    Source, Stride,
 };
 use stab_results::Format;
 use std::alloc::{AllocError, Global};
@@ -28,6 +29,13 @@ const SHOTS_BEYOND: &str = "stabsim: the last shot of a seed is shot 18446744073
 // What is said of a first shot beside coins.
 const FIRST_BESIDE_COINS: &str =
     "stabsim: --first_shot is of a seed, and not beside --coins or --coins_in\n";
+
+// What is said of each observable beside what is not asked of each.
+const EACH_BESIDE: &str =
+    "stabsim: --each is for all observables, and is not beside --observable, --table or --progress\n";
+
+// What is said of the errors as a problem beside what is not asked with it.
+const PROBLEM_BESIDE: &str = "stabsim: --wcnf searches nothing, and is not beside --table, --each, --graphlike, --observable, --most or --progress\n";
 
 // What is said of a table of errors beside what is about a search.
 const TABLE_BESIDE_SEARCH: &str =
@@ -221,20 +229,67 @@ fn is_about_search(asked: DistanceOptions) -> bool
     asked.observable.is_some() || asked.most.is_some() || asked.progress
 }
 
-/// What `distance` is asked for.
-fn distance(alloc: Global, options: &ArgMatches) -> Result<Command, Usage>
+/// Whether something is asked that is not asked of each observable: the table of errors, one observable, or the
+/// progress of one search.
+fn is_beside_each(table: bool, asked: DistanceOptions) -> bool
+    ensures value { result ≡ is_beside_each table asked }
+{
+    table || asked.observable.is_some() || asked.progress
+}
+
+/// Whether something is asked beside the errors as a problem: their table, each observable, only some errors, or what
+/// is about a search.
+fn is_beside_problem(table: bool, each: bool, asked: DistanceOptions) -> bool
+    ensures value { result ≡ is_beside_problem table each asked }
+{
+    table || each || asked.graphlike || is_about_search(asked)
+}
+
+/// What `distance` is asked for, if not for the errors as a problem.
+fn search_or_table(alloc: Global, options: &ArgMatches) -> Result<Command, Usage>
+    requires no_problem { IsSet (one_of (codes "wcnf") (rows_of (found_of options.now))) false }
     ensures command { IfOk result (IsCommand (codes "distance") (rows_of (found_of options.now))) }
-    ensures refused { IfErr result (RefusesTable (rows_of (found_of options.now))) }
+    ensures refused { IfErr result (RefusesDistance (rows_of (found_of options.now))) }
 {
     let asked = distance_options(options);
-    if !flag(options, "table") {
+    let table = flag(options, "table");
+    if flag(options, "each") {
+        if is_beside_each(table, asked) {
+            let told = String::from_str(alloc, EACH_BESIDE)?;
+            return Err(Usage::Fault(told));
+        }
+        return Ok(Command::EachDistance(asked));
+    }
+    if !table {
         return Ok(Command::Distance(asked));
     }
     if is_about_search(asked) {
         let told = String::from_str(alloc, TABLE_BESIDE_SEARCH)?;
         return Err(Usage::Fault(told));
     }
-    Ok(Command::SearchedErrors(asked))
+    Ok(Command::SearchedErrors {
+        layout: SearchedLayout::Table,
+        options: asked,
+    })
+}
+
+/// What `distance` is asked for.
+fn distance(alloc: Global, options: &ArgMatches) -> Result<Command, Usage>
+    ensures command { IfOk result (IsCommand (codes "distance") (rows_of (found_of options.now))) }
+    ensures refused { IfErr result (RefusesDistance (rows_of (found_of options.now))) }
+{
+    if !flag(options, "wcnf") {
+        return search_or_table(alloc, options);
+    }
+    let asked = distance_options(options);
+    if is_beside_problem(flag(options, "table"), flag(options, "each"), asked) {
+        let told = String::from_str(alloc, PROBLEM_BESIDE)?;
+        return Err(Usage::Fault(told));
+    }
+    Ok(Command::SearchedErrors {
+        layout: SearchedLayout::Wcnf,
+        options: asked,
+    })
 }
 
 /// The command of a name, with its own options.

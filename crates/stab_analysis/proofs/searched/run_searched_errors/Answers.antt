@@ -10,7 +10,7 @@ returns-in_err-circuit-clause-warns g c =
 
 pub returns-in_err-doubts-clause-ends : goal.returns-in_err-doubts-clause-ends
 returns-in_err-doubts-clause-ends g c =
-    unsent (IsSearchedText c.args.options) c.args.options.deterministic_only (g.I.Input.seen c.args.input.now) (g.I.Input.seen c.read_circuit.new.input) (g.O.Output.seen c.args.out.now)
+    unsent (IsSearchedText c.args.layout c.args.options) c.args.options.deterministic_only (g.I.Input.seen c.args.input.now) (g.I.Input.seen c.read_circuit.new.input) (g.O.Output.seen c.args.out.now)
     (circuit_items c.in_ok-circuit.circuit) c.in_err-doubts.field-0.0 c.from_residual-in_err-doubts.result c.in_ok-circuit.ensures.reads c.in_err-doubts.ensures.err c.from_residual-in_err-doubts.ensures.1
 
 pub returns-in_err-doubts-clause-warns : goal.returns-in_err-doubts-clause-warns
@@ -20,7 +20,7 @@ returns-in_err-doubts-clause-warns g c =
 
 pub returns-in_err-send_searched_errors-clause-ends : goal.returns-in_err-send_searched_errors-clause-ends
 returns-in_err-send_searched_errors-clause-ends g c =
-    refusal_handed (IsSearchedText c.args.options) c.args.options.deterministic_only (g.I.Input.seen c.args.input.now) (g.I.Input.seen c.read_circuit.new.input) (g.O.Output.seen c.args.out.now) (g.O.Output.seen c.send_searched_errors.new.out)
+    refusal_handed (IsSearchedText c.args.layout c.args.options) c.args.options.deterministic_only (g.I.Input.seen c.args.input.now) (g.I.Input.seen c.read_circuit.new.input) (g.O.Output.seen c.args.out.now) (g.O.Output.seen c.send_searched_errors.new.out)
     (circuit_items c.in_ok-circuit.circuit) c.in_err-send_searched_errors.field-0.0 c.from_residual-in_err-send_searched_errors.result c.in_ok-circuit.ensures.reads c.in_err-send_searched_errors.ensures.goes_on c.from_residual-in_err-send_searched_errors.ensures.1
 
 pub returns-in_err-send_searched_errors-clause-warns : goal.returns-in_err-send_searched_errors-clause-warns

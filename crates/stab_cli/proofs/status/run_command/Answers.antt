@@ -1,5 +1,5 @@
 use Rattle.std.proofs.Common.{false, subst, sym}
-use Rattle.stab_texts.specs.Distances.{EndsDistance, EndsSearched}
+use Rattle.stab_texts.specs.Distances.{EndsDistance, EndsEach, EndsSearched}
 use Rattle.stab_texts.specs.FaultTables.{EndsFaults, fault_of}
 use Rattle.stab_cli.proofs.WarningLaws.{warned_alike, warned_alike_of}
 use Rattle.stab_cli.proofs.status.run_command.Goals as goal
@@ -14,9 +14,16 @@ returns-in-Faults-clause-ends g c =
 pub returns-in-SearchedErrors-clause-ends : goal.returns-in-SearchedErrors-clause-ends
 returns-in-SearchedErrors-clause-ends g c =
     let ends = subst
-    (λ u. EndsSearched c.in-SearchedErrors.options (g.I.Input.seen c.args.input.now) (g.I.Input.seen c.run_searched_errors.new.input) (g.O.Output.seen c.args.out.now) (g.O.Output.seen c.run_searched_errors.new.out) (fault_of c.run_searched_errors.result) u)
+    (λ u. EndsSearched c.in-SearchedErrors.layout c.in-SearchedErrors.options (g.I.Input.seen c.args.input.now) (g.I.Input.seen c.run_searched_errors.new.input) (g.O.Output.seen c.args.out.now) (g.O.Output.seen c.run_searched_errors.new.out) (fault_of c.run_searched_errors.result) u)
     (sym c.refuses_none-in-SearchedErrors.ensures.same) c.run_searched_errors.ensures.ends in
     rw c.in-SearchedErrors.is (fault_of c.run_searched_errors.result, ends, c.refuses_none-in-SearchedErrors.ensures.value)
+
+pub returns-in-EachDistance-clause-ends : goal.returns-in-EachDistance-clause-ends
+returns-in-EachDistance-clause-ends g c =
+    let ends = subst
+    (λ u. EndsEach c.in-EachDistance.options (g.I.Input.seen c.args.input.now) (g.I.Input.seen c.run_each_distance.new.input) (g.O.Output.seen c.args.out.now) (g.O.Output.seen c.run_each_distance.new.out) (fault_of c.run_each_distance.result) u)
+    (sym c.refuses_none-in-EachDistance.ensures.same) c.run_each_distance.ensures.ends in
+    rw c.in-EachDistance.is (fault_of c.run_each_distance.result, ends, c.refuses_none-in-EachDistance.ensures.value)
 
 pub returns-in-Distance-clause-ends : goal.returns-in-Distance-clause-ends
 returns-in-Distance-clause-ends g c =
@@ -27,6 +34,9 @@ returns-in-Distance-clause-ends g c =
 
 pub returns-in-Distance-clause-told : goal.returns-in-Distance-clause-told
 returns-in-Distance-clause-told g c = rw c.in-Distance.is (fault_of c.run_distance.result, c.run_distance.ensures.told, c.refuses_none-in-Distance.ensures.value)
+
+pub returns-in-EachDistance-clause-told : goal.returns-in-EachDistance-clause-told
+returns-in-EachDistance-clause-told g c = rw c.in-EachDistance.is (fault_of c.run_each_distance.result, c.run_each_distance.ensures.told, c.refuses_none-in-EachDistance.ensures.value)
 
 -- what is left of the error output
 
@@ -45,3 +55,7 @@ returns-in-Distance-clause-warns g c =
 pub returns-in-SearchedErrors-clause-warns : goal.returns-in-SearchedErrors-clause-warns
 returns-in-SearchedErrors-clause-warns g c =
     rw c.in-SearchedErrors.is (warned_alike c.in-SearchedErrors.options.everywhere (g.I.Input.seen c.args.input.now) (g.I.Input.seen c.run_searched_errors.new.input) (g.E.Output.seen c.args.err.now) (g.E.Output.seen c.run_searched_errors.new.err) (fault_of c.run_searched_errors.result) (fault_of c.refuses_none-in-SearchedErrors.result) c.refuses_none-in-SearchedErrors.ensures.value c.run_searched_errors.ensures.warns)
+
+pub returns-in-EachDistance-clause-warns : goal.returns-in-EachDistance-clause-warns
+returns-in-EachDistance-clause-warns g c =
+    rw c.in-EachDistance.is (warned_alike c.in-EachDistance.options.everywhere (g.I.Input.seen c.args.input.now) (g.I.Input.seen c.run_each_distance.new.input) (g.E.Output.seen c.args.err.now) (g.E.Output.seen c.run_each_distance.new.err) (fault_of c.run_each_distance.result) (fault_of c.refuses_none-in-EachDistance.result) c.refuses_none-in-EachDistance.ensures.value c.run_each_distance.ensures.warns)

@@ -1,0 +1,4 @@
+pub mod Problems
+pub mod Questions
+pub mod Made
+pub mod inner
