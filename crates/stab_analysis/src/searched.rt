@@ -83,11 +83,7 @@ fn send_problem<O: Output>(out: &mut O, problem: &Problem) -> Result<(), Fault>
 }
 
 /// Writes the problem of errors, and flushes. Memory may be refused before the first byte.
-fn send_problem_of<O: Output>(
-    alloc: Global,
-    out: &mut O,
-    errors: &ErrorTable,
-) -> Result<(), Fault>
+fn send_problem_of<O: Output>(alloc: Global, out: &mut O, errors: &ErrorTable) -> Result<(), Fault>
     ensures sends { SendsFound (λ bytes. (p : Clauses) × Asks errors.now.table p × (bytes ≡ problem_text p)) (O.seen out.old) (O.seen out.new) result }
 {
     match Problem::of(alloc, errors.table()) {

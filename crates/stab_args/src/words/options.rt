@@ -35,7 +35,8 @@ const EACH_BESIDE: &str =
     "stabsim: --each is for all observables, and is not beside --observable, --table or --progress\n";
 
 // What is said of the errors as a problem beside what is not asked with it.
-const PROBLEM_BESIDE: &str = "stabsim: --wcnf searches nothing, and is not beside --table, --each, --graphlike, --observable, --most or --progress\n";
+const PROBLEM_BESIDE: &str =
+    "stabsim: --wcnf searches nothing, and is not beside --table, --each, --graphlike, --observable, --most or --progress\n";
 
 // What is said of a table of errors beside what is about a search.
 const TABLE_BESIDE_SEARCH: &str =

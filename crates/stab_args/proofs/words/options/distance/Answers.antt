@@ -7,5 +7,18 @@ pub returns-then-is_beside_problem-clause-refused : goal.returns-then-is_beside_
 returns-then-is_beside_problem-clause-refused c =
     let text : string_bytes c.in_ok-told.told ≡ problem_fault = search rules in
     let set : IsSet (one_of (codes "wcnf") (rows_of (found_of c.args.options.now))) true = search rules in
-    inr (inr (text, (set, (c.flag-2.result, c.flag-3.result, c.distance_options-asked.result, c.flag-2.ensures.set, c.flag-3.ensures.set, c.distance_options-asked.ensures.asked,
-    sym c.is_beside_problem.ensures.value ∙ c.if-is_beside_problem.true))))
+    inr (inr (
+      text,
+      (
+        set,
+        (
+          c.flag-2.result,
+          c.flag-3.result,
+          c.distance_options-asked.result,
+          c.flag-2.ensures.set,
+          c.flag-3.ensures.set,
+          c.distance_options-asked.ensures.asked,
+          sym c.is_beside_problem.ensures.value ∙ c.if-is_beside_problem.true,
+        ),
+      ),
+    ))
