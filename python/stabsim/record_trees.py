@@ -3,13 +3,17 @@
 import difflib
 from bisect import bisect_right
 from collections import defaultdict
-from collections.abc import Iterable, Sequence
+from collections.abc import Iterable, Iterator, Sequence
 from dataclasses import dataclass, field
 from itertools import accumulate
 
 from stabsim.names import HERALDED, MEASURING, PAIRS
 from stabsim.reading import Block, Instruction, Item
 from stabsim.rewriting import SPACED_STAR
+
+
+# What makes records.
+RECORDING = frozenset((*MEASURING, *HERALDED))
 
 
 @dataclass(eq=False, slots=True)
@@ -53,6 +57,8 @@ class Level:
     place: dict[int, int] = field(init=False)
     went: dict[tuple[int, int], int] = field(init=False)
     follows: bool = field(init=False)
+    # For each item that was there the run of items that moved alike, and by how many records they did, or None.
+    runs: list[tuple[int, int | None]] = field(init=False)
 
     @property
     def had(self) -> int:
@@ -74,6 +80,20 @@ class Level:
         self.place = {id(node): place for place, node in enumerate(self.new)}
         self.follows = any(it.inside.follows if it.inside else it.follows for it in self.new)
         self.went = records_in_list(self)
+        self.runs = list(runs_of(self))
+
+    @property
+    def is_as_it_was(self) -> bool:
+        """Whether each of its records is where it was."""
+        return self.had == self.has and all(run == (0, 0) for run in self.runs)
+
+    def is_steady(self, was_at: int, at: int, back: int) -> bool:
+        """Whether the records that were up to `back` records back from an item, at a place of the list, are as far back now."""
+        first = self.had_before[was_at] - back
+        if first < 0 or not was_at:
+            return False
+        run = self.runs[bisect_right(self.had_before, first) - 1]
+        return run == self.runs[was_at - 1] and run[1] == self.has_before[at] - self.had_before[was_at]
 
     def reach(self) -> int:
         """How many records in front of the list its lookbacks reach, at most, from the first round of each block in it."""
@@ -139,6 +159,20 @@ def as_it_was(node: Node) -> Node:
     return node
 
 
+def runs_of(level: Level) -> Iterator[tuple[int, int | None]]:
+    """The runs of a list: an item without records is of the one in front of it."""
+    number, shift = 0, 0
+    moved: int | None
+    for was_at, node in enumerate(level.old):
+        if node.had:
+            at = level.place.get(id(node))
+            is_same = node.now is node.was or node.inside and not node.more_rounds and node.inside.is_as_it_was
+            moved = level.has_before[at] - level.had_before[was_at] if at is not None and is_same else None
+            if moved is None or moved != shift:
+                number, shift = number + 1, moved
+        yield number, shift
+
+
 def records_in_list(level: Level) -> dict[tuple[int, int], int]:
     """Where each record that the list's own instructions made is now: (node, number in it) to how many of the list are in front. A record
     is of the same measurement if that has the same qubits and item, or, in another item, the same name too."""
@@ -146,18 +180,22 @@ def records_in_list(level: Level) -> dict[tuple[int, int], int]:
     left: list[tuple[Node, int, str]] = []
     found: dict[tuple[int, str], list[int]] = defaultdict(list)
     for node in level.new:
-        if not node.inside:
+        if node.now is node.was and not node.inside:
+            first = level.has_before[level.place[id(node)]]
+            went.update({(id(node), number): first + number for number in range(node.had)})
+        elif not node.inside:
             first = level.has_before[level.place[id(node)]]
             for number, target in enumerate(measured(node.now)):
                 found[id(node), target].append(first + number)
     for node in level.old:
-        for number, target in enumerate(measured(node.was) if not node.inside else ()):
+        is_known = node.inside or node.now is node.was and id(node) in level.place
+        for number, target in enumerate(() if is_known else measured(node.was)):
             if found[id(node), target]:
                 went[id(node), number] = found[id(node), target].pop(0)
             else:
                 left.append((node, number, target))
     elsewhere: dict[tuple[str, str], list[int]] = defaultdict(list)
-    for node in level.new:
+    for node in level.new if left else ():
         for target in dict.fromkeys(measured(node.now) if not node.inside else ()):
             elsewhere[node.now.name, target] += found[id(node), target]
     for node, number, target in left:
@@ -169,7 +207,7 @@ def records_in_list(level: Level) -> dict[tuple[int, int], int]:
 
 def measured(item: Item | None) -> list[str]:
     """What an instruction measures, without what inverts it."""
-    if not isinstance(item, Instruction) or item.name not in (*MEASURING, *HERALDED):
+    if not isinstance(item, Instruction) or item.name not in RECORDING:
         return []
     targets = SPACED_STAR.sub("*", " ".join(item.targets).replace("!", "")).split()
     return [f"{first} {second}" for first, second in zip(targets[::2], targets[1::2])] if item.name in PAIRS else targets

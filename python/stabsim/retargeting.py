@@ -170,6 +170,8 @@ class Follower:
     def followed(self, node: Node, place: int, frames: list[Frame]) -> Written | None:
         """An instruction with its records where they are now; None if it acts by records alone, and all of them are gone."""
         was_at = frames[-1].level.place_was[id(node)]
+        if frames[-1].level.is_steady(was_at, place, max(lookbacks_of(node.was), default=0)):
+            return Written(node, str(node.now))
         targets: list[str] = []
         is_pair, has_lost = node.now.name in names.FED_BACK, False
         for number, target in enumerate(node.now.targets):

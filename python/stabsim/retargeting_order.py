@@ -72,7 +72,7 @@ def splits(slots: list[Slot], written: Sequence[Written], above: str) -> Iterato
             continue
         while written[number].node is not node:
             number += 1
-        parts = [it for it in written[number:] if it.node is node]
+        parts = parts_at(written, number)
         for rest, part in enumerate(parts):
             slot = slots[place]
             if rest < len(parts) - 1:
@@ -85,11 +85,19 @@ def splits(slots: list[Slot], written: Sequence[Written], above: str) -> Iterato
         number += len(parts)
 
 
+def parts_at(written: Sequence[Written], number: int) -> Sequence[Written]:
+    """What one item becomes, from its first part on: parts of a block follow each other."""
+    end = number
+    while end < len(written) and written[end].node is written[number].node:
+        end += 1
+    return written[number:end]
+
+
 def staying_of(slots: Sequence[Slot], written: Sequence[Written]) -> set[int]:
     """The nodes that stay where they are: of those that are there before and after, as many as come in the same order. A block with
     more or fewer rounds is put in anew."""
     place_was = {id(slot.node): place for place, slot in enumerate(slots)}
-    both = [it.node for it in dict.fromkeys(it for it in written) if id(it.node) in place_was and not it.node.more_rounds]
+    both = [it.node for it in written if id(it.node) in place_was and not it.node.more_rounds]
     # The longest run that goes up: `ends` has the least last place of a run of each length, and `before` the node in front of each.
     ends: list[int] = []
     last: list[Node] = []

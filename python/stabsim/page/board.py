@@ -14,14 +14,17 @@ from numpy.typing import NDArray
 
 import stabsim
 from stabsim.coordinates import coordinates_of, detector_rows, qubit_rows
-from stabsim.page.edits import Edit, name_of, undoing
+from stabsim.page.at_once import made_at_once
+from stabsim.page.edits import Edit, moves_bits, name_of, undoing
 from stabsim.page.explaining import explained, refuse_unread
 from stabsim.page.following import following
 from stabsim.page.lines import LineEdits, between
 from stabsim.page.opening import Opened
-from stabsim.page.room import qubits_named, room_for
+from stabsim.page.room import may_name, qubits_named, room_for
 
 Message = dict[str, Any]
+# How many edits are made one by one: more take longer than to open the session anew on what they make.
+MOST_SINGLE = 3
 
 
 @dataclasses.dataclass
@@ -44,6 +47,23 @@ class Entry:
     def opens(self) -> bool:
         """Whether it opened another circuit."""
         return any(edit.kind == "open" for edit in self.forth)
+
+
+@dataclasses.dataclass
+class Made:
+    """Edits that were made, those that take them back, whether bits may have come, gone or moved, and what was flipped, if the session does not
+    say it."""
+
+    forth: list[Edit] = dataclasses.field(default_factory=list)
+    back: list[Edit] = dataclasses.field(default_factory=list)
+    moves_bits: bool = False
+    changed: list[str] | None = None
+
+    def add(self, edit: Edit, undone: list[Edit]) -> None:
+        self.forth.append(edit)
+        self.back[:0] = undone
+        self.moves_bits |= moves_bits(edit, undone)
+        self.changed = None
 
 
 class Board:
@@ -217,26 +237,43 @@ class Board:
 
     def _carry_out(self, name: str, edits: list[Edit], keep: bool = False, first: Sequence[Edit] = ()) -> Entry:
         """Makes edits in their order, after some others. If one fails, in whatever way, those before it are taken back, and nothing has changed."""
-        forth: list[Edit] = []
-        back: list[Edit] = []
         self.lost, self.split_off = (), ()
         self._make_room(edits)
         self.session.mark()
-        moves_bits = False
         begun = time.perf_counter()
+        made = Made()
         try:
-            for edit in itertools.chain(first, self._followed(edits) if keep else edits):
-                undone = self._make(edit)
-                forth.append(edit)
-                back[:0] = undone
-                # A split moves no bits, nor does what takes it back.
-                moves_bits |= edit.kind != "split" and any(it.may_move_bits() for it in [edit, *undone])
+            self._make_all(first, made)
+            self._make_all(list(self._followed(edits)) if keep else edits, made)
         except Exception:
-            for edit in back:
+            for edit in made.back:
                 self._apply(edit)
             raise
         seconds = time.perf_counter() - begun
-        return Entry(name, forth, back, names_of(self.session.changed()), seconds, moves_bits)
+        changed = names_of(self.session.changed()) if made.changed is None else made.changed
+        return Entry(name, made.forth, made.back, changed, seconds, made.moves_bits)
+
+    def _make_all(self, edits: Sequence[Edit], made: "Made") -> None:
+        """Makes edits one by one, or if they are many all at once."""
+        if len(edits) > MOST_SINGLE and self._make_at_once(edits, made):
+            return
+        for edit in edits:
+            made.add(edit, self._make(edit))
+
+    def _make_at_once(self, edits: Sequence[Edit], made: "Made") -> bool:
+        """Opens the session anew on what edits make; each bit is then as if they were made one by one. Answers whether it could: if one is
+        refused, it is found by making them one by one."""
+        bits = self.session.detectors(), self.session.observables()
+        try:
+            text, undone = made_at_once(self.session.circuit(), edits)
+            session = stabsim.Circuit(text).edit(seed=self.seed, qubits=self.session.numbers().qubits)
+        except (stabsim.Refused, ValueError, IndexError):
+            return False
+        self._take(session)
+        for edit, back in zip(edits, undone, strict=True):
+            made.add(edit, back)
+        made.changed = differing(bits, (session.detectors(), session.observables()))
+        return True
 
     def _followed(self, edits: list[Edit]) -> Iterator[Edit]:
         """The edits that make some so that lookbacks follow their records, of the circuit as it is once they are asked for."""
@@ -250,7 +287,7 @@ class Board:
         its place in the circuit and not by the qubits that there are."""
         now = room = self.session.numbers().qubits
         for edit in edits:
-            if edit.kind in ("insert", "replace"):
+            if edit.kind in ("insert", "replace") and may_name(edit.item, room):
                 room = room_for(qubits_named(edit.item), room)
         if room > now:
             self._take(stabsim.Circuit(self.session.circuit()).edit(seed=self.seed, qubits=room))
@@ -339,6 +376,15 @@ def lists_of(places: NDArray[np.float64]) -> list[list[float]]:
     """Coordinates, a list for each row, without what is nan."""
     rows: list[list[float]] = places.tolist()
     return [[number for number in row if number == number] for row in rows] if np.isnan(places).any() else rows
+
+
+def differing(before: Sequence[NDArray[np.bool_]], now: Sequence[NDArray[np.bool_]]) -> list[str]:
+    """Which detectors and observables differ, of those that are there before and now."""
+    found = []
+    for letter, was, there in zip("DL", before, now, strict=True):
+        both = min(len(was), len(there))
+        found += [f"{letter}{number}" for number in np.flatnonzero(was[:both] != there[:both]).tolist()]
+    return found
 
 
 def names_of(changed: stabsim.Changed) -> list[str]:

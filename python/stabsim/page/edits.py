@@ -53,6 +53,22 @@ class Edit:
         return f"{self.kind} {self.place} {self.item}".strip() + "\n"
 
 
+def moves_bits(edit: Edit, undone: list[Edit]) -> bool:
+    """Whether bits may come, go or move by an edit and what takes it back. A split moves none, nor does it if the records of a detector or of
+    an observable are others."""
+    if edit.kind == "split" or edit.kind == "replace" and is_listing(edit.item) and without_records(edit.item) == without_records(undone[0].item):
+        return False
+    return any(it.may_move_bits() for it in [edit, *undone])
+
+
+def is_listing(item: str) -> bool:
+    return item.startswith(("DETECTOR", "OBSERVABLE_INCLUDE"))
+
+
+def without_records(item: str) -> str:
+    return item.split(" rec[", 1)[0]
+
+
 def name_of(edits: list[Edit]) -> str:
     """What names several edits in the history that are made as one."""
     more = f" and {len(edits) - 1} more" if len(edits) > 1 else ""

@@ -23,6 +23,11 @@ def qubits_named(text: str) -> int:
         return 0
 
 
+def may_name(text: str, qubits: int) -> bool:
+    """Whether an item's text may name a qubit that is not below a number: some number in it is as great."""
+    return any(int(number) >= qubits for number in set(QUBIT.findall(text)))
+
+
 def named_by(item: Item) -> int:
     if isinstance(item, Block):
         return max(map(named_by, item.items), default=0)
