@@ -161,8 +161,8 @@ def as_it_was(node: Node) -> Node:
 
 def runs_of(level: Level) -> Iterator[tuple[int, int | None]]:
     """The runs of a list: an item without records is of the one in front of it."""
-    number, shift = 0, 0
-    moved: int | None
+    number = 0
+    shift: int | None = 0
     for was_at, node in enumerate(level.old):
         if node.had:
             at = level.place.get(id(node))
