@@ -21,7 +21,6 @@ from stabsim.noise.causes import Causes
 from stabsim.noise.marking import Marker, Source
 from stabsim.noise.sourced import errors_of
 from stabsim.questions.faults import table_of
-from stabsim.text import names
 from stabsim.text.profile import made_of
 from stabsim.text.reading import Instruction, Line, content_of, parts_of
 from stabsim.text.rewriting import WrongWord
