@@ -5,9 +5,10 @@ import random
 import pytest
 import stabsim
 from browsing import needs_browser
-from stabsim import codes, names
+from stabsim import codes
 from stabsim.page.ways import MOST_NAMES, Mark, detector_of, ways_of
-from stabsim.reading import items_of
+from stabsim.text import names
+from stabsim.text.reading import items_of
 from test_page_marks import HAS_TABLE, mark, take_layer
 
 # What gates make of X and of Z on their qubits, letter by letter and without signs, by hand.

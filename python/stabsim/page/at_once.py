@@ -5,9 +5,9 @@ from dataclasses import dataclass
 
 from stabsim.page.edits import Edit, undoing
 from stabsim.page.explaining import refuse_unread
-from stabsim.reading import indented
-from stabsim.rounds import parts_of_block
-from stabsim.script import edit_lines
+from stabsim.session.rounds import parts_of_block
+from stabsim.session.script import edit_lines
+from stabsim.text.reading import indented
 
 
 @dataclass

@@ -13,7 +13,6 @@ import numpy as np
 from numpy.typing import NDArray
 
 import stabsim
-from stabsim.coordinates import coordinates_of, detector_rows, qubit_rows
 from stabsim.page.at_once import made_at_once
 from stabsim.page.edits import Edit, moves_bits, name_of, undoing
 from stabsim.page.explaining import explained, refuse_unread
@@ -21,6 +20,7 @@ from stabsim.page.following import following
 from stabsim.page.lines import LineEdits, between
 from stabsim.page.opening import Opened
 from stabsim.page.room import may_name, qubits_named, room_for
+from stabsim.text.coordinates import coordinates_of, detector_rows, qubit_rows
 
 Message = dict[str, Any]
 # How many edits are made one by one: more take longer than to open the session anew on what they make.

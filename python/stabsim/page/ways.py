@@ -15,11 +15,11 @@ import numpy as np
 from numpy.typing import NDArray
 
 import stabsim
-from stabsim import names
 from stabsim.page import moments
 from stabsim.page.at_once import Node, Opened, nodes_of
 from stabsim.page.room import MOST_QUBITS
-from stabsim.reading import Instruction, items_of, walk
+from stabsim.text import names
+from stabsim.text.reading import Instruction, items_of, walk
 
 # A line at the end of each moment.
 PLACE = "# moment"
