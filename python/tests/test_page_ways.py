@@ -186,7 +186,7 @@ def test_a_detector_is_made_of_the_records_that_a_mark_flips(open_page):
         session.insert(page.ask("page.shown.layers.marks[0].where.path[0]"), "X 0")
         assert session.changed(records=True).records.tolist() == records and len(records) > 2
     last = stabsim.Circuit(text).numbers().records
-    # It comes behind the last of them, which the last measurement makes.
+    # It comes after the last of them, which the last measurement makes.
     [place] = [place for place, line in enumerate(page.circuit().splitlines()) if line not in text.splitlines()]
     lines = page.circuit().splitlines()
     assert lines[place].split(") ")[1] == " ".join(f"rec[{record - last}]" for record in records) and lines[place - 1].startswith("M ")

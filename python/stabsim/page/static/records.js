@@ -77,7 +77,7 @@ export function putDetector(items, moment, qubits, { isEach, places, time }) {
   return atEnd(items, moment, lines);
 }
 
-// A detector of records, by their numbers: it comes behind the item of the outermost list that makes the last of them. It has the place of a
+// A detector of records, by their numbers: it comes after the item of the outermost list that makes the last of them. It has the place of a
 // qubit, which may be undefined.
 /** @param {import("./types.js").Item[]} items @param {number[]} records @param {number[] | undefined} place @returns {import("./types.js").Made} */
 export function putDetectorOf(items, records, place) {

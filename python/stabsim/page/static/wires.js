@@ -12,6 +12,7 @@ export const STEP = 34;
 export const LEFT = 46;
 export const HEAD = 22;
 const SIDE = 20;
+const LETTER = 13;
 
 // What acts on the qubits at a moment, each {places, glyphs, partners}: on which of the lines, what is drawn there, and the qubits of the same
 // gate that have none.
@@ -71,16 +72,16 @@ function drawAct(layers, { places, glyphs, partners }, x, y) {
   if (partners.length) layers.letters.push({ words: partners.length > 1 ? `${partners[0]} …` : String(partners[0]), x: x + 3, y: y(bottom) + ROW / 2 - 4, size: 12.5, fill: "quiet", align: "left", halo: "sheet" });
 }
 
-// At the end of a moment the letters that marks have come to, and a ring round what was put in there.
+// At the end of a moment the letters that marks have come to, those of several layers over each other, and a ring round what was put in there.
 function drawLetters(layers, qubits, { letters, marks }, [x, y]) {
-  const count = new Map();
-  for (const { qubit, letter, layer } of letters.filter((it) => qubits.includes(it.qubit))) {
-    const place = y(qubits.indexOf(qubit));
-    const before = count.get(qubit) ?? 0;
-    count.set(qubit, before + 1);
-    layers.letters.push(...plateAt(letter, x, place - before * 9, 13));
-    if (marks.some((mark) => mark.qubit === qubit && mark.layer === layer)) layers.letters.push({ path: circle(x, place - before * 9, 10), stroke: "ink", width: 1.75 });
-  }
+  qubits.forEach((qubit, line) => {
+    const here = letters.filter((it) => it.qubit === qubit);
+    here.forEach(({ letter, layer }, i) => {
+      const top = y(line) + (i - (here.length - 1) / 2) * LETTER;
+      layers.letters.push(...plateAt(letter, x, top, LETTER));
+      if (marks.some((mark) => mark.qubit === qubit && mark.layer === layer)) layers.letters.push({ path: circle(x, top, 10), stroke: "ink", width: 1.75 });
+    });
+  });
 }
 
 const box = (x, y, width, height) => [["M", x, y], ["L", x + width, y], ["L", x + width, y + height], ["L", x, y + height], ["Z"]];
