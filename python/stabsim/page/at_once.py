@@ -3,6 +3,9 @@
 from collections.abc import Iterable, Sequence
 from dataclasses import dataclass
 
+import numpy as np
+from numpy.typing import NDArray
+
 from stabsim.page.edits import Edit, undoing
 from stabsim.page.explaining import refuse_unread
 from stabsim.session.rounds import parts_of_block
@@ -78,3 +81,12 @@ def nodes_of(text: str) -> list[Node]:
 
 def text_of(nodes: Sequence[Node]) -> str:
     return "".join(f"{node}\n" if isinstance(node, str) else f"{node.head}\n{indented(text_of(node.nodes))}}}\n" for node in nodes)
+
+
+def differing(before: Sequence[NDArray[np.bool_]], now: Sequence[NDArray[np.bool_]]) -> list[str]:
+    """Which detectors and observables differ, of those that are there before and now."""
+    found = []
+    for letter, was, there in zip("DL", before, now, strict=True):
+        both = min(len(was), len(there))
+        found += [f"{letter}{number}" for number in np.flatnonzero(was[:both] != there[:both]).tolist()]
+    return found

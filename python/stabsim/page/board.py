@@ -1,7 +1,6 @@
 """What all tabs see: one session, the edits made so far, and what they changed."""
 
 import dataclasses
-import itertools
 import os
 import pathlib
 import tempfile
@@ -13,8 +12,8 @@ import numpy as np
 from numpy.typing import NDArray
 
 import stabsim
-from stabsim.page.at_once import made_at_once
-from stabsim.page.edits import Edit, moves_bits, name_of, undoing
+from stabsim.page.at_once import differing, made_at_once
+from stabsim.page.edits import Edit, Made, name_of, undoing
 from stabsim.page.explaining import explained, refuse_unread
 from stabsim.page.following import following
 from stabsim.page.lines import LineEdits, between
@@ -47,23 +46,6 @@ class Entry:
     def opens(self) -> bool:
         """Whether it opened another circuit."""
         return any(edit.kind == "open" for edit in self.forth)
-
-
-@dataclasses.dataclass
-class Made:
-    """Edits that were made, those that take them back, whether bits may have come, gone or moved, and what was flipped, if the session does not
-    say it."""
-
-    forth: list[Edit] = dataclasses.field(default_factory=list)
-    back: list[Edit] = dataclasses.field(default_factory=list)
-    moves_bits: bool = False
-    changed: list[str] | None = None
-
-    def add(self, edit: Edit, undone: list[Edit]) -> None:
-        self.forth.append(edit)
-        self.back[:0] = undone
-        self.moves_bits |= moves_bits(edit, undone)
-        self.changed = None
 
 
 class Board:
@@ -253,14 +235,14 @@ class Board:
         changed = names_of(self.session.changed()) if made.changed is None else made.changed
         return Entry(name, made.forth, made.back, changed, seconds, made.moves_bits)
 
-    def _make_all(self, edits: Sequence[Edit], made: "Made") -> None:
+    def _make_all(self, edits: Sequence[Edit], made: Made) -> None:
         """Makes edits one by one, or if they are many all at once."""
         if len(edits) > MOST_SINGLE and self._make_at_once(edits, made):
             return
         for edit in edits:
             made.add(edit, self._make(edit))
 
-    def _make_at_once(self, edits: Sequence[Edit], made: "Made") -> bool:
+    def _make_at_once(self, edits: Sequence[Edit], made: Made) -> bool:
         """Opens the session anew on what edits make; each bit is then as if they were made one by one. Answers whether it could: if one is
         refused, it is found by making them one by one."""
         bits = self.session.detectors(), self.session.observables()
@@ -376,15 +358,6 @@ def lists_of(places: NDArray[np.float64]) -> list[list[float]]:
     """Coordinates, a list for each row, without what is nan."""
     rows: list[list[float]] = places.tolist()
     return [[number for number in row if number == number] for row in rows] if np.isnan(places).any() else rows
-
-
-def differing(before: Sequence[NDArray[np.bool_]], now: Sequence[NDArray[np.bool_]]) -> list[str]:
-    """Which detectors and observables differ, of those that are there before and now."""
-    found = []
-    for letter, was, there in zip("DL", before, now, strict=True):
-        both = min(len(was), len(there))
-        found += [f"{letter}{number}" for number in np.flatnonzero(was[:both] != there[:both]).tolist()]
-    return found
 
 
 def names_of(changed: stabsim.Changed) -> list[str]:

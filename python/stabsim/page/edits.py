@@ -69,6 +69,23 @@ def without_records(item: str) -> str:
     return item.split(" rec[", 1)[0]
 
 
+@dataclasses.dataclass
+class Made:
+    """Edits that were made, those that take them back, whether bits may have come, gone or moved, and what was flipped, if the session does not
+    say it."""
+
+    forth: list[Edit] = dataclasses.field(default_factory=list)
+    back: list[Edit] = dataclasses.field(default_factory=list)
+    moves_bits: bool = False
+    changed: list[str] | None = None
+
+    def add(self, edit: Edit, undone: list[Edit]) -> None:
+        self.forth.append(edit)
+        self.back[:0] = undone
+        self.moves_bits |= moves_bits(edit, undone)
+        self.changed = None
+
+
 def name_of(edits: list[Edit]) -> str:
     """What names several edits in the history that are made as one."""
     more = f" and {len(edits) - 1} more" if len(edits) > 1 else ""

@@ -243,9 +243,7 @@ async function sendItem(kind, path, item) {
   return Boolean(made);
 }
 
-function isInText() {
-  return by("text").contains(document.activeElement);
-}
+const isInText = () => by("text").contains(document.activeElement);
 
 // Takes a round out of the innermost block around a path, and chooses the path's item in it.
 async function split(path, round) {
