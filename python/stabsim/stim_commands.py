@@ -17,7 +17,7 @@ from typing import Any, NoReturn
 
 from stabsim import stim_answers
 from stabsim.errors import StabsimError
-from stabsim.formats import WRITERS
+from stabsim.formats.formats import WRITERS
 
 SWEEPS = "sweep bits are those of a circuit here, by with_sweep_bits, and not of shots"
 SINGLE = "errors that flip the same are one here, so files of single errors are neither written nor read"

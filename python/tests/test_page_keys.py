@@ -188,7 +188,7 @@ def test_the_tree_says_its_items_and_panes_are_one_tab_stop(page):
 
 
 # What the Tab key stops at, by panes of buttons and single fields; that of a round is there in a block alone.
-STOPS = ["tools", "line-tools", "text", "words", "round", "palette", "rounds-of-edits", "view", "picture", "faces", "timeline", "inspector", "since", "split-left", "split-right", "split-time"]
+STOPS = ["tools", "line-tools", "text", "words", "round", "palette", "rounds-of-edits", "view", "picture", "faces", "wires-there", "timeline", "inspector", "since", "split-left", "split-right", "split-time"]
 PANE = "const it = document.activeElement; return it.closest('#tools, #line-tools, #palette, #rounds-of-edits, #view')?.id ?? (it.id || it.closest('aside')?.id || 'none')"
 
 

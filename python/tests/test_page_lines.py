@@ -83,3 +83,26 @@ def test_of_a_text_only_what_differs_is_edited():
         board.edit_text(Opened(code))
     board.edit([Edit("insert", "0", "X 3")])
     board.close()
+
+
+@pytest.mark.parametrize("seed", range(20))
+def test_many_edits_at_once_make_and_flip_what_they_do_one_by_one(seed, monkeypatch):
+    maker = Maker(seed)
+    before = normal("\n".join(maker.lines(2, 0)[0]))
+    count = len(stabsim.Circuit(before).items)
+    # Errors and measurements in random places, after which lookbacks are others.
+    edits = [Edit("insert", str(maker.random.randrange(count + 1)), maker.random.choice(["X 0 1", "M 2", "H 1", "TICK", "DETECTOR"])) for _ in range(6)]
+    told = []
+    for most in (0, 100):
+        monkeypatch.setattr("stabsim.page.board.MOST_SINGLE", most)
+        board = Board(Opened(before), seed=5)
+        try:
+            made = board.edit(edits, keep=True)
+            done = board.text()
+            told.append((done, board.entries[0].forth, board.entries[0].back, made["flipped"], board.session.detectors().tolist(), board.go(0)["flipped"]))
+            assert board.text() == before and done != before
+        except (ValueError, stabsim.Refused) as refused:
+            told.append(str(refused))
+            assert board.text() == before and not board.entries
+        board.close()
+    assert told[0] == told[1]

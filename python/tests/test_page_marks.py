@@ -61,7 +61,7 @@ def test_marks_of_a_layer_flip_what_the_same_paulis_would_as_edits(page):
     assert page.history() == ["opened"]
     found = flips(page, 3)
     assert found == flipped_by_edits(page.circuit(), page.ask(PLACES)) and found
-    page.wait(lambda: page.texts("#about-marks .link") == ["3", *found[:8], "clear"])
+    page.wait(lambda: page.texts("#about-marks .link") == ["3", *found[:8], "detector", "clear"])
     # Each bit that they flip has a ring on the timeline.
     rings = "page.views.timeline.elements().filter(({ stroke, width, path }) => stroke === 'ink' && width === 2 && path.length === 3).length"
     page.wait(lambda: page.ask(rings) == len(found))

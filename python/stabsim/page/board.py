@@ -1,7 +1,6 @@
 """What all tabs see: one session, the edits made so far, and what they changed."""
 
 import dataclasses
-import itertools
 import os
 import pathlib
 import tempfile
@@ -13,15 +12,18 @@ import numpy as np
 from numpy.typing import NDArray
 
 import stabsim
-from stabsim.coordinates import coordinates_of, detector_rows, qubit_rows
-from stabsim.page.edits import Edit, name_of, undoing
+from stabsim.page.at_once import differing, made_at_once
+from stabsim.page.edits import Edit, Made, name_of, undoing
 from stabsim.page.explaining import explained, refuse_unread
 from stabsim.page.following import following
 from stabsim.page.lines import LineEdits, between
 from stabsim.page.opening import Opened
-from stabsim.page.room import qubits_named, room_for
+from stabsim.page.room import may_name, qubits_named, room_for
+from stabsim.text.coordinates import coordinates_of, detector_rows, qubit_rows
 
 Message = dict[str, Any]
+# How many edits are made one by one: more take longer than to open the session anew on what they make.
+MOST_SINGLE = 3
 
 
 @dataclasses.dataclass
@@ -217,26 +219,43 @@ class Board:
 
     def _carry_out(self, name: str, edits: list[Edit], keep: bool = False, first: Sequence[Edit] = ()) -> Entry:
         """Makes edits in their order, after some others. If one fails, in whatever way, those before it are taken back, and nothing has changed."""
-        forth: list[Edit] = []
-        back: list[Edit] = []
         self.lost, self.split_off = (), ()
         self._make_room(edits)
         self.session.mark()
-        moves_bits = False
         begun = time.perf_counter()
+        made = Made()
         try:
-            for edit in itertools.chain(first, self._followed(edits) if keep else edits):
-                undone = self._make(edit)
-                forth.append(edit)
-                back[:0] = undone
-                # A split moves no bits, nor does what takes it back.
-                moves_bits |= edit.kind != "split" and any(it.may_move_bits() for it in [edit, *undone])
+            self._make_all(first, made)
+            self._make_all(list(self._followed(edits)) if keep else edits, made)
         except Exception:
-            for edit in back:
+            for edit in made.back:
                 self._apply(edit)
             raise
         seconds = time.perf_counter() - begun
-        return Entry(name, forth, back, names_of(self.session.changed()), seconds, moves_bits)
+        changed = names_of(self.session.changed()) if made.changed is None else made.changed
+        return Entry(name, made.forth, made.back, changed, seconds, made.moves_bits)
+
+    def _make_all(self, edits: Sequence[Edit], made: Made) -> None:
+        """Makes edits one by one, or if they are many all at once."""
+        if len(edits) > MOST_SINGLE and self._make_at_once(edits, made):
+            return
+        for edit in edits:
+            made.add(edit, self._make(edit))
+
+    def _make_at_once(self, edits: Sequence[Edit], made: Made) -> bool:
+        """Opens the session anew on what edits make; each bit is then as if they were made one by one. Answers whether it could: if one is
+        refused, it is found by making them one by one."""
+        bits = self.session.detectors(), self.session.observables()
+        try:
+            text, undone = made_at_once(self.session.circuit(), edits)
+            session = stabsim.Circuit(text).edit(seed=self.seed, qubits=self.session.numbers().qubits)
+        except (stabsim.Refused, ValueError, IndexError):
+            return False
+        self._take(session)
+        for edit, back in zip(edits, undone, strict=True):
+            made.add(edit, back)
+        made.changed = differing(bits, (session.detectors(), session.observables()))
+        return True
 
     def _followed(self, edits: list[Edit]) -> Iterator[Edit]:
         """The edits that make some so that lookbacks follow their records, of the circuit as it is once they are asked for."""
@@ -250,7 +269,7 @@ class Board:
         its place in the circuit and not by the qubits that there are."""
         now = room = self.session.numbers().qubits
         for edit in edits:
-            if edit.kind in ("insert", "replace"):
+            if edit.kind in ("insert", "replace") and may_name(edit.item, room):
                 room = room_for(qubits_named(edit.item), room)
         if room > now:
             self._take(stabsim.Circuit(self.session.circuit()).edit(seed=self.seed, qubits=room))

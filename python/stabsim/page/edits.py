@@ -4,7 +4,7 @@ import dataclasses
 from typing import Any, Literal
 
 from stabsim.page.opening import Opened
-from stabsim.rounds import longest_part, parts_of_block, place_behind
+from stabsim.session.rounds import longest_part, parts_of_block, place_behind
 
 Kind = Literal["insert", "replace", "delete", "split", "open"]
 # What a tab may ask for as an edit; a split and another circuit it asks for by themselves.
@@ -51,6 +51,39 @@ class Edit:
         if self.kind == "split":
             return "".join(edit.lines() for edit in splitting(self.place, self.block, int(self.item)))
         return f"{self.kind} {self.place} {self.item}".strip() + "\n"
+
+
+def moves_bits(edit: Edit, undone: list[Edit]) -> bool:
+    """Whether bits may come, go or move by an edit and what takes it back. A split moves none, nor does it if the records of a detector or of
+    an observable are others."""
+    if edit.kind == "split" or edit.kind == "replace" and is_listing(edit.item) and without_records(edit.item) == without_records(undone[0].item):
+        return False
+    return any(it.may_move_bits() for it in [edit, *undone])
+
+
+def is_listing(item: str) -> bool:
+    return item.startswith(("DETECTOR", "OBSERVABLE_INCLUDE"))
+
+
+def without_records(item: str) -> str:
+    return item.split(" rec[", 1)[0]
+
+
+@dataclasses.dataclass
+class Made:
+    """Edits that were made, those that take them back, whether bits may have come, gone or moved, and what was flipped, if the session does not
+    say it."""
+
+    forth: list[Edit] = dataclasses.field(default_factory=list)
+    back: list[Edit] = dataclasses.field(default_factory=list)
+    moves_bits: bool = False
+    changed: list[str] | None = None
+
+    def add(self, edit: Edit, undone: list[Edit]) -> None:
+        self.forth.append(edit)
+        self.back[:0] = undone
+        self.moves_bits |= moves_bits(edit, undone)
+        self.changed = None
 
 
 def name_of(edits: list[Edit]) -> str:

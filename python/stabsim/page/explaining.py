@@ -3,16 +3,20 @@
 import re
 
 import stabsim
-from stabsim import names, program
+from stabsim import program
 from stabsim.page.edits import Edit
 from stabsim.page.room import MOST_MORE, MOST_QUBITS
-from stabsim.reading import items_of, lines_at, walk
+from stabsim.text import names
+from stabsim.text.reading import items_of, lines_at, walk
 
 # The refusals of an edit that `check` explains: those of a circuit's text.
 EXPLAINED = range(1, 12)
 QUBIT_OUT_OF_RANGE = 6
 # The number of the line at fault, which is in front of it.
 LINE_NUMBER = re.compile(r"\d+: ")
+# The name of each line, and the bracket of its arguments if it has some; and names by which, in capitals, an item is read as it is.
+FIRST_WORDS = re.compile(r"^[ \t]*([^\s([{}]+)(?:\[[^\]\n]*\])?(\()?", re.MULTILINE)
+READ_PLAINLY = frozenset((*names.READ, "REPEAT"))
 
 
 def explained(refused: stabsim.Refused, edit: Edit, circuit: str, qubits: int) -> stabsim.Refused:
@@ -40,6 +44,8 @@ def refusal_of(text: str) -> stabsim.Refused | None:
 
 def refuse_unread(item: str) -> None:
     """Refuses an item, as the program does, that has noise or instructions which it does not read: the page shows none."""
+    if all(name in READ_PLAINLY and not (bracket and name in names.MEASUREMENTS) for name, bracket in FIRST_WORDS.findall(item)):
+        return
     try:
         items = items_of(item)
     except stabsim.Refused:

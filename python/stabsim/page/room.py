@@ -3,7 +3,7 @@
 import re
 
 from stabsim.errors import Refused
-from stabsim.reading import Block, Item, items_of
+from stabsim.text.reading import Block, Item, items_of
 
 # The most qubits that a circuit may have.
 MOST_QUBITS = 1024
@@ -21,6 +21,11 @@ def qubits_named(text: str) -> int:
         return max(map(named_by, items_of(text)), default=0)
     except Refused:
         return 0
+
+
+def may_name(text: str, qubits: int) -> bool:
+    """Whether an item's text may name a qubit that is not below a number: some number in it is as great."""
+    return any(int(number) >= qubits for number in set(QUBIT.findall(text)))
 
 
 def named_by(item: Item) -> int:

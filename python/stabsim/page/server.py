@@ -3,6 +3,7 @@
 import asyncio
 import concurrent.futures
 import contextlib
+import dataclasses
 import json
 import re
 import secrets
@@ -19,10 +20,13 @@ from stabsim.page.edits import Edit
 from stabsim.page.files import file_response, guard, page_response
 from stabsim.page.known import NOT_YET, QUESTIONS, Known
 from stabsim.page.lines import repeated, reversed_, taken_out
-from stabsim.page.opening import opened
+from stabsim.page.opening import Opened, opened
 from stabsim.page.tabs import Tab
+from stabsim.page.ways import detector_of, mark_of, ways_of
 
 HOST = "127.0.0.1"
+# What is asked of the circuit beside edits.
+BESIDE = ("written", "ways", "detector")
 # The greatest message that a tab may send: a circuit of up to half as many bytes, an item's text, or a question.
 MOST_BYTES = 1 << 26
 # The longest name that a tab may give its edits, and how many detectors are named at most that lost a record.
@@ -140,8 +144,8 @@ class Server:
             if question["ask"] in QUESTIONS and "id" in question:
                 self.start(self.look_up(tab, question))
                 return
-            if question["ask"] == "written" and "id" in question:
-                self.start(self.tell_written(tab, question))
+            if question["ask"] in BESIDE and "id" in question:
+                self.start(self.tell_beside(tab, question))
                 return
             answer = await self.answer_to(tab, question)
         except stabsim.Refused as refused:
@@ -156,14 +160,24 @@ class Server:
         age, answer = self.board.age, await self.known.answer_to(question)
         tab.tell_text(answer if age == self.board.age else self.known.nothing(question))
 
-    async def tell_written(self, tab: Tab, question: Message) -> None:
-        """Answers with the circuit as it was written, for which no edit waits."""
+    async def tell_beside(self, tab: Tab, question: Message) -> None:
+        """Answers what no edit waits for: with the circuit as it was written, or with the ways of marks."""
         try:
-            text, kept = await self.call(lambda: (self.board.text(), self.board.kept_text))
-            answer = {"text": await self.in_background(kept.given.written, text)}
-        except stabsim.StabsimError as fault:
+            age, text, kept = await self.call(lambda: (self.board.age, self.board.text(), self.board.kept_text))
+            if question.get("age", age) != age:
+                raise ValueError("the circuit was changed meanwhile")
+            answer = await self.in_background(self.answer_beside, question, text, kept)
+        except (ValueError, KeyError, TypeError, stabsim.StabsimError) as fault:
             answer = {"refused": str(fault)}
         tab.tell({**answer, "id": question["id"]})
+
+    def answer_beside(self, question: Message, text: str, kept: Opened) -> Message:
+        if question["ask"] == "written":
+            return {"text": kept.given.written(text)}
+        if question["ask"] == "detector":
+            return {"records": detector_of(text, list(map(mark_of, question["marks"])))}
+        found = ways_of(text, [list(map(mark_of, marks)) for marks in question["layers"]])
+        return {"ways": list(map(dataclasses.asdict, found))}
 
     async def answer_to(self, tab: Tab, question: Message) -> Message:
         asked = question["ask"]

@@ -3,7 +3,7 @@
 import assert from "node:assert/strict";
 import test from "node:test";
 
-import { applyEdit, parseCircuit, textOf } from "../../stabsim/page/static/circuit.js";
+import { applyEdit, applyEdits, parseCircuit, textOf } from "../../stabsim/page/static/circuit.js";
 import { before } from "../../stabsim/page/static/counts.js";
 import { endOf, momentAt, momentOf, momentsOf, momentsOfDetectors, nameOf } from "../../stabsim/page/static/moments.js";
 
@@ -63,6 +63,30 @@ test("after edits items, cuts and counts are those of the text that they make", 
     for (let moment = 0; moment < momentsOf(fresh); moment += 1) assert.deepEqual(names(items, moment), names(fresh, moment), JSON.stringify(edit));
     assert.deepEqual([...momentsOfDetectors(items)], [...momentsOfDetectors(fresh)]);
   }
+});
+
+test("many edits at once make what they make one by one", () => {
+  const edits = [
+    { kind: "insert", place: "1/2", item: "X 0" }, { kind: "insert", place: "1/2", item: "M 1" }, { kind: "delete", place: "1/0" },
+    { kind: "split", place: "1", item: "1" }, { kind: "insert", place: "2/0", item: "TICK" }, { kind: "replace", place: "0", item: "REPEAT 2 {\n    H 1\n}" },
+    { kind: "insert", place: "0/1", item: "CX 1 2" }, { kind: "insert", place: "0/1", item: "REPEAT 3 {\n    TICK\n}" }, { kind: "insert", place: "0/1/0", item: "S 2" },
+    { kind: "replace", place: "2/1", item: "H 5" }, { kind: "delete", place: "4" },
+  ];
+  const [items, others] = [parseCircuit(BLOCK), parseCircuit(BLOCK)];
+  const noted = [[], []];
+  const moves = applyEdits(items, edits, ({ kind, at, before: was }) => noted[0].push([kind, at.join("/"), was && textOf(was)]));
+  for (const edit of edits) {
+    const { kind, at, before: was } = applyEdit(others, edit);
+    noted[1].push([kind, at.join("/"), was && textOf(was)]);
+  }
+  const text = items.map((item) => textOf(item)).join("\n");
+  const fresh = parseCircuit(text);
+  assert.equal(text, others.map((item) => textOf(item)).join("\n"));
+  assert.deepEqual(noted[0], noted[1]);
+  assert.deepEqual(moves.map(({ more }) => more), [1, 1, -1, 2, 1, 0, 1, 1, 1, 0, -1]);
+  assert.deepEqual(before(items), before(fresh));
+  assert.deepEqual(momentsOfDetectors(items), momentsOfDetectors(fresh));
+  for (let moment = 0; moment < momentsOf(fresh); moment += 1) assert.deepEqual(names(items, moment), names(fresh, moment));
 });
 
 // moments.py cuts these; what it answers is in the environment.

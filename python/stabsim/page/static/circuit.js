@@ -15,6 +15,8 @@ const NAMES = {
   MZ: "M", MRZ: "MR", RZ: "R",
 };
 const DECLARING = new Set(["DETECTOR", "OBSERVABLE_INCLUDE"]);
+// How many edits are counted one by one.
+const MOST_SINGLE = 8;
 const WITHOUT_STEPS = new Set(["TICK", "QUBIT_COORDS", "SHIFT_COORDS"]);
 
 // The items of a circuit's text.
@@ -118,23 +120,57 @@ export function itemAt(items, path) {
 /** @param {string} text @returns {import("./types.js").Path} */
 export const pathOf = (text) => text.split("/").map(Number);
 
-// Makes an edit that the session has accepted. Answers {kind, at, more, round, before, after}: at which path, how many items its list has more,
-// the round of a split, and the items that were and are there.
+// Makes edits that the session has accepted. Answers for each {kind, at, more, round, before, after}: at which path, how many items its list has
+// more, the round of a split, and the items that were and are there; `noted(move)` is called once each is made.
+/** @param {import("./types.js").Item[]} items @param {import("./types.js").Edit[]} edits @param {(move: import("./types.js").Move) => void} noted */
+export function applyEdits(items, edits, noted) {
+  if (edits.length > MOST_SINGLE) return applyAtOnce(items, edits, noted);
+  return edits.map((edit) => {
+    const move = applyEdit(items, edit);
+    noted(move);
+    return move;
+  });
+}
+
 /** @param {import("./types.js").Item[]} items @param {import("./types.js").Edit} edit @returns {import("./types.js").Move} */
 export function applyEdit(items, edit) {
-  const path = pathOf(edit.place);
-  const list = listAt(items, path);
-  const place = path.at(-1);
-  const [count, length, item] = [items.length, list.length, list[place]];
+  const count = items.length;
+  const move = changeList(items, edit);
+  for (const block of blocksAround(items, move.at).reverse()) recount(block);
+  // What cuts a block depends on what is before it, so all is cut anew from the outermost list on.
+  const [first, end] = cutList(items, move.at[0], move.at[0] + (edit.kind === "split" ? 3 : 1));
+  recountPart(items, first, end, items.length - count);
+  return move;
+}
+
+// Many edits take less time if all is counted once, at the end.
+function applyAtOnce(items, edits, noted) {
+  const count = items.length;
+  // How deep each block is in which something was changed.
+  const changed = new Map();
+  const moves = edits.map((edit) => {
+    blocksAround(items, pathOf(edit.place)).forEach((block, deep) => changed.set(block, deep));
+    const move = changeList(items, edit);
+    noted(move);
+    return move;
+  });
+  for (const [block] of [...changed].sort(([, one], [, other]) => other - one)) recount(block);
+  const [first, end] = cutList(items, Math.min(...moves.map(({ at }) => at[0])));
+  recountPart(items, first, end, items.length - count);
+  return moves;
+}
+
+// Makes an edit in its list, and counts nothing.
+function changeList(items, edit) {
+  const at = pathOf(edit.place);
+  const list = listAt(items, at);
+  const place = at.at(-1);
+  const [length, before] = [list.length, list[place]];
   if (edit.kind === "insert") list.splice(place, 0, itemOf(edit.item));
   else if (edit.kind === "replace") list.splice(place, 1, itemOf(edit.item));
   else if (edit.kind === "delete") list.splice(place, 1);
   else if (edit.kind === "split") list.splice(place, 1, ...partsOf(list[place], Number(edit.item)));
-  for (const block of blocksAround(items, path).reverse()) recount(block);
-  // What cuts a block depends on what is before it, so all is cut anew from the outermost list on.
-  const [first, end] = cutList(items, path[0], path[0] + (edit.kind === "split" ? 3 : 1));
-  recountPart(items, first, end, items.length - count);
-  return { kind: edit.kind, at: path, more: list.length - length, round: edit.kind === "split" ? Number(edit.item) : undefined, before: item, after: list[place] };
+  return { kind: edit.kind, at, more: list.length - length, round: edit.kind === "split" ? Number(edit.item) : undefined, before, after: list[place] };
 }
 
 // The blocks that a block becomes if a round is split off: the rounds before it, that round, and the rounds after it. The longest keeps the items.

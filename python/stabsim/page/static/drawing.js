@@ -2,14 +2,14 @@
 // The drawing of a moment, as elements (glyphs.js): what is measured where, gates, and over them what is known of detectors.
 //
 // A scene (scene.js) is {places, ancillas, box, hasCoordinates, instructions, often, recordName, faces, region, coins, set, marks,
-// neighbours, chosen}, with what is drawn for the pointer: {pending, spots, frame}; a view says where a place is seen: {scale, x, y, width, height,
+// ways, neighbours, chosen}, with what is drawn for the pointer: {pending, spots, frame}; a view says where a place is seen: {scale, x, y, width, height,
 // near}. A drawing follows from both, wherever it is written. What gates look like says the table of shapes alone (marks.js).
 
 import { PITCH, circle, gates, table } from "./glyphs.js";
 import { groundElements, gutterElements } from "./ground_drawing.js";
 import { PAULIS, actionsOf, isControlled, qubitsOf } from "./instructions.js";
 import { marksOf } from "./marks.js";
-import { coinElements, errorElements, faceElements, letterElements, markElements, neighbourElements, regionElements } from "./region_drawing.js";
+import { coinElements, errorElements, faceElements, letterElements, markElements, neighbourElements, regionElements, wayElements } from "./region_drawing.js";
 
 // How far out of sight, in sides of a glyph, something is still drawn, since its wire may be seen.
 const MARGIN = 2;
@@ -67,6 +67,7 @@ export function layersOf(scene, view, kept) {
     letterElements(sheet, operations.busy),
     operations.errors,
     errorElements(sheet),
+    wayElements(sheet),
     markElements(sheet),
     kept.of("gutter", () => gutterElements(sheet)),
   ];

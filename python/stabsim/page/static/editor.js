@@ -7,7 +7,7 @@ import { afterSplits } from "./keeping.js";
 import { nameOf } from "./moments.js";
 import { titleOf, toolOf } from "./palette.js";
 import { partnersOf } from "./pairing.js";
-import { putDetector, putObservable } from "./records.js";
+import { putDetector, putDetectorOf, putObservable } from "./records.js";
 import { mirrored, replaceQubits, shiftBy, turned } from "./replacing.js";
 import { moveTick, putTick, stepTick, takeTick } from "./ticks.js";
 
@@ -17,7 +17,7 @@ export class Editor {
   #last = Promise.resolve(true);
 
   // `act` has send(edits, round, name), which answers what was made of them, or null if they were refused; say(words, isBad); menu(qubit, offers); isAlone(isError), which says in
-  // which rounds an edit is made; and number(words, offered), which asks for one.
+  // which rounds an edit is made; number(words, offered), which asks for one; and ask(question), which asks the server.
   constructor(shown, act) {
     this.#shown = shown;
     this.#act = act;
@@ -228,6 +228,16 @@ export class Editor {
       const time = hasShift(items) ? 0 : nameOf(items, moment).tick;
       return putDetector(items, moment, chosen, { isEach, places: placement.places, time });
     });
+  }
+
+  // Makes a detector of the records that the marks of a layer flip, as the program says them.
+  async detect(layer) {
+    const { layers, state } = this.#shown;
+    const { age } = state;
+    const { records } = await this.#act.ask({ ask: "detector", marks: layers.told(layer), age });
+    const qubit = layers.marks.find((mark) => mark.layer === layer)?.qubit;
+    return Boolean(records) && this.make(({ items, placement, age: now }) => (
+      now === age ? putDetectorOf(items, records, placement.places.get(qubit)) : { why: "the circuit was changed meanwhile" }));
   }
 
   // What the menu of a qubit offers.

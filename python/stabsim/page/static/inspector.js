@@ -17,7 +17,7 @@ export class Inspector {
   #decision = element("p");
   #region = element("p");
 
-  // `act` has choose(bit), select(path), and goTo(place), which shows what has {moment, path}.
+  // `act` has choose(bit), select(path), goTo(place), which shows what has {moment, path}, and detect(layer), which makes a detector of marks.
   constructor(boxes, act) {
     this.#boxes = boxes;
     this.#act = act;
@@ -52,9 +52,10 @@ export class Inspector {
   // The marks of layers, and what those of each flip together; `name(moment)` is what a moment is called.
   marks(layers, name) {
     const shown = layers.used.map((layer) => [layer, layers.marks.filter((mark) => mark.layer === layer), layers.flips(layer)]);
-    fillOnce(this.#boxes.marks, [shown, layers.at], () => (shown.length ? [title("Marks flip"), ...shown.map(([layer, marks, flips]) => {
+    fillOnce(this.#boxes.marks, [shown, layers.at, layers.used.map((layer) => layers.way(layer)?.why)], () => (shown.length ? [title("Marks flip"), ...shown.map(([layer, marks, flips]) => {
       const said = marks.map(({ letter, qubit, moment }) => `${letter}${qubit} at ${name(moment)}`).join(", ");
-      const row = line(link(String(layer), () => layers.take(layer)), " ", ...this.#names(flips, "not known yet"), " ", quiet(said, "span"), " ", link("clear", () => layers.clear(layer)));
+      const row = line(link(String(layer), () => layers.take(layer)), " ", ...this.#names(flips, "not known yet"), " ", quiet(said, "span"), " ", link("detector", () => this.#act.detect(layer)), " ", link("clear", () => layers.clear(layer)),
+        ...(layers.way(layer)?.why ? [" ", quiet(`Its way: ${layers.way(layer).why}.`, "span")] : []));
       row.dataset.layer = String(layer);
       row.className = layer === layers.at ? "mark-row now" : "mark-row";
       return row;

@@ -39,6 +39,12 @@ export class Knowledge {
     return this.#kept(this.#coins, bit, { ask: "why", bit }, (answer) => answer.coins ?? null);
   }
 
+  // The ways of the marks of layers (ways.py), in the circuit of an age; null if they are not known.
+  async ways(layers, age) {
+    const { ways } = await this.#ask({ ask: "ways", layers, age }).catch(() => ({}));
+    return ways ?? null;
+  }
+
   // What X, Y and Z on a qubit at the end of a moment would flip; null until the table is there.
   flips(moment, qubit) {
     return this.#kept(this.#flips, `${moment} ${qubit}`, { ask: "faults", moment, qubit }, (answer) => answer.flips ?? null);

@@ -1,6 +1,6 @@
 // @ts-check
 // Marks of errors, in ten layers: they are no part of the circuit, and each layer says what all of its marks flip together, by the program's
-// table of faults.
+// table of faults, and which way they go, as the program runs it (ways.py).
 
 import { itemAt } from "./circuit.js";
 import { pathThere, whereAfter } from "./keeping.js";
@@ -9,6 +9,10 @@ import { endOf, momentOf, momentsOf } from "./moments.js";
 // The product of two Paulis, without its sign; I is "".
 const PRODUCTS = { XX: "", YY: "", ZZ: "", XY: "Z", YX: "Z", XZ: "Y", ZX: "Y", YZ: "X", ZY: "X" };
 
+/**
+ * The records that the marks of a layer flip, and their letters by moments, each null if that is not known; or why it is not.
+ * @typedef {{records: number[] | null, letters: Record<number, Record<number, string>> | null, why: string}} Way
+ */
 /** @typedef {{layer: number, letter: string, qubit: number, moment: number, where: import("./types.js").Where}} Mark */
 
 export class Layers {
@@ -18,14 +22,18 @@ export class Layers {
   marks = [];
   // What the marks of each layer flip, as names; null if that is not known yet.
   #flips = new Map();
+  /** @type {Map<number, Way>} */
+  #ways = new Map();
   #asked = 0;
+  #followed = 0;
   #moments = 0;
   #flipsOf;
+  #waysOf;
   #changed;
 
-  // `flipsOf(moment, qubit)` asks what X, Y and Z there flip; `changed()` is called after each change.
-  constructor(flipsOf, changed) {
-    [this.#flipsOf, this.#changed] = [flipsOf, changed];
+  // `flipsOf(moment, qubit)` asks what X, Y and Z there flip, and `waysOf(layers)` for the ways of marks; `changed()` is called after each change.
+  constructor({ flipsOf, waysOf, changed }) {
+    [this.#flipsOf, this.#waysOf, this.#changed] = [flipsOf, waysOf, changed];
   }
 
   // Takes a layer in hand, or lets go of it.
@@ -67,6 +75,7 @@ export class Layers {
   letGo() {
     [this.at, this.marks] = [null, []];
     this.#flips.clear();
+    this.#ways.clear();
   }
 
   // Takes marks over edits. If there are as many moments as before each stays at its own; else it goes with what ends its moment.
@@ -81,18 +90,46 @@ export class Layers {
     }
     this.#moments = momentsOf(items);
     this.#flips.clear();
+    this.#ways.clear();
+    this.follow();
   }
 
-  // Finds out what the layers flip.
+  // Finds out what the layers flip, and where their marks go.
   async learn() {
     this.#asked += 1;
     const asked = this.#asked;
     this.#flips.clear();
     this.#changed();
+    this.follow();
     const found = await Promise.all(this.used.map(async (layer) => [layer, await this.#flippedBy(layer)]));
     if (asked !== this.#asked) return;
     this.#flips = new Map(/** @type {[number, string[]][]} */ (found));
     this.#changed();
+  }
+
+  // Finds out where the marks of the layers go.
+  async follow() {
+    this.#followed += 1;
+    const [followed, layers] = [this.#followed, this.used];
+    const found = layers.length ? await this.#waysOf(layers.map((layer) => this.told(layer))) : [];
+    if (followed !== this.#followed) return;
+    this.#ways = new Map(layers.flatMap((layer, i) => (found?.[i] ? [[layer, found[i]]] : [])));
+    this.#changed();
+  }
+
+  // The marks of a layer, as the server is told them.
+  told(layer) {
+    return this.marks.filter((mark) => mark.layer === layer).map(({ letter, qubit, where }) => ({ letter, qubit, ...where }));
+  }
+
+  // The way of a layer's marks; null if that is not known yet.
+  way(layer) {
+    return this.#ways.get(layer) ?? null;
+  }
+
+  // The letters of the layers at a moment, each {layer, qubit, letter}.
+  lettersAt(moment) {
+    return [...this.#ways].flatMap(([layer, { letters }]) => Object.entries(letters?.[moment] ?? {}).map(([qubit, letter]) => ({ layer, qubit: Number(qubit), letter })));
   }
 
   // The layers that have marks, in order.

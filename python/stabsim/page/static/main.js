@@ -38,6 +38,7 @@ import { TextView } from "./text_view.js";
 import { TimelineView } from "./timeline_view.js";
 import { saidOfBit, saidOfFlips } from "./tips.js";
 import { Unsaved } from "./unsaved.js";
+import { WiresView } from "./wires_view.js";
 
 // The most notes on lines that became others that are listed.
 const MOST_NOTES = 200;
@@ -72,12 +73,13 @@ const views = {
     zoomed: (part) => { by("scale").textContent = `${Math.round(part * 100)}%`; },
     tool: () => shown.tool,
   }),
+  wires: new WiresView(by("wires"), { goTo: (moment) => shown.goTo(moment) }),
   timeline: new TimelineView(by("timeline"), {
     goTo: (moment) => shown.goTo(moment), range: (moment) => lines.chooseTicks(shown.moment, moment), choose: chooseBit, tip: showTip, say: showWords,
     moveTick: (moment, to, gap) => editor.moveTick(moment, to, gap),
   }),
   inspector: new Inspector({ qubit: by("about-qubit"), errors: by("about-errors"), marks: by("about-marks"), detector: by("about-detector") }, {
-    choose: chooseBit, select: (path) => shown.select(path), goTo,
+    choose: chooseBit, select: (path) => shown.select(path), goTo, detect: (layer) => editor.detect(layer),
   }),
   distance: new DistanceView(by("about-distance"), {
     ask: () => ask({ ask: "distance" }), end: () => ask({ ask: "end distance" }), show: (set) => shown.state && shown.showSet(set), goTo,
@@ -97,7 +99,7 @@ const shown = new Shown(views, knowledge);
 const panes = new Panes(document.querySelector("main"), by("tabs"));
 const editor = new Editor(shown, {
   send, say, menu: (qubit, offers) => menu.open(by("picture"), placeOf(qubit), offers), isAlone: (isError) => views.rounds.isAlone(isError),
-  number: (words, offered) => asking.number(words, offered),
+  number: (words, offered) => asking.number(words, offered), ask,
 });
 const lines = new LineEditor({ shown, text: views.text, send, ask, say, number: (...words) => asking.number(...words) });
 const source = new SourceView({ text: writtenText, send: (text) => ask({ ask: "text", text }), say, leave: () => views.text.focus() });
@@ -241,9 +243,7 @@ async function sendItem(kind, path, item) {
   return Boolean(made);
 }
 
-function isInText() {
-  return by("text").contains(document.activeElement);
-}
+const isInText = () => by("text").contains(document.activeElement);
 
 // Takes a round out of the innermost block around a path, and chooses the path's item in it.
 async function split(path, round) {
@@ -364,6 +364,7 @@ const clicks = {
   layer: () => shown.layers.take(shown.layers.at),
   follow: () => { by("follow").ariaPressed = String(by("follow").ariaPressed !== "true"); },
   faces: () => shown.takeFaces(by("faces").ariaPressed !== "true"),
+  "wires-there": () => shown.takeWires(!views.wires.isOpen),
   replace: () => openKind("replace"),
   insert: () => openKind("insert"),
   behind: () => views.text.item && openKind("behind"),
@@ -390,7 +391,7 @@ function isInPlace() {
 }
 
 // Whether all that is known is drawn, and no more is about to be asked for.
-const isDrawn = () => shown.isLearnt && [views.text, views.layout, views.timeline].every((view) => view.isDrawn);
+const isDrawn = () => shown.isLearnt && [views.text, views.layout, views.wires, views.timeline].every((view) => view.isDrawn);
 
 // For tests: what is shown, where it is seen, and whether more is to come.
 export const page = {

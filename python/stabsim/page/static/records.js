@@ -2,7 +2,8 @@
 // Records by the qubits that were measured: which lookback leads from the end of a moment to the record of a qubit.
 
 import { isRecorded, qubitsOf } from "./instructions.js";
-import { endOf, momentAt } from "./moments.js";
+import { countBefore, findNumbered } from "./circuit.js";
+import { endOf, momentAt, momentOf, nameOf } from "./moments.js";
 
 // How many moments are looked through for an earlier record.
 const MOST_MOMENTS = 2000;
@@ -74,6 +75,18 @@ export function putDetector(items, moment, qubits, { isEach, places, time }) {
     return `DETECTOR${at ? `(${[...at, time].join(", ")})` : ""} ${lookbackWords(lookbacks)}`;
   });
   return atEnd(items, moment, lines);
+}
+
+// A detector of records, by their numbers: it comes after the item of the outermost list that makes the last of them. It has the place of a
+// qubit, which may be undefined.
+/** @param {import("./types.js").Item[]} items @param {number[]} records @param {number[] | undefined} place @returns {import("./types.js").Made} */
+export function putDetectorOf(items, records, place) {
+  const at = findNumbered(items, "records", Math.max(...records)).path[0] + 1;
+  const before = countBefore(items, "records", [at]);
+  const moment = momentOf(items, [at - 1], []);
+  const time = items.some((item) => item.name === "SHIFT_COORDS" || item.items?.some(({ name }) => name === "SHIFT_COORDS")) ? 0 : nameOf(items, moment).tick;
+  const item = `DETECTOR${place ? `(${[...place, time].join(", ")})` : ""} ${lookbackWords(records.map((record) => record - before))}`;
+  return { edits: [{ kind: "insert", place: String(at), item }], round: null, shown: { path: [at], rounds: [] } };
 }
 
 // Puts the last records of qubits into an observable.

@@ -107,6 +107,21 @@ export function markElements({ at, side, scene: { marks = [] } }) {
   });
 }
 
+// What the marks have come to at the end of the moment: the letters below on the left, with the number of the layer.
+export function wayElements({ at, side, scene: { ways = [] } }) {
+  const size = Math.max(8, Math.min(20, side * 0.6));
+  const away = side >= 12 ? side * 0.66 : 0;
+  const before = new Map();
+  return ways.filter(({ qubit }) => at(qubit)).flatMap(({ qubit, letter, layer }) => {
+    const [x, y] = at(qubit);
+    const count = before.get(qubit) ?? 0;
+    before.set(qubit, count + 1);
+    const [left, top] = [x - away - count * size * 1.6, y + away];
+    const number = { words: String(layer), x: left - size * 0.8, y: top, size: 12.5, fill: "ink", weight: 700, halo: "sheet" };
+    return [...plateAt(letter, left, top, size), ...(side >= 18 ? [number] : [])];
+  });
+}
+
 function errorAt(letter, [x, y], side, isHere) {
   const path = circle(x, y, Math.max(7, side * 0.86));
   const size = Math.max(9, Math.min(26, side * (isHere ? 0.8 : 0.6)));

@@ -19,11 +19,18 @@ export function sceneOf({ state, moment, instructions, often, chosen, waiting, s
     region: mapOf(followed.region[moment]),
     coins: qubitsOfCoins(followed.coins ?? [], moment),
     set: lettersAt(set, moment),
+    ways: layers.lettersAt(moment),
     marks: layers.marks.map((mark) => ({ ...mark, isHere: mark.moment === moment })),
     neighbours,
     chosen,
     waiting,
   };
+}
+
+// What the view of wires is given (wires.js).
+export function wiresOfShown({ state: { items }, moment, chosen, layers }) {
+  const marksAt = (at) => layers.marks.filter((mark) => mark.moment === at);
+  return { items, moments: momentsOf(items), moment, qubits: chosen, marksAt, waysAt: (at) => layers.lettersAt(at) };
 }
 
 // `flips` has the bits that are drawn as flipped.

@@ -12,7 +12,7 @@ import { Layers } from "./layers.js";
 import { actedOften, endOf, momentAt, momentOf, momentsOf, momentsOfDetectors, nameOf } from "./moments.js";
 import { sayNumbers, sayRandom } from "./numbers.js";
 import { aboutBit, sayMoment, saySeen } from "./saying.js";
-import { sceneOf, timeOf } from "./scene.js";
+import { sceneOf, timeOf, wiresOfShown } from "./scene.js";
 
 // How long, in milliseconds, a moment is shown before all regions there are asked for.
 const PAUSE = 30;
@@ -44,11 +44,13 @@ export class Shown {
   // How often it is learnt, at this time, what the table of faults says.
   #learning = 0;
 
-  // `views` has text, entry, layout, timeline, inspector, history, palette and rounds.
+  // `views` has text, entry, layout, wires, timeline, inspector, history, palette and rounds.
   constructor(views, knowledge) {
     this.#views = views;
     this.#knowledge = knowledge;
-    this.layers = new Layers((moment, qubit) => knowledge.flips(moment, qubit), () => this.#showLayers());
+    this.layers = new Layers({
+      flipsOf: (moment, qubit) => knowledge.flips(moment, qubit), waysOf: (layers) => knowledge.ways(layers, this.state.age), changed: () => this.#showLayers(),
+    });
     this.#followed = new Followed(knowledge, {
       changed: () => this.#drawAll(), isRandom: (bit) => this.state.isRandom(bit), placesOfCoins: (numbers) => placesOfCoins(this.state.items, numbers),
     });
@@ -256,6 +258,7 @@ export class Shown {
     const { state } = this;
     if (!state) return;
     this.#views.layout.show(this.scene(), isFresh);
+    if (this.#views.wires.isOpen) this.#views.wires.show(wiresOfShown(this));
   }
 
   // What drawing.js draws, with what is chosen.
@@ -284,6 +287,13 @@ export class Shown {
   takeFaces(hasFaces) {
     this.hasFaces = hasFaces;
     by("faces").ariaPressed = String(hasFaces);
+    this.drawLayout();
+  }
+
+  // Shows the chosen qubits over time, or not.
+  takeWires(isOpen) {
+    by("wires-there").ariaPressed = String(isOpen);
+    this.#views.wires.open(isOpen);
     this.drawLayout();
   }
 

@@ -1,7 +1,7 @@
 // @ts-check
 // What all views show of the circuit: the server's events alone change it.
 
-import { applyEdit, blocksAround, itemAt, parseCircuit, pathOf } from "./circuit.js";
+import { applyEdits, blocksAround, itemAt, parseCircuit, pathOf } from "./circuit.js";
 import { isPair, isRecord, pairsOf, qubitOf, qubitsOf } from "./instructions.js";
 import { placesOf } from "./places.js";
 import { Uses } from "./uses.js";
@@ -33,7 +33,7 @@ export class State {
   placement = null;
   /** @type {Map<number, import("./types.js").Spot>} */
   arranged = new Map();
-  /** The last edits, as applyEdit answers them. @type {import("./types.js").Move[]} */
+  /** The last edits, as applyEdits answers them. @type {import("./types.js").Move[]} */
   moves = [];
   // The items that have a line which was given for them.
   #noted = [];
@@ -61,7 +61,7 @@ export class State {
   // Edits that were made, by this tab or another. Entries that were undone are gone if new ones came.
   take(event) {
     const used = [...this.uses.acting].join();
-    this.moves = event.edits.map((edit) => this.#make(edit));
+    this.moves = applyEdits(this.items, event.edits, (move) => this.#countUses(move));
     if (event.entries.length) this.entries.splice(event.position - event.entries.length, Infinity, ...event.entries);
     // A mark that has moved counts from where the history goes on.
     if (event.marked_at !== this.markedAt) this.marked.clear();
@@ -91,12 +91,11 @@ export class State {
     }
   }
 
-  #make(edit) {
-    const move = applyEdit(this.items, edit);
-    const rounds = blocksAround(this.items, move.at).reduce((product, { count }) => product * count, 1);
-    if (edit.kind === "delete" || edit.kind === "replace") this.uses.count([move.before], -rounds);
-    if (edit.kind === "insert" || edit.kind === "replace") this.uses.count([move.after], rounds);
-    return move;
+  /** @param {import("./types.js").Move} move */
+  #countUses({ kind, at, before, after }) {
+    const rounds = blocksAround(this.items, at).reduce((product, { count }) => product * count, 1);
+    if (kind === "delete" || kind === "replace") this.uses.count([before], -rounds);
+    if (kind === "insert" || kind === "replace") this.uses.count([after], rounds);
   }
 
   // The qubits that are measured more than once.

@@ -63,7 +63,7 @@ export class TextView {
     }).observe(place);
   }
 
-  // Takes over what is chosen and unfolded from the items before edits, as applyEdit answers them, to those after them.
+  // Takes over what is chosen and unfolded from the items before edits, as applyEdits answers them, to those after them.
   keep(items, moves) {
     this.#items = items;
     this.#refusal = null;
