@@ -5,6 +5,8 @@ with the block's number, so a block is drawn whole or not at all, by whoever wan
 same from one numpy to the next: the numbers that numpy makes of them need not.
 """
 
+from collections.abc import Iterator
+
 import numpy as np
 from numpy.typing import NDArray
 
@@ -16,17 +18,28 @@ BLOCK = 1024
 def flips(chances: NDArray[np.float64], indptr: NDArray[np.int64], indices: NDArray[np.int64], width: int,
           shots: int, seed: int, first_shot: int) -> NDArray[np.bool_]:
     """What is flipped in shots first_shot, first_shot + 1 .. of a seed, as a bool array (shots, width)."""
+    drawn = np.zeros((shots, width), dtype=np.bool_)
+    for mechanisms, places in events(chances, shots, seed, first_shot):
+        flip(drawn, mechanisms, places, indptr, indices)
+    return drawn
+
+
+def events(chances: NDArray[np.float64], shots: int, seed: int, first_shot: int) -> Iterator[tuple[NDArray[np.int64], NDArray[np.int64]]]:
+    """What happens in these shots, block by block: pairs of a mechanism, and of a shot as it is counted from the first."""
     if shots < 0 or first_shot < 0 or not 0 <= seed < 2**64:
         raise ValueError("shots are 0 or more, and a seed is from 0 to 2**64 - 1")
-    drawn = np.zeros((shots, width), dtype=np.bool_)
-    end = first_shot + shots
-    for block in range(first_shot // BLOCK, -(-end // BLOCK)):
+    for block in range(first_shot // BLOCK, -(-(first_shot + shots) // BLOCK)):
         mechanisms, places = happened(chances, seed, block)
-        wanted = (places >= first_shot - block * BLOCK) & (places < end - block * BLOCK)
-        of_row, columns = combining.rows_of(mechanisms[wanted], indptr, indices)
-        rows, columns = combining.odd(places[wanted][of_row], columns, width)
-        drawn[rows + block * BLOCK - first_shot, columns] = True
-    return drawn
+        places += block * BLOCK - first_shot
+        is_wanted = (places >= 0) & (places < shots)
+        yield mechanisms[is_wanted], places[is_wanted]
+
+
+def flip(drawn: NDArray[np.bool_], mechanisms: NDArray[np.int64], places: NDArray[np.int64], indptr: NDArray[np.int64],
+         indices: NDArray[np.int64]) -> None:
+    """Flips what mechanisms flip in the shots at these places, in which nothing was flipped yet."""
+    of_row, columns = combining.rows_of(mechanisms, indptr, indices)
+    drawn[combining.odd(places[of_row], columns, drawn.shape[1])] = True
 
 
 def happened(chances: NDArray[np.float64], seed: int, block: int) -> tuple[NDArray[np.int64], NDArray[np.int64]]:
