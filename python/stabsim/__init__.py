@@ -10,6 +10,10 @@
 
 Everything is computed by the program, which is found by the variable STABSIM, in this repository, or on the PATH. No proof covers what the
 package adds: what it makes of Stim's text, error models and their samples. docs/use/python.md of the repository begins with examples.
+
+Modules lie in folders by subject, and each folder begins with a page on what is in it. A module imports from its own folder and from those
+before it alone, except for types, in this order: `errors`, `checking` and `program` beside this page, `formats`, `text`, `shots`, `questions`,
+`noise`, `collecting`, `session`, `diagrams`, `circuit`, `page`, and the commands beside this page. `codes` imports `checking` alone.
 """
 
 import importlib
@@ -30,79 +34,79 @@ __all__ = [
 # A module is read when one of its names is asked for first, so that `stabsim.codes` needs no numpy.
 if TYPE_CHECKING:
     from stabsim import codes
-    from stabsim.asked import Numbers
-    from stabsim.causes import Cause
-    from stabsim.circuit import Circuit, StimCircuit, from_stim
-    from stabsim.circuit_errors import CircuitError
-    from stabsim.coins import CoinTable
-    from stabsim.collecting import Collection, collect
-    from stabsim.counting import Decoder, Predict
+    from stabsim.circuit.circuit import Circuit, StimCircuit, from_stim
+    from stabsim.circuit.measured import m2d
+    from stabsim.circuit.noise_models import NoiseModel
+    from stabsim.circuit.noise_rules import Channel, with_chances
+    from stabsim.collecting.collecting import Collection, collect
+    from stabsim.collecting.counting import Decoder, Predict
+    from stabsim.collecting.plotting import plot
+    from stabsim.collecting.rates import Rate, fit_rate, rate_per_round
+    from stabsim.collecting.sums import Sums
+    from stabsim.collecting.totals import combine
     from stabsim.diagrams import Diagram
-    from stabsim.distances import Distance
     from stabsim.errors import (
-        BadErrorModel, BadPrediction, BadShots, MissingProgram, NotDecomposed, OtherExperiment, ProgramFailed, Refused, SessionEnded,
-        StabsimError, UnsupportedNoise,
+        BadErrorModel, BadPrediction, BadShots, MissingProgram, NotDecomposed, OtherExperiment, ProgramFailed, Refused, SessionEnded, StabsimError,
+        UnsupportedNoise,
     )
-    from stabsim.faults import FaultTable
-    from stabsim.flows import Flow, SameFlows
-    from stabsim.formats import read_shots, write_shots
-    from stabsim.judging import without_noise
-    from stabsim.measured import m2d
-    from stabsim.models import ErrorModel, error_model
-    from stabsim.noise_models import NoiseModel
-    from stabsim.noise_rules import Channel, with_chances
-    from stabsim.parities import Parity, SameDistribution
-    from stabsim.plotting import plot
+    from stabsim.formats.formats import read_shots, write_shots
+    from stabsim.formats.sparse import SparseMatrix
+    from stabsim.noise.causes import Cause
+    from stabsim.noise.models import ErrorModel, error_model
     from stabsim.program import find_program
-    from stabsim.random_bits import DecidingCoin, RandomBit
-    from stabsim.rates import Rate, fit_rate, rate_per_round
-    from stabsim.reading import Block, Instruction, Item
-    from stabsim.retargeting import Retargeted, retargeted
-    from stabsim.script import Path
-    from stabsim.seeds import Seeded
-    from stabsim.session import NoisySession, Session
-    from stabsim.session_answers import Changed, ItemSteps, SessionNumbers
-    from stabsim.sparse import SparseMatrix
-    from stabsim.sums import Sums
-    from stabsim.sure import Sure
-    from stabsim.totals import combine
+    from stabsim.questions.asked import Numbers
+    from stabsim.questions.circuit_errors import CircuitError
+    from stabsim.questions.coins import CoinTable
+    from stabsim.questions.distances import Distance
+    from stabsim.questions.faults import FaultTable
+    from stabsim.questions.flows import Flow, SameFlows
+    from stabsim.questions.parities import Parity, SameDistribution
+    from stabsim.questions.random_bits import DecidingCoin, RandomBit
+    from stabsim.questions.sure import Sure
+    from stabsim.session.retargeting import Retargeted, retargeted
+    from stabsim.session.script import Path
+    from stabsim.session.session import NoisySession, Session
+    from stabsim.session.session_answers import Changed, ItemSteps, SessionNumbers
+    from stabsim.shots.seeds import Seeded
+    from stabsim.text.judging import without_noise
+    from stabsim.text.reading import Block, Instruction, Item
 else:
     # Where each name is.
     HOMES = {
-        "asked": ("Numbers",),
-        "causes": ("Cause",),
-        "circuit": ("Circuit", "StimCircuit", "from_stim"),
-        "circuit_errors": ("CircuitError",),
-        "coins": ("CoinTable",),
-        "collecting": ("Collection", "collect"),
-        "counting": ("Decoder", "Predict"),
+        "circuit.circuit": ("Circuit", "StimCircuit", "from_stim"),
+        "circuit.measured": ("m2d",),
+        "circuit.noise_models": ("NoiseModel",),
+        "circuit.noise_rules": ("Channel", "with_chances"),
+        "collecting.collecting": ("Collection", "collect"),
+        "collecting.counting": ("Decoder", "Predict"),
+        "collecting.plotting": ("plot",),
+        "collecting.rates": ("Rate", "fit_rate", "rate_per_round"),
+        "collecting.sums": ("Sums",),
+        "collecting.totals": ("combine",),
         "diagrams": ("Diagram",),
-        "distances": ("Distance",),
         "errors": ("BadErrorModel", "BadPrediction", "BadShots", "MissingProgram", "NotDecomposed", "OtherExperiment", "ProgramFailed", "Refused",
                    "SessionEnded", "StabsimError", "UnsupportedNoise"),
-        "faults": ("FaultTable",),
-        "flows": ("Flow", "SameFlows"),
-        "formats": ("read_shots", "write_shots"),
-        "judging": ("without_noise",),
-        "measured": ("m2d",),
-        "models": ("ErrorModel", "error_model"),
-        "noise_models": ("NoiseModel",),
-        "noise_rules": ("Channel", "with_chances"),
-        "parities": ("Parity", "SameDistribution"),
-        "plotting": ("plot",),
+        "formats.formats": ("read_shots", "write_shots"),
+        "formats.sparse": ("SparseMatrix",),
+        "noise.causes": ("Cause",),
+        "noise.models": ("ErrorModel", "error_model"),
         "program": ("find_program",),
-        "random_bits": ("DecidingCoin", "RandomBit"),
-        "rates": ("Rate", "fit_rate", "rate_per_round"),
-        "reading": ("Block", "Instruction", "Item"),
-        "retargeting": ("Retargeted", "retargeted"),
-        "script": ("Path",),
-        "seeds": ("Seeded",),
-        "session": ("NoisySession", "Session"),
-        "session_answers": ("Changed", "ItemSteps", "SessionNumbers"),
-        "sparse": ("SparseMatrix",),
-        "sums": ("Sums",),
-        "sure": ("Sure",),
-        "totals": ("combine",),
+        "questions.asked": ("Numbers",),
+        "questions.circuit_errors": ("CircuitError",),
+        "questions.coins": ("CoinTable",),
+        "questions.distances": ("Distance",),
+        "questions.faults": ("FaultTable",),
+        "questions.flows": ("Flow", "SameFlows"),
+        "questions.parities": ("Parity", "SameDistribution"),
+        "questions.random_bits": ("DecidingCoin", "RandomBit"),
+        "questions.sure": ("Sure",),
+        "session.retargeting": ("Retargeted", "retargeted"),
+        "session.script": ("Path",),
+        "session.session": ("NoisySession", "Session"),
+        "session.session_answers": ("Changed", "ItemSteps", "SessionNumbers"),
+        "shots.seeds": ("Seeded",),
+        "text.judging": ("without_noise",),
+        "text.reading": ("Block", "Instruction", "Item"),
     }
 
     def __getattr__(name: str) -> object:

@@ -26,12 +26,12 @@ from concurrent.futures import ProcessPoolExecutor
 from typing import IO, Any
 
 from stabsim import program
-from stabsim.collecting import collect
-from stabsim.counting import Decoder
+from stabsim.collecting.collecting import collect
+from stabsim.collecting.counting import Decoder
+from stabsim.collecting.sums import Sums
+from stabsim.collecting.totals import combine
 from stabsim.errors import BadPrediction, StabsimError
-from stabsim.models import ErrorModel, error_model
-from stabsim.sums import Sums
-from stabsim.totals import combine
+from stabsim.noise.models import ErrorModel, error_model
 
 COLUMNS = ("name", "decoder", "shots", "discards", "errors", "rate", "low", "high", "seconds", "metadata")
 

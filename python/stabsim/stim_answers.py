@@ -10,12 +10,15 @@ from typing import BinaryIO
 import numpy as np
 from numpy.typing import NDArray
 
-from stabsim import chunks, codes, drawing, formats, program
-from stabsim.circuit import from_stim
+from stabsim import codes, program
+from stabsim.circuit.circuit import from_stim
+from stabsim.circuit.measured import m2d
 from stabsim.diagrams import Kind
-from stabsim.measured import m2d
-from stabsim.models import ErrorModel, error_model
-from stabsim.seeds import drawn_seed
+from stabsim.formats import formats
+from stabsim.noise import drawing
+from stabsim.noise.models import ErrorModel, error_model
+from stabsim.shots import chunks
+from stabsim.shots.seeds import drawn_seed
 
 Bits = NDArray[np.bool_]
 

@@ -17,7 +17,7 @@ from typing import Any, NoReturn
 
 from stabsim import stim_answers
 from stabsim.errors import StabsimError
-from stabsim.formats import WRITERS
+from stabsim.formats.formats import WRITERS
 
 # What runs a command.
 Run = Callable[[argparse.Namespace], None]

@@ -5,7 +5,7 @@ import math
 import random
 
 import pytest
-from stabsim.channels import ONE, TWO, depolarising, group_of, independent
+from stabsim.noise.channels import ONE, TWO, depolarising, group_of, independent
 
 
 def product(left, right):

@@ -9,7 +9,7 @@ import numpy as np
 import pytest
 import stabsim
 from stabsim import codes
-from stabsim.sizes import sizes_of
+from stabsim.text.sizes import sizes_of
 
 TEXT = """# a comment
 qubit_coords(1, 2) 7

@@ -8,7 +8,7 @@ import pytest
 import stabsim
 from coins_by_runs import bits_of, free_coins
 from stabsim import codes
-from stabsim.random_bits import bit_of, coins_of
+from stabsim.questions.random_bits import bit_of, coins_of
 
 TELEPORTATION = "R 0 1 2\nH 1\nCX 1 2 0 1\nH 0\nM 0 1\nCX rec[-1] 2\nCZ rec[-2] 2\nM 2\nDETECTOR rec[-1]\nDETECTOR rec[-2]\n"
 # Circuits with the lines of their tables, worked out by hand: steps, path, number, and what is flipped.

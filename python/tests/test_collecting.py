@@ -18,8 +18,8 @@ import numpy as np
 import pytest
 import stabsim
 from stabsim import codes
-from stabsim.collecting import seed_of
-from stabsim.counting import held
+from stabsim.collecting.collecting import seed_of
+from stabsim.collecting.counting import held
 
 import deciding
 

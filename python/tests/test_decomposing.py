@@ -8,7 +8,7 @@ import numpy as np
 import pytest
 import stabsim
 from stabsim import codes
-from stabsim.decomposing import Table, parts_of, ways_of_each
+from stabsim.noise.decomposing import Table, parts_of, ways_of_each
 
 import matching
 

@@ -9,7 +9,7 @@ import sys
 import pytest
 import stabsim
 from stabsim import codes
-from stabsim.distances import distance_of
+from stabsim.questions.distances import distance_of
 
 sys.path.append(str(pathlib.Path(__file__).resolve().parents[2] / "tools"))
 

@@ -8,13 +8,13 @@ import subprocess
 
 import pytest
 import stabsim
-from stabsim import names
 from stabsim.diagrams import marks, shapes
 from stabsim.diagrams.elements import Glyph, Path
 from stabsim.diagrams.places import Places
 from stabsim.diagrams.shapes import table
 from stabsim.diagrams.slices import layer_elements
 from stabsim.diagrams.ticks import layers_of, placed
+from stabsim.text import names
 
 NODE = shutil.which("node")
 needs_node = pytest.mark.skipif(NODE is None, reason="node is missing")

@@ -7,8 +7,8 @@ import random
 import numpy as np
 import pytest
 import stabsim
-from stabsim import flow_group
-from stabsim.flows import Flow
+from stabsim.questions import flow_group
+from stabsim.questions.flows import Flow
 
 ONE = {"I": np.eye(2), "X": np.array([[0, 1], [1, 0]]), "Y": np.array([[0, -1j], [1j, 0]]), "Z": np.diag([1, -1])}
 GATES = {"H": (ONE["X"] + ONE["Z"]) / np.sqrt(2), "S": np.diag([1, 1j]), **{letter: ONE[letter] for letter in "XYZ"}}

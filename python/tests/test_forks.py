@@ -8,7 +8,7 @@ import time
 
 import pytest
 import stabsim
-from stabsim import framed
+from stabsim.session import framed
 
 
 def sign_in_a_fork(place):

@@ -5,7 +5,7 @@ import random
 import pytest
 import stabsim
 from stabsim import codes
-from stabsim.circuit_errors import CircuitError
+from stabsim.questions.circuit_errors import CircuitError
 
 NESTED = """R 0 1 2
 REPEAT 2 {

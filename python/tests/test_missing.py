@@ -8,8 +8,9 @@ import random
 import pytest
 import stabsim
 from coins_by_runs import bits_of
-from stabsim import codes, parities
-from stabsim.missing import columns_of
+from stabsim import codes
+from stabsim.questions import parities
+from stabsim.questions.missing import columns_of
 
 CHECKS = [[1, 0, 1, 0, 1, 0, 1], [0, 1, 1, 0, 0, 1, 1], [0, 0, 0, 1, 1, 1, 1]]
 MEMORIES = {

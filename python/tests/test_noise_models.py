@@ -7,8 +7,9 @@ import re
 import numpy as np
 import pytest
 import stabsim
-from stabsim import codes, names
-from stabsim.noise_placing import OF_MIXED_PAIR, independent_chance
+from stabsim import codes
+from stabsim.noise.noise_placing import OF_MIXED_PAIR, independent_chance
+from stabsim.text import names
 
 P = 0.001
 # Gidney, Newman, Fowler and Broughton, A fault-tolerant honeycomb memory (2021), as parts of p: DEP1 after a Clifford gate on one qubit,

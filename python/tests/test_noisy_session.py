@@ -5,8 +5,9 @@ import random
 import numpy as np
 import pytest
 import stabsim
-from stabsim import carrying, codes
-from stabsim.collecting import seed_of
+from stabsim import codes
+from stabsim.collecting.collecting import seed_of
+from stabsim.text import carrying
 
 # Instructions as they are printed, with noise, and some that the program does not read or print so.
 LINES = [

@@ -11,7 +11,7 @@ import stabsim
 from stabsim.page.board import Board
 from stabsim.page.edits import Edit
 from stabsim.page.opening import opened
-from stabsim.reading import Block, items_of
+from stabsim.text.reading import Block, items_of
 from test_page_random import CIRCUITS
 
 NODE = shutil.which("node")

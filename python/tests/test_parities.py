@@ -7,7 +7,7 @@ import numpy as np
 import pytest
 import stabsim
 from coins_by_runs import bits_of
-from stabsim import coins, parities
+from stabsim.questions import coins, parities
 
 
 def span_of(records):

@@ -3,7 +3,7 @@
 import pytest
 import stabsim
 from stabsim import codes
-from stabsim.reading import Block, Instruction, items_of, lines_at, lines_of, walk
+from stabsim.text.reading import Block, Instruction, items_of, lines_at, lines_of, walk
 
 TEXT = """
 # REPEAT 2 {

@@ -5,7 +5,8 @@ import random
 import numpy as np
 import pytest
 import stabsim
-from stabsim import codes, renewing
+from stabsim import codes
+from stabsim.noise import renewing
 
 CHANNELS = ("X_ERROR(0.25) {0} {1}", "Z_ERROR(0.125) {0}", "Y_ERROR(0.0625) {0} {1} {2}", "DEPOLARIZE1(0.03) {0} {2}", "DEPOLARIZE2(0.015) {0} {1}", "E(0.25) X{0} Z{1}",
             "PAULI_CHANNEL_1(0.125, 0, 0) {1}", "I_ERROR(0.1) {0}", "X_ERROR(0) {0}", "TICK")
@@ -60,7 +61,7 @@ def edit(session, numbers):
 def test_a_model_that_is_renewed_is_the_one_made_anew(seed, monkeypatch):
     numbers, made = random.Random(seed), []
     anew = stabsim.error_model
-    monkeypatch.setattr("stabsim.session.error_model", lambda *its, **options: made.append(anew(*its, **options)) or made[-1])
+    monkeypatch.setattr("stabsim.session.session.error_model", lambda *its, **options: made.append(anew(*its, **options)) or made[-1])
     with stabsim.Circuit(TEXTS[seed % len(TEXTS)]).edit() as session:
         # The last text has detectors that coins decide.
         options = {"sure_only": seed % 2 == 1 or seed % 3 == 2}

@@ -7,7 +7,7 @@ import numpy as np
 import pytest
 import stabsim
 from stabsim import codes
-from stabsim.reading import Block, items_of
+from stabsim.text.reading import Block, items_of
 
 MEASURING = ("M", "MX", "MR", "MRY", "MPP")
 

@@ -9,7 +9,7 @@ import pytest
 
 import stabsim
 from stabsim import codes
-from stabsim.sat_problem import UNSOLVABLE, sat_problem
+from stabsim.noise.sat_problem import UNSOLVABLE, sat_problem
 
 optimize = pytest.importorskip("scipy.optimize")
 

@@ -3,8 +3,8 @@
 from concurrent.futures import Future
 
 import stabsim
-from stabsim.counting import Counted, Load, Missing, Part
-from stabsim.sending import Sending
+from stabsim.collecting.counting import Counted, Load, Missing, Part
+from stabsim.collecting.sending import Sending
 
 LOAD = Load(stabsim.ErrorModel.from_dem("error(0.5) D0"), lambda model: lambda detectors: detectors, None)
 

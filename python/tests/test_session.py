@@ -11,8 +11,8 @@ import numpy as np
 import pytest
 import stabsim
 from stabsim import codes
-from stabsim.reading import lines_of
-from stabsim.script import closing_line, edit_lines, path_text
+from stabsim.session.script import closing_line, edit_lines, path_text
+from stabsim.text.reading import lines_of
 
 REPETITION = codes.repetition_code(3, 3)
 BLOCK = REPETITION.splitlines().index("REPEAT 2 {") - 1

@@ -8,7 +8,8 @@ from concurrent.futures import ProcessPoolExecutor, ThreadPoolExecutor
 import numpy as np
 import pytest
 import stabsim
-from stabsim import codes, shot_parts
+from stabsim import codes
+from stabsim.shots import shot_parts
 
 CIRCUIT = stabsim.Circuit(codes.surface_code(3, 2).replace("R 1", "R 1 1"))
 SHOTS = 150

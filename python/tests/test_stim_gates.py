@@ -7,7 +7,8 @@ import re
 import numpy as np
 import pytest
 import stabsim
-from stabsim import program, rewriting, targets
+from stabsim import program
+from stabsim.text import rewriting, targets
 
 from gate_images import ON_ONE, ON_TWO, images_of_root
 

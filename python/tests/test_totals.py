@@ -13,7 +13,7 @@ import numpy as np
 import pytest
 import stabsim
 from stabsim import codes
-from stabsim.collecting import seed_of
+from stabsim.collecting.collecting import seed_of
 
 import deciding
 

@@ -4,7 +4,7 @@ from collections.abc import Sequence
 
 import numpy as np
 
-from stabsim.formats import WRITERS
+from stabsim.formats.formats import WRITERS
 
 FORMATS = ("01", "b8", "r8", "hits", "dets")
 

@@ -3,8 +3,8 @@
 from collections.abc import Callable, Sequence
 from random import Random
 
-from stabsim.names import ONE_QUBIT, TWO_QUBITS
-from stabsim.reading import ALIASES
+from stabsim.text.names import ONE_QUBIT, TWO_QUBITS
+from stabsim.text.reading import ALIASES
 
 from .reading import COLLAPSES
 

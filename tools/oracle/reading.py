@@ -4,8 +4,8 @@ import re
 from dataclasses import dataclass, field
 from typing import Any
 
-from stabsim.names import ONE_QUBIT
-from stabsim.reading import ALIASES
+from stabsim.text.names import ONE_QUBIT
+from stabsim.text.reading import ALIASES
 
 SPACING = b" \t\r"
 COORDINATE = re.compile(rb"[0-9+\-.eE]+")

@@ -6,7 +6,7 @@ each outcome, free or fixed."""
 from collections.abc import Iterable, Iterator
 from itertools import product as all_of
 
-from stabsim.names import ONE_QUBIT, TWO_QUBITS
+from stabsim.text.names import ONE_QUBIT, TWO_QUBITS
 
 from . import numbers
 from .answers import Case

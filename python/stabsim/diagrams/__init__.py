@@ -16,11 +16,11 @@ from stabsim.diagrams.slices import Panel, layer_elements, regions_elements, sid
 from stabsim.diagrams.svg import Theme, svg_of
 from stabsim.diagrams.ticks import Placed, layers_of, numbers_of, placed
 from stabsim.diagrams.timeline import drawn_timeline, qubits_of
-from stabsim.reading import Item
+from stabsim.text.reading import Item
 
 if TYPE_CHECKING:
-    from stabsim.circuit import Circuit
-    from stabsim.models import ErrorModel
+    from stabsim.circuit.circuit import Circuit
+    from stabsim.noise.models import ErrorModel
 
 Kind = Literal["timeline", "timeslice", "detslice", "matchgraph"]
 Ticks = int | range | Sequence[int]

@@ -7,7 +7,7 @@ import numpy as np
 from numpy.typing import NDArray
 
 from stabsim.diagrams.elements import Element, Path, Point, Words, circle, direction, line
-from stabsim.faults import FaultTable
+from stabsim.questions.faults import FaultTable
 
 MARGIN, TITLE_HEIGHT = 46.0, 26.0
 # How far apart neighbours are, in pixels, and the longest side of the picture.

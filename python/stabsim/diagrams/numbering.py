@@ -2,7 +2,7 @@
 
 from dataclasses import dataclass, field, replace
 
-from stabsim.sizes import Sizes
+from stabsim.text.sizes import Sizes
 
 # The names of the rounds of blocks, the outermost first.
 LETTERS = "kjihgfedcba"

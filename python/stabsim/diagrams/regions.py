@@ -4,8 +4,8 @@ from collections.abc import Iterable
 
 from stabsim.diagrams.slices import Letters
 from stabsim.diagrams.ticks import cut_at
-from stabsim.faults import FaultTable
-from stabsim.reading import Item
+from stabsim.questions.faults import FaultTable
+from stabsim.text.reading import Item
 
 
 def marked_text(items: Iterable[Item], tick: int, qubits: int) -> str:

@@ -3,9 +3,9 @@
 from collections.abc import Iterator, Sequence
 from dataclasses import dataclass
 
-from stabsim import names
-from stabsim.reading import Instruction
-from stabsim.targets import FACTOR
+from stabsim.text import names
+from stabsim.text.reading import Instruction
+from stabsim.text.targets import FACTOR
 
 PAULIS = ("X", "Y", "Z")
 ON_PAIRS = frozenset((*names.TWO_QUBITS, "DEPOLARIZE2", "PAULI_CHANNEL_2"))

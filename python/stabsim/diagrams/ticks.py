@@ -5,8 +5,8 @@ from dataclasses import dataclass
 
 from stabsim import checking
 from stabsim.diagrams.targets import PAULIS, Action, actions_of
-from stabsim.reading import Block, Instruction, Item
-from stabsim.sizes import Sizes, sizes_of
+from stabsim.text.reading import Block, Instruction, Item
+from stabsim.text.sizes import Sizes, sizes_of
 
 # The most layers of one tick that are drawn.
 MOST_LAYERS = 64

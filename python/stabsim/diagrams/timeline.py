@@ -4,15 +4,15 @@ import math
 from collections.abc import Iterable
 from dataclasses import dataclass, field
 
-from stabsim import names
 from stabsim.diagrams.elements import Element, Glyph, Path, Words, box, line
-from stabsim.diagrams.numbering import Numbering
 from stabsim.diagrams.marks import marks_of
+from stabsim.diagrams.numbering import Numbering
 from stabsim.diagrams.shapes import table
 from stabsim.diagrams.targets import Action, actions_of
-from stabsim.noisy_shots import without_channels
-from stabsim.reading import Block, Instruction, Item
-from stabsim.sizes import observable_of, sizes_of
+from stabsim.noise.noisy_shots import without_channels
+from stabsim.text import names
+from stabsim.text.reading import Block, Instruction, Item
+from stabsim.text.sizes import observable_of, sizes_of
 
 ROW, COLUMN, SIDE = 44.0, 40.0, 26.0
 LEFT, TOP = 52.0, 58.0

@@ -7,9 +7,9 @@ import re
 from collections.abc import Iterable, Iterator, Sequence
 from dataclasses import dataclass
 
-from stabsim import names
-from stabsim.profile import Copy, profile_of
-from stabsim.reading import ALIASES, Instruction, Line, content_of, lines_of, parts_of
+from stabsim.text import names
+from stabsim.text.profile import Copy, profile_of
+from stabsim.text.reading import ALIASES, Instruction, Line, content_of, lines_of, parts_of
 
 # A line as a session writes it, which most are: a name in capitals, tag, arguments and targets, or what opens or closes a block.
 PLAIN = re.compile(r"[A-Z][A-Z0-9_]*(?:\[[^\]]*\])?(?:\([^(), ]+(?:, [^(), ]+)*\))?(?: [^ \ta-z]+| rec\[-\d+\])*(?: \{)?|\}")

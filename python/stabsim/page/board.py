@@ -13,13 +13,13 @@ import numpy as np
 from numpy.typing import NDArray
 
 import stabsim
-from stabsim.coordinates import coordinates_of, detector_rows, qubit_rows
 from stabsim.page.edits import Edit, name_of, undoing
 from stabsim.page.explaining import explained, refuse_unread
 from stabsim.page.following import following
 from stabsim.page.lines import LineEdits, between
 from stabsim.page.opening import Opened
 from stabsim.page.room import qubits_named, room_for
+from stabsim.text.coordinates import coordinates_of, detector_rows, qubit_rows
 
 Message = dict[str, Any]
 

@@ -8,10 +8,10 @@ from typing import Any
 
 import stabsim
 from stabsim import program
-from stabsim.circuit_errors import CircuitError
 from stabsim.page.board import Board, Message
 from stabsim.page.tabs import Start
-from stabsim.reading import Block, Item, items_of
+from stabsim.questions.circuit_errors import CircuitError
+from stabsim.text.reading import Block, Item, items_of
 
 # Up to how many marked errors the session itself is asked, and up to how many errors in a set: it answers at once then.
 MOST_AT_ONCE = 3000

@@ -4,7 +4,7 @@ import dataclasses
 from typing import Any, Literal
 
 from stabsim.page.opening import Opened
-from stabsim.rounds import longest_part, parts_of_block, place_behind
+from stabsim.session.rounds import longest_part, parts_of_block, place_behind
 
 Kind = Literal["insert", "replace", "delete", "split", "open"]
 # What a tab may ask for as an edit; a split and another circuit it asks for by themselves.

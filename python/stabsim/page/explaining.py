@@ -3,10 +3,11 @@
 import re
 
 import stabsim
-from stabsim import names, program
+from stabsim import program
 from stabsim.page.edits import Edit
 from stabsim.page.room import MOST_MORE, MOST_QUBITS
-from stabsim.reading import items_of, lines_at, walk
+from stabsim.text import names
+from stabsim.text.reading import items_of, lines_at, walk
 
 # The refusals of an edit that `check` explains: those of a circuit's text.
 EXPLAINED = range(1, 12)

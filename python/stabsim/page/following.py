@@ -4,10 +4,10 @@ from collections.abc import Sequence
 from dataclasses import dataclass
 
 import stabsim
-from stabsim import names
 from stabsim.page.edits import Edit, Kind
-from stabsim.reading import items_of, walk
-from stabsim.retargeting import of_items
+from stabsim.session.retargeting import of_items
+from stabsim.text import names
+from stabsim.text.reading import items_of, walk
 
 
 # The edits of a session, by their names.

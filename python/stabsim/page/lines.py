@@ -3,14 +3,14 @@
 from collections.abc import Iterable, Sequence
 from dataclasses import dataclass, replace
 
-from stabsim import names
 from stabsim.page.edits import Edit
 from stabsim.page.following import SESSIONS
-from stabsim.reading import Block, Instruction, Item, items_of
-from stabsim.record_trees import Level, differing, level_of
-from stabsim.retargeting import head_of
-from stabsim.retargeting_order import Written, edits_to
-from stabsim.rounds import place_behind
+from stabsim.session.record_trees import Level, differing, level_of
+from stabsim.session.retargeting import head_of
+from stabsim.session.retargeting_order import Written, edits_to
+from stabsim.session.rounds import place_behind
+from stabsim.text import names
+from stabsim.text.reading import Block, Instruction, Item, items_of
 
 # How many lines a block may become that is taken apart.
 MOST_LINES = 5000

@@ -10,9 +10,9 @@ from numpy.typing import NDArray
 
 import stabsim
 from stabsim import program
+from stabsim.formats.table_lines import flips_of
 from stabsim.page import moments
-from stabsim.reading import Line, lines_of
-from stabsim.table_lines import flips_of
+from stabsim.text.reading import Line, lines_of
 
 # Letters X, Y and Z on qubits.
 Letters = dict[int, str]

@@ -10,7 +10,7 @@ import re
 from collections.abc import Iterable
 from dataclasses import dataclass, field
 
-from stabsim.reading import Block, Instruction, Item, items_of, walk
+from stabsim.text.reading import Block, Instruction, Item, items_of, walk
 
 PAULIS = ("X", "Y", "Z")
 # What acts on qubits by targets of their own.

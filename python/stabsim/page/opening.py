@@ -13,7 +13,7 @@ from dataclasses import dataclass
 import stabsim
 from stabsim import program
 from stabsim.page.as_written import Given
-from stabsim.profile import Copy
+from stabsim.text.profile import Copy
 
 # What a circuit is called that came from nowhere.
 UNNAMED = "circuit.stim"

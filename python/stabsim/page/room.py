@@ -3,7 +3,7 @@
 import re
 
 from stabsim.errors import Refused
-from stabsim.reading import Block, Item, items_of
+from stabsim.text.reading import Block, Item, items_of
 
 # The most qubits that a circuit may have.
 MOST_QUBITS = 1024

@@ -1,0 +1,95 @@
+"""Which part of a circuit's noise makes a mechanism of its error model."""
+
+import functools
+from dataclasses import dataclass, replace
+from typing import NamedTuple
+
+import numpy as np
+from numpy.typing import NDArray
+
+from stabsim.formats.combining import starts_of
+from stabsim.noise.marking import Source
+from stabsim.noise.placing import placed
+from stabsim.questions.circuit_errors import CircuitError
+from stabsim.text.profile import profile_of
+from stabsim.text.reading import Item, items_of, walk
+
+
+class Cause(NamedTuple):
+    """One error of one line of a circuit's noise.
+
+    line: int, counted from 1, and name: str, of the instruction; error: str, Paulis as `X3*Z5`, or of a wrong record `record of 3`;
+    chance: float, of this error by itself; rounds: of each block around the line, the outermost first, in which round it is, from 0.
+
+    >>> import stabsim
+    >>> model = stabsim.error_model("R 0\\nREPEAT 2 {\\nX_ERROR(0.1) 0\\n}\\nM 0\\nDETECTOR rec[-1]\\n")
+    >>> model.explain(0)[1]
+    Cause(line=3, name='X_ERROR', error='X0', chance=0.1, rounds=(1,))
+    """
+
+    line: int
+    name: str
+    error: str
+    chance: float
+    rounds: tuple[int, ...]
+
+
+@dataclass(frozen=True, eq=False)
+class Causes:
+    """Which errors of a circuit each mechanism is made of.
+
+    sources: the errors by instruction, one after another; mechanisms: int32 (errors,), the mechanism of each error, in the order of the
+    sources and of all of their times, -1 of one that flips nothing; text: the circuit's, which was judged.
+    """
+
+    sources: tuple[Source, ...]
+    mechanisms: NDArray[np.int32]
+    text: str
+
+    @functools.cached_property
+    def items(self) -> tuple[Item, ...]:
+        """The items of the circuit with its noise."""
+        return profile_of(self.text)[0].noisy.items()
+
+    @functools.cached_property
+    def paths(self) -> dict[int, str]:
+        """For each line of an item of the user's the path of that."""
+        return {item.line: item.path for item in walk(items_of(self.text))}
+
+    def renumbered(self, mechanisms: NDArray[np.int64]) -> "Causes":
+        """The same of a model that has mechanisms of other numbers, which are given for each."""
+        return replace(self, mechanisms=np.where(self.mechanisms < 0, -1, mechanisms[self.mechanisms]).astype(np.int32))
+
+    def of(self, mechanism: int) -> list[Cause]:
+        """The errors that make a mechanism, by their lines."""
+        found = [cause_of(source, rounds, at) for source, rounds, at in self.times_of(mechanism)]
+        return sorted(found, key=lambda cause: (cause.line, cause.rounds, cause.error))
+
+    def error_of(self, mechanism: int) -> CircuitError:
+        """One of the errors that make a mechanism, the first: at the path of its item of noise, with steps and records as they are counted
+        without noise."""
+        errors = (replace(placed(self.items, *its), path=self.paths[its[0].line]) for its in self.times_of(mechanism))
+        return min(errors, key=lambda error: (error.steps, str(error)))
+
+    def times_of(self, mechanism: int) -> list[tuple[Source, list[int], int]]:
+        """The errors that make a mechanism: of which source, in which rounds of the blocks around it, and which of its times in these."""
+        firsts = starts_of(np.array([source.times() for source in self.sources], dtype=np.int64))
+        errors = np.flatnonzero(self.mechanisms == mechanism)
+        found = []
+        for error, number in zip(errors.tolist(), (np.searchsorted(firsts, errors, side="right") - 1).tolist()):
+            source = self.sources[number]
+            shape = (*(count for count, _ in reversed(source.blocks)), len(source.marks))
+            *rounds, at = map(int, np.unravel_index(error - int(firsts[number]), shape))
+            found.append((source, rounds, at))
+        return found
+
+
+def cause_of(source: Source, rounds: list[int], at: int) -> Cause:
+    """One of all times of a source."""
+    if source.is_record:
+        error = f"record of {source.targets[at]}"
+    else:
+        each = len(source.letters)
+        qubits = source.targets[at * each : (at + 1) * each]
+        error = "*".join(letter + qubit for letter, qubit in zip(source.letters, qubits) if letter != "I")
+    return Cause(source.line, source.name, error, source.chance, tuple(rounds))

@@ -1,0 +1,70 @@
+"""The distance of a circuit, as `stabsim distance` writes it."""
+
+import re
+from dataclasses import dataclass, replace
+from typing import Literal
+
+from stabsim import checking
+from stabsim.questions.circuit_errors import CircuitError
+from stabsim.text.reading import items_of, walk
+
+# Of which letters errors are made: of all, or of X alone and of Z alone.
+Letters = Literal["all", "XZ"]
+FIRST_LINE = re.compile(r"(?:distance (\d+)|none(?: up to (\d+))?)(?: of (all marked errors|all errors everywhere|graph-like errors))?")
+UNMARKED = "no errors, since there is no noise, and no place is marked by I; everywhere=True asks for all places"
+CHANCELESS = "no errors, since the model has none that has a chance"
+
+
+@dataclass(frozen=True)
+class Distance:
+    """The least number of errors that flip an observable and together no detector, and that many such errors.
+
+    distance: int, or None if there are none; most: int, if it is only known that there are none up to this many, else None. errors: tuple
+    of CircuitError, which `Session.insert_errors` takes; mechanisms: of an error model, tuple of int, their numbers. searched: str:
+    all marked errors, all errors everywhere, or graph-like errors, which are those that flip at most two detectors, among them parts of
+    others; of an error model all errors, and of a decomposed one graph-like parts of errors, which are those that it is written with. If
+    there are no errors to search, it says why.
+
+    >>> import stabsim
+    >>> c = stabsim.Circuit("R 0 1\\nI[X] 0 1\\nM 0 1\\nDETECTOR rec[-1] rec[-2]\\nOBSERVABLE_INCLUDE(0) rec[-1]")
+    >>> found = c.distance()
+    >>> print(found, [str(error) for error in found.errors])
+    distance 2 of all marked errors ['X0', 'X1']
+    >>> with c.edit() as session:
+    ...     session.insert_errors(found.errors)
+    ...     print(session.detectors(), session.observables())
+    [False] [ True]
+    """
+
+    distance: int | None
+    errors: tuple[CircuitError, ...] = ()
+    searched: str = "all marked errors"
+    most: int | None = None
+    mechanisms: tuple[int, ...] = ()
+
+    def __str__(self) -> str:
+        found = "none" if self.distance is None else f"distance {self.distance}"
+        limit = "" if self.most is None else f" up to {self.most}"
+        return f"{found}{limit} of {self.searched}"
+
+
+def option_words(most: int | None, graphlike: bool) -> list[str]:
+    """The options of how far, and of which errors, a distance is looked for."""
+    return [*([] if most is None else ["--most", str(checking.whole("most", most))]), *["--graphlike"] * graphlike]
+
+
+def distance_of(text: str, everywhere: bool = False) -> Distance:
+    """The distance of the lines that the program writes, of marked errors or of errors everywhere."""
+    first, *lines = text.splitlines()
+    found = FIRST_LINE.fullmatch(first)
+    if not found:
+        raise ValueError(f"{first!r} is no distance")
+    errors = tuple(map(CircuitError.of_line, lines))
+    distance, most = (int(number) if number else None for number in found.groups()[:2])
+    return Distance(distance, errors, found[3] or ("all errors everywhere" if everywhere else "all marked errors"), most)
+
+
+def of_marks(found: Distance, text: str) -> Distance:
+    """The distance by the errors that a text marks, which says so if it marks none."""
+    is_marked = found.distance is not None or any(item.name == "I" for item in walk(items_of(text)))
+    return found if is_marked else replace(found, searched=UNMARKED)

@@ -1,0 +1,209 @@
+"""A circuit before and after edits in one tree, in which each record is known by where it was and where it is."""
+
+import difflib
+from bisect import bisect_right
+from collections import defaultdict
+from collections.abc import Iterable, Sequence
+from dataclasses import dataclass, field
+from itertools import accumulate
+
+from stabsim.text.names import HERALDED, MEASURING, PAIRS
+from stabsim.text.reading import Block, Instruction, Item
+from stabsim.text.rewriting import SPACED_STAR
+
+
+@dataclass(eq=False, slots=True)
+class Node:
+    """An item, as it was, or None if it was put in, and as it is after the edits, if it is still there. Of a block the items are in
+    `inside`. follows: whether its lookbacks name the records that they named, and not those that its new text names."""
+
+    was: Item | None
+    now: Item
+    inside: "Level | None" = None
+    follows: bool = False
+
+    @property
+    def had(self) -> int:
+        """How many records it made, in one round of the blocks around it."""
+        if self.was is None:
+            return 0
+        return (self.was.repeat or 1) * self.inside.had if self.inside else len(measured(self.was))
+
+    @property
+    def has(self) -> int:
+        """How many it makes."""
+        return (self.now.repeat or 1) * self.inside.has if self.inside else len(measured(self.now))
+
+    @property
+    def more_rounds(self) -> int:
+        """How many rounds a block has more than it had."""
+        return (self.now.repeat or 1) - (self.was and self.was.repeat or 1)
+
+
+@dataclass(eq=False)
+class Level:
+    """A list of items, of a block or the outermost one, as it was and as it is. `settle` closes it, once all edits are made."""
+
+    old: list[Node] = field(default_factory=list)
+    new: list[Node] = field(default_factory=list)
+    # How many records of the list are in front of each item, and of its end; the places of the nodes; where its records are.
+    had_before: list[int] = field(init=False)
+    has_before: list[int] = field(init=False)
+    place_was: dict[int, int] = field(init=False)
+    place: dict[int, int] = field(init=False)
+    went: dict[tuple[int, int], int] = field(init=False)
+    follows: bool = field(init=False)
+
+    @property
+    def had(self) -> int:
+        return self.had_before[-1]
+
+    @property
+    def has(self) -> int:
+        return self.has_before[-1]
+
+    def settle(self) -> None:
+        """Finds out where each record of the list went, and whether lookbacks in it follow."""
+        pair_moved(self)
+        for node in {id(it): it for it in (*self.old, *self.new)}.values():
+            if node.inside:
+                node.inside.settle()
+        self.had_before = list(accumulate((it.had for it in self.old), initial=0))
+        self.has_before = list(accumulate((it.has for it in self.new), initial=0))
+        self.place_was = {id(node): place for place, node in enumerate(self.old)}
+        self.place = {id(node): place for place, node in enumerate(self.new)}
+        self.follows = any(it.inside.follows if it.inside else it.follows for it in self.new)
+        self.went = records_in_list(self)
+
+    def reach(self) -> int:
+        """How many records in front of the list its lookbacks reach, at most, from the first round of each block in it."""
+        far = 0
+        for place, node in enumerate(self.old):
+            if id(node) not in self.place:
+                continue
+            own = node.inside.reach() if node.inside else max(lookbacks_of(node.was), default=0)
+            far = max(far, own - self.had_before[place])
+        return far
+
+    def position(self, number: int) -> int | None:
+        """How many records of the list are in front of one, of which `number` were; None if it is gone."""
+        place = bisect_right(self.had_before, number) - 1
+        node, offset = self.old[place], number - self.had_before[place]
+        if not node.inside:
+            return self.went.get((id(node), offset))
+        if id(node) not in self.place:
+            return None
+        # The last rounds stay the last, if there are more or fewer than there were.
+        round_number, within = divmod(offset, node.inside.had)
+        round_number += node.more_rounds
+        at = node.inside.position(within)
+        return None if at is None or round_number < 0 else self.has_before[self.place[id(node)]] + round_number * node.inside.has + at
+
+
+def tree_of(items: Iterable[Item], is_new: bool = False) -> list[Node]:
+    """Nodes of items, which are as they were, or put in."""
+    return [
+        Node(None if is_new else it, it, level_of(it.items, is_new) if isinstance(it, Block) else None, not is_new and bool(lookbacks_of(it)))
+        for it in items
+    ]
+
+
+def level_of(items: Iterable[Item], is_new: bool = False) -> Level:
+    nodes = tree_of(items, is_new)
+    return Level([] if is_new else list(nodes), nodes)
+
+
+def lookbacks_of(item: Item | None) -> list[int]:
+    """How many records back each record is that an item names."""
+    return [int(target[5:-1]) for target in item.targets if target.startswith("rec[-")] if item else []
+
+
+def pair_moved(level: Level) -> None:
+    """Takes what one edit has taken out, and another has put in with the same text, as moved: it stays the same item."""
+    staying = {id(node) for node in level.new}
+    taken: dict[str, list[Node]] = defaultdict(list)
+    for node in level.old:
+        if id(node) not in staying:
+            taken[str(node.was)].append(node)
+    for place, node in enumerate(level.new):
+        if node.was is None and taken.get(str(node.now)):
+            level.new[place] = as_it_was(taken[str(node.now)].pop(0))
+
+
+def as_it_was(node: Node) -> Node:
+    """A node, whatever was done to it before it was taken out."""
+    assert node.was, "it was there"
+    node.now, node.follows = node.was, bool(lookbacks_of(node.was))
+    if node.inside:
+        node.inside.new = list(map(as_it_was, node.inside.old))
+    return node
+
+
+def records_in_list(level: Level) -> dict[tuple[int, int], int]:
+    """Where each record that the list's own instructions made is now: (node, number in it) to how many of the list are in front. A record
+    is of the same measurement if that has the same qubits and item, or, in another item, the same name too."""
+    went: dict[tuple[int, int], int] = {}
+    left: list[tuple[Node, int, str]] = []
+    found: dict[tuple[int, str], list[int]] = defaultdict(list)
+    for node in level.new:
+        if not node.inside:
+            first = level.has_before[level.place[id(node)]]
+            for number, target in enumerate(measured(node.now)):
+                found[id(node), target].append(first + number)
+    for node in level.old:
+        for number, target in enumerate(measured(node.was) if not node.inside else ()):
+            if found[id(node), target]:
+                went[id(node), number] = found[id(node), target].pop(0)
+            else:
+                left.append((node, number, target))
+    elsewhere: dict[tuple[str, str], list[int]] = defaultdict(list)
+    for node in level.new:
+        for target in dict.fromkeys(measured(node.now) if not node.inside else ()):
+            elsewhere[node.now.name, target] += found[id(node), target]
+    for node, number, target in left:
+        same = elsewhere[node.was.name if node.was else "", target]
+        if same:
+            went[id(node), number] = same.pop(0)
+    return went
+
+
+def measured(item: Item | None) -> list[str]:
+    """What an instruction measures, without what inverts it."""
+    if not isinstance(item, Instruction) or item.name not in (*MEASURING, *HERALDED):
+        return []
+    targets = SPACED_STAR.sub("*", " ".join(item.targets).replace("!", "")).split()
+    return [f"{first} {second}" for first, second in zip(targets[::2], targets[1::2])] if item.name in PAIRS else targets
+
+
+def differing(level: Level, items: Sequence[Item]) -> None:
+    """Makes the items of a list others: those of the same text stay, and a block in the place of another has its items compared."""
+    before, after = [str(node.now) for node in level.new], [str(item) for item in items]
+    found: list[Node] = []
+    for kind, first, end, start, stop in difflib.SequenceMatcher(None, before, after, autojunk=False).get_opcodes():
+        if kind == "equal":
+            found += level.new[first:end]
+        elif kind != "delete":
+            found += changed_to(level.new[first:end], items[start:stop])
+    level.new[:] = found
+
+
+def changed_to(nodes: Sequence[Node], items: Sequence[Item]) -> list[Node]:
+    """Items in the place of some: of as many, each is that of its number, changed."""
+    if len(nodes) != len(items):
+        return tree_of(items, is_new=True)
+    return [replaced(node, item) for node, item in zip(nodes, items)]
+
+
+def replaced(node: Node, item: Item) -> Node:
+    """An item in the place of a node's: the same node if it is the same kind of thing."""
+    if isinstance(item, Block) != bool(node.inside):
+        [other] = tree_of([item], is_new=True)
+        return other
+    if node.inside:
+        differing(node.inside, item.items)
+        node.now = item
+    else:
+        before = node.now
+        node.now = item
+        node.follows = node.follows and before is not None and before.name == item.name and lookbacks_of(before) == lookbacks_of(item)
+    return node
