@@ -296,7 +296,7 @@ class Session(PlainSession):
     def model_now(self, options: Options, approximate: bool, sure_only: bool) -> ErrorModel:
         """The model of the circuit as it is now: that from before the edits, renewed, or made anew."""
         text, before = self.circuit(), self.models_before.get(options)
-        found = renewed(before, text, sure_only) if before else None
+        found = renewed(before, text, sure_only, self.numbers().qubits) if before else None
         return found or error_model(text, approximate_disjoint_errors=approximate, sure_only=sure_only)
 
     def distance(self, most: int | None = None, *, everywhere: bool = False) -> Distance:
