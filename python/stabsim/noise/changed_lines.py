@@ -8,7 +8,7 @@ from typing import NamedTuple
 
 from stabsim.text import names
 from stabsim.text.profile import made_of
-from stabsim.text.reading import Line, content_of, items_of, parts_of
+from stabsim.text.reading import Item, Line, content_of, items_of, parts_of
 from stabsim.text.sizes import sizes_of
 
 # A channel that acts after others is of another line too.
@@ -49,6 +49,26 @@ def quiet(written: str) -> tuple[str, ...]:
         return (content,) if content else ()
     made = [line] if line.parts.name in WITHOUT_PART else [Line(0, it, content_of(it)) for it in made_of(line, line.parts, "", no_qubit).circuit]
     return tuple(it.content.replace("!", "") for it in made if it.parts and it.parts.name not in WITHOUT_PART)
+
+
+@functools.lru_cache(maxsize=1 << 14)
+def noisy(content: str) -> tuple[str, ...]:
+    """The lines with noise that an instruction becomes. ValueError as of `quiet`."""
+    line = Line(0, content, content)
+    return tuple(made_of(line, line.parts, "", no_qubit).noisy)
+
+
+def noisy_items(lines: Sequence[str], first: int) -> tuple[Item, ...]:
+    """The items of lines, of which the first has this number, as they are marked."""
+    found: list[Line] = []
+    for number, line in enumerate(lines, start=first):
+        content = content_of(line)
+        its = Line(number, content, content)
+        if its.opens or its.closes:
+            found.append(its)
+        elif its.parts:
+            found += [Line(number, made, content_of(made)) for made in noisy(content)]
+    return items_of(found)
 
 
 def no_qubit() -> int:
@@ -108,6 +128,19 @@ def list_end(lines: Sequence[str], place: int) -> int:
         elif lines[at].endswith("{"):
             depth -= 1
     return end if depth else place
+
+
+def blocks_around(lines: Sequence[str]) -> list[int]:
+    """How many rounds each block has that is open after some lines, the outermost first."""
+    opened: list[int] = []
+    for line in lines:
+        if line.endswith("{"):
+            parts = parts_of(content_of(line))
+            assert parts, "a block has a count"
+            opened.append(int(parts.targets[0]))
+        elif line.endswith("}"):
+            opened.pop()
+    return opened
 
 
 def counts_of(lines: Sequence[str]) -> Counts:

@@ -86,6 +86,11 @@ def chances_at(sources: Sequence[Source], errors: Numbers) -> Chances:
     return found
 
 
+def moved_by(sources: Sequence[Source], lines: int) -> Sequence[Source]:
+    """Sources that are this many lines further down."""
+    return [replace(source, line=source.line + lines) for source in sources] if lines else sources
+
+
 def rows_as_tuples(indptr: Numbers, indices: Numbers) -> list[Row]:
     """The rows of a CSR matrix."""
     bounds, flat = indptr.tolist(), indices.tolist()

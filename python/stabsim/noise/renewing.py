@@ -10,28 +10,28 @@ The program is asked for the errors of the lines that changed, which alone are m
 errors make or made which flip something else.
 """
 
+import re
 from collections.abc import Sequence
-from dataclasses import replace
 from typing import TYPE_CHECKING
 
 import numpy as np
 
-from stabsim import program
 from stabsim.errors import Refused, UnsupportedNoise
 from stabsim.formats.combining import Numbers, starts_of
 from stabsim.noise.causes import Causes
-from stabsim.noise.changed_lines import CHAINED, Change, change_of, is_of_no_region, no_qubit, quiet_lines
+from stabsim.noise.changed_lines import CHAINED, Change, blocks_around, change_of, is_of_no_region, noisy_items, quiet_lines
+from stabsim.noise.flipped import Flipped, rows_of_errors
 from stabsim.noise.marking import Marker, Source
-from stabsim.noise.renewal import NONE, Renewal
+from stabsim.noise.renewal import NONE, Renewal, moved_by
 from stabsim.noise.renewing_circuit import renewed_circuit
-from stabsim.noise.sourced import errors_of
-from stabsim.questions.faults import table_of
-from stabsim.text.profile import made_of
-from stabsim.text.reading import Instruction, Line, content_of, parts_of
+from stabsim.noise.renewing_rounds import in_blocks, renewed_in_rounds
+from stabsim.text.reading import Line
 from stabsim.text.rewriting import WrongWord
 
 if TYPE_CHECKING:
     from stabsim.noise.models import ErrorModel
+
+CONTROLLED_BY_RECORD = re.compile(r"^[ \t]*(?:CX|CY|CZ|XCZ|YCZ)\b[^\n]*rec\[", re.MULTILINE)
 
 
 def renewed(model: "ErrorModel", text: str, sure_only: bool, qubits: int | None = None) -> "ErrorModel | None":
@@ -45,7 +45,10 @@ def renewed(model: "ErrorModel", text: str, sure_only: bool, qubits: int | None 
         if is_of_no_region(change):
             return after_change(model, causes, change, text, sure_only)
         # Which detectors coins decided before is not known of a model that leaves them out.
-        return renewed_circuit(model, causes, change, text, qubits) if qubits and not sure_only else None
+        if not qubits or sure_only or CONTROLLED_BY_RECORD.search(text) or CONTROLLED_BY_RECORD.search(causes.text):
+            return None
+        found = renewed_in_rounds(model, causes, change, text, qubits)
+        return found or renewed_circuit(model, causes, change, text, qubits)
     except (ValueError, WrongWord, Refused, UnsupportedNoise):
         # It is said of the whole text.
         return None
@@ -56,8 +59,10 @@ def after_change(model: "ErrorModel", causes: Causes, change: Change, text: str,
     lines = [source.line - 1 for source in causes.sources]
     begin, end = np.searchsorted(lines, [change.first, change.first + len(change.old)]).tolist()
     marker = Marker(False)
-    sources = marked_sources(marker, change, blocks_around(text.split("\n")[: change.first]))
-    moved = [replace(source, line=source.line + len(change.new) - len(change.old)) for source in causes.sources[end:]]
+    items, each = marker.items(noisy_items(change.new, change.first + 1), 0)
+    opened = blocks_around(text.split("\n")[: change.first])
+    sources = [in_blocks(source, opened, each) for source in items]
+    moved = moved_by(causes.sources[end:], len(change.new) - len(change.old))
     old = causes.sources[begin:end]
     firsts = starts_of(np.array([source.times() for source in causes.sources], dtype=np.int64))
     start, stop = int(firsts[begin]), int(firsts[end])
@@ -78,45 +83,12 @@ def are_alike(change: Change) -> bool:
     return [Line(0, it, "").without_arguments() for it in change.old] == [Line(0, it, "").without_arguments() for it in change.new]
 
 
-def blocks_around(lines: Sequence[str]) -> list[int]:
-    """How many rounds each block has that is open after some lines, the outermost first."""
-    opened: list[int] = []
-    for line in lines:
-        if line.endswith("{"):
-            parts = parts_of(content_of(line))
-            assert parts, "a block has a count"
-            opened.append(int(parts.targets[0]))
-        elif line.endswith("}"):
-            opened.pop()
-    return opened
-
-
-def marked_sources(marker: Marker, change: Change, opened: Sequence[int]) -> list[Source]:
-    """The errors of the new lines, whose marks are the only ones of the text."""
-    items = []
-    for number, line in enumerate(change.new, start=change.first + 1):
-        content = content_of(line)
-        parts = parts_of(content)
-        if parts:
-            items += [Instruction(number, *made) for it in made_of(Line(number, content, content), parts, "", no_qubit).noisy
-                      if (made := parts_of(content_of(it)))]
-    found, each = marker.items(items, 0)
-    blocks = []
-    for rounds in reversed(opened):
-        blocks.append((rounds, each))
-        each *= rounds
-    return [replace(source, blocks=tuple(blocks)) for source in found]
-
-
 def rows_of_sources(marker: Marker, sources: Sequence[Source], text: str, change: Change, model: "ErrorModel",
                     sure_only: bool) -> tuple[Numbers, Numbers]:
     """What the errors of sources flip, as a CSR matrix, of the program."""
     if not sources:
         return np.zeros(1, dtype=np.int64), NONE
     lines = text.split("\n")
-    marked = [*quiet_lines(lines[: change.first]), *marker.lines, *quiet_lines(lines[change.first + len(change.new) :]), ""]
-    words = ["faults", *["--deterministic_only"] * sure_only]
-    table = table_of(program.run(words, "\n".join(marked)), model.num_detectors, model.num_observables, False)
-    parts = [errors_of(source, table) for source in sources]
-    counts = np.concatenate([np.bincount(sets, minlength=len(chances)) for chances, sets, _ in parts])
-    return starts_of(counts.astype(np.int64)), np.concatenate([columns for _, _, columns in parts])
+    marked = [*quiet_lines(lines[: change.first]), *marker.lines, *quiet_lines(lines[change.first + len(change.new) :])]
+    flipped = Flipped.of(marked, model.num_detectors, model.num_observables, sure_only)
+    return rows_of_errors([(source, np.arange(source.times())) for source in sources], flipped)

@@ -14,60 +14,27 @@ from functools import cached_property
 from typing import TYPE_CHECKING
 
 import numpy as np
-from numpy.typing import NDArray
 
-from stabsim import program
 from stabsim.formats.combining import Numbers, rows_of, starts_of
-from stabsim.formats.table_lines import flips_of as flips_in
 from stabsim.noise.causes import Causes
 from stabsim.noise.changed_lines import (
-    DECLARING, Change, Counts, counts_of, counts_of_line, list_begin, no_qubit, observables_in, quiet_lines, reach_of, with_blocks,
+    DECLARING, Change, Counts, counts_of, counts_of_line, list_begin, noisy_items, observables_in, quiet_lines, reach_of, with_blocks,
 )
+from stabsim.noise.flipped import Bits, Flipped, rows_of_errors
 from stabsim.noise.marking import Marker, Source
-from stabsim.noise.renewal import Renewal
-from stabsim.noise.sourced import flips_of
+from stabsim.noise.renewal import Renewal, moved_by
 from stabsim.text.coordinates import detector_coordinates
-from stabsim.text.profile import made_of
-from stabsim.text.reading import Item, Line, content_of, items_of
 
 if TYPE_CHECKING:
     from stabsim.noise.models import ErrorModel
 
-CONTROLLED_BY_RECORD = re.compile(r"^[ \t]*(?:CX|CY|CZ|XCZ|YCZ)\b[^\n]*rec\[", re.MULTILINE)
 PLACING = ("DETECTOR", "SHIFT_COORDS")
 NUMBER = re.compile(r"\d+")
-Bits = NDArray[np.bool_]
 # How many errors are asked for again, and how often the cut is moved further back.
 MOST_ASKED = 60_000
 MOST_CUTS = 3
 # How many lines, and how many instructions with noise on either side of the edit, are looked at first.
 LINES_BEFORE, NOISE_AROUND = 20, 3
-
-
-@dataclass(frozen=True)
-class Flipped:
-    """What X and Z of each mark of a text flip, as a CSR matrix."""
-
-    indptr: Numbers
-    indices: Numbers
-    num_detectors: int
-    num_observables: int
-
-    @classmethod
-    def of(cls, lines: Sequence[str], detectors: int, observables: int) -> "Flipped":
-        """Asks the program."""
-        return cls(*flips_in(program.run(["faults"], "\n".join([*lines, ""])), {"D": 0, "L": detectors}), detectors, observables)
-
-    def pairs(self, first: int, count: int) -> tuple[Numbers, Numbers]:
-        """Of this many marks from one on, pairs, ascending, of a line and what it flips."""
-        bounds = self.indptr[2 * first : 2 * (first + count) + 1]
-        return np.repeat(np.arange(2 * count), np.diff(bounds)), self.indices[bounds[0] : bounds[-1]]
-
-    def marks_that_flip(self, is_meant: Bits) -> Bits:
-        """Which marks flip, by X or Z, something that is meant."""
-        found = np.zeros(len(self.indptr) - 1, dtype=np.bool_)
-        found[np.searchsorted(self.indptr, np.flatnonzero(is_meant[self.indices]), side="right") - 1] = True
-        return np.logical_or(found[::2], found[1::2])
 
 
 @dataclass(frozen=True)
@@ -203,19 +170,6 @@ class Asked:
         return found
 
 
-def noisy_items(lines: Sequence[str], first: int) -> tuple[Item, ...]:
-    """The items of lines, of which the first has this number, as they are marked."""
-    found: list[Line] = []
-    for number, line in enumerate(lines, start=first):
-        content = content_of(line)
-        its = Line(number, content, content)
-        if its.opens or its.closes:
-            found.append(its)
-        elif its.parts:
-            found += [Line(number, made, content_of(made)) for made in made_of(its, its.parts, "", no_qubit).noisy]
-    return items_of(found)
-
-
 class Renewing:
     """A model whose errors are looked at, by the sources that they are of, and an edit."""
 
@@ -249,10 +203,14 @@ class Renewing:
         place = sum(line < self.edit.change.first for line in around)
         meant = set(list(around)[max(place - NOISE_AROUND, 0) : place + NOISE_AROUND])
         found = [np.zeros(0, dtype=np.int64)]
+        # The errors of a channel have the same targets.
+        last: tuple[tuple[str, ...], Numbers] = (), found[0]
         for source, line, first in zip(self.causes.sources, self.lines, self.firsts.tolist()):
             if line in meant:
-                is_on = np.array([it in qubits for it in source.targets]).reshape(len(source.marks), -1).any(axis=1)
-                found.append(first + np.flatnonzero(np.tile(is_on, source.times() // len(is_on))))
+                if last[0] is not source.targets:
+                    is_on = np.array([it in qubits for it in source.targets]).reshape(len(source.marks), -1).any(axis=1)
+                    last = source.targets, np.flatnonzero(np.tile(is_on, source.times() // len(is_on)))
+                found.append(first + last[1])
         return np.concatenate(found)
 
     def flip(self, is_meant: Bits) -> Bits:
@@ -294,7 +252,7 @@ class Renewing:
         above, below = mechanisms[:first].copy(), mechanisms[self.firsts[self.end] :]
         gone = np.concatenate([above[errors], mechanisms[first : self.firsts[self.end]]])
         above[errors] = renewal.mechanisms[: len(errors)]
-        moved = [replace(source, line=source.line + len(change.new) - len(change.old)) for source in self.causes.sources[self.end :]]
+        moved = moved_by(self.causes.sources[self.end :], len(change.new) - len(change.old))
         sources = (*self.causes.sources[: self.begin], *asked.added, *moved)
         found = renewal.model_of(np.concatenate([above, renewal.mechanisms[len(errors) :], below]), gone, sources, text)
         if [it for it in change.old if it.lstrip().startswith(PLACING)] == [it for it in change.new if it.lstrip().startswith(PLACING)]:
@@ -323,21 +281,8 @@ def bounds_of(errors: Numbers, firsts: Numbers) -> list[tuple[int, int]]:
     return list(zip(bounds, bounds[1:]))
 
 
-def rows_of_errors(several: Sequence[tuple[Source, Numbers]], flipped: Flipped) -> tuple[Numbers, Numbers]:
-    """What some of the errors of sources flip, as a CSR matrix."""
-    lengths, columns = [np.zeros(0, dtype=np.int64)], [np.zeros(0, dtype=np.int64)]
-    for source, some in several:
-        if len(some):
-            sets, its = flips_of(source.letters, source.all_marks()[some], flipped)
-            lengths.append(np.bincount(sets, minlength=len(some)))
-            columns.append(its)
-    return starts_of(np.concatenate(lengths).astype(np.int64)), np.concatenate(columns)
-
-
 def renewed_circuit(model: "ErrorModel", causes: Causes, change: Change, text: str, qubits: int) -> "ErrorModel | None":
     """The model of a text, from that of the text before an edit of the circuit; None if it is not seen how, or if too much is another."""
-    if CONTROLLED_BY_RECORD.search(text) or CONTROLLED_BY_RECORD.search(causes.text):
-        return None
     edit = Edit(with_blocks(change, causes.text), causes.text.split("\n"), text.split("\n"), qubits, model.num_detectors, model.num_observables)
     if observables_in(edit.quiet[0]) != observables_in(edit.quiet[1]) or edit.looks is None:
         return None
