@@ -132,7 +132,10 @@ REPEAT 2 {
 DETECTOR(0, 0, 0, 0)
 M 4
 """
-    inner = lambda at: [[11, at + 10, np.nan, np.nan], [11, at + 11, np.nan, np.nan], [11, at + 12, np.nan, np.nan]]
+
+    def inner(at):
+        return [[11, at + row, np.nan, np.nan] for row in (10, 11, 12)]
+
     nothing = [np.nan] * 4
     one = [11, np.nan, np.nan, np.nan]
     wanted = [[10.5, 0, np.nan, np.nan], one, *inner(0), nothing, one, *inner(3), nothing, [10, 6, 10, 0]]

@@ -3,7 +3,6 @@
 import contextlib
 import http.client
 import pathlib
-import signal
 import subprocess
 import urllib.parse
 

@@ -7,7 +7,6 @@ import json
 import threading
 
 import pytest
-import stabsim
 
 pytestmark = pytest.mark.skipif(importlib.util.find_spec("aiohttp") is None, reason="aiohttp is missing")
 

@@ -7,7 +7,7 @@ from typing import TYPE_CHECKING
 import numpy as np
 from numpy.typing import NDArray
 
-from stabsim.session.record_trees import Level, Node, differing, level_of, lookbacks_of, replaced, tree_of
+from stabsim.session.record_trees import Level, Node, level_of, replaced, tree_of
 from stabsim.session.retargeting_order import RecordEdit, Written, edits_to
 from stabsim.session.script import path_text
 from stabsim.text import names
