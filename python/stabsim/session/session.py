@@ -275,7 +275,7 @@ class Session(PlainSession):
 
     def error_model(self, *, decompose: bool = False, ignore_decomposition_failures: bool = False, approximate_disjoint_errors: bool = False,
                     sure_only: bool = False) -> ErrorModel:
-        """`stabsim.error_model` of the circuit as it is now. After an edit of noise alone it is renewed, which takes far less time than to make
+        """`stabsim.error_model` of the circuit as it is now. After most edits it is renewed, which takes far less time than to make
         it; without an edit it is the same. Lines of it are those of `circuit()`.
 
         >>> import stabsim
