@@ -44,8 +44,11 @@ def main() -> None:
     seeds = range(given.seed, given.seed - -given.cases // EACH)
     with ProcessPoolExecutor(given.processes) as executor:
         for name, law in (("models", models_of), ("texts", texts_of)):
-            found = sum(executor.map(law, seeds))
-            print(f"{name}: {len(seeds) * EACH} cases, {found} of them with one", flush=True)
+            found = 0
+            for done, its in enumerate(executor.map(law, seeds), start=1):
+                found += its
+                if done == len(seeds) or done % 5 == 0:
+                    print(f"{name}: {done * EACH} cases, of which {found} were not refused", flush=True)
 
 
 if __name__ == "__main__":

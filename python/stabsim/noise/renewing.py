@@ -48,7 +48,7 @@ def renewed(model: "ErrorModel", text: str, sure_only: bool, qubits: int | None 
         if not qubits or sure_only or CONTROLLED_BY_RECORD.search(text) or CONTROLLED_BY_RECORD.search(causes.text):
             return None
         found = renewed_in_rounds(model, causes, change, text, qubits)
-        return found or renewed_circuit(model, causes, change, text, qubits)
+        return renewed_circuit(model, causes, change, text, qubits) if found is None else found
     except (ValueError, WrongWord, Refused, UnsupportedNoise):
         # It is said of the whole text.
         return None

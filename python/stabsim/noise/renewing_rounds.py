@@ -60,7 +60,7 @@ def renewed_in_rounds(model: "ErrorModel", causes: Causes, change: Change, text:
 
 
 def in_blocks(source: Source, opened: Sequence[int], each: int) -> Source:
-    """A source in blocks, the outermost first, of so many rounds each, of which the innermost has this many marks."""
+    """A source in blocks of these numbers of rounds, the outermost first; each: how many marks a round of the innermost has."""
     blocks = []
     for rounds in reversed(opened):
         blocks.append((rounds, each))
