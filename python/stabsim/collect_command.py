@@ -72,7 +72,7 @@ def model_of(path: str, decompose: bool) -> ErrorModel:
     with telling(path):
         if path.endswith(".dem"):
             return ErrorModel.from_file(path)
-        return error_model(program.text_of(pathlib.Path(path).read_bytes()), decompose=decompose)
+        return error_model(program.text_of(pathlib.Path(path).read_bytes()), decompose=decompose, approximate_disjoint_errors=True)
 
 
 def name_of(path: str) -> str:

@@ -15,7 +15,10 @@ from stabsim.circuit.circuit import from_stim
 from stabsim.circuit.measured import m2d
 from stabsim.diagrams import Kind
 from stabsim.formats import formats
+from stabsim.noise import drawing
 from stabsim.noise.models import ErrorModel, error_model
+from stabsim.shots import chunks
+from stabsim.shots.seeds import drawn_seed
 
 Bits = NDArray[np.bool_]
 
@@ -65,11 +68,16 @@ def gen(given: argparse.Namespace) -> None:
 
 def convert(given: argparse.Namespace) -> None:
     """Which detectors are flipped against a run without noise, or without that their parities."""
-    circuit = from_stim(text_in(given.circuit)).circuit
-    data = np.frombuffer(bytes_in(given.input), dtype=np.uint8)
-    records = formats.READERS[given.in_format](data, formats.kinds_of(circuit.num_records, 0, 0))
-    both = m2d(circuit, records, separate_observables=True, flips=not given.skip_reference_sample)
+    circuit = from_stim(text_in(given.circuit))
+    records = shots_in(given.input, given.in_format, circuit.num_records)
+    sweep_bits = shots_in(given.sweep, given.sweep_format, circuit.num_sweep_bits) if given.sweep else None
+    both = m2d(circuit, records, separate_observables=True, flips=not given.skip_reference_sample, sweep_bits=sweep_bits)
     write_shots(given, [both], given.append_observables)
+
+
+def shots_in(path: str | None, format: formats.Format, width: int) -> Bits:
+    """Shots of this many bits, of a file or of standard input."""
+    return formats.READERS[format](np.frombuffer(bytes_in(path), dtype=np.uint8), formats.kinds_of(width, 0, 0))
 
 
 def write_shots(given: argparse.Namespace, shots: Iterable[tuple[Bits, Bits]], is_appended: bool = False) -> None:
@@ -98,7 +106,36 @@ def analyze_errors(given: argparse.Namespace) -> None:
 def sample_dem(given: argparse.Namespace) -> None:
     """Shots of an error model."""
     model = ErrorModel.from_dem(text_in(given.input))
-    write_shots(given, model.iter_sample(given.shots, TOGETHER, seed=given.seed))
+    if given.err_out or given.replay_err_in:
+        with contextlib.ExitStack() as files:
+            out = files.enter_context(open(given.err_out, "wb")) if given.err_out else None
+            write_shots(given, shots_by_errors(model, errors_of(given, model), given.err_out_format, out))
+    else:
+        write_shots(given, model.iter_sample(given.shots, TOGETHER, seed=given.seed))
+
+
+def errors_of(given: argparse.Namespace, model: ErrorModel) -> Iterator[Bits]:
+    """Which errors of a model happen, bool (shots, errors), a few shots at a time: those of a file, or drawn as `ErrorModel.sample` does."""
+    kept = shots_in(given.replay_err_in, given.replay_err_in_format, len(model)) if given.replay_err_in else None
+    if kept is not None and len(kept) < given.shots:
+        raise ValueError(f"{given.replay_err_in} has {len(kept)} shots, and --shots asks for {given.shots}")
+    seed = drawn_seed(given.seed)
+    for first, count in chunks.of(given.shots, drawing.BLOCK, 0):
+        errors = np.zeros((count, len(model)), dtype=np.bool_) if kept is None else kept[first : first + count]
+        for mechanisms, places in drawing.events(model.chances, count, seed, first) if kept is None else ():
+            errors[places, mechanisms] = True
+        yield errors
+
+
+def shots_by_errors(model: ErrorModel, several: Iterable[Bits], format: formats.Format, out: BinaryIO | None) -> Iterator[tuple[Bits, Bits]]:
+    """The detectors and observables that errors flip; they are written too, if there is a file for them."""
+    for errors in several:
+        if out:
+            out.write(formats.WRITERS[format](errors, formats.kinds_of(len(model), 0, 0)))
+        drawn = np.zeros((len(errors), model.num_detectors + model.num_observables), dtype=np.bool_)
+        places, mechanisms = np.nonzero(errors)
+        drawing.flip(drawn, mechanisms, places, model.indptr, model.indices)
+        yield drawn[:, : model.num_detectors], drawn[:, model.num_detectors :]
 
 
 def explain_errors(given: argparse.Namespace) -> None:

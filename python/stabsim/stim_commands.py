@@ -19,9 +19,6 @@ from stabsim import stim_answers
 from stabsim.errors import StabsimError
 from stabsim.formats.formats import WRITERS
 
-SWEEPS = "sweep bits are those of a circuit here, by with_sweep_bits, and not of shots"
-SINGLE = "errors that flip the same are one here, so files of single errors are neither written nor read"
-
 # What runs a command.
 Run = Callable[[argparse.Namespace], None]
 # An option with what argparse takes of it, or with the reason why it is not here.
@@ -44,7 +41,8 @@ COMMANDS: dict[str, tuple[Run, str, Options]] = {
     "m2d": (stim_answers.convert, "Makes detection events of records", {
         "--circuit": {"required": True, "metavar": "FILE"}, "--in_format": {"required": True, "choices": list(WRITERS)}, "--in": INPUT,
         "--append_observables": FLAG, "--obs_out": FILE, "--obs_out_format": FORMAT, "--out": FILE, "--out_format": FORMAT,
-        "--skip_reference_sample": FLAG, "--sweep": SWEEPS, "--sweep_format": SWEEPS, "--ran_without_feedback": "feedback is not taken out here",
+        "--skip_reference_sample": FLAG, "--sweep": {**FILE, "help": "sweep bits of each shot: what they flip is taken out"},
+        "--sweep_format": FORMAT, "--ran_without_feedback": "feedback is carried out here, and never taken out of a circuit",
     }),
     "analyze_errors": (stim_answers.analyze_errors, "Prints the detector error model of a circuit", {
         "--decompose_errors": FLAG, "--ignore_decomposition_failures": FLAG,
@@ -55,8 +53,9 @@ COMMANDS: dict[str, tuple[Run, str, Options]] = {
     }),
     "sample_dem": (stim_answers.sample_dem, "Samples a detector error model", {
         "--shots": {"type": int, "default": 1, "help": "default 1"}, "--seed": {"type": int}, "--in": INPUT, "--out": FILE, "--out_format": FORMAT,
-        "--obs_out": FILE, "--obs_out_format": FORMAT, "--err_out": SINGLE, "--err_out_format": SINGLE, "--replay_err_in": SINGLE,
-        "--replay_err_in_format": SINGLE,
+        "--obs_out": FILE, "--obs_out_format": FORMAT, "--err_out": {**FILE, "help": "where it is written which errors happen in each shot"},
+        "--err_out_format": FORMAT, "--replay_err_in": {**FILE, "help": "errors of each shot, which are not drawn then"},
+        "--replay_err_in_format": FORMAT,
     }),
     "explain_errors": (stim_answers.explain_errors, "Says which lines of a circuit make each error of its model", {
         "--in": INPUT, "--out": FILE, "--single": {**FLAG, "help": "one line for each error"},

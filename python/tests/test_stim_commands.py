@@ -81,6 +81,35 @@ def test_m2d_writes_what_is_flipped_against_a_run_without_noise(words, output, t
         assert (tmp_path / "obs").read_text() == "shot\nshot L0\nshot L0\n"
 
 
+@pytest.mark.parametrize("words, output", [
+    ([], b"00\n01\n10\n"), (["--skip_reference_sample"], b"10\n11\n00\n"), (["--append_observables"], b"00000\n01001\n10000\n"),
+])
+def test_m2d_takes_out_what_sweep_bits_flip(words, output, tmp_path, wrote):
+    # The records are 1 and bit 0, added up, and bit 1: 0 0, then 1 0, then 0 1. The second one is wrong in the second shot, the first in the third.
+    (tmp_path / "swept.stim").write_text("X_ERROR(0.5) 0\nX 0\nCX sweep[0] 0 0 1 sweep[1] 1\nCX 0 1\nM(0.1) 0 1\n"
+                                         "DETECTOR rec[-2]\nDETECTOR rec[-1]\nOBSERVABLE_INCLUDE(2) rec[-1]\n")
+    (tmp_path / "bits.dets").write_text("shot M0\nshot\nshot M1 M0\n")
+    asked = ["m2d", "--circuit", "swept.stim", "--in_format", "01", "--sweep", "bits.dets", "--sweep_format", "dets", *words]
+    assert wrote(*asked, given=b"00\n11\n11\n") == output
+
+
+def test_sample_dem_writes_which_errors_happen_and_takes_them_again(tmp_path, wrote):
+    (tmp_path / "model.dem").write_text("error(0.5) D0 L0\nerror(0.25) D0\nerror(0) D1\nerror(1) D1 ^ D0\n")
+    words = ["sample_dem", "--in", "model.dem", "--shots", "3000", "--seed", "4"]
+    drawn = wrote(*words, "--err_out", "errors.hits", "--err_out_format", "hits", "--obs_out", "obs.01")
+    # It is what is drawn without that, and what these errors flip by hand.
+    assert drawn == wrote(*words)
+    errors = stabsim.read_shots(tmp_path / "errors.hits", format="hits", num_measurements=4)
+    first, second, third, last = errors.T
+    assert not third.any() and last.all() and abs(first.mean() - 0.5) < 0.04 and abs(second.mean() - 0.25) < 0.04
+    detectors = np.array([list(line) for line in drawn.decode().split()]) == "1"
+    assert np.array_equal(detectors, np.stack([first ^ second ^ last, third ^ last], axis=1))
+    assert (tmp_path / "obs.01").read_text().split() == ["01"[bit] for bit in first.astype(int)]
+    again = ["sample_dem", "--in", "model.dem", "--shots", "2000", "--replay_err_in", "errors.hits", "--replay_err_in_format", "hits"]
+    assert wrote(*again, "--err_out", "again.01") == drawn[: 3 * 2000]
+    assert np.array_equal(stabsim.read_shots(tmp_path / "again.01", format="01", num_measurements=4), errors[:2000])
+
+
 def test_analyze_errors_prints_the_model(tmp_path, wrote):
     (tmp_path / "noisy.stim").write_text(NOISY)
     # X on 0 flips both records; a wrong record of 0 flips D1 and L0, and one of 1 both detectors.
@@ -146,8 +175,11 @@ def test_each_code_and_task_that_gen_names_is_made(run, wrote):
 
 
 @pytest.mark.parametrize("words, status, said", [
-    (["m2d", "--circuit", "noisy.stim", "--in_format", "01", "--sweep", "x.b8"], 2, "--sweep: sweep bits are those of a circuit here"),
-    (["sample_dem", "--err_out", "x"], 2, "--err_out: errors that flip the same are one here"),
+    (["m2d", "--circuit", "noisy.stim", "--in_format", "01", "--ran_without_feedback"], 2, "--ran_without_feedback: feedback is carried out here"),
+    (["sample_dem", "--in", "one.dem", "--shots", "3", "--replay_err_in", "one.01"], 1, "one.01 has 1 shots, and --shots asks for 3"),
+    (["m2d", "--circuit", "swept.stim", "--in_format", "01", "--in", "one.01", "--sweep", "two.01"], 1, "sweep_bits is of 2 shots, and records is of 1"),
+    (["m2d", "--circuit", "swept.stim", "--in_format", "01", "--in", "one.01", "--sweep", "wide.01"], 1, "it has 2 characters"),
+    (["m2d", "--circuit", "coin.stim", "--in_format", "01", "--in", "one.01", "--sweep", "one.01", "--skip_reference_sample"], 1, "refused 18"),
     (["gen", "--code", "color_code", "--task", "memory_xyz", "--distance", "3", "--rounds", "2"], 1, "stabsim gen: color_code:memory_xyz is none of"),
     (["gen", "--code", "repetition_code", "--task", "memory", "--distance", "1", "--rounds", "2"], 1, "stabsim gen: distance is 1: give a whole number from 2 to 512"),
     (["analyze_errors", "--in", "none.stim"], 1, "none.stim"), (["analyze_errors", "--approximate_disjoint_errors", "0.5"], 1, "no other chance than 1"),
@@ -160,7 +192,9 @@ def test_each_code_and_task_that_gen_names_is_made(run, wrote):
 ])
 def test_what_is_wrong_is_said_in_a_line(words, status, said, tmp_path, run):
     (tmp_path / "noisy.stim").write_text(NOISY)
-    (tmp_path / "wide.dem").write_text("detector D67108863\n")
+    for name, text in (("wide.dem", "detector D67108863\n"), ("one.dem", "error(1) D0\n"), ("one.01", "0\n"), ("two.01", "0\n1\n"), ("wide.01", "00\n"),
+                       ("swept.stim", "CX sweep[0] 0\nM 0\n"), ("coin.stim", "H 0\nCX sweep[0] 0\nM 0\nDETECTOR rec[-1]\n")):
+        (tmp_path / name).write_text(text)
     given = NOISY if words[0] == "diagram" else "M 0\nNOPE 1\n"
     ended, output, told = run(*words, given=given.encode())
     assert (ended, output) == (status, b"") and said in told and "Traceback" not in told

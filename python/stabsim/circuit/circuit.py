@@ -174,6 +174,14 @@ class Circuit(Described):
         """What the noise flips: `error_model` of this circuit, which is made once."""
         return error_model(self)
 
+    @functools.cached_property
+    def drawn_model(self) -> ErrorModel:
+        """The same, or of noise that no independent errors make a model that has the noise as it is."""
+        try:
+            return self.known_model
+        except UnsupportedNoise:
+            return error_model(self, approximate_disjoint_errors=True)
+
     # Shots.
 
     def packed(self, what: shot_parts.What, width: int, shots: int, seed: int, first_shot: int, executor: Executor | None,
@@ -191,21 +199,15 @@ class Circuit(Described):
         shots, first_shot = chunks.checked(shots, first_shot)
         # Without noise all shots are the same, if no coin decides them.
         quiet = bits.unpacked(self.packed("detect_both" if both else "detect", width, 1, seed, 0, None, 1), width)
-        flipped = self.flipped(shots, seed, first_shot, executor)[:, :width]
+        flipped = self.flipped(shots, seed, first_shot)[:, :width]
         parities = quiet & (not flips)
         return bits.packed(flipped ^ parities), parities[0]
 
-    def flipped(self, shots: int, seed: int, first_shot: int, executor: Executor | None) -> Bits:
+    def flipped(self, shots: int, seed: int, first_shot: int) -> Bits:
         """What noise flips in shots: detectors, and then observables. It is refused if coins decide a bit."""
-        from stabsim.circuit.measured import m2d
-
-        try:
-            return np.concatenate(self.known_model.sample(shots, seed=seed, first_shot=first_shot), axis=1)
-        except UnsupportedNoise:
-            # Errors that are not independent are drawn with the records, once it is known that the noise has errors and no coin decides.
-            error_model(self, approximate_disjoint_errors=True)
-            records = noisy_shots.records(self.noisy_items(), shots, seed, first_shot, executor)
-            return np.concatenate(m2d(self, records, separate_observables=True, flips=True), axis=1)
+        model = self.drawn_model
+        bits.make_room(shots, model.num_detectors + model.num_observables)
+        return model.drawn(shots, seed, first_shot, as_it_is=True)
 
     # Questions.
 

@@ -126,7 +126,8 @@ def count(part: Part, load: Load | None = None) -> Counted | Missing:
     if not found:
         return Missing(part, worker)
     began = time.perf_counter()
-    detectors, observables = found.model.sample(part.shots, seed=part.seed, first_shot=part.first_shot)
+    drawn = found.model.drawn(part.shots, part.seed, part.first_shot, as_it_is=True)
+    detectors, observables = drawn[:, : found.model.num_detectors], drawn[:, found.model.num_detectors :]
     if found.postselect is not None:
         is_kept = ~detectors[:, found.postselect].any(axis=1)
         detectors, observables = detectors[is_kept], observables[is_kept]

@@ -26,7 +26,8 @@ class Source:
     letters: a Pauli for each of the marks of one time, as XI; chance: float; marks: int64 (times, len(letters)), the numbers of the
     marks among all of the circuit, as they are met in the first round of all blocks; line, name: of the instruction; targets: of all
     times one after another, the qubit of each mark, or of a wrong record, is_record, what is measured each time; blocks: of each block
-    around it, the innermost first, how many rounds it has, and how many marks later each of them is.
+    around it, the innermost first, how many rounds it has, and how many marks later each of them is; place: of errors of which at most one
+    happens each time, and which were taken for independent ones, the number of this one, from 0.
     """
 
     letters: str
@@ -37,6 +38,7 @@ class Source:
     targets: tuple[str, ...]
     is_record: bool = False
     blocks: tuple[tuple[int, int], ...] = ()
+    place: int | None = None
 
     def times(self) -> int:
         """How often it is met in all rounds."""
@@ -114,32 +116,31 @@ class Marker:
             return [], first
         self.lines.append(" ".join(["I", *item.targets]))
         marks = (first + np.arange(count, dtype=np.int64)).reshape(-1, each)
-        errors = self.errors(item)
-        found = [Source(letters, chance, marks, item.line, item.name, item.targets) for letters, chance in errors.items() if chance]
-        return found, first + count
+        errors, is_disjoint = self.errors(item)
+        return sources_of(errors, is_disjoint, Source("", 0.0, marks, item.line, item.name, item.targets)), first + count
 
-    def errors(self, item: Instruction) -> Errors:
-        """The independent errors of a channel."""
+    def errors(self, item: Instruction) -> tuple[Errors, bool]:
+        """The independent errors of a channel, and whether they are disjoint ones that are taken for such."""
         chances = item.numbers()
         if item.name in FLIPS:
-            return {FLIPS[item.name]: chances[0]}
+            return {FLIPS[item.name]: chances[0]}, False
         if item.name.startswith("DEPOLARIZE"):
             found = depolarising(chances[0], int(item.name[-1]))
             if found is None:
                 raise UnsupportedNoise(item.line, f"{item.name}({item.arguments[0]}) is stronger than full depolarising")
-            return found
+            return found, False
         return self.independent_of(dict(zip(ONE if item.name.endswith("1") else TWO, chances)), [item])
 
-    def independent_of(self, disjoint: Errors, items: list[Instruction]) -> Errors:
-        """The independent errors that make disjoint ones of some lines, or these themselves if they may be taken for such."""
+    def independent_of(self, disjoint: Errors, items: list[Instruction]) -> tuple[Errors, bool]:
+        """The independent errors that make disjoint ones of some lines, or these themselves if they may be taken for such, and which it is."""
         found = independent(disjoint)
         if found is not None:
-            return found
+            return found, False
         if not self.approximate:
             raise UnsupportedNoise(items[-1].line, "no independent errors were found that make this noise; with "
                                                    "approximate_disjoint_errors its disjoint errors are taken for independent ones")
         self.approximated |= {item.line for item in items}
-        return disjoint
+        return disjoint, True
 
     def chain(self, items: list[Instruction], first: int) -> tuple[list[Source], int]:
         """Writes a mark for each qubit of an error on several, and of those after it that may happen if none before them did."""
@@ -157,10 +158,9 @@ class Marker:
         disjoint.pop("I" * len(qubits), None)
         self.lines.append(" ".join(["I", *qubits]))
         marks = (first + np.arange(len(qubits), dtype=np.int64))[None]
-        found = self.independent_of(disjoint, items)
-        line, name = items[0].line, items[0].name
-        sources = [Source(letters, chance, marks, line, name, tuple(qubits)) for letters, chance in found.items() if chance]
-        return sources, first + len(qubits)
+        found, is_disjoint = self.independent_of(disjoint, items)
+        one = Source("", 0.0, marks, items[0].line, items[0].name, tuple(qubits))
+        return sources_of(found, is_disjoint, one), first + len(qubits)
 
     def measurement(self, item: Instruction, first: int) -> tuple[list[Source], int]:
         """Writes a measurement whose record may be wrong: as if a Pauli in front of it turned the outcome over, and the same
@@ -182,6 +182,12 @@ class Marker:
                                       (targets[i],), is_record=True))
             first += count if is_reset else 2 * count
         return joined(sources) if chance else [], first
+
+
+def sources_of(errors: Errors, is_disjoint: bool, one: Source) -> list[Source]:
+    """A source for each error that has a chance, which has all else of one that is given."""
+    some = [(letters, chance) for letters, chance in errors.items() if chance]
+    return [replace(one, letters=letters, chance=chance, place=place if is_disjoint else None) for place, (letters, chance) in enumerate(some)]
 
 
 def joined(sources: list[Source]) -> list[Source]:

@@ -17,6 +17,7 @@ from stabsim.formats import bits, combining, sparse
 from stabsim.noise import dem, drawing
 from stabsim.noise.causes import Cause, Causes
 from stabsim.noise.decomposing import Parts, parts_of
+from stabsim.noise.disjoint import Noise, noise_of, together
 from stabsim.noise.marking import Marked, marked
 from stabsim.noise.model_distance import distance_of_model, sat_problem_of_model
 from stabsim.noise.sourced import errors_of
@@ -53,6 +54,7 @@ class ErrorModel:
     approximated: the lines of the circuit whose disjoint errors were taken for independent ones, if that was asked for.
     parts: if the model is decomposed, the parts that `dem` writes each mechanism as: `parts[i]` has what each part flips.
     causes: of a model that was made of a circuit, what `explain` looks up.
+    noise: if disjoint errors were taken for independent ones, the noise as it is, from which `collect` draws.
 
     Its text is `str(model)`. Models with the same mechanisms, parts and coordinates in the same order are equal.
 
@@ -71,6 +73,7 @@ class ErrorModel:
     approximated: tuple[int, ...] = ()
     parts: Parts | None = field(default=None, repr=False)
     causes: Causes | None = field(default=None, repr=False)
+    noise: Noise | None = field(default=None, repr=False)
     # The text that it was read from. A model with another field, by dataclasses.replace, was not read.
     was_read: str | None = field(default=None, init=False, repr=False)
 
@@ -265,7 +268,7 @@ class ErrorModel:
         """The same for models of the same mechanisms and parts, and for no others that one will meet."""
         digest = hashlib.sha256(f"{self.num_detectors} {self.num_observables} ".encode())
         parts = () if self.parts is None else (self.parts.starts, self.parts.indptr, self.parts.indices)
-        for array in (self.chances, self.indptr, self.indices, *parts):
+        for array in (self.chances, self.indptr, self.indices, *parts, *(self.noise.arrays() if self.noise else ())):
             digest.update(array.tobytes())
         return digest.hexdigest()[:16]
 
@@ -294,11 +297,18 @@ class ErrorModel:
         shots, first_shot = chunks.checked(shots, first_shot)
         bits.make_room(shots, self.num_detectors + self.num_observables)
         seed = drawn_seed(seed)
-        drawn = drawing.flips(self.chances, self.indptr, self.indices, self.num_detectors + self.num_observables, shots, seed, first_shot)
+        drawn = self.drawn(shots, seed, first_shot)
         detectors, observables = drawn[:, : self.num_detectors], drawn[:, self.num_detectors :]
         if bit_packed:
             return seeded(bits.packed(detectors), seed), seeded(bits.packed(observables), seed)
         return seeded(detectors, seed), seeded(observables, seed)
+
+    def drawn(self, shots: int, seed: int, first_shot: int, *, as_it_is: bool = False) -> Bits:
+        """What is flipped in shots, bool (shots, detectors + observables): by mechanisms, or, with as_it_is, by the noise that they stand for,
+        of which at most one of disjoint errors happens."""
+        if as_it_is and self.noise:
+            return self.noise.sample(shots, seed, first_shot)
+        return drawing.flips(self.chances, self.indptr, self.indices, self.num_detectors + self.num_observables, shots, seed, first_shot)
 
     @overload
     def iter_sample(self, shots: int, chunk: int, *, seed: int | None = ..., first_shot: int = ...,
@@ -338,7 +348,7 @@ def error_model(circuit: "str | Circuit", *, decompose: bool = False, ignore_dec
     decompose: name for each mechanism that flips more than two detectors others that flip the same together, for decoders by
     matching; stabsim.NotDecomposed names one that has none, or with ignore_decomposition_failures it stays whole.
     approximate_disjoint_errors: if a PAULI_CHANNEL, heralded errors, or E with ELSE_CORRELATED_ERROR, are no product of independent errors,
-    take the disjoint errors for such; the model names these lines. sure_only: leave out detectors and observables that coins decide, which else
+    take the disjoint errors for such; the model names these lines, and `collect` draws their shots as they are. sure_only: leave out detectors and observables that coins decide, which else
     are refused. allow_gauge_detectors: take what coins flip, if that is detectors alone, for errors of chance a half.
 
     >>> import stabsim
@@ -387,13 +397,8 @@ def faults_of(profile: Profile, approximate: bool, sure_only: bool, basis: Basis
 def model_of(circuit: Marked, table: FaultTable, coordinates: NDArray[np.float64], profile: Profile) -> ErrorModel:
     """The model of a marked circuit, whose table of faults has X and Z of each mark, one after the other, and which was made of a profile."""
     parts = [errors_of(source, table) for source in circuit.sources]
-    counts = [len(chances) for chances, _, _ in parts]
-    firsts = combining.starts_of(np.array(counts, dtype=np.int64))
-    nothing = [np.zeros(0, dtype=np.int64)]
-    joined = combining.combined(
-        np.concatenate([np.zeros(0), *(chances for chances, _, _ in parts)]),
-        np.concatenate(nothing + [errors + first for (_, errors, _), first in zip(parts, firsts)]),
-        np.concatenate(nothing + [columns for _, _, columns in parts]),
-    )
+    firsts = combining.starts_of(np.array([len(chances) for chances, _, _ in parts], dtype=np.int64))
+    joined = combining.combined(*together([(chances, errors + first, columns) for (chances, errors, columns), first in zip(parts, firsts)]))
     return ErrorModel(joined.chances, joined.indptr, joined.indices, table.num_detectors, table.num_observables, coordinates, circuit.approximated,
-                      causes=Causes(tuple(circuit.sources), joined.mechanisms.astype(np.int32), profile.text))
+                      causes=Causes(tuple(circuit.sources), joined.mechanisms.astype(np.int32), profile.text),
+                      noise=noise_of(circuit.sources, parts, table.num_detectors + table.num_observables))

@@ -129,8 +129,8 @@ class Asked:
 
         With an executor of concurrent.futures the shots are split into this many parts, which gives the same arrays; with noise this process
         draws from the error model, whatever the executor. With noise, and for flips, each detector and observable must be the same for all
-        random bits: stabsim.Refused names the first that is not. Noise that is not made of independent errors is drawn with its
-        records, shot by shot; stabsim.UnsupportedNoise names depolarising that is more than full.
+        random bits: stabsim.Refused names the first that is not. Of disjoint errors, as heralded ones, at most one happens each time;
+        stabsim.UnsupportedNoise names depolarising that is more than full.
 
         >>> import stabsim
         >>> c = stabsim.Circuit("X 0\\nM 0 1\\nDETECTOR rec[-2]\\nOBSERVABLE_INCLUDE(0) rec[-1]\\n")

@@ -81,6 +81,8 @@ def lines_of_sums(text: str, sums: Iterable[set[int]]) -> list[str]:
 def with_gauges(model: "ErrorModel", basis: Basis) -> "ErrorModel":
     """A model with a mechanism of chance a half for each row of a basis."""
     rows = [sorted(row) for row in basis.values()]
-    indptr = model.indptr[-1] + starts_of(np.array([len(row) for row in rows], dtype=np.int64))[1:]
-    return replace(model, chances=np.append(model.chances, np.full(len(rows), 0.5)), indptr=np.append(model.indptr, indptr),
-                   indices=np.append(model.indices, np.array([it for row in rows for it in row], dtype=np.int64))).joined()
+    chances, indptr = np.full(len(rows), 0.5), starts_of(np.array([len(row) for row in rows], dtype=np.int64))
+    indices = np.array([it for row in rows for it in row], dtype=np.int64)
+    noise = model.noise.with_more(chances, indptr, indices) if model.noise else None
+    return replace(model, chances=np.append(model.chances, chances), indptr=np.append(model.indptr, model.indptr[-1] + indptr[1:]),
+                   indices=np.append(model.indices, indices), noise=noise).joined()

@@ -7,7 +7,7 @@ from stabsim import checking
 from stabsim.collecting.collecting import collect
 from stabsim.collecting.counting import Decoder
 from stabsim.collecting.rates import Rate, fit_rate
-from stabsim.errors import Refused
+from stabsim.errors import Refused, UnsupportedNoise
 from stabsim.noise.models import ErrorModel, decomposed, error_model
 from stabsim.noise.renewing import renewed
 from stabsim.questions.circuit_errors import CircuitError
@@ -275,7 +275,7 @@ class Session(PlainSession):
 
     def error_model(self, *, decompose: bool = False, ignore_decomposition_failures: bool = False, approximate_disjoint_errors: bool = False,
                     sure_only: bool = False) -> ErrorModel:
-        """`stabsim.error_model` of the circuit as it is now. After an edit of noise alone it is renewed, which takes far less time than to make
+        """`stabsim.error_model` of the circuit as it is now. After most edits it is renewed, which takes far less time than to make
         it; without an edit it is the same. Lines of it are those of `circuit()`.
 
         >>> import stabsim
@@ -296,7 +296,7 @@ class Session(PlainSession):
     def model_now(self, options: Options, approximate: bool, sure_only: bool) -> ErrorModel:
         """The model of the circuit as it is now: that from before the edits, renewed, or made anew."""
         text, before = self.circuit(), self.models_before.get(options)
-        found = renewed(before, text, sure_only) if before else None
+        found = renewed(before, text, sure_only, self.numbers().qubits) if before else None
         return found or error_model(text, approximate_disjoint_errors=approximate, sure_only=sure_only)
 
     def distance(self, most: int | None = None, *, everywhere: bool = False) -> Distance:
@@ -313,7 +313,8 @@ class Session(PlainSession):
         """How often a decoder predicts some observable wrongly, with the interval of `fit_rate`, in this many shots of the noise as it is now.
 
         decoder: a function of a model that gives a function from detectors to observables, as of `collect`; decompose: whether its model is
-        decomposed, as decoders by matching want it.
+        decomposed, as decoders by matching want it. Shots are of the noise as it is: of disjoint errors, as heralded ones, at most one happens
+        each time, though the decoder's model takes them for independent ones.
 
         >>> import numpy, stabsim
         >>> def nothing(model):
@@ -326,10 +327,17 @@ class Session(PlainSession):
         0.0
         """
         errors = 0
-        model = self.error_model(decompose=decompose)
+        model = self.drawn_model(decompose)
         for sums in collect({"session": model}, ("decoder", decoder), shots=checking.whole("shots", shots, 1), seed=seed):
             errors = sums.errors
         return fit_rate(shots, errors)
+
+    def drawn_model(self, decompose: bool) -> ErrorModel:
+        """The error model, or of noise that no independent errors make one that has the noise as it is."""
+        try:
+            return self.error_model(decompose=decompose)
+        except UnsupportedNoise:
+            return self.error_model(decompose=decompose, approximate_disjoint_errors=True)
 
     # How the program has it.
 

@@ -4,7 +4,7 @@ import itertools
 import re
 from collections.abc import Iterator, Sequence
 
-from stabsim.text import targets
+from stabsim.text import names, targets
 from stabsim.text.reading import Line, Parts, headed, is_number, lines_of
 
 SWEEP = re.compile(r"sweep\[(\d{1,9})\]")
@@ -62,6 +62,28 @@ def lines_by(line: Line, bits: Sequence[bool]) -> Iterator[str]:
         end = ""
     if end:
         yield line.indentation + end.lstrip()
+
+
+def as_errors(text: str) -> tuple[str, dict[int, int]]:
+    """A text that was judged, with an error that always happens in the place of each Pauli about which a sweep bit decides, and for each line
+    of such an error, counted from 1, the bit. Other noise is left out, as far as it makes no records."""
+    lines: list[str] = []
+    bit_of_line: dict[int, int] = {}
+    for line in lines_of(text):
+        parts = line.parts
+        if parts is None or not is_swept(parts):
+            if parts is None or parts.name not in (*names.NOISE, *names.IDLE):
+                lines.append(line.without_arguments() if parts and parts.name in names.MEASURING else line.text)
+            continue
+        for pair in pairs_of(parts):
+            qubits = list(filter(is_number, pair))
+            bits = [int(found[1]) for target in pair if (found := SWEEP.fullmatch(target))]
+            if not bits:
+                lines.append(" ".join([headed(parts.name, parts.tag), *pair]))
+            elif qubits:
+                lines.append(f"{PAULIS[parts.name][0]}_ERROR(1) {qubits[0]}")
+                bit_of_line[len(lines)] = bits[0]
+    return "\n".join(lines), bit_of_line
 
 
 def pauli_or_pair(name: str, pair: tuple[str, str], bits: Sequence[bool]) -> tuple[str, tuple[str, ...]]:

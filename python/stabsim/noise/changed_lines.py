@@ -1,0 +1,176 @@
+"""Which lines of a circuit's text an edit changed, what they are without noise, and how much they make."""
+
+import functools
+import re
+from collections.abc import Sequence
+from dataclasses import dataclass
+from typing import NamedTuple
+
+from stabsim.text import names
+from stabsim.text.profile import made_of
+from stabsim.text.reading import Item, Line, content_of, items_of, parts_of
+from stabsim.text.sizes import sizes_of
+
+# A channel that acts after others is of another line too.
+CHAINED = "ELSE_CORRELATED_ERROR"
+# What has no part in regions, except that I would be taken for a mark: gates that change signs alone, and what does nothing.
+WITHOUT_PART = frozenset(("I", "X", "Y", "Z", "TICK", "QUBIT_COORDS"))
+# Lines that have no noise, and are as they are without it.
+ALWAYS_QUIET = ("DETECTOR", "OBSERVABLE_INCLUDE", "SHIFT_COORDS")
+DECLARING = ("DETECTOR", "OBSERVABLE_INCLUDE")
+LOOKBACK = re.compile(r"rec\[-(\d+)\]")
+OBSERVABLE = re.compile(r"OBSERVABLE_INCLUDE[^(]*\(\s*(\d+)")
+
+
+@dataclass(frozen=True)
+class Change:
+    """Which lines of a text are others: from `first` on there were `old`, and now there are `new`, each with spacing around it."""
+
+    first: int
+    old: Sequence[str]
+    new: Sequence[str]
+
+
+class Counts(NamedTuple):
+    """How many records and detectors lines make."""
+
+    records: int
+    detectors: int
+
+
+@functools.lru_cache(maxsize=1 << 16)
+def quiet(written: str) -> tuple[str, ...]:
+    """The lines with a part in regions that a line becomes, without noise and signs. ValueError if it needs a qubit of its own, or is refused."""
+    content = content_of(written)
+    if content.startswith(ALWAYS_QUIET):
+        return (content,)
+    line = Line(0, content, content)
+    if line.parts is None or line.opens or line.closes:
+        return (content,) if content else ()
+    made = [line] if line.parts.name in WITHOUT_PART else [Line(0, it, content_of(it)) for it in made_of(line, line.parts, "", no_qubit).circuit]
+    return tuple(it.content.replace("!", "") for it in made if it.parts and it.parts.name not in WITHOUT_PART)
+
+
+@functools.lru_cache(maxsize=1 << 14)
+def noisy(content: str) -> tuple[str, ...]:
+    """The lines with noise that an instruction becomes. ValueError as of `quiet`."""
+    line = Line(0, content, content)
+    return tuple(made_of(line, line.parts, "", no_qubit).noisy)
+
+
+def noisy_items(lines: Sequence[str], first: int) -> tuple[Item, ...]:
+    """The items of lines, of which the first has this number, as they are marked."""
+    found: list[Line] = []
+    for number, line in enumerate(lines, start=first):
+        content = content_of(line)
+        its = Line(number, content, content)
+        if its.opens or its.closes:
+            found.append(its)
+        elif its.parts:
+            found += [Line(number, made, content_of(made)) for made in noisy(content)]
+    return items_of(found)
+
+
+def no_qubit() -> int:
+    """A known record takes a qubit that the whole text names nowhere."""
+    raise ValueError("the whole text would be looked at")
+
+
+def quiet_lines(lines: Sequence[str]) -> list[str]:
+    """The same of several lines."""
+    return [it for line in lines for it in quiet(line)]
+
+
+def change_of(before: str, after: str) -> Change:
+    """The lines that changed, from the first one to the last."""
+    old, new = before.split("\n"), after.split("\n")
+    least = min(len(old), len(new))
+    first = next((place for place in range(least) if old[place] != new[place]), least)
+    last = next((place for place in range(least - first) if old[-1 - place] != new[-1 - place]), least - first)
+    return Change(first, old[first : len(old) - last], new[first : len(new) - last])
+
+
+def is_of_no_region(change: Change) -> bool:
+    """Whether all regions stay: in one list of items nothing changed that has a part in them."""
+    if any(brace in line for line in (*change.old, *change.new) for brace in "{}"):
+        return False
+    return quiet_lines(change.old) == quiet_lines(change.new)
+
+
+def with_blocks(change: Change, before: str) -> Change:
+    """The change with all of the outermost block that it begins in, and of that in which it ends; before: the text before it."""
+    lines = before.split("\n")
+    first = list_begin(lines, change.first)
+    end = list_end(lines, change.first + len(change.old))
+    above, below = lines[first : change.first], lines[change.first + len(change.old) : end]
+    return Change(first, [*above, *change.old, *below], [*above, *change.new, *below])
+
+
+def list_begin(lines: Sequence[str], place: int) -> int:
+    """Where the outermost block begins that a line is in, or the line itself."""
+    depth, begin = 0, place
+    for at, line in enumerate(lines[:place]):
+        if line.endswith("{"):
+            begin = begin if depth else at
+            depth += 1
+        elif line.endswith("}"):
+            depth -= 1
+    return begin if depth else place
+
+
+def list_end(lines: Sequence[str], place: int) -> int:
+    """Where the outermost block ends that is open in front of a line, or the line itself."""
+    depth, end = 0, place
+    for at in range(len(lines) - 1, place - 1, -1):
+        if lines[at].endswith("}"):
+            end = end if depth else at + 1
+            depth += 1
+        elif lines[at].endswith("{"):
+            depth -= 1
+    return end if depth else place
+
+
+def blocks_around(lines: Sequence[str]) -> list[int]:
+    """How many rounds each block has that is open after some lines, the outermost first."""
+    opened: list[int] = []
+    for line in lines:
+        if line.endswith("{"):
+            parts = parts_of(content_of(line))
+            assert parts, "a block has a count"
+            opened.append(int(parts.targets[0]))
+        elif line.endswith("}"):
+            opened.pop()
+    return opened
+
+
+def counts_of(lines: Sequence[str]) -> Counts:
+    """How much lines without noise make, blocks written out."""
+    if any(line.endswith("{") for line in lines):
+        sizes = sizes_of(items_of("\n".join(lines)))
+        return Counts(sizes.records, sizes.detectors)
+    found = list(map(counts_of_line, lines))
+    return Counts(sum(records for records, _ in found), sum(detectors for _, detectors in found))
+
+
+def counts_of_line(line: str) -> Counts:
+    """How much one line makes that is no part of a block."""
+    if line.startswith(ALWAYS_QUIET):
+        return Counts(0, int(line.startswith("DETECTOR")))
+    return Counts(records_of_line(line), 0)
+
+
+@functools.lru_cache(maxsize=1 << 16)
+def records_of_line(line: str) -> int:
+    """How many records one line makes."""
+    parts = parts_of(content_of(line))
+    return len(parts.targets) if parts and parts.name in names.MEASUREMENTS else 0
+
+
+def observables_in(lines: Sequence[str]) -> set[int]:
+    """The observables that lines add to."""
+    return {int(found[1]) for line in lines if (found := OBSERVABLE.match(line))}
+
+
+def reach_of(line: str) -> int:
+    """How far the lookbacks of a line go, 0 if it has none."""
+    return max(map(int, LOOKBACK.findall(line)), default=0)
