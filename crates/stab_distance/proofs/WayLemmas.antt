@@ -1,4 +1,4 @@
--- Ways: of none but observables, of what is flipped alike, with one weight changed, and the errors behind them.
+-- Ways: of none but observables, of what is flipped alike, with one weight changed, and the errors after them.
 use Rattle.stab_distance.proofs.Names.{eqb-true, ◌≡◌, ℕ, zero, suc, ◌+◌, ◌*◌, ◌≤◌, ◌<◌, ◌⊎◌, inl, inr, refl, sym, ◌∙◌, ap, subst, arith, Bool, true, false, ◌||◌, List, [], ◌∷◌, ◌++◌, length, map, set, slice_index, cases_lt, false≢true, ◌==◌, nat_lt, if◌then◌else◌, and_parts, or_left, or_right, lt-ltb, ltb-true, length-map, list_any, ◌⊕◌, parity-comm, parity-assoc, parity-twice, ErrorTable, odd, row, flips, Each, has, Completes, leaf, ways, IsWay}
 use Rattle.std.specs.Prelude.{◌&&◌}
 use Rattle.std.proofs.Math.Nat.{mul-add, mul_left_comm, mul-zero}

@@ -19,7 +19,7 @@ ways detectors [] weights (suc left) flipped = 0
 ways detectors (r ∷ rows) [] (suc left) flipped = 0
 ways detectors (r ∷ rows) (w ∷ weights) (suc left) flipped = ways detectors rows weights (suc left) flipped + w * ways detectors rows weights left (r ++ flipped)
 
--- what an answer tells of a number: the number, or that it takes more than 64 bits
+-- what an answer says of a number: the number, or that it takes more than 64 bits
 abbrev pub Tells : ℕ → Option ℕ → Type 0
 Tells n (Some k) = k ≡ n
 Tells n None = 2 ^ 64 ≤ n
