@@ -44,7 +44,7 @@ class Mark:
 
 
 def mark_of(message: dict[str, Any]) -> Mark:
-    """A mark as a tab says it; ValueError if it is none."""
+    """A mark as a tab sends it; ValueError if it is none."""
     letter = message["letter"]
     if letter not in moments.PAULIS:
         raise ValueError("no mark")
