@@ -27,6 +27,7 @@ LET_GO = """(() => {
   document.getElementById('since').value = 'edit';
   shown.showSince('edit');
   shown.takeFaces(true);
+  shown.takeWires(false);
   document.documentElement.removeAttribute('style');
   document.querySelector('main').dataset.pane === 'circuit' || document.querySelector('#tabs button').click();
   const kept = { chosen: shown.chosen, moment: shown.moment, bit: shown.bit, theme: document.documentElement.dataset.theme };
